@@ -1,0 +1,12 @@
+use Rattle.std.proofs.Common.{◌&&◌, not, ap, sym, ◌∙◌, arith}
+use Rattle.kx_pages.specs.Spans.{has, in_span}
+use Rattle.kx_pages.proofs.Sets.{has_without, apart_as, apart_without}
+use Rattle.kx_pages.proofs.page_set.PageSet.cut.Goals as goal
+
+pub invariant_of-self : goal.invariant_of-self
+invariant_of-self c =
+    apart_as _ _ (sym c.in_ok-self-inside.ensures) (apart_without 0 _ c.args.span (apart_as _ _ (sym c.deref.ensures.value) c.self.invariant) (omega arith))
+
+pub returns-in_ok-self-inside-clause-pages : goal.returns-in_ok-self-inside-clause-pages
+returns-in_ok-self-inside-clause-pages c = λ q.
+    ap (λ xs. has xs q) c.in_ok-self-inside.ensures ∙ has_without _ c.args.span q ∙ ap (λ xs. has xs q && not (in_span c.args.span q)) (c.deref.ensures.value ∙ c.self.view_is)

@@ -1,0 +1,26 @@
+-- The words of a list of page copies: a page's address with one flag (the kernel's kimage_entry_t).
+use Rattle.std.specs.Prelude.{ℕ, ◌+◌, ◌*◌, ◌/◌, ◌%◌, cond, eqb, Option, Some, None}
+use Rattle.kx_pages.specs.declared.item.Item.{Item}
+use Rattle.kx_pages.specs.declared.item.Item.TheVariants.{Link, Destination, Source, Done}
+
+-- the page that an item names
+abbrev pub number : Item → ℕ
+number (Link p) = p
+number (Destination p) = p
+number (Source p) = p
+number (Done p) = p
+
+-- the word of an item
+abbrev pub code : Item → ℕ
+code (Destination p) = 4096 * p + 1
+code (Link p) = 4096 * p + 2
+code (Done p) = 4096 * p + 4
+code (Source p) = 4096 * p + 8
+
+-- the item that a word is: none where its low twelve bits are not exactly one flag
+abbrev pub decode : ℕ → Option Item
+decode w =
+    cond (eqb (w % 4096) 1) (Some (Destination (w / 4096)))
+    (cond (eqb (w % 4096) 2) (Some (Link (w / 4096)))
+    (cond (eqb (w % 4096) 4) (Some (Done (w / 4096)))
+    (cond (eqb (w % 4096) 8) (Some (Source (w / 4096))) None)))

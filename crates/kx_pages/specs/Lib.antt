@@ -1,0 +1,5 @@
+pub mod Numbers
+pub mod Spans
+pub mod Edits
+pub mod Items
+pub mod Lists

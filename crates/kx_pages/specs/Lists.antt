@@ -1,0 +1,27 @@
+-- Membership and counting on lists of numbers and pairs, as the definitions of lists, loads and segments use them.
+use Rattle.std.specs.Prelude.{◌≡◌, ◌≢◌, ℕ, ◌+◌, ◌⊎◌, ◌||◌, Bool, false, List, [], ◌∷◌, cond, eqb}
+
+-- every element of xs
+abbrev pub Each : {X : Type 0} → (X → Type 0) → List X → Type 0
+Each P [] = Unit {0}
+Each P (x ∷ xs) = P x × Each P xs
+
+-- p stands in the list
+abbrev pub Has : ℕ → List ℕ → Type 0
+Has p [] = ⊥
+Has p (x ∷ xs) = (x ≡ p) ⊎ Has p xs
+
+-- the test of it
+abbrev pub has : ℕ → List ℕ → Bool
+has p [] = false
+has p (x ∷ xs) = eqb x p || has p xs
+
+-- no number stands twice
+abbrev pub Distinct : List ℕ → Type 0
+Distinct [] = Unit {0}
+Distinct (x ∷ xs) = Each (λ y. x ≢ y) xs × Distinct xs
+
+-- how often x stands in the list
+abbrev pub count : ℕ → List ℕ → ℕ
+count x [] = 0
+count x (y ∷ ys) = cond (eqb y x) 1 0 + count x ys

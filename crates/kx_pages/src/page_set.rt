@@ -1,0 +1,222 @@
+//! Sets of pages.
+
+ghost use Rattle.std.specs.Prelude.{◌≡◌, ℕ, ◌-◌, ◌<◌, ◌≤◌, ◌^◌, ◌↔◌, ◌++◌, ◌∷◌, ◌&&◌, ◌||◌, [], not, List, length, IsTrue, IfOk, IfErr};
+ghost use Rattle.std.specs.List.{slice_get, list_any};
+ghost use Rattle.kx_pages.specs.Spans.{Run, in_span, has, pages, AreApart, passing, IsMaximal};
+ghost use Rattle.kx_pages.specs.Edits.{joined, if_some, without, spans_meet, with_rest};
+
+use crate::page::Page;
+use crate::span::Span;
+use std::alloc::{AllocError, Global};
+use std::marker::Model;
+
+/// A set of pages, kept as sorted spans that neither meet nor touch: the maximal runs of the set, in rising order.
+/// Contracts see the list of these spans, and speak of single pages by `has`.
+#[derive(Drop)]
+pub struct PageSet {
+    spans: Vec<Span>,
+}
+
+impl Model for PageSet {
+    ghost use Rattle.std.specs.Prelude.{List};
+    ghost use Rattle.kx_pages.specs.Spans.{Run, AreApart};
+
+    ghost Value = { List Run };
+
+    ghost view = { λ s. s.spans.items };
+
+    ghost invariant = { λ s. AreApart 0 s.spans.items };
+}
+
+impl PageSet {
+    /// No page.
+    pub fn new(alloc: Global) -> PageSet
+        ensures { result ≡ [] }
+    {
+        PageSet {
+            spans: Vec::new(alloc),
+        }
+    }
+
+    /// The span's pages come in. After want of memory the set is as before.
+    pub fn add(&mut self, span: Span) -> Result<(), AllocError>
+        ensures pages { IfOk result (λ _. (q : ℕ) → has self.new q ≡ (has self.old q || in_span span q)) }
+        ensures failed { IfErr result (λ _. self.new ≡ self.old) }
+    {
+        if span.count() > 0 {
+            self.spans = join(*self.spans.allocator(), &self.spans, span)?;
+        }
+        Ok(())
+    }
+
+    /// The span's pages go out. After want of memory the set is as before.
+    pub fn cut(&mut self, span: Span) -> Result<(), AllocError>
+        ensures pages { IfOk result (λ _. (q : ℕ) → has self.new q ≡ (has self.old q && not (in_span span q))) }
+        ensures failed { IfErr result (λ _. self.new ≡ self.old) }
+    {
+        if span.count() > 0 {
+            self.spans = cut_out(*self.spans.allocator(), &self.spans, span)?;
+        }
+        Ok(())
+    }
+
+    /// Whether one of the span's pages is in the set.
+    pub fn meets(&self, span: Span) -> bool
+        ensures { IsTrue result ↔ ((q : ℕ) × IsTrue (has self.now q) × IsTrue (in_span span q)) }
+    {
+        any_meets(&self.spans, span)
+    }
+
+    /// Whether the page is in the set.
+    pub fn holds(&self, p: Page) -> bool
+        ensures { result ≡ has self.now p }
+    {
+        let number = p.number();
+        any_has(&self.spans, number)
+    }
+
+    /// The number of pages.
+    pub fn total(&self) -> u64
+        ensures sum { result ≡ pages self.now }
+        ensures count { (n : ℕ) → 2 ^ 34 ≤ n → result ≡ passing (has self.now) n }
+    {
+        let mut total = 0;
+        for s in &self.spans {
+            total += s.count();
+        }
+        total
+    }
+
+    /// The number of spans, which are the maximal runs of pages in the set.
+    pub fn spans(&self) -> usize
+        ensures value { result ≡ length self.now }
+        ensures apart { AreApart 0 self.now }
+    {
+        self.spans.len()
+    }
+
+    /// The span number `i`, in rising order.
+    pub fn span(&self, i: usize) -> Span
+        requires { i < length self.now }
+        ensures value { slice_get self.now i ≡ Some result }
+        ensures whole { IsMaximal self.now result }
+    {
+        self.spans[i]
+    }
+
+    /// A set of the same pages.
+    pub fn try_copy(&self) -> Result<PageSet, AllocError>
+        ensures { IfOk result (λ s. s ≡ self.now) }
+    {
+        Ok(PageSet {
+            spans: self.spans.clone()?,
+        })
+    }
+}
+
+/// Two sets of the same pages have the same spans.
+pub fn have_one_form(a: &PageSet, b: &PageSet)
+    ensures { ((q : ℕ) → has a.now q ≡ has b.now q) → a.now ≡ b.now }
+{
+    let _ = a.spans();
+    let _ = b.spans();
+}
+
+fn any_meets(spans: &[Span], span: Span) -> bool
+    ensures { result ≡ list_any (λ r. spans_meet r span) spans.now }
+{
+    spans.iter().any(|s| s.meets(span))
+}
+
+fn any_has(spans: &[Span], number: u64) -> bool
+    ensures { result ≡ has spans.now number }
+{
+    spans.iter().any(|s| s.has(number))
+}
+
+/// Puts `s` behind the spans, after or into what is still to come in.
+#[tactic(auto, using(crate::proofs::Sets::join_rules))]
+fn put(made: &mut Vec<Span>, rest: Option<Span>, s: Span) -> Result<Option<Span>, AllocError>
+    ensures { IfOk result (λ r. (xs : List Run) → made.new.items ++ with_rest r xs ≡ made.old.items ++ with_rest rest (s ∷ xs)) }
+{
+    match rest {
+        None => {
+            made.push(s)?;
+            Ok(None)
+        }
+        Some(r) => {
+            if s.end() < r.first() {
+                made.push(s)?;
+                Ok(Some(r))
+            } else if r.end() < s.first() {
+                made.push(r)?;
+                made.push(s)?;
+                Ok(None)
+            } else {
+                Ok(Some(s.hull(r)))
+            }
+        }
+    }
+}
+
+fn join(alloc: Global, spans: &[Span], span: Span) -> Result<Vec<Span>, AllocError>
+    ensures { IfOk result (λ v. v.items ≡ joined spans.now span) }
+{
+    let mut made = Vec::new(alloc);
+    let mut rest = Some(span);
+    for s in spans {
+        rest = put(&mut made, rest, *s)?;
+    }
+    if let Some(r) = rest {
+        made.push(r)?;
+    }
+    Ok(made)
+}
+
+fn push_some(spans: &mut Vec<Span>, first: u64, end: u64) -> Result<(), AllocError>
+    requires { end ≤ 2 ^ 34 }
+    ensures { IfOk result (λ _. spans.new.items ≡ spans.old.items ++ if_some (record { first = first; count = end - first })) }
+{
+    if first < end {
+        spans.push(Span::between(first, end))?;
+    }
+    Ok(())
+}
+
+#[tactic(auto, using(crate::proofs::Sets::cut_rules))]
+fn cut_out(alloc: Global, spans: &[Span], span: Span) -> Result<Vec<Span>, AllocError>
+    ensures { IfOk result (λ v. v.items ≡ without spans.now span) }
+{
+    let mut made = Vec::new(alloc);
+    for s in spans {
+        push_some(&mut made, s.first(), s.end().min(span.first()))?;
+        push_some(&mut made, s.first().max(span.end()), s.end())?;
+    }
+    Ok(made)
+}
+
+#[cfg(test)]
+mod tests {
+    use super::*;
+    use std::test::Fail;
+
+    fn span(first: u64, count: u64) -> Result<Span, &'static str> {
+        Span::new(first, count).ok_or("a span")
+    }
+
+    #[test]
+    fn spans_join_and_part(rt: HostRuntime) -> Result<(), Fail> {
+        let mut set = PageSet::new(rt.alloc());
+        set.add(span(2, 3)?)?;
+        set.add(span(5, 2)?)?;
+        assert_eq!(rt; set.spans(), 1);
+        assert_eq!(rt; set.total(), 5);
+        set.cut(span(4, 1)?)?;
+        assert_eq!(rt; set.spans(), 2);
+        assert!(rt; !set.holds(Page::new(4).ok_or("a page")?));
+        assert!(rt; !set.meets(span(4, 1)?));
+        let copy = set.try_copy()?;
+        assert_eq!(rt; copy.total(), 4);
+        Ok(())
+    }
+}
