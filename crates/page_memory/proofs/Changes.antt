@@ -1,0 +1,242 @@
+-- A page that is added, and two pages whose frames change places.
+use Rattle.std.proofs.Common.{take, drop, zero, suc, ◌-◌, ◌≡◌, ◌≢◌, ℕ, ◌+◌, ◌*◌, ◌/◌, ◌<◌, ◌≤◌, ◌^◌, List, [], ◌∷◌, ◌++◌, length, Bool, true, false, cond, refl, sym, ap, ◌∙◌, subst, arith, Some, None, Option, ◌⊎◌, inl, inr}
+use Rattle.std.specs.Prelude.{is_some, IsSome, replicate, ◌&&◌, ◌==◌}
+use Rattle.std.proofs.lemmas.Bool.Decides.{nat_tests}
+use Rattle.std.proofs.lemmas.Grind.{common_steps}
+use Rattle.page_memory.specs.File.{is_all_zeros}
+use Rattle.std.specs.Option.{option_map, IfSome}
+use Rattle.std.specs.Ordering.{nat_cmp}
+use Rattle.std.specs.declared.cmp.Ordering.TheVariants.{Less}
+use Rattle.std.specs.Cmp.{nat_cmp_total, eq_by_cmp_equiv}
+use Rattle.std.specs.Map.{lookup, keys_of}
+use Rattle.std.specs.List.{AllByRecursion}
+use Rattle.std.specs.List.Sorted.{IsStrictlySortedBy}
+use Rattle.std.specs.BTreeMap.{is_at, BTreeMap}
+use Rattle.std.specs.BTreeMap as tree
+use Rattle.std.specs.FinMap.{FinMap, get, insert, same_map, empty, get-empty, nat_cmp-IsAntisymmetric}
+use Rattle.std.proofs.lemmas.List.{length-append, length-drop, take-append-drop}
+use Rattle.page_memory.specs.View.{pages_by, AreFrames}
+use Rattle.page_memory.specs.Laws.{frame_at-found, frame_at-insert_other, frame_at-insert_same, get-insert_other, page_of-fits}
+use Rattle.page_memory.specs.Contents.{IsPageOfBytes, frame_at, page_of}
+use Rattle.page_memory.specs.Frames.{frame_in, IsTable, pages_in, Differs}
+use Rattle.page_memory.proofs.Bytes.{IsBytes-append}
+use Rattle.page_memory.proofs.Tables.{get-pages_by, equal_of_is_eq, pages_by-differs, some_held}
+use Rattle.page_memory.proofs.Frames.{other_frames, inside_found, frame_in-append, frame_in-last, IsPageOfBytes-frame_in}
+
+-- what is asked of a frame
+abbrev Inside : List ℕ → ℕ → ℕ → Type 0
+Inside xs q i = (q < 2 ^ 34) × (4096 * i + 4096 ≤ length xs)
+
+pub pages_by-same : (f g : ℕ → List ℕ) (m : BTreeMap ℕ ℕ) → ((q j : ℕ) → tree.get nat_cmp m q ≡ Some j → g j ≡ f j) → pages_by g m.entries ≡ pages_by f m.entries
+pages_by-same f g m h = same_map nat_cmp_total nat_cmp-IsAntisymmetric _ _ (λ q.
+    get-pages_by g m.entries q ∙ other_frames f g (tree.get nat_cmp m q) (h q) ∙ sym (get-pages_by f m.entries q))
+
+pub pages-added : (xs bytes : List ℕ) (m n : BTreeMap ℕ ℕ) (p i : ℕ) → IsTable xs m → i ≡ length xs / 4096 → length bytes ≡ 4096 → Differs m n p i → pages_in (xs ++ bytes) n ≡ insert (pages_in xs m) p bytes
+pages-added xs bytes m n p i is last whole h =
+    let at_i : length xs ≡ 4096 * i = omega (arith, is.whole) in
+    pages_by-differs (frame_in (xs ++ bytes)) m n p i bytes h (frame_in-last xs bytes i at_i whole)
+    ∙ ap (λ k. insert k p bytes) (pages_by-same (frame_in xs) (frame_in (xs ++ bytes)) m (λ q j e. frame_in-append xs bytes j (inside_found xs m q j is (sym e)).1))
+
+some_same : (a b : ℕ) → ◌≡◌ {A = Option ℕ} (Some a) (Some b) → a ≡ b
+some_same a b h = cc
+
+-- where a value at q comes from
+here_or_old : (p q i k : ℕ) (b : Bool) (o : Option ℕ) → is_at (nat_cmp p) q ≡ b → cond b (Some i) o ≡ Some k → ((q ≡ p) × (k ≡ i)) ⊎ (o ≡ Some k)
+here_or_old p q i k true o t e = inl (sym (nat_cmp-IsAntisymmetric p q (equal_of_is_eq (nat_cmp p q) t)), sym (some_same i k e))
+here_or_old p q i k false o t e = inr e
+
+from_differs : (m n : BTreeMap ℕ ℕ) (p i q k : ℕ) → Differs m n p i → tree.get nat_cmp n q ≡ Some k → ((q ≡ p) × (k ≡ i)) ⊎ (tree.get nat_cmp m q ≡ Some k)
+from_differs m n p i q k h e = here_or_old p q i k (is_at (nat_cmp p) q) (tree.get nat_cmp m q) refl (sym (h q) ∙ e)
+
+if_some : (o : Option ℕ) (P : ℕ → Type 0) → ((k : ℕ) → o ≡ Some k → P k) → IfSome o P
+if_some None P h = tt
+if_some (Some k) P h = h k refl
+
+inside_added : (xs bytes : List ℕ) (m : BTreeMap ℕ ℕ) (p i q k : ℕ) → IsTable xs m → i ≡ length xs / 4096 → length bytes ≡ 4096 → p < 2 ^ 34 → ((q ≡ p) × (k ≡ i)) ⊎ (tree.get nat_cmp m q ≡ Some k) → Inside (xs ++ bytes) q k
+inside_added xs bytes m p i q k is last whole below (inl h) =
+    let at_i : length xs ≡ 4096 * i = omega (arith, is.whole) in
+    (omega (arith, h.0), omega (arith, h.1, length-append xs bytes))
+inside_added xs bytes m p i q k is last whole below (inr h) =
+    let old = inside_found xs m q k is (sym h) in
+    (old.0, omega (arith, old.1, length-append xs bytes))
+
+both_added : (xs : List ℕ) (m : BTreeMap ℕ ℕ) (p i a b k : ℕ) → IsTable xs m → i ≡ length xs / 4096 → ((a ≡ p) × (k ≡ i)) ⊎ (tree.get nat_cmp m a ≡ Some k) → ((b ≡ p) × (k ≡ i)) ⊎ (tree.get nat_cmp m b ≡ Some k) → a ≡ b
+both_added xs m p i a b k is last (inl x) (inl y) = x.0 ∙ sym y.0
+both_added xs m p i a b k is last (inl x) (inr y) = let old = inside_found xs m b k is (sym y) in absurd (omega (arith, x.1, old.1))
+both_added xs m p i a b k is last (inr x) (inl y) = let old = inside_found xs m a k is (sym x) in absurd (omega (arith, y.1, old.1))
+both_added xs m p i a b k is last (inr x) (inr y) = is.apart a b k x y
+
+pub IsTable-added : (xs bytes : List ℕ) (m n : BTreeMap ℕ ℕ) (p i : ℕ) → IsTable xs m → i ≡ length xs / 4096 → IsPageOfBytes bytes → p < 2 ^ 34 → Differs m n p i → IsTable (xs ++ bytes) n
+IsTable-added xs bytes m n p i is last page below h = record {
+  inside = λ q. if_some (tree.get nat_cmp n q) (Inside (xs ++ bytes) q) (λ k e. inside_added xs bytes m p i q k is last page.whole below (from_differs m n p i q k h e));
+  apart = λ a b k at_a at_b. both_added xs m p i a b k is last (from_differs m n p i a k h at_a) (from_differs m n p i b k h at_b);
+  bytes = IsBytes-append xs bytes is.bytes page.small;
+  whole = omega (arith, is.whole, page.whole, length-append xs bytes);
+}
+
+-- two frames change places
+pub pages-exchanged : (xs : List ℕ) (m k n : BTreeMap ℕ ℕ) (d s i j : ℕ) → tree.get nat_cmp m d ≡ Some i → tree.get nat_cmp m s ≡ Some j → Differs m k s i → Differs k n d j → pages_in xs n ≡ insert (insert (pages_in xs m) s (frame_at (pages_in xs m) d)) d (frame_at (pages_in xs m) s)
+pages-exchanged xs m k n d s i j at_d at_s one two =
+    pages_by-differs (frame_in xs) k n d j (frame_at (pages_in xs m) s) two (sym (frame_at-found (pages_in xs m) s (frame_in xs j) (sym (some_held (frame_in xs) m s j (sym at_s)))))
+    ∙ ap (λ t. insert t d (frame_at (pages_in xs m) s)) (pages_by-differs (frame_in xs) m k s i (frame_at (pages_in xs m) d) one (sym (frame_at-found (pages_in xs m) d (frame_in xs i) (sym (some_held (frame_in xs) m d i (sym at_d))))))
+
+-- q has after the exchange what r had before
+abbrev Which : ℕ → ℕ → ℕ → ℕ → Type 0
+Which d s q r = ((q ≡ d) × (r ≡ s)) ⊎ (((q ≡ s) × (r ≡ d)) ⊎ ((q ≢ d) × (q ≢ s) × (r ≡ q)))
+
+true_false : true ≡ false → ⊥
+true_false h = cc
+
+not_at : (p q : ℕ) → is_at (nat_cmp p) q ≡ false → q ≢ p
+not_at p q e same = true_false (sym ((eq_by_cmp_equiv nat_cmp_total).refl p) ∙ ap (λ q. is_at (nat_cmp p) q) (sym same) ∙ e)
+
+at_it : (p q : ℕ) → is_at (nat_cmp p) q ≡ true → q ≡ p
+at_it p q t = sym (nat_cmp-IsAntisymmetric p q (equal_of_is_eq (nat_cmp p q) t))
+
+which_of : (m : BTreeMap ℕ ℕ) (d s i j q k : ℕ) (a b : Bool) → is_at (nat_cmp d) q ≡ a → is_at (nat_cmp s) q ≡ b → tree.get nat_cmp m d ≡ Some i → tree.get nat_cmp m s ≡ Some j → cond a (Some j) (cond b (Some i) (tree.get nat_cmp m q)) ≡ Some k → (r : ℕ) × (tree.get nat_cmp m r ≡ Some k) × Which d s q r
+which_of m d s i j q k true b is_a is_b at_d at_s e = (s, at_s ∙ e, inl (at_it d q is_a, refl))
+which_of m d s i j q k false true is_a is_b at_d at_s e = (d, at_d ∙ e, inr (inl (at_it s q is_b, refl)))
+which_of m d s i j q k false false is_a is_b at_d at_s e = (q, e, inr (inr (not_at d q is_a, not_at s q is_b, refl)))
+
+which_exchanged : (m k n : BTreeMap ℕ ℕ) (d s i j q v : ℕ) → tree.get nat_cmp m d ≡ Some i → tree.get nat_cmp m s ≡ Some j → Differs m k s i → Differs k n d j → tree.get nat_cmp n q ≡ Some v → (r : ℕ) × (tree.get nat_cmp m r ≡ Some v) × Which d s q r
+which_exchanged m k n d s i j q v at_d at_s one two e = which_of m d s i j q v (is_at (nat_cmp d) q) (is_at (nat_cmp s) q) refl refl at_d at_s (ap (cond (is_at (nat_cmp d) q) (Some j)) (sym (one q)) ∙ sym (two q) ∙ e)
+
+which_same : (d s a b r t : ℕ) → Which d s a r → Which d s b t → r ≡ t → d ≢ s → a ≡ b
+which_same d s a b r t (inl x) (inl y) e ne = omega (arith, x.0, y.0)
+which_same d s a b r t (inl x) (inr (inl y)) e ne = omega (arith, x.1, y.1)
+which_same d s a b r t (inl x) (inr (inr y)) e ne = omega (arith, x.1, y.1, y.2)
+which_same d s a b r t (inr (inl x)) (inl y) e ne = omega (arith, x.1, y.1)
+which_same d s a b r t (inr (inl x)) (inr (inl y)) e ne = omega (arith, x.0, y.0)
+which_same d s a b r t (inr (inl x)) (inr (inr y)) e ne = omega (arith, x.1, y.0, y.2)
+which_same d s a b r t (inr (inr x)) (inl y) e ne = omega (arith, y.1, x.1, x.2)
+which_same d s a b r t (inr (inr x)) (inr (inl y)) e ne = omega (arith, y.1, x.0, x.2)
+which_same d s a b r t (inr (inr x)) (inr (inr y)) e ne = omega (arith, x.2, y.2)
+
+below_which : (d s q r : ℕ) → Which d s q r → d < 2 ^ 34 → s < 2 ^ 34 → r < 2 ^ 34 → q < 2 ^ 34
+below_which d s q r (inl x) hd hs hr = omega (arith, x.0)
+below_which d s q r (inr (inl x)) hd hs hr = omega (arith, x.0)
+below_which d s q r (inr (inr x)) hd hs hr = omega (arith, x.2)
+
+pub IsTable-exchanged : (xs : List ℕ) (m k n : BTreeMap ℕ ℕ) (d s i j : ℕ) → d ≢ s → tree.get nat_cmp m d ≡ Some i → tree.get nat_cmp m s ≡ Some j → Differs m k s i → Differs k n d j → IsTable xs m → IsTable xs n
+IsTable-exchanged xs m k n d s i j ne at_d at_s one two is = record {
+  inside = λ q. if_some (tree.get nat_cmp n q) (Inside xs q) (λ v e.
+      let w = which_exchanged m k n d s i j q v at_d at_s one two e in
+      let old = inside_found xs m w.0 v is (sym w.1) in
+      (below_which d s q w.0 w.2 (inside_found xs m d i is (sym at_d)).0 (inside_found xs m s j is (sym at_s)).0 old.0, old.1));
+  apart = λ a b v at_a at_b.
+      let x = which_exchanged m k n d s i j a v at_d at_s one two at_a in
+      let y = which_exchanged m k n d s i j b v at_d at_s one two at_b in
+      which_same d s a b x.0 y.0 x.2 y.2 (is.apart x.0 y.0 v x.1 y.1) ne;
+  bytes = is.bytes;
+  whole = is.whole;
+}
+
+-- each entry of a table is inside
+lookup-above : {X : Type 0} (k : ℕ) (es : List (ℕ × X)) → AllByRecursion (λ y. nat_cmp k y ≡ Less) (keys_of es) → lookup (is_at (nat_cmp k)) es ≡ None
+lookup-above k [] h = refl
+lookup-above k (e ∷ es) h = rw h.0 (lookup-above k es h.1)
+
+rest_inside : (xs : List ℕ) (e : ℕ × ℕ) (es : List (ℕ × ℕ)) (q : ℕ) (b : Bool) → is_at (nat_cmp q) e.0 ≡ b → AllByRecursion (λ y. nat_cmp e.0 y ≡ Less) (keys_of es) → IfSome (cond b (Some e.1) (lookup (is_at (nat_cmp q)) es)) (Inside xs q) → IfSome (lookup (is_at (nat_cmp q)) es) (Inside xs q)
+rest_inside xs e es q false t above h = h
+rest_inside xs e es q true t above h =
+    let same : e.0 ≡ q = at_it q e.0 t in
+    subst (λ o. IfSome o (Inside xs q)) (sym (subst (λ k. lookup (is_at (nat_cmp k)) es ≡ None) same (lookup-above e.0 es above))) tt
+
+pub all_inside : (xs : List ℕ) (es : List (ℕ × ℕ)) → IsStrictlySortedBy nat_cmp (keys_of es) → ((q : ℕ) → IfSome (lookup (is_at (nat_cmp q)) es) (Inside xs q)) → AllByRecursion (λ e. 4096 * e.1 + 4096 ≤ length xs) es
+unfolding IsStrictlySortedBy
+all_inside xs [] sorted h = tt
+all_inside xs (e ∷ es) sorted h =
+    let here : Inside xs e.0 e.1 = subst (λ b. IfSome (cond b (Some e.1) (lookup (is_at (nat_cmp e.0)) es)) (Inside xs e.0)) ((eq_by_cmp_equiv nat_cmp_total).refl e.0) (h e.0) in
+    (here.1, all_inside xs es sorted.1 (λ q. rest_inside xs e es q (is_at (nat_cmp q) e.0) refl sorted.0 (h q)))
+
+none_of_map : {X Y : Type 0} (f : X → Y) (o : Option X) → option_map f o ≡ None → o ≡ None
+none_of_map f None h = refl
+none_of_map f (Some x) h = cc
+
+-- a page that the map lacks has no entry
+pub none_in : (xs : List ℕ) (m : BTreeMap ℕ ℕ) (p : ℕ) → get (pages_in xs m) p ≡ None → tree.get nat_cmp m p ≡ None
+none_in xs m p h = none_of_map (frame_in xs) (tree.get nat_cmp m p) (sym (get-pages_by (frame_in xs) m.entries p) ∙ h)
+
+-- one that the map has has one
+pub some_in : (xs : List ℕ) (m : BTreeMap ℕ ℕ) (p : ℕ) → IsSome (get (pages_in xs m) p) → IsSome (tree.get nat_cmp m p)
+some_in xs m p h = mapped (tree.get nat_cmp m p) (ap is_some (sym (get-pages_by (frame_in xs) m.entries p)) ∙ h)
+  where
+    mapped : (o : Option ℕ) → IsSome (option_map (frame_in xs) o) → IsSome o
+    mapped None h = h
+    mapped (Some x) h = refl
+
+pub none_is : {X : Type 0} (o : Option X) → is_some o ≡ false → o ≡ None
+none_is None h = refl
+none_is (Some x) h = cc
+
+pub AreFrames-IsTable : (xs : List ℕ) (m : BTreeMap ℕ ℕ) → IsTable xs m → AreFrames (frame_in xs) m
+AreFrames-IsTable xs m is = record {
+  each = λ q. if_some (tree.get nat_cmp m q) (λ i. (q < 2 ^ 34) × IsPageOfBytes (frame_in xs i)) (λ k e.
+      let old = inside_found xs m q k is (sym e) in
+      (old.0, IsPageOfBytes-frame_in xs k old.1 is.bytes));
+}
+
+-- what three copies and an exchange of frames have in common
+pub exchange_is_swap : (P one two : FinMap nat_cmp (List ℕ)) (d s w : ℕ) → s ≢ w → one ≡ insert P w (frame_at P s) → two ≡ insert (insert one s (frame_at one d)) d (frame_at one s) → two ≡ insert (insert (insert P w (frame_at P s)) s (frame_at (insert P w (frame_at P s)) d)) d (frame_at (insert (insert P w (frame_at P s)) s (frame_at (insert P w (frame_at P s)) d)) w)
+exchange_is_swap P one two d s w ne is_one is_two =
+    let first = insert P w (frame_at P s) in
+    let moved : frame_at (insert first s (frame_at first d)) w ≡ frame_at first s =
+    frame_at-insert_other first s (frame_at first d) w (λ e. ne (sym e)) ∙ frame_at-insert_same P w (frame_at P s) ∙ sym (frame_at-insert_other P w (frame_at P s) s ne) in
+    is_two ∙ ap (λ m. insert (insert m s (frame_at m d)) d (frame_at m s)) is_one ∙ ap (λ v. insert (insert first s (frame_at first d)) d v) (sym moved)
+
+pub absent-added : (m : FinMap nat_cmp (List ℕ)) (p low : ℕ) (v : List ℕ) → low ≤ p → ((q : ℕ) → low ≤ q → get m q ≡ None) → (q : ℕ) → p + 1 ≤ q → get (insert m p v) q ≡ None
+absent-added m p low v le h q up = get-insert_other m p v q (omega (arith, up)) ∙ h q (omega (arith, le, up))
+
+none_some : (i : ℕ) → ◌≡◌ {A = Option ℕ} None (Some i) → ⊥
+none_some i h = cc
+
+-- no pages
+pub IsTable-empty : (m : BTreeMap ℕ ℕ) → m.entries ≡ [] → IsTable [] m
+IsTable-empty m h = record {
+  inside = λ q. subst (λ es. IfSome (lookup (is_at (nat_cmp q)) es) (Inside [] q)) (sym h) tt;
+  apart = λ p q i at_p at_q. absurd (none_some i (subst (λ es. lookup (is_at (nat_cmp p)) es ≡ Some i) h at_p));
+  bytes = λ i. omega arith;
+  whole = refl;
+}
+
+pub pages-empty : (xs : List ℕ) (m : BTreeMap ℕ ℕ) → m.entries ≡ [] → pages_in xs m ≡ empty
+pages-empty xs m h = ap (pages_by (frame_in xs)) h
+
+pub absent-empty : (xs : List ℕ) (m : BTreeMap ℕ ℕ) (q : ℕ) → m.entries ≡ [] → get (pages_in xs m) q ≡ None
+absent-empty xs m q h = ap (λ k. get k q) (pages-empty xs m h) ∙ get-empty nat_cmp q
+
+-- whether a page is some bytes, then zeros
+list_zeros : (xs : List ℕ) → is_all_zeros xs ≡ true → xs ≡ replicate (length xs) 0
+list_zeros [] h = refl
+list_zeros (x ∷ xs) h =
+    let both = and_parts (x == 0) (is_all_zeros xs) h in
+    let head : x ≡ 0 = is_zero_from x both.0 in
+    ap (λ y. y ∷ xs) head ∙ ap (λ t. 0 ∷ t) (list_zeros xs both.1)
+  where
+    and_parts : (a b : Bool) → (a && b) ≡ true → (a ≡ true) × (b ≡ true)
+    and_parts true b h = (refl, h)
+    and_parts false b h = cc
+
+    is_zero_from : (x : ℕ) → (x == 0) ≡ true → x ≡ 0
+    is_zero_from x h = grind (arith, nat_tests)
+
+zeros_are : (n : ℕ) → is_all_zeros (replicate n 0) ≡ true
+zeros_are zero = refl
+zeros_are (suc n) = zeros_are n
+
+drop_front : (xs rest : List ℕ) (n : ℕ) → length xs ≡ n → drop n (xs ++ rest) ≡ rest
+drop_front xs rest n whole = grind (arith, common_steps)
+
+take_front : (xs rest : List ℕ) (n : ℕ) → length xs ≡ n → take n (xs ++ rest) ≡ xs
+take_front xs rest n whole = grind (arith, common_steps)
+
+pub is_page_when : (page bytes front back : List ℕ) (n : ℕ) (b : Bool) → length page ≡ 4096 → length bytes ≡ n → n ≤ 4096 → front ≡ take n page → back ≡ drop n page → front ≡ bytes → b ≡ is_all_zeros back → (b ≡ true → page ≡ page_of bytes) × (page ≡ page_of bytes → b ≡ true)
+is_page_when page bytes front back n b whole long fits is_front is_back same test =
+    let rest : length (drop n page) ≡ 4096 - length bytes = omega (arith, length-drop n page, whole, long) in
+    let filled = page_of-fits bytes (omega (arith, long, fits)) in (
+      λ yes. sym (take-append-drop n page) ∙ ap (λ t. t ++ drop n page) (sym is_front ∙ same) ∙ ap (λ t. bytes ++ t) (list_zeros (drop n page) (ap is_all_zeros (sym is_back) ∙ sym test ∙ yes) ∙ ap (λ k. replicate k 0) rest) ∙ sym filled,
+      λ eq. test ∙ ap is_all_zeros (is_back ∙ ap (drop n) (eq ∙ filled) ∙ drop_front bytes (replicate (4096 - length bytes) 0) n long) ∙ zeros_are (4096 - length bytes),
+    )
+
+pub no_page_when : (page bytes front : List ℕ) (n : ℕ) → length bytes ≡ n → n ≤ 4096 → front ≡ take n page → front ≢ bytes → page ≡ page_of bytes → ⊥
+no_page_when page bytes front n long fits is_front apart eq = apart (is_front ∙ ap (take n) (eq ∙ page_of-fits bytes (omega (arith, long, fits))) ∙ take_front bytes (replicate (4096 - length bytes) 0) n long)

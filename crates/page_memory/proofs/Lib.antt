@@ -1,0 +1,9 @@
+pub mod Bytes
+pub mod Changes
+pub mod Frames
+pub mod Numbers
+pub mod Reading
+pub mod Spelled
+pub mod Stored
+pub mod Tables
+pub mod RoundTrip

@@ -1,0 +1,76 @@
+-- A memory: a finite map from page numbers to 4,096 bytes each, and a number of sets.
+use Rattle.std.specs.Prelude.{◌≡◌, ℕ, ◌+◌, ◌-◌, ◌<◌, ◌^◌, ◌/◌, ◌%◌, ◌++◌, List, length, drop, take, slice_index, unwrap_or, if◌then◌else◌, nat_lt, replicate, IfSome}
+use Rattle.std.specs.Ordering.{nat_cmp}
+use Rattle.std.specs.FinMap as finite
+use Rattle.std.specs.Prelude.{refl, IsSome}
+use Rattle.std.specs.Coded.{Coded, code_by, coded×, coded_ℕ, coded_list}
+use Rattle.byteorder.specs.Endian.{little_number, little_bytes}
+
+-- what a clause sees of a Memory
+pub record Contents : Type 0 where
+  pub pages : finite.FinMap nat_cmp (List ℕ)
+  pub sets : ℕ
+
+-- stored as the pair of its fields
+abbrev pub contents_code : Coded Contents
+contents_code =
+    code_by (finite.FinMap nat_cmp (List ℕ) × ℕ) (coded× (finite.code coded_ℕ (coded_list coded_ℕ)) coded_ℕ) (λ m. (m.pages, m.sets)) (λ p. record { pages = p.0; sets = p.1 }) (λ _. refl)
+
+-- a page of zeros
+unfoldable pub zero_page : List ℕ
+zero_page = replicate 4096 0
+
+-- what a page reads as
+unfoldable pub frame_at : finite.FinMap nat_cmp (List ℕ) → ℕ → List ℕ
+frame_at pages p = unwrap_or (finite.get pages p) zero_page
+
+abbrev pub at : Contents → ℕ → List ℕ
+at m p = frame_at m.pages p
+
+-- page p is held
+abbrev pub IsHeld : Contents → ℕ → Type 0
+IsHeld m p = IsSome (finite.get m.pages p)
+
+-- the bytes, cut at or filled with zeros to a whole page
+unfoldable pub page_of : List ℕ → List ℕ
+page_of bytes = take 4096 bytes ++ replicate (4096 - length bytes) 0
+
+-- one more, up to the last number of 64 bits
+abbrev pub one_more_set : ℕ → ℕ
+one_more_set n = if nat_lt n 18446744073709551615 then n + 1 else n
+
+-- m with these bytes at page p
+abbrev pub with_page : Contents → ℕ → List ℕ → Contents
+with_page m p bytes = record { pages = finite.insert m.pages p bytes; sets = m.sets }
+
+-- page d becomes what page s reads as
+abbrev pub copied : Contents → ℕ → ℕ → Contents
+copied m d s = with_page m d (at m s)
+
+-- the copies s to w, d to s, w to d, in this order
+abbrev pub swapped : Contents → ℕ → ℕ → ℕ → Contents
+swapped m d s w = copied (copied (copied m w s) s d) d w
+
+-- the same where the number of sets goes on
+abbrev pub after_set : Contents → ℕ → List ℕ → Contents
+after_set m p bytes = record { pages = finite.insert m.pages p bytes; sets = one_more_set m.sets }
+
+abbrev pub IsBytes : List ℕ → Type 0
+IsBytes bytes = (i : ℕ) → slice_index bytes i < 256
+
+-- a page as each memory has it
+pub record IsPageOfBytes (bytes : List ℕ) : Type 0 where
+  pub whole : length bytes ≡ 4096
+  pub small : IsBytes bytes
+
+-- the page with the word at this place
+unfoldable pub page_with_word : List ℕ → ℕ → ℕ → List ℕ
+page_with_word bytes place v = take place bytes ++ (little_bytes 8 v ++ drop (place + 8) bytes)
+
+-- m with v at the word of address a
+abbrev pub with_word : Contents → ℕ → ℕ → Contents
+with_word m a v = after_set m (a / 4096) (page_with_word (at m (a / 4096)) (a % 4096) v)
+
+-- what each memory is
+pub record IsMemory (m : Contents) : Type 0 where
+  pub each : (q : ℕ) → IfSome (finite.get m.pages q) (λ b. (q < 2 ^ 34) × IsPageOfBytes b)

@@ -1,0 +1,40 @@
+-- A buffer of frames and a table from pages to frames.
+use Rattle.std.specs.Prelude.{◌≡◌, ℕ, ◌+◌, ◌*◌, ◌%◌, ◌<◌, ◌≤◌, ◌^◌, ◌++◌, List, length, take, drop, map, filter, IfSome, Some, cond}
+use Rattle.std.specs.Ordering.{nat_cmp}
+use Rattle.std.specs.BTreeMap as tree
+use Rattle.std.specs.BTreeMap.{is_at}
+use Rattle.std.specs.FinMap as finite
+use Rattle.page_memory.specs.Contents.{IsBytes, Contents, with_page, at}
+use Rattle.page_memory.specs.File.{is_stored}
+use Rattle.page_memory.specs.View.{pages_by}
+
+-- frame i of a buffer
+unfoldable pub frame_in : List ℕ → ℕ → List ℕ
+frame_in xs i = take 4096 (drop (4096 * i) xs)
+
+-- the buffer with these bytes as frame i
+unfoldable pub put_frame : List ℕ → ℕ → List ℕ → List ℕ
+put_frame xs i ys = take (4096 * i) xs ++ (ys ++ drop 4096 (drop (4096 * i) xs))
+
+-- the pages of a table over a buffer
+abbrev pub pages_in : List ℕ → tree.BTreeMap ℕ ℕ → finite.FinMap nat_cmp (List ℕ)
+pages_in frames table = pages_by (frame_in frames) table.entries
+
+-- frames of different pages differ, and each lies in the buffer
+pub record IsTable (frames : List ℕ) (table : tree.BTreeMap ℕ ℕ) : Type 0 where
+  pub inside : (q : ℕ) → IfSome (tree.get nat_cmp table q) (λ i. (q < 2 ^ 34) × (4096 * i + 4096 ≤ length frames))
+  pub apart : (p q i : ℕ) → tree.get nat_cmp table p ≡ Some i → tree.get nat_cmp table q ≡ Some i → p ≡ q
+  pub bytes : IsBytes frames
+  pub whole : length frames % 4096 ≡ 0
+
+-- n has v at k, and at each other key what m has
+abbrev pub Differs : {X : Type 0} → tree.BTreeMap ℕ X → tree.BTreeMap ℕ X → ℕ → X → Type 0
+Differs m n k v = (q : ℕ) → tree.get nat_cmp n q ≡ cond (is_at (nat_cmp k) q) (Some v) (tree.get nat_cmp m q)
+
+-- the entries with the bytes of their frames
+abbrev pub frame_entries : List ℕ → List (ℕ × ℕ) → List (ℕ × List ℕ)
+frame_entries frames es = map {B = ℕ × List ℕ} (λ (e : ℕ × ℕ). (e.0, frame_in frames e.1)) es
+
+-- those that a file has
+abbrev pub stored_in : List ℕ → tree.BTreeMap ℕ ℕ → List (ℕ × List ℕ)
+stored_in frames m = filter is_stored (frame_entries frames m.entries)

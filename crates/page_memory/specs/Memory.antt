@@ -1,0 +1,32 @@
+-- Memory as a function: what each page reads as. The definitions of lists, loads and runs speak of memory so.
+use Rattle.std.specs.Prelude.{◌≡◌, ℕ, ◌/◌, ◌%◌, List, drop, eqb, cond, Option}
+use Rattle.byteorder.specs.Endian.{little_number}
+use Rattle.page_memory.specs.Contents.{page_with_word}
+
+-- what each page number reads as
+abbrev pub Mem : Type 0
+Mem = ℕ → List ℕ
+
+-- the bytes that a page of the new kernel is to have: none where it is no page of the new kernel
+abbrev pub Wants : Type 0
+Wants = ℕ → Option (List ℕ)
+
+-- the little-endian number in the eight bytes at this address, which is a multiple of 8
+unfoldable pub word : Mem → ℕ → ℕ
+word M a = little_number 8 (drop (a % 4096) (M (a / 4096)))
+
+-- the memory with this page set to these bytes
+abbrev pub put : Mem → ℕ → List ℕ → Mem
+put M p bytes q = cond (eqb q p) bytes (M q)
+
+-- the memory with this number as the word at this address
+abbrev pub set_word : Mem → ℕ → ℕ → Mem
+set_word M a v = put M (a / 4096) (page_with_word (M (a / 4096)) (a % 4096) v)
+
+-- the memory after one page was copied to another
+abbrev pub copied_page : Mem → ℕ → ℕ → Mem
+copied_page M source destination = put M destination (M source)
+
+-- two memories agree at every page
+abbrev pub Agree : Mem → Mem → Type 0
+Agree M N = (p : ℕ) → M p ≡ N p

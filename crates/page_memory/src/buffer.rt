@@ -1,0 +1,181 @@
+//! The buffer of frames, and the table from pages to frames.
+
+ghost use Rattle.std.specs.Prelude.{◌≡◌, ℕ, ◌+◌, ◌*◌, ◌≤◌, ◌≢◌, length, IsSome, OnOk, OnErr, List, None, Some};
+ghost use Rattle.std.specs.FinMap as finite;
+ghost use Rattle.std.specs.Ordering.{nat_cmp};
+ghost use Rattle.std.specs.BTreeMap as tree;
+ghost use Rattle.page_memory.specs.Contents.{IsPageOfBytes, frame_at, zero_page, page_of, page_with_word};
+ghost use Rattle.page_memory.specs.Frames.{frame_in, put_frame, pages_in, IsTable, Differs};
+
+use byteorder::{ByteOrder, LittleEndian};
+use kx_pages::Page;
+use std::alloc::AllocError;
+use std::collections::BTreeMap;
+
+pub type Table = BTreeMap<Page, usize>;
+
+// Frame i of the buffer.
+#[tactic(auto, unfolding(crate::specs::Frames::frame_in))]
+pub fn frame(frames: &[u8], i: usize) -> &[u8]
+    requires { 4096 * i + 4096 ≤ length frames.now }
+    ensures { result.now ≡ frame_in frames.now i }
+{
+    let (_, rest) = frames.split_at(4096 * i);
+    let (frame, _) = rest.split_at(4096);
+    frame
+}
+
+// Fills a frame with bytes, then zeros.
+#[tactic(auto, unfolding(crate::specs::Frames::put_frame))]
+fn fill(frames: &mut [u8], i: usize, bytes: &[u8])
+    requires inside { 4096 * i + 4096 ≤ length frames.old }
+    requires fits { length bytes.now ≤ 4096 }
+    ensures { frames.new ≡ put_frame frames.old i (page_of bytes.now) }
+{
+    let (_, rest) = frames.split_at_mut(4096 * i);
+    let (frame, _) = rest.split_at_mut(4096);
+    fill_frame(frame, bytes);
+}
+
+fn fill_frame(frame: &mut [u8], bytes: &[u8])
+    requires whole { length frame.old ≡ 4096 }
+    requires fits { length bytes.now ≤ 4096 }
+    ensures { frame.new ≡ page_of bytes.now }
+{
+    let (front, back) = frame.split_at_mut(bytes.len());
+    front.copy_from_slice(bytes);
+    back.fill(0);
+}
+
+// Writes a word into a frame.
+#[tactic(auto, unfolding(crate::specs::Frames::put_frame, crate::specs::Frames::frame_in))]
+fn fill_word(frames: &mut [u8], i: usize, place: usize, v: u64)
+    requires inside { 4096 * i + 4096 ≤ length frames.old }
+    requires fits { place + 8 ≤ 4096 }
+    ensures { frames.new ≡ put_frame frames.old i (page_with_word (frame_in frames.old i) place v) }
+{
+    let (_, rest) = frames.split_at_mut(4096 * i);
+    let (frame, _) = rest.split_at_mut(4096);
+    put_word(frame, place, v);
+}
+
+fn put_word(frame: &mut [u8], place: usize, v: u64)
+    requires { place + 8 ≤ length frame.old }
+    ensures { frame.new ≡ page_with_word frame.old place v }
+{
+    let (_, rest) = frame.split_at_mut(place);
+    LittleEndian::write_u64(rest, v);
+}
+
+pub fn write_frame(frames: &mut Vec<u8>, table: &Table, p: Page, bytes: &[u8])
+    requires old { IsTable frames.old.items table.now }
+    requires held { IsSome (finite.get (pages_in frames.old.items table.now) p) }
+    requires fits { length bytes.now ≤ 4096 }
+    ensures value { pages_in frames.new.items table.now ≡ finite.insert (pages_in frames.old.items table.now) p (page_of bytes.now) }
+    ensures table { IsTable frames.new.items table.now }
+{
+    match table.get(&p) {
+        Some(i) => fill(frames, *i, bytes),
+        None => unreachable!(),
+    }
+}
+
+pub fn write_word(frames: &mut Vec<u8>, table: &Table, p: Page, place: usize, v: u64)
+    requires old { IsTable frames.old.items table.now }
+    requires held { IsSome (finite.get (pages_in frames.old.items table.now) p) }
+    requires fits { place + 8 ≤ 4096 }
+    ensures value { pages_in frames.new.items table.now ≡ finite.insert (pages_in frames.old.items table.now) p (page_with_word (frame_at (pages_in frames.old.items table.now) p) place v) }
+    ensures table { IsTable frames.new.items table.now }
+{
+    match table.get(&p) {
+        Some(i) => fill_word(frames, *i, place, v),
+        None => unreachable!(),
+    }
+}
+
+// A copy of what a page reads as.
+pub fn frame_or_zeros(frames: &[u8], table: &Table, p: Page) -> [u8; 4096]
+    requires { IsTable frames.now table.now }
+    ensures value { result ≡ frame_at (pages_in frames.now table.now) p }
+    ensures whole { IsPageOfBytes result }
+{
+    match table.get(&p) {
+        Some(i) => array_of(frame(frames, *i)),
+        None => zeros(),
+    }
+}
+
+fn array_of(bytes: &[u8]) -> [u8; 4096]
+    requires { length bytes.now ≡ 4096 }
+    ensures { result ≡ bytes.now }
+{
+    let mut copy = [0; 4096];
+    copy.copy_from_slice(bytes);
+    copy
+}
+
+#[tactic(auto, unfolding(crate::specs::Contents::zero_page))]
+fn zeros() -> [u8; 4096]
+    ensures { result ≡ zero_page }
+{
+    [0; 4096]
+}
+
+// Adds a page. Room is made first, so that a refusal leaves both as they were.
+pub fn add_frame(
+    frames: &mut Vec<u8>,
+    table: &mut Table,
+    p: Page,
+    bytes: &[u8],
+) -> Result<(), AllocError>
+    requires old { IsTable frames.old.items table.old }
+    requires absent { finite.get (pages_in frames.old.items table.old) p ≡ None }
+    requires bytes { IsPageOfBytes bytes.now }
+    ensures ok { OnOk result (pages_in frames.new.items table.new ≡ finite.insert (pages_in frames.old.items table.old) p bytes.now) }
+    ensures err { OnErr result (pages_in frames.new.items table.new ≡ pages_in frames.old.items table.old) }
+    ensures table { IsTable frames.new.items table.new }
+{
+    let _number = p.number();
+    let next = frames.len() / 4096;
+    frames.reserve(4096)?;
+    table.insert(p, next)?;
+    match frames.extend_from_slice(bytes) {
+        Ok(()) => Ok(()),
+        Err(_) => unreachable!(),
+    }
+}
+
+// The entry of a page that has one.
+fn entry_of(table: &Table, p: Page) -> usize
+    requires { IsSome (tree.get nat_cmp table.now p) }
+    ensures { tree.get nat_cmp table.now p ≡ Some result }
+{
+    match table.get(&p) {
+        Some(entry) => *entry,
+        None => unreachable!(),
+    }
+}
+
+fn set_entry(table: &mut Table, p: Page, i: usize)
+    requires { IsSome (tree.get nat_cmp table.old p) }
+    ensures { Differs table.old table.new p i }
+{
+    match table.get_mut(&p) {
+        Some(entry) => *entry = i,
+        None => unreachable!(),
+    }
+}
+
+// The frames of two pages change places.
+pub fn exchange(table: &mut Table, d: Page, s: Page)
+    requires d { IsSome (tree.get nat_cmp table.old d) }
+    requires s { IsSome (tree.get nat_cmp table.old s) }
+    requires apart { d ≢ s }
+    ensures value { (xs : List ℕ) → pages_in xs table.new ≡ finite.insert (finite.insert (pages_in xs table.old) s (frame_at (pages_in xs table.old) d)) d (frame_at (pages_in xs table.old) s) }
+    ensures table { (xs : List ℕ) → IsTable xs table.old → IsTable xs table.new }
+{
+    let i = entry_of(table, d);
+    let j = entry_of(table, s);
+    set_entry(table, s, i);
+    set_entry(table, d, j);
+}

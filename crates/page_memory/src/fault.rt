@@ -1,0 +1,76 @@
+//! Why bytes are no memory file, and why a memory has none.
+
+ghost use Rattle.std.specs.Prelude.{◌≡◌};
+
+use std::alloc::{AllocError, AllocFailed};
+use thiserror::Error;
+
+/// Why bytes are no memory file. Each place is an offset in bytes from the file's start.
+#[derive(Clone, Copy, Debug, PartialEq, Eq, Error)]
+pub enum MemFault {
+    #[error("out of memory")]
+    Memory,
+    #[error("the memory file does not begin with KXMEM001")]
+    BadMagic,
+    #[error("the memory file is cut off at byte {at}")]
+    Truncated { at: u64 },
+    #[error("the memory file goes on after its last page, at byte {at}")]
+    Trailing { at: u64 },
+    #[error("the page number at byte {at} of the memory file is not above the one before it")]
+    NotRising { at: u64 },
+    #[error("the page at byte {at} of the memory file is all zeros, and such pages are left out")]
+    ZeroPage { at: u64 },
+    #[error("the memory file counts {count} pages, and at most 131072 are allowed")]
+    TooMany { count: u64 },
+    #[error("the page number at byte {at} of the memory file is not below 400000000 (hexadecimal)")]
+    PastLimit { at: u64 },
+}
+
+impl From<AllocError> for MemFault {
+    ghost use Rattle.page_memory.specs.declared.fault.MemFault.TheVariants.{Memory};
+
+    ghost from_gives = { λ _ e. e ≡ Memory };
+
+    fn from(_: AllocError) -> MemFault {
+        MemFault::Memory
+    }
+}
+
+impl<T: Drop> From<AllocFailed<T>> for MemFault {
+    ghost use Rattle.page_memory.specs.declared.fault.MemFault.TheVariants.{Memory};
+
+    ghost from_gives = { λ _ e. e ≡ Memory };
+
+    fn from(_: AllocFailed<T>) -> MemFault {
+        MemFault::Memory
+    }
+}
+
+/// Why a memory has no file.
+#[derive(Clone, Copy, Debug, PartialEq, Eq, Error)]
+pub enum HeavyFault {
+    #[error("out of memory")]
+    Memory,
+    #[error("{count} pages of the memory are not all zeros, and a memory file has at most 131072")]
+    TooMany { count: u64 },
+}
+
+impl From<AllocError> for HeavyFault {
+    ghost use Rattle.page_memory.specs.declared.fault.HeavyFault.TheVariants.{Memory};
+
+    ghost from_gives = { λ _ e. e ≡ Memory };
+
+    fn from(_: AllocError) -> HeavyFault {
+        HeavyFault::Memory
+    }
+}
+
+impl<T: Drop> From<AllocFailed<T>> for HeavyFault {
+    ghost use Rattle.page_memory.specs.declared.fault.HeavyFault.TheVariants.{Memory};
+
+    ghost from_gives = { λ _ e. e ≡ Memory };
+
+    fn from(_: AllocFailed<T>) -> HeavyFault {
+        HeavyFault::Memory
+    }
+}
