@@ -1,5 +1,5 @@
 -- Membership and counting on lists of numbers and pairs, as the definitions of lists, loads and segments use them.
-use Rattle.std.specs.Prelude.{◌≡◌, ◌≢◌, ℕ, ◌+◌, ◌⊎◌, ◌||◌, Bool, false, List, [], ◌∷◌, cond, eqb}
+use Rattle.std.specs.Prelude.{◌≡◌, ◌≢◌, ℕ, ◌+◌, ◌⊎◌, ◌||◌, Bool, false, List, [], ◌∷◌, map, cond, eqb}
 
 -- every element of xs
 abbrev pub Each : {X : Type 0} → (X → Type 0) → List X → Type 0
@@ -25,3 +25,11 @@ Distinct (x ∷ xs) = Each (λ y. x ≢ y) xs × Distinct xs
 abbrev pub count : ℕ → List ℕ → ℕ
 count x [] = 0
 count x (y ∷ ys) = cond (eqb y x) 1 0 + count x ys
+
+-- the destinations of pairs of destination and source page
+abbrev pub destinations : List (ℕ × ℕ) → List ℕ
+destinations qs = map (λ q. q.0) qs
+
+-- and their sources
+abbrev pub sources : List (ℕ × ℕ) → List ℕ
+sources qs = map (λ q. q.1) qs

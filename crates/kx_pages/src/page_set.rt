@@ -2,7 +2,7 @@
 
 ghost use Rattle.std.specs.Prelude.{◌≡◌, ℕ, ◌-◌, ◌<◌, ◌≤◌, ◌^◌, ◌↔◌, ◌++◌, ◌∷◌, ◌&&◌, ◌||◌, [], not, List, length, IsTrue, IfOk, IfErr};
 ghost use Rattle.std.specs.List.{slice_get, list_any};
-ghost use Rattle.kx_pages.specs.Spans.{Run, in_span, has, pages, AreApart, passing, IsMaximal};
+ghost use Rattle.kx_pages.specs.Spans.{Run, in_span, in_spans, pages, AreApart, passing, IsMaximal};
 ghost use Rattle.kx_pages.specs.Edits.{joined, if_some, without, spans_meet, with_rest};
 
 use crate::page::Page;
@@ -40,7 +40,7 @@ impl PageSet {
 
     /// The span's pages come in. After want of memory the set is as before.
     pub fn add(&mut self, span: Span) -> Result<(), AllocError>
-        ensures pages { IfOk result (λ _. (q : ℕ) → has self.new q ≡ (has self.old q || in_span span q)) }
+        ensures pages { IfOk result (λ _. (q : ℕ) → in_spans self.new q ≡ (in_spans self.old q || in_span span q)) }
         ensures failed { IfErr result (λ _. self.new ≡ self.old) }
     {
         if span.count() > 0 {
@@ -51,7 +51,7 @@ impl PageSet {
 
     /// The span's pages go out. After want of memory the set is as before.
     pub fn cut(&mut self, span: Span) -> Result<(), AllocError>
-        ensures pages { IfOk result (λ _. (q : ℕ) → has self.new q ≡ (has self.old q && not (in_span span q))) }
+        ensures pages { IfOk result (λ _. (q : ℕ) → in_spans self.new q ≡ (in_spans self.old q && not (in_span span q))) }
         ensures failed { IfErr result (λ _. self.new ≡ self.old) }
     {
         if span.count() > 0 {
@@ -62,14 +62,14 @@ impl PageSet {
 
     /// Whether one of the span's pages is in the set.
     pub fn meets(&self, span: Span) -> bool
-        ensures { IsTrue result ↔ ((q : ℕ) × IsTrue (has self.now q) × IsTrue (in_span span q)) }
+        ensures { IsTrue result ↔ ((q : ℕ) × IsTrue (in_spans self.now q) × IsTrue (in_span span q)) }
     {
         any_meets(&self.spans, span)
     }
 
     /// Whether the page is in the set.
     pub fn holds(&self, p: Page) -> bool
-        ensures { result ≡ has self.now p }
+        ensures { result ≡ in_spans self.now p }
     {
         let number = p.number();
         any_has(&self.spans, number)
@@ -78,7 +78,7 @@ impl PageSet {
     /// The number of pages.
     pub fn total(&self) -> u64
         ensures sum { result ≡ pages self.now }
-        ensures count { (n : ℕ) → 2 ^ 34 ≤ n → result ≡ passing (has self.now) n }
+        ensures count { (n : ℕ) → 2 ^ 34 ≤ n → result ≡ passing (in_spans self.now) n }
     {
         let mut total = 0;
         for s in &self.spans {
@@ -116,7 +116,7 @@ impl PageSet {
 
 /// Two sets of the same pages have the same spans.
 pub fn have_one_form(a: &PageSet, b: &PageSet)
-    ensures { ((q : ℕ) → has a.now q ≡ has b.now q) → a.now ≡ b.now }
+    ensures { ((q : ℕ) → in_spans a.now q ≡ in_spans b.now q) → a.now ≡ b.now }
 {
     let _ = a.spans();
     let _ = b.spans();
@@ -129,7 +129,7 @@ fn any_meets(spans: &[Span], span: Span) -> bool
 }
 
 fn any_has(spans: &[Span], number: u64) -> bool
-    ensures { result ≡ has spans.now number }
+    ensures { result ≡ in_spans spans.now number }
 {
     spans.iter().any(|s| s.has(number))
 }

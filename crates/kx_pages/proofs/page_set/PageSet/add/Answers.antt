@@ -1,5 +1,5 @@
 use Rattle.std.proofs.Common.{◌||◌, ap, sym, ◌∙◌, arith}
-use Rattle.kx_pages.specs.Spans.{has, in_span}
+use Rattle.kx_pages.specs.Spans.{in_spans, in_span}
 use Rattle.kx_pages.proofs.Sets.{has_joined, apart_as, apart_joined}
 use Rattle.kx_pages.proofs.page_set.PageSet.add.Goals as goal
 
@@ -9,4 +9,4 @@ invariant_of-self c =
 
 pub returns-in_ok-self-inside-clause-pages : goal.returns-in_ok-self-inside-clause-pages
 returns-in_ok-self-inside-clause-pages c = λ q.
-    ap (λ xs. has xs q) c.in_ok-self-inside.ensures ∙ has_joined _ c.args.span q ∙ ap (λ xs. has xs q || in_span c.args.span q) (c.deref.ensures.value ∙ c.self.view_is)
+    ap (λ xs. in_spans xs q) c.in_ok-self-inside.ensures ∙ has_joined _ c.args.span q ∙ ap (λ xs. in_spans xs q || in_span c.args.span q) (c.deref.ensures.value ∙ c.self.view_is)
