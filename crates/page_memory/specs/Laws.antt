@@ -118,3 +118,8 @@ page_of-take xs =
     let short : length (take 4096 xs) ≤ 4096 = omega (arith, length-take 4096 xs) in
     let rest : 4096 - length (take 4096 xs) ≡ 4096 - length xs = omega (arith, length-take 4096 xs) in
     ap (λ ys. ys ++ replicate (4096 - length (take 4096 xs)) 0) (take_all 4096 (take 4096 xs) short) ∙ ap (λ n. take 4096 xs ++ replicate n 0) rest
+
+-- a word is told by its page
+pub word-same_page : (M N : ℕ → List ℕ) (a : ℕ) → M (a / 4096) ≡ N (a / 4096) → word M a ≡ word N a
+unfolding word
+word-same_page M N a h = ap (λ bytes. little_number 8 (drop (a % 4096) bytes)) h

@@ -1,0 +1,105 @@
+-- A table of marks, page by page.
+use Rattle.std.proofs.Common.{◌≡◌, ℕ, ◌+◌, ◌<◌, ◌≤◌, List, [], ◌∷◌, ◌++◌, Bool, true, false, cond, refl, sym, ap, ◌∙◌, subst, Some, None, Option, arith, take, drop, length, ⊎_elim, inl, inr}
+use Rattle.std.specs.Prelude.{◌≢◌, ◌⊎◌, ◌||◌, IsSome, is_some, eqb, nat_eq, unwrap_or}
+use Rattle.std.specs.List.{list_any}
+use Rattle.std.specs.Ordering.{nat_cmp, is_eq}
+use Rattle.std.specs.declared.cmp.Ordering.{Ordering}
+use Rattle.std.specs.declared.cmp.Ordering.TheVariants.{Less, Equal, Greater}
+use Rattle.std.specs.Cmp.{nat_cmp_total, eq_by_cmp_equiv}
+use Rattle.std.specs.BTreeMap as tree
+use Rattle.std.specs.FinMap as finite
+use Rattle.std.specs.FinMap.{nat_cmp-IsAntisymmetric, get-from_entries}
+use Rattle.std.proofs.lemmas.List.Folds.{list_any-append}
+use Rattle.std.proofs.lemmas.Bool.Decides.{eqb_tells}
+use Rattle.kx_pages.specs.Lists.{count}
+use Rattle.page_pool.specs.Counts.{IsOnce}
+use Rattle.page_pool.specs.Marks.{marks_of, HaveMarks, AreMarks, IsPool}
+use Rattle.page_pool.proofs.Tables.{count-append}
+
+is_eq-false : (r : Ordering) → (r ≡ Equal → ⊥) → is_eq r ≡ false
+is_eq-false Less h = refl
+is_eq-false Equal h = absurd (h refl)
+is_eq-false Greater h = refl
+
+apart : (k q : ℕ) → k ≢ q → is_eq (nat_cmp k q) ≡ false
+apart k q ne = is_eq-false (nat_cmp k q) (λ e. ne (nat_cmp-IsAntisymmetric k q e))
+
+or_true : (b : Bool) → (b || true) ≡ true
+or_true true = refl
+or_true false = refl
+
+or_false : (b : Bool) → (b || false) ≡ b
+or_false true = refl
+or_false false = refl
+
+count-any : (x : ℕ) (xs : List ℕ) → ((list_any (nat_eq x) xs ≡ true) × (1 ≤ count x xs)) ⊎ ((list_any (nat_eq x) xs ≡ false) × (count x xs ≡ 0))
+count-any x [] = inr (refl, refl)
+count-any x (y ∷ xs) = go (eqb_tells x y) (eqb_tells y x) (count-any x xs)
+  where
+    go : ((eqb x y ≡ true) × (x ≡ y)) ⊎ ((eqb x y ≡ false) × (x ≢ y)) → ((eqb y x ≡ true) × (y ≡ x)) ⊎ ((eqb y x ≡ false) × (y ≢ x)) → ((list_any (nat_eq x) xs ≡ true) × (1 ≤ count x xs)) ⊎ ((list_any (nat_eq x) xs ≡ false) × (count x xs ≡ 0))
+        → ((list_any (nat_eq x) (y ∷ xs) ≡ true) × (1 ≤ count x (y ∷ xs))) ⊎ ((list_any (nat_eq x) (y ∷ xs) ≡ false) × (count x (y ∷ xs) ≡ 0))
+    go (inl u) (inr v) ih = absurd (v.1 (sym u.1))
+    go (inr u) (inl v) ih = absurd (u.1 (sym v.1))
+    go (inl u) (inl v) ih =
+        let m : count x (y ∷ xs) ≡ 1 + count x xs = ap (λ b. cond b 1 0 + count x xs) v.0 in
+        inl (ap (λ b. b || list_any (nat_eq x) xs) u.0, omega (arith, m))
+    go (inr u) (inr v) ih =
+        let m : count x (y ∷ xs) ≡ 0 + count x xs = ap (λ b. cond b 1 0 + count x xs) v.0 in
+        ⊎_elim (λ h. inl (ap (λ b. b || list_any (nat_eq x) xs) u.0 ∙ h.0, omega (arith, m, h.1))) (λ h. inr (ap (λ b. b || list_any (nat_eq x) xs) u.0 ∙ h.0, omega (arith, m, h.1))) ih
+
+some-fresh : (b : Bool) → is_some (cond b (Some false) None) ≡ b
+some-fresh true = refl
+some-fresh false = refl
+
+value-fresh : (b : Bool) → unwrap_or (cond b (Some false) None) false ≡ false
+value-fresh true = refl
+value-fresh false = refl
+
+once-push : (xs : List ℕ) (k : ℕ) → count k xs ≡ 0 → IsOnce xs → IsOnce (xs ++ k ∷ [])
+once-push xs k z h = record { each = λ x. go x (eqb_tells k x) }
+  where
+    go : (x : ℕ) → ((eqb k x ≡ true) × (k ≡ x)) ⊎ ((eqb k x ≡ false) × (k ≢ x)) → count x (xs ++ k ∷ []) ≤ 1
+    go x (inl u) =
+        let m : count x (k ∷ []) ≡ 1 = ap (λ b. cond b 1 0 + 0) u.0 in
+        let n : count x xs ≡ 0 = ap (λ y. count y xs) (sym u.1) ∙ z in
+        omega (arith, count-append x xs (k ∷ []), m, n)
+    go x (inr u) =
+        let m : count x (k ∷ []) ≡ 0 = ap (λ b. cond b 1 0 + 0) u.0 in
+        omega (arith, count-append x xs (k ∷ []), m, h.each x)
+
+-- one more page
+pub marks_more : (xs ys : List ℕ) (k : ℕ) (m n : tree.BTreeMap ℕ Bool) (b : Bool) → ys ≡ xs ++ k ∷ [] → AreMarks xs m → b ≡ is_some (tree.get nat_cmp m k) → b ≡ false
+    → ((q : ℕ) → tree.get nat_cmp n q ≡ cond (is_eq (nat_cmp k q)) (Some false) (tree.get nat_cmp m q)) → AreMarks ys n
+marks_more xs ys k m n b e h f g u =
+    let fresh : list_any (nat_eq k) xs ≡ false = sym (some-fresh (list_any (nat_eq k) xs)) ∙ sym (ap is_some (h.each k)) ∙ sym f ∙ g in
+    let none : count k xs ≡ 0 = ⊎_elim (λ t. absurd (clash (list_any (nat_eq k) xs) t.0 fresh)) (λ t. t.1) (count-any k xs) in
+    subst (λ zs. AreMarks zs n) (sym e) (record { each = λ q. go q (eqb_tells q k); once = once-push xs k none h.once })
+  where
+    clash : (b : Bool) → b ≡ true → b ≡ false → ⊥
+    clash true p q = cc
+    clash false p q = cc
+
+    more : (q : ℕ) → list_any (nat_eq q) (xs ++ k ∷ []) ≡ (list_any (nat_eq q) xs || (nat_eq q k || false))
+    more q = list_any-append (nat_eq q) xs (k ∷ [])
+
+    go : (q : ℕ) → ((eqb q k ≡ true) × (q ≡ k)) ⊎ ((eqb q k ≡ false) × (q ≢ k)) → tree.get nat_cmp n q ≡ cond (list_any (nat_eq q) (xs ++ k ∷ [])) (Some false) None
+    go q (inl t) =
+        let y : is_eq (nat_cmp k q) ≡ true = ap (λ x. is_eq (nat_cmp k x)) t.1 ∙ (eq_by_cmp_equiv nat_cmp_total).refl k in
+        u q ∙ ap (λ c. cond c (Some false) (tree.get nat_cmp m q)) y ∙ sym (ap (λ c. cond c (Some false) None) (more q ∙ ap (λ c. list_any (nat_eq q) xs || (c || false)) t.0 ∙ or_true (list_any (nat_eq q) xs)))
+    go q (inr t) =
+        let y : is_eq (nat_cmp k q) ≡ false = apart k q (λ w. t.1 (sym w)) in
+        u q ∙ ap (λ c. cond c (Some false) (tree.get nat_cmp m q)) y ∙ h.each q ∙ sym (ap (λ c. cond c (Some false) None) (more q ∙ ap (λ c. list_any (nat_eq q) xs || (c || false)) t.0 ∙ or_false (list_any (nat_eq q) xs)))
+
+pub marks_none : (m : tree.BTreeMap ℕ Bool) → ((q : ℕ) → tree.get nat_cmp m q ≡ None) → AreMarks [] m
+marks_none m h = record { each = h; once = record { each = λ x. omega arith } }
+
+-- a pool of these pages
+pub pool_made : (xs : List ℕ) (m : tree.BTreeMap ℕ Bool) → AreMarks xs m → IsPool xs 0 m
+pool_made xs m h = record {
+  within = omega arith;
+  once = h.once;
+  have = record { each = λ x c. ap is_some (h.each x) ∙ some-fresh (list_any (nat_eq x) xs) ∙ ⊎_elim (λ t. t.0) (λ t. absurd (omega (arith, t.1, c))) (count-any x xs) };
+}
+
+pub unmarked : (xs : List ℕ) (m : tree.BTreeMap ℕ Bool) → AreMarks xs m → (q : ℕ) → unwrap_or (finite.get (marks_of m) q) false ≡ false
+unmarked xs m h q = ap (λ o. unwrap_or o false) (get-from_entries nat_cmp_total m.entries q ∙ h.each q) ∙ value-fresh (list_any (nat_eq q) xs)

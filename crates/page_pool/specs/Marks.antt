@@ -1,0 +1,26 @@
+-- The table of marks.
+use Rattle.std.specs.Prelude.{◌≡◌, ℕ, ◌≤◌, List, Bool, false, IsSome, length, cond, nat_eq, Some, None}
+use Rattle.std.specs.List.{list_any}
+use Rattle.std.specs.Ordering.{nat_cmp}
+use Rattle.std.specs.FinMap as finite
+use Rattle.std.specs.BTreeMap as tree
+use Rattle.kx_pages.specs.Lists.{count}
+use Rattle.page_pool.specs.Counts.{IsOnce}
+
+abbrev pub marks_of : tree.BTreeMap ℕ Bool → finite.FinMap nat_cmp Bool
+marks_of m = finite.from_entries m.entries
+
+-- each of these pages has a mark
+pub record HaveMarks (xs : List ℕ) (m : tree.BTreeMap ℕ Bool) : Type 0 where
+  pub each : (x : ℕ) → 1 ≤ count x xs → IsSome (tree.get nat_cmp m x)
+
+-- what each pool is: its pages, how many are drawn, and its marks
+pub record IsPool (xs : List ℕ) (next : ℕ) (m : tree.BTreeMap ℕ Bool) : Type 0 where
+  pub within : next ≤ length xs
+  pub once : IsOnce xs
+  pub have : HaveMarks xs m
+
+-- a table of these pages, none of them filed
+pub record AreMarks (xs : List ℕ) (m : tree.BTreeMap ℕ Bool) : Type 0 where
+  pub each : (q : ℕ) → tree.get nat_cmp m q ≡ cond (list_any (nat_eq q) xs) (Some false) None
+  pub once : IsOnce xs

@@ -1,0 +1,261 @@
+//! The machine, step by step.
+
+ghost use Rattle.std.specs.Prelude.{◌≡◌, ℕ, ◌+◌, ◌*◌, ◌/◌, ◌%◌, ◌<◌, ◌≤◌, ◌^◌, IsTrue, false, IsNone, IfSome, IfOk, OnOk, OnErr};
+ghost use Rattle.page_memory.specs.Contents.{IsHeld};
+ghost use Rattle.relocate_machine.specs.Machine.{State, start_of, fetched, advanced, moved, step_of, AreHeld, move_writes, word_writes, writes_of, HoldsWrites};
+ghost use Rattle.relocate_machine.specs.Run.{HeldFrom, Agree, run_of};
+
+use crate::word::{Kind, address, first_bit};
+use kx_pages::{Mode, Page};
+use page_memory::Memory;
+use std::alloc::AllocError;
+use std::marker::Model;
+
+/// Addresses lie below this.
+const ADDRESS_LIMIT: u64 = 0x4000_0000_0000;
+
+/// What a step did.
+#[derive(Clone, Copy, Debug, PartialEq, Eq)]
+pub enum Step {
+    Went,
+    Ended,
+    Off { address: u64 },
+}
+
+/// How a run came out.
+#[derive(Clone, Copy, Debug, PartialEq, Eq)]
+pub enum Outcome {
+    Done { steps: u64 },
+    Running { limit: u64 },
+    Off { address: u64, steps: u64 },
+}
+
+/// The pages that a step writes.
+#[derive(Clone, Copy, Debug, PartialEq, Eq)]
+pub struct Writes {
+    pub destination: Option<Page>,
+    pub source: Option<Page>,
+    pub swap: Option<Page>,
+}
+
+const NO_WRITES: Writes = Writes {
+    destination: None,
+    source: None,
+    swap: None,
+};
+
+/// The state of a run, but for the memory that it acts on.
+#[derive(Debug, Drop)]
+pub struct Machine {
+    first: Option<u64>,
+    cursor: u64,
+    destination: u64,
+    ended: bool,
+    mode: Mode,
+}
+
+impl Model for Machine {
+    ghost use Rattle.std.specs.Prelude.{◌≡◌, ◌%◌};
+    ghost use Rattle.relocate_machine.specs.Machine.{Registers};
+
+    ghost Value = { Registers };
+
+    ghost view = { λ m. record { first = m.first; cursor = m.cursor; destination = m.destination; ended = m.ended; mode = m.mode } };
+
+    ghost invariant = { λ m. (m.cursor % 8 ≡ 0) × (m.destination % 4096 ≡ 0) };
+}
+
+impl Machine {
+    pub fn start(head: u64, mode: Mode) -> Machine
+        ensures { result ≡ start_of head mode }
+    {
+        Machine {
+            first: Some(head),
+            cursor: 0,
+            destination: 0,
+            ended: false,
+            mode,
+        }
+    }
+
+    /// The pages that the next step writes.
+    #[tactic(auto, unfolding(crate::specs::Machine::writes_of))]
+    pub fn writes(&self, memory: &Memory) -> Writes
+        ensures { result ≡ writes_of record { machine = self.now; memory = memory.now } }
+    {
+        match fetch(self.first, self.cursor, memory) {
+            Ok(word) => match first_bit(word) {
+                Kind::Source => self.move_writes(address(word)),
+                _ => NO_WRITES,
+            },
+            Err(_) => NO_WRITES,
+        }
+    }
+
+    fn move_writes(&self, from: u64) -> Writes
+        ensures { result ≡ word_writes self.now Kind.Source from }
+    {
+        if from >= ADDRESS_LIMIT || self.destination >= ADDRESS_LIMIT {
+            return NO_WRITES;
+        }
+        let destination = Some(page_of(self.destination));
+        match self.mode {
+            Mode::Plain => Writes {
+                destination,
+                source: None,
+                swap: None,
+            },
+            Mode::Kept { swap } => Writes {
+                destination,
+                source: Some(page_of(from)),
+                swap: Some(swap),
+            },
+        }
+    }
+
+    /// One step. After `Off` nothing has changed.
+    #[tactic(auto, unfolding(crate::specs::Machine::step_of))]
+    pub fn step(&mut self, memory: &mut Memory) -> Step
+        requires running { self.old.ended ≡ false }
+        requires held { HoldsWrites record { machine = self.old; memory = memory.old } }
+        ensures { (record { machine = self.new; memory = memory.new }, result) ≡ step_of record { machine = self.old; memory = memory.old } }
+    {
+        let word = match fetch(self.first, self.cursor, memory) {
+            Ok(word) => word,
+            Err(address) => return Step::Off { address },
+        };
+        let to = address(word);
+        match first_bit(word) {
+            Kind::Destination => {
+                self.advance();
+                self.destination = to;
+                Step::Went
+            }
+            Kind::Link => {
+                self.advance();
+                self.cursor = to;
+                Step::Went
+            }
+            Kind::Done => {
+                self.advance();
+                self.ended = true;
+                Step::Ended
+            }
+            Kind::Source => {
+                if to >= ADDRESS_LIMIT {
+                    return Step::Off { address: to };
+                }
+                if self.destination >= ADDRESS_LIMIT {
+                    return Step::Off {
+                        address: self.destination,
+                    };
+                }
+                move_page(memory, self.mode, page_of(self.destination), page_of(to));
+                self.advance();
+                self.destination += 4096;
+                Step::Went
+            }
+            Kind::Nothing => {
+                self.advance();
+                Step::Went
+            }
+        }
+    }
+
+    // The word was taken.
+    fn advance(&mut self)
+        requires { IsNone self.old.first → self.old.cursor < 2 ^ 46 }
+        ensures { self.new ≡ advanced self.old.first self.old }
+    {
+        match self.first {
+            Some(_) => self.first = None,
+            None => self.cursor += 8,
+        }
+    }
+}
+
+// The word to handle, or the address at which there is none.
+fn fetch(first: Option<u64>, cursor: u64, memory: &Memory) -> Result<u64, u64>
+    requires { cursor % 8 ≡ 0 }
+    ensures { result ≡ fetched first cursor memory.now }
+{
+    match first {
+        Some(word) => Ok(word),
+        None if cursor >= ADDRESS_LIMIT => Err(cursor),
+        None => Ok(memory.word(cursor)),
+    }
+}
+
+fn page_of(address: u64) -> Page
+    requires { address < 2 ^ 46 }
+    ensures { result ≡ address / 4096 }
+{
+    Page::new(address / 4096).unwrap()
+}
+
+// Moves page s to page d.
+fn move_page(memory: &mut Memory, mode: Mode, d: Page, s: Page)
+    requires { AreHeld memory.old (move_writes mode d s) }
+    ensures { memory.new ≡ moved mode memory.old d s }
+{
+    match mode {
+        Mode::Plain => memory.copy(d, s),
+        Mode::Kept { swap } => memory.swap(d, s, swap),
+    }
+}
+
+/// Runs a list by at most `limit` steps, whose pages are held.
+pub fn run_held(memory: &mut Memory, head: u64, mode: Mode, limit: u64) -> Outcome
+    requires { HeldFrom limit record { machine = start_of head mode; memory = memory.old } }
+    ensures memory { let run = run_of memory.old head mode limit in memory.new ≡ run.0.memory }
+    ensures outcome { let run = run_of memory.old head mode limit in result ≡ run.1 }
+{
+    let mut machine = Machine::start(head, mode);
+    for k in 0..limit {
+        match machine.step(memory) {
+            Step::Went => {}
+            Step::Ended => return Outcome::Done { steps: k + 1 },
+            Step::Off { address } => return Outcome::Off { address, steps: k },
+        }
+    }
+    Outcome::Running { limit }
+}
+
+/// Runs a list by at most `limit` steps, and holds each page before it is written.
+pub fn run(memory: &mut Memory, head: u64, mode: Mode, limit: u64) -> Result<Outcome, AllocError>
+    ensures ok { IfOk result (λ outcome. let run = run_of memory.old head mode limit in (outcome ≡ run.1) × Agree run.0.memory memory.new) }
+    ensures err { OnErr result ((n : ℕ) × (n < limit) × Agree (run_of memory.old head mode n).0.memory memory.new) }
+{
+    let mut machine = Machine::start(head, mode);
+    for k in 0..limit {
+        let writes = machine.writes(memory);
+        hold_all(memory, writes)?;
+        match machine.step(memory) {
+            Step::Went => {}
+            Step::Ended => return Ok(Outcome::Done { steps: k + 1 }),
+            Step::Off { address } => return Ok(Outcome::Off { address, steps: k }),
+        }
+    }
+    Ok(Outcome::Running { limit })
+}
+
+fn hold_all(memory: &mut Memory, writes: Writes) -> Result<(), AllocError>
+    ensures held { OnOk result (AreHeld memory.new writes) }
+    ensures same { Agree memory.old memory.new }
+    ensures stay { (q : ℕ) → IsHeld memory.old q → IsHeld memory.new q }
+{
+    hold_one(memory, writes.destination)?;
+    hold_one(memory, writes.source)?;
+    hold_one(memory, writes.swap)
+}
+
+fn hold_one(memory: &mut Memory, page: Option<Page>) -> Result<(), AllocError>
+    ensures held { OnOk result (IfSome page (λ p. IsHeld memory.new p)) }
+    ensures same { Agree memory.old memory.new }
+    ensures stay { (q : ℕ) → IsHeld memory.old q → IsHeld memory.new q }
+{
+    match page {
+        Some(p) => memory.hold(p),
+        None => Ok(()),
+    }
+}
