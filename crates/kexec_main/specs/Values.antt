@@ -1,0 +1,11 @@
+-- The program's values, read plainly.
+use Rattle.std.specs.Prelude.{map, string_bytes}
+use Rattle.kexec_main.specs.declared.deliver.Output.{Output}
+use Rattle.kexec_main.specs.declared.deliver.Goods.{Goods as MadeGoods}
+use Rattle.kexec_main.specs.Answers.{File, Goods}
+
+abbrev pub output_of : Output → File
+output_of o = (string_bytes o.name, o.bytes.items)
+
+abbrev pub goods_of : MadeGoods → Goods
+goods_of g = record { outputs = map output_of g.outputs.items; text = string_bytes g.text }

@@ -1,0 +1,8 @@
+//! The top call: a command's words, over files and a text output.
+#![tactic(auto)]
+
+mod deliver;
+mod status;
+mod take;
+
+pub use status::{InputFault, Status};
