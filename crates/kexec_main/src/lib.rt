@@ -4,5 +4,6 @@
 mod deliver;
 mod status;
 mod take;
+mod text;
 
 pub use status::{InputFault, Status};
