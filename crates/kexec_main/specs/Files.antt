@@ -1,5 +1,5 @@
 -- What a command reads of the files, one after the other: each is measured and read in its turn.
-use Rattle.std.specs.Prelude.{◌≡◌, ℕ, List, [], length, Option, IfSome, unwrap_or, Result, Ok, Err, nat_lt, if◌then◌else◌, Contains}
+use Rattle.std.specs.Prelude.{◌≡◌, ℕ, List, [], ◌∷◌, length, Option, IfSome, unwrap_or, Result, Ok, Err, nat_lt, if◌then◌else◌, ◌⊎◌}
 use Rattle.std.specs.FinMap.{get}
 use Rattle.kx_edge.specs.Edge.{Files, Rose}
 use Rattle.page_memory.specs.Contents.{Contents}
@@ -43,10 +43,15 @@ memory_file name held = do
   bytes ← measured memory_limit name held
   or_input (λ e. input (inputs.Mem e)) (reading bytes)
 
+-- one of these names
+abbrev pub IsAmong : List (List ℕ) → List ℕ → Type 0
+IsAmong [] name = ⊥
+IsAmong (n ∷ ns) name = (n ≡ name) ⊎ IsAmong ns name
+
 -- What a call that takes files gives: `what` is what it reads of them, and the files that it may fail to read have these
 -- names. It changes no file, and the count of faults rises only where it fails to read one.
 abbrev pub TakesNot : {Y : Type 0} → List (List ℕ) → (Files → Result Y Answer) → Option Files → ℕ → ℕ → Answer → Type 0
-TakesNot names what old before after (unread which) = Rose before after × Contains names which
+TakesNot names what old before after (unread which) = Rose before after × IsAmong names which
 TakesNot names what old before after memory = after ≡ before
 TakesNot names what old before after other = (after ≡ before) × IfSome old (λ held. what held ≡ Err other)
 
