@@ -1,8 +1,12 @@
-use Rattle.std.proofs.Common.{◌≤◌, ◌-◌, vec_len}
+use Rattle.std.proofs.Common.{◌≤◌, ◌-◌, ℕ, vec_len}
+use Rattle.std.specs.Io.KnownBytes.{Consumes}
 use Rattle.kx_edge.proofs.host.read_most.Given as goal
 
 abbrev pub invariant-loop-piece : goal.invariant-loop-piece
-invariant-loop-piece g l = vec_len l.bytes ≤ l.most
+invariant-loop-piece g l = record {
+  within : vec_len l.bytes ≤ l.most;
+  taken : Consumes (g.F.Read.remaining l.fn.file) (g.F.Read.remaining l.file) l.bytes.items;
+}
 
 abbrev pub decreases-loop-piece : goal.decreases-loop-piece
 decreases-loop-piece g l = l.most - vec_len l.bytes
