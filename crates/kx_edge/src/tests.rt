@@ -2,7 +2,7 @@ use super::*;
 use std::alloc::{AllocError, Global};
 use std::fmt::Display;
 use std::test::Fail;
-use std::{fs, io, test};
+use std::{fs, io};
 
 // The files 'a' and 'b'.
 fn two_files(alloc: Global) -> Result<Vec<(String, Vec<u8>)>, AllocError> {
@@ -66,7 +66,9 @@ fn a_host_shelf_takes_and_puts_real_files(rt: HostRuntime) -> Result<(), Fail> {
     fs::write(&rt, "given", bytes.as_slice())?;
     let mut shelf = HostShelf::new(&rt);
     assert!(rt; shelf.take(alloc, "given", 1_000_000)?.as_slice() == bytes.as_slice());
-    assert!(rt; shelf.take(alloc, "given", 100_000)?.as_slice() == &bytes.as_slice()[..100_000]);
+    let first = shelf.take(alloc, "given", 100_000)?;
+    assert_eq!(rt; first.len(), 100_000);
+    assert!(rt; bytes.starts_with(&first));
     assert!(rt; shelf.put("put", bytes.as_slice()).is_ok());
     assert!(rt; fs::read(&rt, "put")?.as_slice() == bytes.as_slice());
     assert!(rt; matches!(shelf.take(alloc, "missing", 9), Err(ShelfFault::Failed)));
