@@ -95,10 +95,10 @@ other_bytes b u at these xs within (inr behind) =
     let right : end + n ≡ b = omega arith in
     ap (little_number u)
     (ap (drop b) (sym (append_assoc (take at xs) these (drop end xs)))
-     ∙ ap (λ m. drop m (front ++ drop end xs)) place
-     ∙ drop-append-add front (drop end xs) n
-     ∙ drop-drop n end xs
-     ∙ ap (λ m. drop m xs) right)
+    ∙ ap (λ m. drop m (front ++ drop end xs)) place
+    ∙ drop-append-add front (drop end xs) n
+    ∙ drop-drop n end xs
+    ∙ ap (λ m. drop m xs) right)
 
 -- a put leaves every field that has no byte in common with its own
 pub other_field : (b u at w v : ℕ) (xs : List ℕ) → at + w ≤ length xs → IsApart b u at w → field b u (with_field at w v xs) ≡ field b u xs
@@ -121,3 +121,16 @@ length-with_field at w v xs within =
     let long = length-bytes_low_first 0 w v in
     ap (λ n. length (take at xs ++ (little_bytes w v ++ drop (at + n) xs))) (sym long)
     ∙ length-with_bytes at (little_bytes w v) xs (omega (arith, long))
+
+-- a field that is put right behind the front bytes follows them
+pub next_field : (at w v : ℕ) (front xs : List ℕ) → length front ≡ at → with_field at w v (front ++ xs) ≡ front ++ little_bytes w v ++ drop w xs
+next_field at w v front xs long =
+    ap (λ n. take n (front ++ xs) ++ (little_bytes w v ++ drop (n + w) (front ++ xs))) (sym long)
+    ∙ ap (λ l. l ++ (little_bytes w v ++ drop (length front + w) (front ++ xs))) (take-append_seam front xs)
+    ∙ ap (λ l. front ++ (little_bytes w v ++ l)) (drop-append-add front xs w)
+    ∙ sym (append_assoc front (little_bytes w v) (drop w xs))
+
+-- the number in a field right behind the front bytes
+pub field_behind : (at w : ℕ) (front xs : List ℕ) → length front ≡ at → field at w (front ++ xs) ≡ little_number w xs
+field_behind at w front xs long =
+    ap (λ n. little_number w (drop n (front ++ xs))) (sym long) ∙ ap (little_number w) (drop-append_seam front xs)

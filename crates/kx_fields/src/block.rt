@@ -28,7 +28,8 @@ impl<const N: usize> Block<N> {
     /// A block of zeros.
     pub fn zeros() -> Block<N>
         requires { N ≤ 4096 }
-        ensures { result ≡ replicate N 0 }
+        ensures value { result ≡ replicate N 0 }
+        ensures length { length result ≡ N }
     {
         Block { bytes: [0; N] }
     }
