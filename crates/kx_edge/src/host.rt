@@ -1,6 +1,8 @@
 // The real files and the standard output. What they hold is not known here.
-ghost use Rattle.std.specs.Prelude.{◌≡◌, ◌≤◌, ◌<◌, ◌^◌, length, IfOk, IfSome, OnErr, OnOk, IsErrOf};
+ghost use Rattle.std.specs.Prelude.{◌≡◌, ◌≤◌, ◌<◌, ◌^◌, length, take, IfOk, IfSome, OnErr, OnOk, IsErrOf};
 ghost use Rattle.std.specs.declared.option.Option.TheVariants.{None};
+ghost use Rattle.std.specs.Io.KnownBytes.{Appends};
+ghost use Rattle.kx_edge.specs.Transfers.{AppendsPrefix};
 ghost use Rattle.kx_edge.specs.Edge.{Rose, raised, read_of, PutFile, PutPrefix, Said, SaidPrefix};
 
 use crate::{PutFailed, SayFailed, Shelf, ShelfFault, Sink};
@@ -44,32 +46,36 @@ impl<'a, R: Files> HostShelf<'a, R> {
 /// Reads the first `most` bytes of a file, or all of it where it is not longer. Each turn gets at least
 /// one byte or ends it, and the buffer grows by doubling at most.
 fn read_most<F: Read>(alloc: Global, file: &mut F, most: usize) -> Result<Vec<u8>, ShelfFault>
-    ensures { IfOk result (λ bytes. length bytes.items ≤ most) }
+    ensures within { IfOk result (λ bytes. length bytes.items ≤ most) }
+
+    // Where a reader's bytes are known, as those of one over memory are, these are the first of them.
+    ensures first { IfOk result (λ bytes. IfSome (F.remaining file.old) (λ all. bytes.items ≡ take most all)) }
 {
     let mut bytes = Vec::new(alloc);
     let mut piece = [0u8; PIECE];
     while bytes.len() < most {
         let want = (most - bytes.len()).min(PIECE);
-        let count = file
-            .read(&mut piece[..want])
-            .map_err(|_| ShelfFault::Failed)?;
-        if count == 0 {
-            return Ok(bytes);
+        match file.read(&mut piece[..want]) {
+            Ok(0) => return Ok(bytes),
+            Ok(count) => bytes.extend_from_slice(&piece[..count])?,
+            Err(_) => return Err(ShelfFault::Failed),
         }
-        bytes.extend_from_slice(&piece[..count])?;
     }
     Ok(bytes)
 }
 
 /// Writes all of the bytes. A write that takes nothing of a piece that is not empty is a failure.
-fn write_all<W: Write>(file: &mut W, bytes: &[u8]) -> Result<(), PutFailed> {
+fn write_all<W: Write>(file: &mut W, bytes: &[u8]) -> Result<(), PutFailed>
+    // Where a writer's bytes are known, as those of one over memory are, they grow by these.
+    ensures whole { OnOk result (Appends (W.contents file.old) (W.contents file.new) bytes.now) }
+    ensures prefix { OnErr result (AppendsPrefix (W.contents file.old) (W.contents file.new) bytes.now) }
+{
     let mut rest = bytes;
     while !rest.is_empty() {
-        let count = file.write(rest).map_err(|_| PutFailed)?;
-        if count == 0 {
-            return Err(PutFailed);
+        match file.write(rest) {
+            Ok(0) | Err(_) => return Err(PutFailed),
+            Ok(count) => rest = rest.split_at(count).1,
         }
-        rest = &rest[count..];
     }
     Ok(())
 }
@@ -157,11 +163,10 @@ impl<'a, R: Print> StdSink<'a, R> {
 fn print_all<R: Print>(rt: &R, bytes: &[u8]) -> Result<(), SayFailed> {
     let mut rest = bytes;
     while !rest.is_empty() {
-        let count = rt.write_some(rest).map_err(|_| SayFailed)?;
-        if count == 0 {
-            return Err(SayFailed);
+        match rt.write_some(rest) {
+            Ok(0) | Err(_) => return Err(SayFailed),
+            Ok(count) => rest = rest.split_at(count).1,
         }
-        rest = &rest[count..];
     }
     Ok(())
 }

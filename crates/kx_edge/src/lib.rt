@@ -27,6 +27,8 @@ mod host;
 mod memory_shelf;
 mod memory_sink;
 mod slot;
+#[cfg(test)]
+mod tests;
 
 pub use calm_shelf::CalmShelf;
 pub use edge::{PutFailed, SayFailed, Shelf, ShelfFault, Sink};
