@@ -1,6 +1,6 @@
 -- A table of marks, page by page.
-use Rattle.std.proofs.Common.{◌≡◌, ℕ, ◌+◌, ◌<◌, ◌≤◌, List, [], ◌∷◌, ◌++◌, Bool, true, false, cond, refl, sym, ap, ◌∙◌, subst, Some, None, Option, arith, take, drop, length, ⊎_elim, inl, inr}
-use Rattle.std.specs.Prelude.{◌≢◌, ◌⊎◌, ◌||◌, IsSome, is_some, eqb, nat_eq, unwrap_or}
+use Rattle.std.proofs.Common.{◌≡◌, ℕ, ◌+◌, ◌≤◌, List, [], ◌∷◌, ◌++◌, Bool, true, false, cond, refl, sym, ap, ◌∙◌, subst, Some, None, arith, length, ⊎_elim, inl, inr}
+use Rattle.std.specs.Prelude.{◌≢◌, ◌⊎◌, ◌||◌, is_some, eqb, nat_eq, unwrap_or}
 use Rattle.std.specs.List.{list_any}
 use Rattle.std.specs.Ordering.{nat_cmp, is_eq}
 use Rattle.std.specs.declared.cmp.Ordering.{Ordering}
@@ -13,7 +13,7 @@ use Rattle.std.proofs.lemmas.List.Folds.{list_any-append}
 use Rattle.std.proofs.lemmas.Bool.Decides.{eqb_tells}
 use Rattle.kx_pages.specs.Lists.{count}
 use Rattle.page_pool.specs.Counts.{IsOnce}
-use Rattle.page_pool.specs.Marks.{marks_of, HaveMarks, AreMarks, IsPool}
+use Rattle.page_pool.specs.Marks.{marks_of, AreMarks, IsPool}
 use Rattle.page_pool.proofs.Tables.{count-append}
 
 is_eq-false : (r : Ordering) → (r ≡ Equal → ⊥) → is_eq r ≡ false

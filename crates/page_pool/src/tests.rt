@@ -2,10 +2,7 @@ use super::*;
 use std::test::*;
 
 fn is_fault(alloc: Global, text: &[u8], fault: PoolFault) -> bool {
-    match Pool::read(alloc, text) {
-        Ok(_) => false,
-        Err(found) => found == fault,
-    }
+    Pool::read(alloc, text).err() == Some(fault)
 }
 
 fn count(alloc: Global, text: &[u8]) -> Option<u64> {
