@@ -1,11 +1,12 @@
 //! Sets of pages.
 
 ghost use Rattle.std.specs.Prelude.{◌≡◌, ℕ, ◌-◌, ◌<◌, ◌≤◌, ◌^◌, ◌↔◌, ◌++◌, ◌∷◌, ◌&&◌, ◌||◌, [], not, List, length, IsTrue, IfOk, IfErr};
-ghost use Rattle.std.specs.List.{slice_get, list_any};
-ghost use Rattle.kx_pages.specs.Spans.{Run, in_span, in_spans, pages, AreApart, passing, IsMaximal};
+ghost use Rattle.std.specs.List.{slice_get, All};
+ghost use Rattle.kx_pages.specs.Spans.{Run, end, in_span, in_spans, pages, AreApart, passing, IsMaximal};
 ghost use Rattle.kx_pages.specs.Edits.{joined, if_some, without, spans_meet, with_rest};
 
 use crate::page::Page;
+use crate::search::{any_has, any_meets};
 use crate::span::Span;
 use std::alloc::{AllocError, Global};
 use std::marker::Model;
@@ -44,7 +45,7 @@ impl PageSet {
         ensures failed { IfErr result (λ _. self.new ≡ self.old) }
     {
         if span.count() > 0 {
-            self.spans = join(*self.spans.allocator(), &self.spans, span)?;
+            put_among(&mut self.spans, span)?;
         }
         Ok(())
     }
@@ -122,16 +123,29 @@ pub fn have_one_form(a: &PageSet, b: &PageSet)
     let _ = b.spans();
 }
 
-fn any_meets(spans: &[Span], span: Span) -> bool
-    ensures { result ≡ list_any (λ r. spans_meet r span) spans.now }
+// Whether all spans end before the page `first`, and none touches it.
+fn all_before(spans: &[Span], first: u64) -> bool
+    requires { AreApart 0 spans.now }
+    ensures { IsTrue result → All (λ r. end r < first) spans.now }
 {
-    spans.iter().any(|s| s.meets(span))
+    match spans.last() {
+        Some(last) => last.end() < first,
+        None => true,
+    }
 }
 
-fn any_has(spans: &[Span], number: u64) -> bool
-    ensures { result ≡ in_spans spans.now number }
+// Puts a span among those that rise: at the end where it lies behind all of them.
+fn put_among(spans: &mut Vec<Span>, span: Span) -> Result<(), AllocError>
+    requires { AreApart 0 spans.old.items }
+    ensures ok { IfOk result (λ _. spans.new.items ≡ joined spans.old.items span) }
+    ensures err { IfErr result (λ _. spans.new.items ≡ spans.old.items) }
 {
-    spans.iter().any(|s| s.has(number))
+    if all_before(spans, span.first()) {
+        spans.push(span)?;
+    } else {
+        *spans = join(*spans.allocator(), spans, span)?;
+    }
+    Ok(())
 }
 
 /// Puts `s` behind the spans, after or into what is still to come in.
@@ -198,7 +212,12 @@ fn cut_out(alloc: Global, spans: &[Span], span: Span) -> Result<Vec<Span>, Alloc
 #[cfg(test)]
 mod tests {
     use super::*;
+    use crate::page::PAGE_LIMIT;
     use std::test::Fail;
+
+    fn page(number: u64) -> Result<Page, &'static str> {
+        Page::new(number).ok_or("a page")
+    }
 
     fn span(first: u64, count: u64) -> Result<Span, &'static str> {
         Span::new(first, count).ok_or("a span")
@@ -213,10 +232,26 @@ mod tests {
         assert_eq!(rt; set.total(), 5);
         set.cut(span(4, 1)?)?;
         assert_eq!(rt; set.spans(), 2);
-        assert!(rt; !set.holds(Page::new(4).ok_or("a page")?));
+        assert!(rt; !set.holds(page(4)?));
+        assert!(rt; set.holds(page(6)?));
         assert!(rt; !set.meets(span(4, 1)?));
+        assert!(rt; set.meets(span(4, 2)?));
         let copy = set.try_copy()?;
         assert_eq!(rt; copy.total(), 4);
+        Ok(())
+    }
+
+    #[test]
+    fn pages_end_at_the_limit(rt: HostRuntime) -> Result<(), Fail> {
+        assert!(rt; Page::new(PAGE_LIMIT).is_none());
+        assert!(rt; Span::new(PAGE_LIMIT - 1, 2).is_none());
+        assert_eq!(rt; page(PAGE_LIMIT - 1)?.address(), 0x3fff_ffff_f000);
+        let mut set = PageSet::new(rt.alloc());
+        set.add(span(PAGE_LIMIT, 0)?)?;
+        assert_eq!(rt; set.spans(), 0);
+        set.add(span(PAGE_LIMIT - 1, 1)?)?;
+        assert!(rt; set.holds(page(PAGE_LIMIT - 1)?));
+        assert_eq!(rt; set.span(0).first(), PAGE_LIMIT - 1);
         Ok(())
     }
 }
