@@ -1,0 +1,129 @@
+// The commands, as their words say.
+
+/// How often the new kernel runs in kept mode, with a return to the old one after each run.
+#[derive(Clone, Copy, Debug, PartialEq, Eq)]
+pub enum Runs {
+    Once,
+    Twice,
+}
+
+/// The type of the kernel's file.
+#[derive(Clone, Copy, Debug, PartialEq, Eq)]
+pub enum ImageType {
+    /// The file itself tells.
+    Auto,
+    /// Bytes for the address `at`, entered at the address `entry`.
+    Raw { at: u64, entry: u64 },
+    /// An ELF executable.
+    Elf,
+    /// A Linux/x86 bzImage.
+    Bzimage,
+    /// A Multiboot kernel.
+    Multiboot,
+}
+
+/// What `boot` and `load` read: the names of the files, and the kernel's command line.
+#[derive(Drop)]
+pub struct Inputs {
+    pub memory: String,
+    pub pool: String,
+    pub map: Option<String>,
+    pub kernel: String,
+    pub initrd: Option<String>,
+    pub purgatory: Option<String>,
+    pub modules: Vec<String>,
+    pub command: Option<String>,
+}
+
+/// `boot`: load a kernel and run it.
+#[derive(Drop)]
+pub struct Boot {
+    pub inputs: Inputs,
+    /// The file of the memory after the last run.
+    pub out: String,
+    /// The runs in kept mode; none is one run with no return.
+    pub kept: Option<Runs>,
+    pub image: ImageType,
+}
+
+/// `load`: load a kernel and write its load record.
+#[derive(Drop)]
+pub struct Load {
+    pub inputs: Inputs,
+    /// The file of the memory after the load.
+    pub out: String,
+    /// The file of the load record.
+    pub load_record: String,
+    /// Whether the load is in kept mode.
+    pub kept: bool,
+    pub image: ImageType,
+}
+
+/// What `load-panic` reads beside the memory map.
+#[derive(Drop)]
+pub struct CrashInputs {
+    pub memory: String,
+    pub notes: Option<String>,
+    pub kernel: String,
+    pub initrd: Option<String>,
+    pub purgatory: Option<String>,
+    pub command: Option<String>,
+}
+
+/// `load-panic`: load a crash kernel into the reserved area and write its load record.
+#[derive(Drop)]
+pub struct LoadPanic {
+    pub inputs: CrashInputs,
+    /// The file of the memory map.
+    pub map: String,
+    /// The file of the memory after the load.
+    pub out: String,
+    /// The file of the load record.
+    pub load_record: String,
+}
+
+/// The files of `check` and `dump`: a memory, and a load record of it.
+#[derive(Drop)]
+pub struct Loaded {
+    pub memory: String,
+    pub load_record: String,
+}
+
+/// `exec`: check a load record and run it.
+#[derive(Drop)]
+pub struct Exec {
+    pub memory: String,
+    pub load_record: String,
+    /// The file of the memory after the last run.
+    pub out: String,
+    /// Whether a second run follows the return from the first.
+    pub twice: bool,
+}
+
+/// `trace`: run a list from its head word on, whether it is accepted or not.
+#[derive(Drop)]
+pub struct Trace {
+    pub memory: String,
+    /// The file of the memory after the steps.
+    pub out: String,
+    /// The head word of the list.
+    pub head: u64,
+    /// The most steps; at most 100,000,000.
+    pub limit: u64,
+    /// The address of the swap page, which is given for kept mode: a multiple of 4,096 below 2^46.
+    pub swap: Option<u64>,
+}
+
+/// A command with all that its words say.
+#[derive(Drop)]
+pub enum Command {
+    Boot(Boot),
+    Load(Load),
+    LoadPanic(LoadPanic),
+    Check(Loaded),
+    Dump(Loaded),
+    Exec(Exec),
+    Trace(Trace),
+    /// The number of the sample; below 10^18.
+    Sample { number: u64 },
+}
