@@ -2,7 +2,7 @@
 use Rattle.std.proofs.Common.{◌≡◌, ℕ, List, ◌++◌, Option, Some, None, Result, Ok, Err, sym, ap, ◌∙◌, refl, subst, inl, inr}
 use Rattle.std.specs.Prelude.{IfSome}
 use Rattle.kx_edge.specs.Edge.{Files}
-use Rattle.kexec_main.specs.Answers.{Answer, done, unread, unwritten, unsaid, too_long, input, no_pages, heavy, memory, answer_of}
+use Rattle.kexec_main.specs.Answers.{Answer, done, usage, unread, unwritten, unsaid, too_long, input, plan, no_pages, heavy, not_built, memory, answer_of}
 use Rattle.kexec_main.specs.declared.status.Status.{Status}
 use Rattle.kexec_main.specs.Files.{IsAmong, TakesNot, Takes, ◌>>=◌}
 
@@ -29,6 +29,9 @@ refused_here names what more old before after (too_long n l) h = (h.0, bound wha
 refused_here names what more old before after (input f) h = (h.0, bound what more old _ h.1)
 refused_here names what more old before after (no_pages p n) h = (h.0, bound what more old _ h.1)
 refused_here names what more old before after (heavy n) h = (h.0, bound what more old _ h.1)
+refused_here names what more old before after (usage w) h = (h.0, bound what more old _ h.1)
+refused_here names what more old before after (plan x) h = (h.0, bound what more old _ h.1)
+refused_here names what more old before after (not_built w) h = (h.0, bound what more old _ h.1)
 
 pub refused_later : {X Y : Type 0} (names : List (List ℕ)) (what : Files → Result X Answer) (more : Files → X → Result Y Answer) (x : X) (old : Option Files) (before after : ℕ) (a : Answer)
     → IfSome old (λ held. what held ≡ Ok x) → TakesNot names (λ held. more held x) old before after a → TakesNot names (λ held. what held >>= more held) old before after a
@@ -41,6 +44,9 @@ refused_later names what more x old before after (too_long n l) k h = (h.0, late
 refused_later names what more x old before after (input f) k h = (h.0, later what more x old _ k h.1)
 refused_later names what more x old before after (no_pages p n) k h = (h.0, later what more x old _ k h.1)
 refused_later names what more x old before after (heavy n) k h = (h.0, later what more x old _ k h.1)
+refused_later names what more x old before after (usage w) k h = (h.0, later what more x old _ k h.1)
+refused_later names what more x old before after (plan f) k h = (h.0, later what more x old _ k h.1)
+refused_later names what more x old before after (not_built w) k h = (h.0, later what more x old _ k h.1)
 
 pub more_names : {X : Type 0} (few many : List (List ℕ)) (what : Files → Result X Answer) (old : Option Files) (before after : ℕ) (a : Answer)
     → ((n : List ℕ) → IsAmong few n → IsAmong many n) → TakesNot few what old before after a → TakesNot many what old before after a
@@ -53,6 +59,9 @@ more_names few many what old before after (too_long n l) f h = h
 more_names few many what old before after (input x) f h = h
 more_names few many what old before after (no_pages p n) f h = h
 more_names few many what old before after (heavy n) f h = h
+more_names few many what old before after (usage w) f h = h
+more_names few many what old before after (plan x) f h = h
+more_names few many what old before after (not_built w) f h = h
 
 -- the answer of a call that `?` hands on
 pub handed_on : {Y T : Type 0} (view : T → Y) (names : List (List ℕ)) (what : Files → Result Y Answer) (old now : Option Files) (before after : ℕ) (result : Result T Status) (e : Status)

@@ -2,31 +2,40 @@
 use Rattle.std.specs.Prelude.{◌≡◌, ℕ, ◌≤◌, List, [], ◌∷◌, ◌++◌, length, take, Option, Some, None, string_bytes, Result, Ok, Err}
 use Rattle.std.specs.FinMap.{insert}
 use Rattle.kx_edge.specs.Edge.{Files, Rose, Said, SaidPrefix}
+use Rattle.kexec_words.specs.declared.faults.UsageWhy.{UsageWhy}
 use Rattle.kexec_main.specs.declared.status.InputFault.{InputFault}
+use Rattle.kexec_main.specs.declared.status.PlanFault.{PlanFault}
+use Rattle.kexec_main.specs.declared.status.NotBuilt.{NotBuilt}
 use Rattle.kexec_main.specs.declared.status.Status.{Status}
 use Rattle.kexec_main.specs.declared.status.Status.TheVariants as status
 
 -- a status, read plainly: names are the bytes of the names
 pub data Answer : Type 0 where
   done : Answer
+  usage : UsageWhy → Answer
   unread : (name : List ℕ) → Answer
   unwritten : (name : List ℕ) → Answer
   unsaid : Answer
   too_long : (name : List ℕ) → (limit : ℕ) → Answer
   input : InputFault → Answer
+  plan : PlanFault → Answer
   no_pages : (pool need : ℕ) → Answer
   heavy : (count : ℕ) → Answer
+  not_built : NotBuilt → Answer
   memory : Answer
 
 abbrev pub answer_of : Status → Answer
 answer_of status.Done = done
+answer_of (status.Usage why) = usage why
 answer_of (status.Unread name) = unread (string_bytes name)
 answer_of (status.Unwritten name) = unwritten (string_bytes name)
 answer_of status.Unsaid = unsaid
 answer_of (status.TooLong name limit) = too_long (string_bytes name) limit
 answer_of (status.Input fault) = input fault
+answer_of (status.Plan fault) = plan fault
 answer_of (status.NoPages pool need) = no_pages pool need
 answer_of (status.Heavy count) = heavy count
+answer_of (status.NotBuilt what) = not_built what
 answer_of status.Memory = memory
 
 -- how a call ended
@@ -37,14 +46,17 @@ ended (Err s) = answer_of s
 -- the exit status of each answer
 abbrev pub code_of : Status → ℕ
 code_of status.Done = 0
+code_of (status.Usage why) = 2
 code_of (status.Unread name) = 3
 code_of (status.Unwritten name) = 4
 code_of status.Unsaid = 5
 code_of (status.TooLong name limit) = 6
 code_of (status.Input fault) = 7
+code_of (status.Plan fault) = 8
 code_of (status.NoPages pool need) = 9
 code_of (status.Heavy count) = 10
 code_of status.Memory = 12
+code_of (status.NotBuilt what) = 64
 
 -- what is seen of files and text at a moment
 pub record Moment : Type 0 where

@@ -1,9 +1,12 @@
 -- What a command reads of the files, one after the other: each is measured and read in its turn.
-use Rattle.std.specs.Prelude.{◌≡◌, ℕ, List, [], ◌∷◌, length, Option, IfSome, unwrap_or, Result, Ok, Err, nat_lt, if◌then◌else◌, ◌⊎◌}
+use Rattle.std.specs.Prelude.{◌≡◌, ℕ, ◌-◌, Some, None, List, [], ◌∷◌, length, Option, IfSome, unwrap_or, Result, Ok, Err, nat_lt, if◌then◌else◌, ◌⊎◌}
 use Rattle.std.specs.FinMap.{get}
 use Rattle.kx_edge.specs.Edge.{Files, Rose}
 use Rattle.page_memory.specs.Contents.{Contents}
 use Rattle.page_memory.specs.File.{reading}
+use Rattle.page_pool.specs.File.{pool_reading}
+use Rattle.page_pool.specs.declared.fault.PoolFault.{PoolFault}
+use Rattle.kexec_words.specs.Values.{InputsValue}
 use Rattle.kexec_main.specs.declared.status.InputFault.TheVariants as inputs
 use Rattle.kexec_main.specs.declared.status.Status.{Status}
 use Rattle.kexec_main.specs.Answers.{Answer, unread, too_long, input, memory, answer_of}
@@ -42,6 +45,38 @@ abbrev pub memory_file : List ℕ → Files → Result Contents Answer
 memory_file name held = do
   bytes ← measured memory_limit name held
   or_input (λ e. input (inputs.Mem e)) (reading bytes)
+
+-- the pages of a pool file, in the order in which they are drawn
+abbrev pub pool_file : List ℕ → Files → Result (List ℕ) Answer
+pool_file name held = do
+  bytes ← measured text_limit name held
+  or_input (λ e. input (inputs.Pool e)) (pool_reading bytes)
+
+-- how many bytes are left for further files of the kernel after these, which fit one after the other
+abbrev pub left_after : ℕ → List (List ℕ) → Files → Result ℕ Answer
+left_after left [] held = Ok left
+left_after left (name ∷ names) held = do
+  bytes ← measured left name held
+  left_after (left - length bytes) names held
+
+-- the files of `boot` and `load`, in the order in which they are taken. The initrd and the modules are measured.
+pub record Inputs : Type 0 where
+  pub memory : Contents
+  pub pool : List ℕ
+  pub kernel : List ℕ
+
+abbrev pub as_list : Option (List ℕ) → List (List ℕ)
+as_list None = []
+as_list (Some name) = name ∷ []
+
+abbrev pub input_files : InputsValue → Files → Result Inputs Answer
+input_files i held = do
+  m ← memory_file i.memory held
+  p ← pool_file i.pool held
+  k ← measured kernel_limit i.kernel held
+  left ← left_after (kernel_limit - length k) (as_list i.initrd) held
+  none ← left_after left i.modules held
+  Ok (record { memory = m; pool = p; kernel = k })
 
 -- one of these names
 abbrev pub IsAmong : List (List ℕ) → List ℕ → Type 0

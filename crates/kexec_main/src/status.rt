@@ -4,7 +4,9 @@ ghost use Rattle.std.specs.Prelude.{◌≡◌};
 ghost use Rattle.kexec_main.specs.Answers.{code_of};
 ghost use Rattle.kexec_main.specs.declared.status.Status.TheVariants.{Memory};
 
+use kexec_words::UsageWhy;
 use page_memory::MemFault;
+use page_pool::PoolFault;
 use std::alloc::{AllocError, AllocFailed};
 use thiserror::Error;
 
@@ -13,6 +15,41 @@ use thiserror::Error;
 pub enum InputFault {
     #[error("{fault}")]
     Mem { fault: MemFault },
+    #[error("{fault}")]
+    Pool { fault: PoolFault },
+}
+
+/// A part of a request that the kernel's type has no use for.
+#[derive(Clone, Copy, Debug, PartialEq, Eq, Error)]
+pub enum Part {
+    #[error("an initrd")]
+    Initrd,
+    #[error("a module")]
+    Module,
+    #[error("a command line")]
+    Command,
+}
+
+/// Why a request has no plan.
+#[derive(Clone, Copy, Debug, PartialEq, Eq, Error)]
+pub enum PlanFault {
+    #[error("{part} is given, and a kernel of this type takes none")]
+    Unused { part: Part },
+}
+
+/// What the program does not do yet.
+#[derive(Clone, Copy, Debug, PartialEq, Eq, Error)]
+pub enum NotBuilt {
+    #[error("this command is not built yet")]
+    Command,
+    #[error("only raw kernels are served yet: give --type raw and --at")]
+    Format,
+    #[error("--purgatory is not built yet")]
+    Purgatory,
+    #[error("--map is not built yet")]
+    Map,
+    #[error("--kept is not built yet")]
+    Kept,
 }
 
 /// How a command ended. Its text says in one sentence what was wrong, where, and what was wanted.
@@ -21,6 +58,9 @@ pub enum Status {
     /// The command did its work.
     #[error("done")]
     Done,
+    /// The words are refused.
+    #[error("{why:?}")]
+    Usage { why: UsageWhy },
     /// The file could not be read.
     #[error("{name} cannot be read: it has to exist and to be readable to its end")]
     Unread { name: String },
@@ -36,6 +76,9 @@ pub enum Status {
     /// The reader of an input file refused it.
     #[error("{fault}")]
     Input { fault: InputFault },
+    /// The request has no plan.
+    #[error("{fault}")]
+    Plan { fault: PlanFault },
     /// The pool has fewer pages than the load takes.
     #[error(
         "the pool has {pool} pages and the load takes {need}: give the pool at least {} more",
@@ -45,6 +88,9 @@ pub enum Status {
     /// The memory to write has more pages that are not all zeros than a memory file can have.
     #[error("{count} pages of the memory are not all zeros, and a memory file has at most 131072")]
     Heavy { count: u64 },
+    /// The program does not do this yet.
+    #[error("{what}")]
+    NotBuilt { what: NotBuilt },
     /// There was not enough memory for the work.
     #[error("there is not enough memory for the work")]
     Memory,
@@ -57,14 +103,17 @@ impl Status {
     {
         match self {
             Status::Done => 0,
+            Status::Usage { .. } => 2,
             Status::Unread { .. } => 3,
             Status::Unwritten { .. } => 4,
             Status::Unsaid => 5,
             Status::TooLong { .. } => 6,
             Status::Input { .. } => 7,
+            Status::Plan { .. } => 8,
             Status::NoPages { .. } => 9,
             Status::Heavy { .. } => 10,
             Status::Memory => 12,
+            Status::NotBuilt { .. } => 64,
         }
     }
 }
