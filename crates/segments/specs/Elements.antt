@@ -1,6 +1,6 @@
 -- Facts on each element of a list, on membership and on distinct numbers: lemmas on the words of kx_pages' Lists. Crates
 -- above cite these.
-use Rattle.std.proofs.Common.{◌≡◌, ℕ, zero, suc, ◌+◌, ◌<◌, ◌≤◌, ◌++◌, List, [], ◌∷◌, refl, sym, ap, subst, ⊎_elim, inl, inr, arith, Bool, true, false}
+use Rattle.std.proofs.Common.{◌≡◌, ℕ, zero, suc, ◌+◌, ◌<◌, ◌≤◌, ◌++◌, List, [], ◌∷◌, refl, sym, subst, ⊎_elim, inl, inr, arith, true, false}
 use Rattle.std.specs.Prelude.{◌≢◌, ◌⊎◌, eqb}
 use Rattle.std.specs.List.{range_with_len}
 use Rattle.std.proofs.lemmas.Bool.{or_cases, or_parts, eqb-true, eqb-false, ne_eqb, false≢true, cases_eq}

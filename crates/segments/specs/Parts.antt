@@ -1,5 +1,5 @@
 -- The segments of a new kernel, as kexec_load(2) takes them, the pages that they consist of, and what each is to have.
-use Rattle.std.specs.Prelude.{ℕ, ◌+◌, ◌-◌, ◌*◌, ◌/◌, ◌&&◌, Bool, List, [], ◌∷◌, length, take, drop, Option, Some, None, if◌then◌else◌, nat_le, nat_lt, unwrap_or}
+use Rattle.std.specs.Prelude.{ℕ, ◌+◌, ◌-◌, ◌*◌, ◌/◌, ◌&&◌, Bool, List, [], ◌∷◌, length, take, drop, Some, None, if◌then◌else◌, nat_le, nat_lt, unwrap_or}
 use Rattle.std.specs.List.{list_any, flat_map, range_with_len}
 use Rattle.kx_pages.specs.declared.image.Wish.{Wish}
 use Rattle.kx_pages.specs.declared.image.Wish.TheVariants.{Plain, Kept}

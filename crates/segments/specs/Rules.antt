@@ -1,7 +1,7 @@
 -- The rules that segments have to meet: those of kexec_load(2) and of the kernel's kexec core (sanity_check_segment_list),
 -- and two of this project's own. Each rule is tested over all segments before the next one. The first refusal is
 -- answered, with the least segment and then the least earlier one.
-use Rattle.std.specs.Prelude.{◌≡◌, ℕ, ◌+◌, ◌*◌, ◌/◌, ◌%◌, ◌^◌, ◌<◌, ◌≤◌, ◌&&◌, ◌||◌, ◌==◌, not, Bool, false, List, [], ◌∷◌, ◌++◌, length, Option, Some, None, Result, Ok, Err, if◌then◌else◌, nat_le, nat_lt}
+use Rattle.std.specs.Prelude.{◌≡◌, ◌⊎◌, ℕ, ◌*◌, ◌/◌, ◌%◌, ◌^◌, ◌&&◌, ◌||◌, ◌==◌, not, Bool, List, [], ◌∷◌, ◌++◌, length, Option, Some, None, Result, Ok, Err, if◌then◌else◌, nat_le, nat_lt}
 use Rattle.std.specs.Option.{option_map, option_or}
 use Rattle.std.specs.List.{position, list_any, list_all}
 use Rattle.kx_pages.specs.Spans.{Run, in_spans, end}
@@ -32,6 +32,9 @@ no_segments ss = where_true (length ss == 0) faults.NoSegments
 -- more than KEXEC_SEGMENT_MAX segments
 abbrev pub too_many : List Part → Option SegFault
 too_many ss = where_true (nat_lt 16 (length ss)) faults.TooMany
+
+abbrev pub bad_count : List Part → Option SegFault
+bad_count ss = first_of (no_segments ss ∷ too_many ss ∷ [])
 
 -- the memory does not begin and end at a page, or does not end below 2 ^ 46 (so neither does it below 2 ^ 64)
 abbrev pub is_bad_address : Part → Bool
@@ -81,13 +84,16 @@ abbrev pub not_ram : List Run → Kind → List Part → Option SegFault
 not_ram ram Normal ss = at_first (is_not_ram ram) faults.NotRam ss
 not_ram ram (Crash area) ss = None
 
+abbrev pub misplaced : List Run → Kind → List Part → Option SegFault
+misplaced ram kind ss = first_of (outside_reserved kind ss ∷ not_ram ram kind ss ∷ [])
+
 -- this project's own: more than 65,536 pages (256 MiB) in all
 abbrev pub too_large : List Part → Option SegFault
 too_large ss = where_true (nat_lt 65536 (length (pages ss))) (faults.TooLarge (length (pages ss)))
 
 -- the rules of the list's shape
 unfoldable pub shape_refusal : List Part → Option SegFault
-shape_refusal ss = first_of (no_segments ss ∷ too_many ss ∷ bad_address ss ∷ overlap ss ∷ too_full ss ∷ [])
+shape_refusal ss = first_of (bad_count ss ∷ bad_address ss ∷ overlap ss ∷ too_full ss ∷ [])
 
 -- the rules where nothing is known of memory
 unfoldable pub bare_refusal : List Part → Option SegFault
@@ -96,7 +102,7 @@ bare_refusal ss = first_of (shape_refusal ss ∷ too_large ss ∷ [])
 -- all rules
 unfoldable pub refusal : List Run → Kind → List Part → Option SegFault
 refusal ram kind ss =
-    first_of (shape_refusal ss ∷ half_of_memory ram ss ∷ outside_reserved kind ss ∷ not_ram ram kind ss ∷ too_large ss ∷ [])
+    first_of (shape_refusal ss ∷ half_of_memory ram ss ∷ misplaced ram kind ss ∷ too_large ss ∷ [])
 
 -- segments that no rule refuses where nothing is known of memory
 abbrev pub IsBare : List Part → Type 0
@@ -107,10 +113,9 @@ abbrev pub answer : Option SegFault → Result (Unit {0}) SegFault
 answer None = Ok tt
 answer (Some fault) = Err fault
 
--- what a call answers where this is the first refusal. Memory runs out only where nothing is refused.
+-- the fault is the first refusal, or memory ran out and nothing is refused
 abbrev pub Refuses : SegFault → Option SegFault → Type 0
-Refuses faults.Memory first = first ≡ None
-Refuses fault first = first ≡ Some fault
+Refuses fault first = (first ≡ Some fault) ⊎ ((fault ≡ faults.Memory) × (first ≡ None))
 
 -- the segments are the list, which no rule refuses; or this is the first refusal
 abbrev pub Answers : List Part → Option SegFault → Result (List Part) SegFault → Type 0

@@ -4,7 +4,7 @@
 //! all segments are the destinations of a load.
 #![tactic(auto)]
 
-ghost use Rattle.std.specs.Prelude.{◌≡◌, ℕ, ◌<◌, ◌≤◌, List, length, Some, slice_get, slice_set, IfSome};
+ghost use Rattle.std.specs.Prelude.{◌≡◌, ℕ, ◌<◌, ◌≤◌, List, length, Some, slice_get, slice_set, IfSome, MatchResult};
 ghost use Rattle.std.specs.Option.{option_map};
 ghost use Rattle.page_memory.specs.Contents.{page_of};
 ghost use Rattle.kx_pages.specs.Spans.{in_spans};
@@ -56,8 +56,7 @@ impl Segments {
         ensures { Answers list.items (refusal ram.now kind list.items) result }
     {
         test_all(&list, ram, kind)?;
-        let spans = page_set(alloc, &list)?;
-        Ok(Segments { list, spans })
+        Segments::of_tested(alloc, list)
     }
 
     /// The same where nothing is known of memory: the rules but those on half of memory, the reserved area and System
@@ -66,6 +65,13 @@ impl Segments {
         ensures { Answers list.items (bare_refusal list.items) result }
     {
         test_bare(&list)?;
+        Segments::of_tested(alloc, list)
+    }
+
+    fn of_tested(alloc: Global, list: Vec<Segment>) -> Result<Segments, SegFault>
+        requires { IsBare list.items }
+        ensures { MatchResult result (λ s. s ≡ list.items) (λ e. e ≡ SegFault.Memory) }
+    {
         let spans = page_set(alloc, &list)?;
         Ok(Segments { list, spans })
     }

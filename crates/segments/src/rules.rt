@@ -1,12 +1,12 @@
 //! The rules that segments have to meet.
 
-ghost use Rattle.std.specs.Prelude.{◌≡◌, ℕ, ◌+◌, ◌/◌, ◌^◌, ◌<◌, ◌≤◌, ◌||◌, ◌&&◌, not, nat_le, [], ◌∷◌, None, Some, false, length, IfOk};
+ghost use Rattle.std.specs.Prelude.{◌≡◌, ℕ, ◌+◌, ◌/◌, ◌^◌, ◌<◌, ◌≤◌, ◌||◌, ◌&&◌, not, nat_le, nat_lt, [], ◌∷◌, None, Some, false, length, IfOk, OnOk};
 ghost use Rattle.std.specs.List.{list_any, list_all, range_with_len};
 ghost use Rattle.std.specs.Option.{option_map};
 ghost use Rattle.std.specs.List as lists;
 ghost use Rattle.kx_pages.specs.Spans as spans;
 ghost use Rattle.segments.specs.Parts.{page_count, pages, is_destination};
-ghost use Rattle.segments.specs.Rules.{first_of, answer, no_segments, too_many, bad_address, is_bad_address, is_too_full, leaves, overlap, overlap_each_other, too_full, half_of_memory, outside_reserved, is_not_ram, not_ram, too_large, shape_refusal, bare_refusal, refusal};
+ghost use Rattle.segments.specs.Rules.{answer, bad_count, bad_address, misplaced, is_bad_address, is_too_full, leaves, overlap, overlap_each_other, too_full, half_of_memory, outside_reserved, is_not_ram, not_ram, too_large, shape_refusal, bare_refusal, refusal};
 ghost use Rattle.kx_pages.specs.Lists.{Each};
 
 use crate::fault::{Kind, SegFault};
@@ -21,7 +21,7 @@ const MOST_SEGMENTS: usize = 16;
 const MOST_PAGES: u64 = 65536;
 
 fn test_count(list: &[Segment]) -> Result<(), SegFault>
-    ensures value { result ≡ answer (first_of (no_segments list.now ∷ too_many list.now ∷ [])) }
+    ensures { result ≡ answer (bad_count list.now) }
 {
     if list.is_empty() {
         Err(SegFault::NoSegments)
@@ -92,12 +92,19 @@ pub(crate) fn total(list: &[Segment]) -> u64
     total
 }
 
+// A segment has more pages than this.
+fn one_has_more(list: &[Segment], most: u64) -> bool
+    ensures { result ≡ list_any (λ s. nat_lt most (page_count s)) list.now }
+{
+    list.iter().any(|s| s.page_count() > most)
+}
+
 fn test_half_of_memory(list: &[Segment], ram: &PageSet) -> Result<(), SegFault>
     requires { length list.now ≤ 16 }
     ensures { result ≡ answer (half_of_memory ram.now list.now) }
 {
     let half = ram.total() / 2;
-    if list.iter().any(|s| s.page_count() > half) || total(list) > half {
+    if one_has_more(list, half) || total(list) > half {
         Err(SegFault::HalfOfMemory)
     } else {
         Ok(())
@@ -164,7 +171,7 @@ fn test_ram(list: &[Segment], ram: &PageSet) -> Result<(), SegFault>
 }
 
 fn test_place(list: &[Segment], ram: &PageSet, kind: Kind) -> Result<(), SegFault>
-    ensures { result ≡ answer (first_of (outside_reserved kind list.now ∷ not_ram ram.now kind list.now ∷ [])) }
+    ensures { result ≡ answer (misplaced ram.now kind list.now) }
 {
     match kind {
         Kind::Normal => test_ram(list, ram),
@@ -186,6 +193,7 @@ fn test_size(list: &[Segment]) -> Result<(), SegFault>
 
 fn test_shape(list: &[Segment]) -> Result<(), SegFault>
     ensures value { result ≡ answer (shape_refusal list.now) }
+    ensures few { OnOk result (length list.now ≤ 16) }
 {
     test_count(list)?;
     test_addresses(list)?;
