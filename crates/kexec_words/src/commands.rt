@@ -1,6 +1,6 @@
 // The commands, as their words say.
 
-/// How often the new kernel runs in kept mode, with a return to the old one after each run.
+/// How often the list is run in kept mode: once, into the new kernel, or twice, and back into the old one.
 #[derive(Clone, Copy, Debug, PartialEq, Eq)]
 pub enum Runs {
     Once,
@@ -41,7 +41,7 @@ pub struct Boot {
     pub inputs: Inputs,
     /// The file of the memory after the last run.
     pub out: String,
-    /// The runs in kept mode; none is one run with no return.
+    /// The runs in kept mode; none is one run in plain mode.
     pub kept: Option<Runs>,
     pub image: ImageType,
 }
@@ -96,7 +96,7 @@ pub struct Exec {
     pub load_record: String,
     /// The file of the memory after the last run.
     pub out: String,
-    /// Whether a second run follows the return from the first.
+    /// Whether the list is run a second time, back into the old kernel.
     pub twice: bool,
 }
 
@@ -110,7 +110,7 @@ pub struct Trace {
     pub head: u64,
     /// The most steps; at most 100,000,000.
     pub limit: u64,
-    /// The address of the swap page, which is given for kept mode: a multiple of 4,096 below 2^46.
+    /// The address of the swap page, a multiple of 4,096 below 2^46: moves are those of kept mode. None is plain mode.
     pub swap: Option<u64>,
 }
 

@@ -5,8 +5,9 @@ ghost use Rattle.kexec_words.specs.declared.faults.UsageWhy.TheVariants.{Number}
 
 use std::alloc::AllocError;
 use std::fmt::{self, Display, Formatter, Write};
+use thiserror::Error;
 
-/// The option or the word whose text has not its form.
+/// The option or the word whose text has not its form, in the order in which they are tried.
 #[derive(Clone, Copy, Debug, PartialEq, Eq)]
 pub enum Which {
     Type,
@@ -19,32 +20,56 @@ pub enum Which {
     Number,
 }
 
-/// Why words are refused, in the order in which the reasons are tried.
-#[derive(Clone, Copy, Debug, PartialEq, Eq)]
+/// Why words are refused, in the order in which the reasons are tried. This project's own.
+#[derive(Clone, Copy, Debug, PartialEq, Eq, Error)]
 pub enum UsageWhy {
     /// There is no word, or the first one names no command.
+    #[error("the first word has to be a command: boot, load, load-panic, check, dump, exec, trace or sample")]
     Command,
     /// The words after the first are not those that the command takes; asking for help is such a refusal.
+    #[error("the words after the command are not the words and options that it takes")]
     Parse,
     /// A number or a type has not its form.
+    #[error("{which} is not {form}", form = .which.form())]
     Number { which: Which },
     /// There are more than 12 modules.
+    #[error("more than 12 modules are given")]
     TooManyModules,
     /// The name of an output is the name of an input or of another output.
+    #[error("an output file has the name of an input file or of the other output file")]
     SameName,
     /// The type is raw, and `--at` is not given.
+    #[error("--type raw needs --at ADDRESS, the address of the kernel")]
     NeedsAt,
-    /// `--map` is not given, and the command, the type or the purgatory needs it.
+    /// `--map` is not given, and the command is `load-panic`, the type is not raw, or there is a purgatory.
+    #[error("--map FILE is needed: only a raw kernel without a purgatory is loaded without a memory map")]
     NeedsMap,
 }
 
 /// The answer to words that are not read.
-#[derive(Clone, Copy, Debug, PartialEq, Eq)]
+#[derive(Clone, Copy, Debug, PartialEq, Eq, Error)]
 pub enum WordsFault {
     /// Memory is wanting.
+    #[error("memory is wanting")]
     Memory,
     /// The words are refused.
+    #[error("{why}")]
     Usage { why: UsageWhy },
+}
+
+impl Which {
+    // The form that is wanted.
+    fn form(self) -> &'static str {
+        match self {
+            Which::Type => "raw, elf, bzimage or multiboot",
+            Which::Kept => "1 or 2",
+            Which::At | Which::Entry | Which::Head => "a hexadecimal number of 1 to 16 digits",
+            Which::Swap =>
+                "a hexadecimal number of 1 to 16 digits that is a multiple of 1000 below 400000000000",
+            Which::Limit => "a decimal number of 1 to 9 digits that is at most 100000000",
+            Which::Number => "a decimal number of 1 to 18 digits",
+        }
+    }
 }
 
 impl From<AllocError> for WordsFault {

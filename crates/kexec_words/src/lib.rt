@@ -4,6 +4,7 @@
 mod arguments;
 mod commands;
 mod faults;
+mod help;
 mod naming;
 mod numbers;
 mod parsing;
@@ -15,4 +16,8 @@ pub use commands::{
     Boot, Command, CrashInputs, Exec, ImageType, Inputs, Load, LoadPanic, Loaded, Runs, Trace,
 };
 pub use faults::{UsageWhy, Which, WordsFault};
+pub use help::help_of;
 pub use reading::read;
+
+#[cfg(test)]
+mod tests;

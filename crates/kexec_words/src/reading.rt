@@ -1,6 +1,7 @@
 // All commands.
-ghost use Rattle.std.specs.Prelude.{◌≡◌, map, string_bytes, Some};
+ghost use Rattle.std.specs.Prelude.{◌≡◌, IfOk, map, string_bytes, Some};
 ghost use Rattle.kexec_words.specs.Meaning.{Answers, command_of, command_named};
+ghost use Rattle.kexec_words.specs.Limits.{IsWithinLimits, HasOutputsApart};
 ghost use Rattle.kexec_words.specs.Values.{command_value};
 
 use crate::commands::Command;
@@ -33,6 +34,8 @@ fn read_named(alloc: Global, name: Name, words: &[String]) -> Result<Command, Wo
 /// `UsageWhy`; or want of memory. This project's own.
 pub fn read(alloc: Global, words: &[String]) -> Result<Command, WordsFault>
     ensures answer { Answers command_value (command_of (map string_bytes words.now)) result }
+    ensures limits { IfOk result (λ c. IsWithinLimits (command_value c)) }
+    ensures apart { IfOk result (λ c. HasOutputsApart (command_value c)) }
 {
     let Some((first, rest)) = words.split_first() else {
         return Err(WordsFault::Usage {

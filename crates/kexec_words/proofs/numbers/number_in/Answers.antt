@@ -7,15 +7,8 @@ use Rattle.std.proofs.lemmas.Str.Parse.{without_leading_plus_none}
 use Rattle.std.proofs.Math.Nat.{pow-le-pow_right}
 use Rattle.clap.proofs.WalkLemmas.{both}
 use Rattle.kexec_words.specs.Numbers.{is_number, number_of}
+use Rattle.kexec_words.proofs.Digits.{all_to, all_from}
 use Rattle.kexec_words.proofs.numbers.number_in.Goals as goal
-
-all_to : (base : ℕ) (ds : List ℕ) → AllDigits base ds → list_all (λ d. nat_lt (digit_value d) base) ds ≡ true
-all_to base [] h = refl
-all_to base (c ∷ cs) h = let rest = all_to base cs h.1 in let one : nat_lt (digit_value c) base ≡ true = search (rules, h.0) in rw (one, rest) refl
-
-all_from : (base : ℕ) (ds : List ℕ) → list_all (λ d. nat_lt (digit_value d) base) ds ≡ true → AllDigits base ds
-all_from base [] h = tt
-all_from base (c ∷ cs) h = let p = both _ _ h in (search (rules, p.0), all_from base cs p.1)
 
 -- the number that is read, where no plus leads
 read : (base most : ℕ) (bs : List ℕ) (n : ℕ) → get_or bs 0 0 ≢ 43 → length bs ≤ most
