@@ -7,6 +7,7 @@ ghost use Rattle.kexec_main.specs.declared.status.Status.TheVariants.{Memory};
 use kexec_words::UsageWhy;
 use page_memory::MemFault;
 use page_pool::PoolFault;
+use segments::SegFault;
 use std::alloc::{AllocError, AllocFailed};
 use thiserror::Error;
 
@@ -33,6 +34,8 @@ pub enum Part {
 /// Why a request has no plan.
 #[derive(Clone, Copy, Debug, PartialEq, Eq, Error)]
 pub enum PlanFault {
+    #[error("{fault}")]
+    Segments { fault: SegFault },
     #[error("{part} is given, and a kernel of this type takes none")]
     Unused { part: Part },
 }
@@ -59,7 +62,7 @@ pub enum Status {
     #[error("done")]
     Done,
     /// The words are refused.
-    #[error("{why:?}")]
+    #[error("{why}")]
     Usage { why: UsageWhy },
     /// The file could not be read.
     #[error("{name} cannot be read: it has to exist and to be readable to its end")]

@@ -128,12 +128,20 @@ pub(crate) fn take_inputs<S: Shelf>(
     ensures takes { Takes inputs_of (files_of (inputs_value inputs)) (input_files (inputs_value inputs)) (S.files shelf.old) (S.files shelf.new) (S.faults shelf.old) (S.faults shelf.new) result }
     ensures unfiled { IfOk result (λ t. (q : ℕ) → is_filed t.pool q ≡ false) }
 {
-    let memory = take_memory(alloc, inputs.memory, shelf)?;
-    let pool = take_pool(alloc, inputs.pool, shelf)?;
-    let kernel = take_file(alloc, inputs.kernel, KERNEL_LIMIT, shelf)?;
-    let initrd = as_list(alloc, inputs.initrd)?;
+    let Inputs {
+        memory,
+        pool,
+        kernel,
+        initrd,
+        modules,
+        ..
+    } = inputs;
+    let memory = take_memory(alloc, memory, shelf)?;
+    let pool = take_pool(alloc, pool, shelf)?;
+    let kernel = take_file(alloc, kernel, KERNEL_LIMIT, shelf)?;
+    let initrd = as_list(alloc, initrd)?;
     let left = measure_all(alloc, initrd, KERNEL_LIMIT - kernel.len(), shelf)?;
-    measure_all(alloc, inputs.modules, left, shelf)?;
+    measure_all(alloc, modules, left, shelf)?;
     Ok(Taken {
         memory,
         pool,
