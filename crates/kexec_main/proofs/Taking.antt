@@ -2,9 +2,10 @@
 use Rattle.std.proofs.Common.{◌≡◌, ℕ, List, ◌++◌, Option, Some, None, Result, Ok, Err, sym, ap, ◌∙◌, refl, subst, inl, inr}
 use Rattle.std.specs.Prelude.{IfSome}
 use Rattle.kx_edge.specs.Edge.{Files}
-use Rattle.kexec_main.specs.Answers.{Answer, done, usage, unread, unwritten, unsaid, too_long, input, plan, no_pages, heavy, not_built, memory, answer_of}
+use Rattle.kexec_main.specs.Answers.{IsAmong, Answer, done, not_accepted, usage, unread, unwritten, unsaid, too_long, input, plan, no_pages, heavy, not_built, memory, answer_of}
 use Rattle.kexec_main.specs.declared.status.Status.{Status}
-use Rattle.kexec_main.specs.Files.{IsAmong, TakesNot, Takes, ◌>>=◌}
+use Rattle.kexec_words.specs.Meaning.{given}
+use Rattle.kexec_main.specs.Files.{TakesNot, Takes, ◌>>=◌}
 
 -- what refuses a part refuses the whole
 bound : {X Y : Type 0} (what : Files → Result X Answer) (more : Files → X → Result Y Answer) (old : Option Files) (a : Answer)
@@ -30,6 +31,7 @@ refused_here names what more old before after (input f) h = (h.0, bound what mor
 refused_here names what more old before after (no_pages p n) h = (h.0, bound what more old _ h.1)
 refused_here names what more old before after (heavy n) h = (h.0, bound what more old _ h.1)
 refused_here names what more old before after (usage w) h = (h.0, bound what more old _ h.1)
+refused_here names what more old before after (not_accepted v) h = (h.0, bound what more old _ h.1)
 refused_here names what more old before after (plan x) h = (h.0, bound what more old _ h.1)
 refused_here names what more old before after (not_built w) h = (h.0, bound what more old _ h.1)
 
@@ -45,6 +47,7 @@ refused_later names what more x old before after (input f) k h = (h.0, later wha
 refused_later names what more x old before after (no_pages p n) k h = (h.0, later what more x old _ k h.1)
 refused_later names what more x old before after (heavy n) k h = (h.0, later what more x old _ k h.1)
 refused_later names what more x old before after (usage w) k h = (h.0, later what more x old _ k h.1)
+refused_later names what more x old before after (not_accepted v) k h = (h.0, later what more x old _ k h.1)
 refused_later names what more x old before after (plan f) k h = (h.0, later what more x old _ k h.1)
 refused_later names what more x old before after (not_built w) k h = (h.0, later what more x old _ k h.1)
 
@@ -60,6 +63,7 @@ more_names few many what old before after (input x) f h = h
 more_names few many what old before after (no_pages p n) f h = h
 more_names few many what old before after (heavy n) f h = h
 more_names few many what old before after (usage w) f h = h
+more_names few many what old before after (not_accepted v) f h = h
 more_names few many what old before after (plan x) f h = h
 more_names few many what old before after (not_built w) f h = h
 
@@ -67,3 +71,8 @@ more_names few many what old before after (not_built w) f h = h
 pub handed_on : {Y T : Type 0} (view : T → Y) (names : List (List ℕ)) (what : Files → Result Y Answer) (old now : Option Files) (before after : ℕ) (result : Result T Status) (e : Status)
     → result ≡ Err e → now ≡ old → TakesNot names what old before after (answer_of e) → Takes view names what old now before after result
 handed_on view names what old now before after result e is same h = rw is (same, h)
+
+-- a name among names is among them with one more before them, where one is given
+pub among_given : (o : Option (List ℕ)) (names : List (List ℕ)) (n : List ℕ) → IsAmong names n → IsAmong (given o names) n
+among_given None names n a = a
+among_given (Some x) names n a = inr a

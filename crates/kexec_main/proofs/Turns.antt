@@ -2,8 +2,8 @@
 use Rattle.std.proofs.Common.{◌≡◌, ℕ, ◌-◌, List, [], ◌∷◌, length, Option, Some, None, Result, Ok, Err, refl, sym, ap, ◌∙◌, ⊎_elim, inl, inr}
 use Rattle.std.specs.Prelude.{IfSome}
 use Rattle.kx_edge.specs.Edge.{Files}
-use Rattle.kexec_main.specs.Answers.{Answer, done, usage, unread, unwritten, unsaid, too_long, input, plan, no_pages, heavy, not_built, memory}
-use Rattle.kexec_main.specs.Files.{IsAmong, TakesNot, measured, left_after, ◌>>=◌}
+use Rattle.kexec_main.specs.Answers.{IsAmong, Answer, done, not_accepted, usage, unread, unwritten, unsaid, too_long, input, plan, no_pages, heavy, not_built, memory}
+use Rattle.kexec_main.specs.Files.{TakesNot, measured, left_after, ◌>>=◌}
 use Rattle.kexec_main.proofs.Taking.{refused_here, more_names}
 
 -- what is shown of the files that are left holds of all files
@@ -40,6 +40,7 @@ turned old left rest budget all before after (unread n) t h = (h.0, t.names n h.
 turned old left rest budget all before after memory t h = h
 turned old left rest budget all before after done t h = (h.0, t.answers _ h.1)
 turned old left rest budget all before after (usage w) t h = (h.0, t.answers _ h.1)
+turned old left rest budget all before after (not_accepted v) t h = (h.0, t.answers _ h.1)
 turned old left rest budget all before after (unwritten n) t h = (h.0, t.answers _ h.1)
 turned old left rest budget all before after unsaid t h = (h.0, t.answers _ h.1)
 turned old left rest budget all before after (too_long n l) t h = (h.0, t.answers _ h.1)

@@ -9,7 +9,7 @@ use Rattle.page_pool.specs.declared.fault.PoolFault.{PoolFault}
 use Rattle.kexec_words.specs.Values.{InputsValue}
 use Rattle.kexec_main.specs.declared.status.InputFault.TheVariants as inputs
 use Rattle.kexec_main.specs.declared.status.Status.{Status}
-use Rattle.kexec_main.specs.Answers.{Answer, unread, too_long, input, memory, answer_of}
+use Rattle.kexec_main.specs.Answers.{IsAmong, Answer, unread, too_long, input, memory, answer_of}
 
 -- the bytes of a file; one that is not held reads as the empty file
 abbrev pub file_at : Files → List ℕ → List ℕ
@@ -77,11 +77,6 @@ input_files i held = do
   left ← left_after (kernel_limit - length k) (as_list i.initrd) held
   none ← left_after left i.modules held
   Ok (record { memory = m; pool = p; kernel = k })
-
--- one of these names
-abbrev pub IsAmong : List (List ℕ) → List ℕ → Type 0
-IsAmong [] name = ⊥
-IsAmong (n ∷ ns) name = (n ≡ name) ⊎ IsAmong ns name
 
 -- What a call that takes files gives: `what` is what it reads of them, and the files that it may fail to read have these
 -- names. It changes no file, and the count of faults rises only where it fails to read one.

@@ -10,7 +10,7 @@ abbrev pub output_of : Output → File
 output_of o = (string_bytes o.name, o.bytes.items)
 
 abbrev pub goods_of : MadeGoods → Goods
-goods_of g = record { outputs = map output_of g.outputs.items; text = string_bytes g.text }
+goods_of g = record { outputs = map output_of g.outputs.items; text = string_bytes g.text; fault = g.fault }
 
 abbrev pub inputs_of : Taken → Inputs
 inputs_of t = record { memory = t.memory; pool = t.pool.left; kernel = t.kernel.items }

@@ -6,6 +6,7 @@ ghost use Rattle.kexec_main.specs.Answers.{Delivers, PutAll, PutSome, ended};
 ghost use Rattle.kexec_main.specs.Values.{goods_of, output_of};
 
 use crate::status::Status;
+use list_checker::ListFault;
 use kx_edge::{PutFailed, SayFailed, Shelf, Sink};
 
 /// A file to write: its name and its bytes.
@@ -15,11 +16,13 @@ pub(crate) struct Output {
     pub(crate) bytes: Vec<u8>,
 }
 
-/// What a command made: its outputs in the order in which they are put, and its text.
+/// What a command made: its outputs in the order in which they are put, its text, and the fault of a list that is not
+/// accepted.
 #[derive(Drop)]
 pub(crate) struct Goods {
     pub(crate) outputs: Vec<Output>,
     pub(crate) text: String,
+    pub(crate) fault: Option<ListFault>,
 }
 
 // Puts the outputs in their order, up to the first that fails, whose name is answered.
@@ -37,7 +40,8 @@ fn put_all<S: Shelf>(outputs: Vec<Output>, shelf: &mut S) -> Result<(), String>
     Ok(())
 }
 
-/// Puts all outputs and says the text. Nothing is put or said after a failure.
+/// Puts all outputs and says the text. Nothing is put or said after a failure. A list that is not accepted is answered
+/// last.
 pub(crate) fn deliver<S: Shelf, O: Sink>(
     goods: Goods,
     shelf: &mut S,
@@ -48,11 +52,19 @@ pub(crate) fn deliver<S: Shelf, O: Sink>(
         (record { files = S.files shelf.new; shelf_faults = S.faults shelf.new; said = O.said out.new; sink_faults = O.faults out.new })
         (ended result) }
 {
-    if let Err(name) = put_all(goods.outputs, shelf) {
+    let Goods {
+        outputs,
+        text,
+        fault,
+    } = goods;
+    if let Err(name) = put_all(outputs, shelf) {
         return Err(Status::Unwritten { name });
     }
-    if let Err(SayFailed) = out.say(goods.text.as_bytes()) {
+    if let Err(SayFailed) = out.say(text.as_bytes()) {
         return Err(Status::Unsaid);
     }
-    Ok(())
+    match fault {
+        Some(fault) => Err(Status::NotAccepted { fault }),
+        None => Ok(()),
+    }
 }

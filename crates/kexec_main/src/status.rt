@@ -5,6 +5,7 @@ ghost use Rattle.kexec_main.specs.Answers.{code_of};
 ghost use Rattle.kexec_main.specs.declared.status.Status.TheVariants.{Memory};
 
 use kexec_words::UsageWhy;
+use list_checker::ListFault;
 use page_memory::MemFault;
 use page_pool::PoolFault;
 use segments::SegFault;
@@ -61,6 +62,9 @@ pub enum Status {
     /// The command did its work.
     #[error("done")]
     Done,
+    /// The list is not accepted. Its first fault was said, and no output was written.
+    #[error("the list is not accepted: {fault}")]
+    NotAccepted { fault: ListFault },
     /// The words are refused.
     #[error("{why}")]
     Usage { why: UsageWhy },
@@ -106,6 +110,7 @@ impl Status {
     {
         match self {
             Status::Done => 0,
+            Status::NotAccepted { .. } => 1,
             Status::Usage { .. } => 2,
             Status::Unread { .. } => 3,
             Status::Unwritten { .. } => 4,
