@@ -2,7 +2,7 @@
 
 ghost use Rattle.std.specs.Prelude.{◌≡◌, ◌≤◌, ◌<◌, ◌%◌, ◌^◌, ◌∷◌, [], IfSome, IfOk, string_bytes};
 ghost use Rattle.page_memory.specs.Contents.{at};
-ghost use Rattle.kexec_words.specs.Values.{trace_value};
+ghost use Rattle.kexec_words.specs.Values.{TraceValue, trace_value};
 ghost use Rattle.kexec_words.specs.Limits.{HasRange};
 ghost use Rattle.kexec_main.specs.Answers.{Meets, ended};
 ghost use Rattle.kexec_main.specs.Files.{memory_file};
@@ -42,4 +42,53 @@ fn mode_by(swap: Option<u64>) -> Mode
         },
         None => Mode::Plain,
     }
+}
+
+// Runs the list, and makes the file of the memory after the steps and the line that tells how the run came out.
+fn trace_goods(
+    alloc: Global,
+    mut memory: Memory,
+    out: String,
+    head: u64,
+    swap: Option<u64>,
+    limit: u64,
+) -> Result<Goods, Status>
+    requires { IfSome swap (λ a. a < 2 ^ 46) }
+    ensures { (t : TraceValue) → t.out ≡ string_bytes out → t.head ≡ head → t.swap ≡ swap → t.limit ≡ limit → Makes (traces t) memory result }
+{
+    let outcome = run(&mut memory, head, mode_by(swap), limit)?;
+    let output = memory_output(&memory, out)?;
+    let text = outcome_line(alloc, outcome)?;
+    let mut outputs = Vec::new(alloc);
+    outputs.push(output)?;
+    Ok(Goods {
+        outputs,
+        text,
+        fault: None,
+    })
+}
+
+/// Runs the list from its head word on, by at most so many steps, whether it is accepted or not.
+pub(crate) fn trace<S: Shelf, O: Sink>(
+    alloc: Global,
+    trace: Trace,
+    shelf: &mut S,
+    out: &mut O,
+) -> Result<(), Status>
+    requires { HasRange (trace_value trace) }
+    ensures { Meets (string_bytes trace.memory ∷ []) (memory_file (string_bytes trace.memory)) (traces (trace_value trace))
+        (record { files = S.files shelf.old; shelf_faults = S.faults shelf.old; said = O.said out.old; sink_faults = O.faults out.old })
+        (record { files = S.files shelf.new; shelf_faults = S.faults shelf.new; said = O.said out.new; sink_faults = O.faults out.new })
+        (ended result) }
+{
+    let Trace {
+        memory,
+        out: name,
+        head,
+        limit,
+        swap,
+    } = trace;
+    let memory = take_memory(alloc, memory, shelf)?;
+    let goods = trace_goods(alloc, memory, name, head, swap, limit)?;
+    deliver(goods, shelf, out)
 }
