@@ -2,7 +2,7 @@
 
 ghost use Rattle.std.specs.Prelude.{◌≡◌, ◌≤◌, ◌<◌, ◌%◌, ◌^◌, ◌∷◌, [], IfSome, IfOk, string_bytes};
 ghost use Rattle.page_memory.specs.Contents.{at};
-ghost use Rattle.kexec_words.specs.Values.{TraceValue, trace_value};
+ghost use Rattle.kexec_words.specs.Values.{trace_value};
 ghost use Rattle.kexec_words.specs.Limits.{HasRange};
 ghost use Rattle.kexec_main.specs.Answers.{Meets, ended};
 ghost use Rattle.kexec_main.specs.Files.{memory_file};
@@ -54,16 +54,13 @@ fn trace_goods(
     limit: u64,
 ) -> Result<Goods, Status>
     requires { IfSome swap (λ a. a < 2 ^ 46) }
-    ensures { (t : TraceValue) → t.out ≡ string_bytes out → t.head ≡ head → t.swap ≡ swap → t.limit ≡ limit → Makes (traces t) memory result }
+    ensures { Makes (traces (string_bytes out) head swap limit) memory result }
 {
     let outcome = run(&mut memory, head, mode_by(swap), limit)?;
-    let output = memory_output(&memory, out)?;
-    let text = outcome_line(alloc, outcome)?;
-    let mut outputs = Vec::new(alloc);
-    outputs.push(output)?;
+    let outputs = memory_output(alloc, &memory, out)?;
     Ok(Goods {
         outputs,
-        text,
+        text: outcome_line(alloc, outcome)?,
         fault: None,
     })
 }
@@ -76,7 +73,7 @@ pub(crate) fn trace<S: Shelf, O: Sink>(
     out: &mut O,
 ) -> Result<(), Status>
     requires { HasRange (trace_value trace) }
-    ensures { Meets (string_bytes trace.memory ∷ []) (memory_file (string_bytes trace.memory)) (traces (trace_value trace))
+    ensures { Meets (string_bytes trace.memory ∷ []) (memory_file (string_bytes trace.memory)) (traces (string_bytes trace.out) trace.head trace.swap trace.limit)
         (record { files = S.files shelf.old; shelf_faults = S.faults shelf.old; said = O.said out.old; sink_faults = O.faults out.old })
         (record { files = S.files shelf.new; shelf_faults = S.faults shelf.new; said = O.said out.new; sink_faults = O.faults out.new })
         (ended result) }
