@@ -16,4 +16,4 @@ mod tests;
 
 pub use accepted::{Accepted, AcceptedKept, AcceptedPlain};
 pub use loaded::{Loaded, NotAccepted};
-pub use ran::RanPlain;
+pub use ran::{Back, RanKept, RanPlain};
