@@ -1,0 +1,5 @@
+pub mod Moves
+pub mod Exchange
+pub mod Bridge
+pub mod Holding
+pub mod Ready

@@ -1,0 +1,4 @@
+pub mod Exchange
+pub mod States
+pub mod Ready
+pub mod Answers
