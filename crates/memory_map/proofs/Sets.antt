@@ -1,9 +1,10 @@
 -- Rows as sets of bytes.
-use Rattle.std.proofs.Common.{◌≡◌, ◌<◌, ℕ, ◌+◌, ◌-◌, List, [], ◌∷◌, ◌++◌, refl, arith, ◌∙◌, Bool, true, false}
-use Rattle.std.specs.Prelude.{not, ◌&&◌, ◌||◌, min, max, nat_lt, nat_le, ◌==◌, if◌then◌else◌}
+use Rattle.std.proofs.Common.{◌≡◌, ◌<◌, ◌≤◌, ℕ, ◌+◌, ◌-◌, ◌*◌, ◌/◌, List, [], ◌∷◌, ◌++◌, refl, arith, ◌∙◌, Bool, true, false}
+use Rattle.std.specs.Prelude.{IsTrue, ◌↔◌, not, ◌&&◌, ◌||◌, min, max, nat_lt, nat_le, ◌==◌, if◌then◌else◌}
 use Rattle.std.specs.List.{flat_map, list_any}
 use Rattle.std.proofs.lemmas.List.Folds.{list_any-append}
-use Rattle.memory_map.specs.Rows.{covers, is_inside}
+use Rattle.memory_map.specs.Rows.{row_end, covers, is_inside, rows_meet, holds_page, meets_page}
+use Rattle.std.proofs.lemmas.Bool.{and_from, and_parts, le-leb, lt-ltb, leb-true, ltb-true}
 use Rattle.memory_map.specs.Named.{outside, without_area, before_area, behind_area}
 use Rattle.memory_map.specs.declared.row.Row.{Row}
 
@@ -86,3 +87,50 @@ unfolding outside
 difference [] rows b = all (covers b rows)
 difference (area ∷ areas) rows b =
     difference areas (flat_map (without_area area) rows) b ∙ (rw (each area rows b) (twice (covers b rows) (is_inside b area) (covers b areas)))
+
+-- ---- what the tests of rows and pages say of single bytes
+inside_from : (b : ℕ) (r : Row) → r.start ≤ b → b < row_end r → is_inside b r ≡ true
+inside_from b r h k = and_from (nat_le r.start b) (nat_lt b (row_end r)) (le-leb r.start b h) (lt-ltb b (row_end r) k)
+
+inside_parts : (b : ℕ) (r : Row) → is_inside b r ≡ true → (r.start ≤ b) × (b < row_end r)
+inside_parts b r h =
+    let t = and_parts (nat_le r.start b) (nat_lt b (row_end r)) h in
+    (leb-true r.start b t.0, ltb-true b (row_end r) t.1)
+
+pub holds_bytes : (r : Row) (p : ℕ) → IsTrue (holds_page p r) ↔ ((b : ℕ) → b / 4096 ≡ p → IsTrue (is_inside b r))
+holds_bytes r p = (λ h b e. down h b e, λ f. up f)
+  where
+    down : holds_page p r ≡ true → (b : ℕ) → b / 4096 ≡ p → is_inside b r ≡ true
+    down h b e =
+        let t = and_parts (nat_le r.start (4096 * p)) (nat_le (4096 * p + 4096) (row_end r)) h in
+        let low : r.start ≤ 4096 * p = leb-true r.start (4096 * p) t.0 in
+        let high : 4096 * p + 4096 ≤ row_end r = leb-true (4096 * p + 4096) (row_end r) t.1 in
+        inside_from b r (omega (arith, e, low)) (omega (arith, e, high))
+
+    up : ((b : ℕ) → b / 4096 ≡ p → is_inside b r ≡ true) → holds_page p r ≡ true
+    up f =
+        let first = inside_parts (4096 * p) r (f (4096 * p) (omega arith)) in
+        let last = inside_parts (4096 * p + 4095) r (f (4096 * p + 4095) (omega arith)) in
+        and_from (nat_le r.start (4096 * p)) (nat_le (4096 * p + 4096) (row_end r)) (le-leb r.start (4096 * p) first.0) (le-leb (4096 * p + 4096) (row_end r) (omega (arith, last)))
+
+pub meets_bytes : (r : Row) (p : ℕ) → IsTrue (meets_page p r) ↔ ((b : ℕ) × (b / 4096 ≡ p) × IsTrue (is_inside b r))
+meets_bytes r p = (λ h. down h, λ w. up w.0 w.1 w.2)
+  where
+    down : meets_page p r ≡ true → (b : ℕ) × (b / 4096 ≡ p) × (is_inside b r ≡ true)
+    down h =
+        let t : max r.start (4096 * p) < min (row_end r) (4096 * p + 4096) = ltb-true (max r.start (4096 * p)) (min (row_end r) (4096 * p + 4096)) h in
+        (max r.start (4096 * p), omega (arith, t), inside_from (max r.start (4096 * p)) r (omega arith) (omega (arith, t)))
+
+    up : (b : ℕ) → b / 4096 ≡ p → is_inside b r ≡ true → meets_page p r ≡ true
+    up b e i = let t = inside_parts b r i in lt-ltb (max r.start (4096 * p)) (min (row_end r) (4096 * p + 4096)) (omega (arith, e, t))
+
+pub rows_meet_bytes : (r s : Row) → IsTrue (rows_meet r s) ↔ ((b : ℕ) × IsTrue (is_inside b r) × IsTrue (is_inside b s))
+rows_meet_bytes r s = (λ h. down h, λ w. up w.0 w.1 w.2)
+  where
+    down : rows_meet r s ≡ true → (b : ℕ) × (is_inside b r ≡ true) × (is_inside b s ≡ true)
+    down h =
+        let t : max r.start s.start < min (row_end r) (row_end s) = ltb-true (max r.start s.start) (min (row_end r) (row_end s)) h in
+        (max r.start s.start, inside_from (max r.start s.start) r (omega arith) (omega (arith, t)), inside_from (max r.start s.start) s (omega arith) (omega (arith, t)))
+
+    up : (b : ℕ) → is_inside b r ≡ true → is_inside b s ≡ true → rows_meet r s ≡ true
+    up b i j = let t = inside_parts b r i in let u = inside_parts b s j in lt-ltb (max r.start s.start) (min (row_end r) (row_end s)) (omega (arith, t, u))

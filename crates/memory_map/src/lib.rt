@@ -6,9 +6,10 @@
 //! protocol. Bytes at 2^46 and above are passed over (this project's own limit).
 #![tactic(auto)]
 
-ghost use Rattle.std.specs.Prelude.{◌≡◌, ℕ, ◌&&◌, not, filter};
+ghost use Rattle.std.specs.Prelude.{◌≡◌, ◌↔◌, ℕ, ◌/◌, ◌&&◌, not, filter, IsTrue};
 ghost use Rattle.kx_pages.specs.Spans.{in_spans};
-ghost use Rattle.memory_map.specs.Rows.{covers, is_ram_row, AreBelow};
+ghost use Rattle.memory_map.specs.declared.row.Row.{Row};
+ghost use Rattle.memory_map.specs.Rows.{is_inside, covers, rows_meet, holds_page, meets_page, is_ram_row, AreBelow};
 ghost use Rattle.memory_map.specs.Named.{is_ram, reserved_area, crash_rows, core_ranges};
 ghost use Rattle.memory_map.specs.Text.{map_reading, Gives};
 
@@ -119,3 +120,11 @@ impl Map {
         &self.core_ranges
     }
 }
+
+/// What the tests of rows and pages in the contracts say of single bytes, where page `p` has the bytes `b` with
+/// `b / 4096` equal to `p`.
+pub fn tests_speak_of_bytes()
+    ensures holds { (r : Row) (p : ℕ) → IsTrue (holds_page p r) ↔ ((b : ℕ) → b / 4096 ≡ p → IsTrue (is_inside b r)) }
+    ensures meets { (r : Row) (p : ℕ) → IsTrue (meets_page p r) ↔ ((b : ℕ) × (b / 4096 ≡ p) × IsTrue (is_inside b r)) }
+    ensures rows { (r s : Row) → IsTrue (rows_meet r s) ↔ ((b : ℕ) × IsTrue (is_inside b r) × IsTrue (is_inside b s)) }
+{}
