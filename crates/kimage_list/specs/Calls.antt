@@ -1,8 +1,8 @@
 -- What the writer's calls begin with, and what they leave.
-use Rattle.std.specs.Prelude.{◌≡◌, ℕ, ◌+◌, ◌≤◌, ◌<◌, List, [], length, take, drop, false, None, Some}
-use Rattle.page_memory.specs.Contents.{Contents, at}
+use Rattle.std.specs.Prelude.{◌≡◌, ℕ, ◌+◌, ◌≤◌, ◌<◌, List, [], take, drop, false, None, Some}
+use Rattle.page_memory.specs.Contents.{at}
 use Rattle.page_memory.specs.Memory.{Mem}
-use Rattle.page_pool.specs.Pages.{Pages, is_filed}
+use Rattle.page_pool.specs.Pages.{is_filed}
 use Rattle.kx_pages.specs.Lists.{count, sources}
 use Rattle.kx_pages.specs.Spans.{Run, AreApart}
 use Rattle.kx_pages.specs.declared.image.Wish.{Wish}
