@@ -1,0 +1,12 @@
+pub mod Lists
+pub mod Kept
+pub mod Checking
+pub mod Ending
+pub mod Sets
+pub mod Pages
+pub mod Wanted
+pub mod Loop
+pub mod Follow
+pub mod CrashLists
+pub mod OneWay
+pub mod Unique

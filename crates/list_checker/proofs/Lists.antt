@@ -1,0 +1,73 @@
+-- Facts on each element of a list, on membership, and on tests in a row.
+use Rattle.std.proofs.Common.{◌≡◌, ℕ, ◌++◌, List, [], ◌∷◌, Option, Some, None, refl, sym, ap, arith, Bool, true, false}
+use Rattle.std.specs.Prelude.{◌≢◌, not}
+use Rattle.std.proofs.lemmas.Option.{none-some}
+use Rattle.std.proofs.lemmas.Bool.{eq-eqb, false≢true}
+use Rattle.list_checker.specs.declared.fault.Why.{Why}
+use Rattle.segments.specs.Elements.{Each-append, Each-right}
+use Rattle.kx_pages.specs.Lists.{Each, Distinct, destinations, sources}
+use Rattle.list_checker.specs.Walk.{InOrder}
+use Rattle.list_checker.specs.Faults.{first_of, same_bytes, are_wanted}
+
+pub not_false : (b : Bool) → not b ≡ false → b ≡ true
+not_false true e = refl
+not_false false e = sym e
+
+-- no reason holds exactly where there is no first one
+pub none_holds : (rs : List (Bool × Why)) → first_of rs ≡ None → Each (λ r. r.0 ≡ false) rs
+none_holds [] e = tt
+none_holds (r ∷ rs) e = go r.0 refl (none_holds rs)
+  where
+    go : (b : Bool) → r.0 ≡ b → (first_of rs ≡ None → Each (λ r. r.0 ≡ false) rs) → Each (λ r. r.0 ≡ false) (r ∷ rs)
+    go true f ih = absurd (none-some r.1 (sym (rw f at e)))
+    go false f ih = (f, ih (rw f at e))
+
+pub none_first : (rs : List (Bool × Why)) → Each (λ r. r.0 ≡ false) rs → first_of rs ≡ None
+none_first [] h = refl
+none_first (r ∷ rs) h = let ih = none_first rs h.1 in rw h.0 ih
+
+pub same_bytes-equal : (xs ys : List ℕ) → same_bytes xs ys ≡ true → xs ≡ ys
+same_bytes-equal [] [] e = refl
+same_bytes-equal [] (y ∷ ys) e = absurd (false≢true e)
+same_bytes-equal (x ∷ xs) [] e = absurd (false≢true e)
+same_bytes-equal (x ∷ xs) (y ∷ ys) e = let ih = same_bytes-equal xs ys in grind (arith, ih)
+
+pub equal-same_bytes : (xs : List ℕ) → same_bytes xs xs ≡ true
+equal-same_bytes [] = refl
+equal-same_bytes (x ∷ xs) = rw (eq-eqb x x refl) (equal-same_bytes xs)
+
+pub brought : (o : Option (List ℕ)) (c : List ℕ) → are_wanted o c ≡ true → o ≡ Some c
+brought None c e = absurd (false≢true e)
+brought (Some b) c e = ap Some (same_bytes-equal b c e)
+
+pub over : (P : ℕ → Type 0) (qs : List (ℕ × ℕ)) → Each P (destinations qs) → Each (λ q. P q.0) qs
+over P [] h = tt
+over P (q ∷ qs) h = (h.0, over P qs h.1)
+
+pub under : (P : ℕ → Type 0) (qs : List (ℕ × ℕ)) → Each (λ q. P q.0) qs → Each P (destinations qs)
+under P [] h = tt
+under P (q ∷ qs) h = (h.0, under P qs h.1)
+
+pub over_sources : (P : ℕ → Type 0) (qs : List (ℕ × ℕ)) → Each P (sources qs) → Each (λ q. P q.1) qs
+over_sources P [] h = tt
+over_sources P (q ∷ qs) h = (h.0, over_sources P qs h.1)
+
+pub under_sources : (P : ℕ → Type 0) (qs : List (ℕ × ℕ)) → Each (λ q. P q.1) qs → Each P (sources qs)
+under_sources P [] h = tt
+under_sources P (q ∷ qs) h = (h.0, under_sources P qs h.1)
+
+pub distinct-snoc : (xs : List ℕ) (p : ℕ) → Distinct xs → Each (λ x. x ≢ p) xs → Distinct (xs ++ p ∷ [])
+distinct-snoc [] p d h = (tt, tt)
+distinct-snoc (x ∷ xs) p d h = (Each-append (λ y. x ≢ y) xs (p ∷ []) d.0 (h.0, tt), distinct-snoc xs p d.1 h.1)
+
+pub distinct-split : (xs : List ℕ) (p : ℕ) (ys : List ℕ) → Distinct (xs ++ p ∷ ys) → Each (λ x. x ≢ p) xs
+distinct-split [] p ys d = tt
+distinct-split (x ∷ xs) p ys d = ((Each-right (λ y. x ≢ y) xs (p ∷ ys) d.0).0, distinct-split xs p ys d.1)
+
+pub unspoiled-snoc : (qs : List (ℕ × ℕ)) (r : ℕ × ℕ) → InOrder qs → Each (λ q. (q.0 ≢ r.0) × (q.0 ≢ r.1)) qs → InOrder (qs ++ r ∷ [])
+unspoiled-snoc [] r d h = (tt, tt)
+unspoiled-snoc (q ∷ qs) r d h = (Each-append (λ s. (q.0 ≢ s.0) × (q.0 ≢ s.1)) qs (r ∷ []) d.0 (h.0, tt), unspoiled-snoc qs r d.1 h.1)
+
+pub unspoiled-split : (qs : List (ℕ × ℕ)) (r : ℕ × ℕ) (rs : List (ℕ × ℕ)) → InOrder (qs ++ r ∷ rs) → Each (λ q. (q.0 ≢ r.0) × (q.0 ≢ r.1)) qs
+unspoiled-split [] r rs d = tt
+unspoiled-split (q ∷ qs) r rs d = ((Each-right (λ s. (q.0 ≢ s.0) × (q.0 ≢ s.1)) qs (r ∷ rs) d.0).0, unspoiled-split qs r rs d.1)

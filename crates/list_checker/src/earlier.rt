@@ -1,0 +1,161 @@
+//! What came before a word.
+
+ghost use Rattle.std.specs.Prelude.{◌≡◌, ℕ, OnOk, not, false, Some};
+ghost use Rattle.std.specs.Ordering.{nat_cmp};
+ghost use Rattle.std.specs.BTreeSet.{contains, btree_set_len};
+ghost use Rattle.std.specs.List.{find};
+ghost use Rattle.segments.specs.Parts.{pages};
+ghost use Rattle.kx_pages.specs.Lists.{has};
+ghost use Rattle.list_checker.specs.Faults as spec;
+ghost use Rattle.list_checker.specs.Faults.{nothing_earlier};
+ghost use Rattle.list_checker.specs.Checked.{Shows, Fits};
+
+use crate::missing::first_outside;
+use kx_pages::{Item, Page};
+use segments::Segments;
+use std::alloc::{AllocError, Global};
+use std::collections::BTreeSet;
+
+/// A source word's move: the source page's bytes go to the destination page.
+#[derive(Clone, Copy, Debug, PartialEq, Eq)]
+pub struct Pair {
+    pub destination: Page,
+    pub source: Page,
+}
+
+/// What is told of an accepted list: how many words its walk has, with head and done word, how many link pages, and its
+/// pairs in order.
+#[derive(Debug, Drop)]
+pub struct Accept {
+    pub words: u64,
+    pub links: u64,
+    pub pairs: Vec<Pair>,
+}
+
+// The links and pairs so far, and the page that the next source word's bytes go to, once there was a destination word.
+#[derive(Drop)]
+pub(crate) struct Earlier {
+    links: BTreeSet<Page>,
+    destinations: BTreeSet<Page>,
+    sources: BTreeSet<Page>,
+    pairs: Vec<Pair>,
+    next: Option<u64>,
+}
+
+impl Earlier {
+    pub(crate) fn new(alloc: Global) -> Earlier
+        ensures { Shows result nothing_earlier }
+    {
+        Earlier {
+            links: BTreeSet::new(alloc),
+            destinations: BTreeSet::new(alloc),
+            sources: BTreeSet::new(alloc),
+            pairs: Vec::new(alloc),
+            next: None,
+        }
+    }
+
+    pub(crate) fn is_link(&self, p: Page) -> bool
+        ensures { result ≡ contains nat_cmp self.now.links p }
+    {
+        self.links.contains(&p)
+    }
+
+    pub(crate) fn is_destination(&self, p: Page) -> bool
+        ensures { result ≡ contains nat_cmp self.now.destinations p }
+    {
+        self.destinations.contains(&p)
+    }
+
+    pub(crate) fn is_source(&self, p: Page) -> bool
+        ensures { result ≡ contains nat_cmp self.now.sources p }
+    {
+        self.sources.contains(&p)
+    }
+
+    // The first page of the segments that is no destination.
+    pub(crate) fn first_missing(&self, segments: &Segments) -> Option<Page>
+        ensures { result ≡ find (λ p. not (contains nat_cmp self.now.destinations p)) (pages segments.now) }
+    {
+        first_outside(segments, &self.destinations)
+    }
+
+    // The page that the next source word's bytes go to.
+    pub(crate) fn next(&self) -> Option<u64>
+        ensures { result ≡ self.now.next }
+    {
+        self.next
+    }
+
+    fn add_link(&mut self, p: Page) -> Result<(), AllocError>
+        ensures { OnOk result ((s : spec.Earlier) → Shows self.old s → has p s.links ≡ false → Shows self.new (spec.with_item s (Item.Link p))) }
+    {
+        self.links.insert(p)?;
+        Ok(())
+    }
+
+    fn add_destination(&mut self, n: u64)
+        ensures { (s : spec.Earlier) → Shows self.old s → Shows self.new (spec.with_item s (Item.Destination n)) }
+    {
+        self.next = Some(n);
+    }
+
+    fn add_pair(&mut self, d: Page, p: Page) -> Result<(), AllocError>
+        ensures { OnOk result ((s : spec.Earlier) → Shows self.old s → s.next ≡ Some d → Shows self.new (spec.with_item s (Item.Source p))) }
+    {
+        self.destinations.insert(d)?;
+        self.sources.insert(p)?;
+        self.pairs.push(Pair {
+            destination: d,
+            source: p,
+        })?;
+        self.next = Some(d.number() + 1);
+        Ok(())
+    }
+
+    fn add_source(&mut self, n: u64) -> Result<(), AllocError>
+        ensures { OnOk result ((s : spec.Earlier) → Shows self.old s → Fits s (Item.Source n) → Shows self.new (spec.with_item s (Item.Source n))) }
+    {
+        match self.next {
+            None => Ok(()),
+            Some(t) => match Page::new(t) {
+                None => Ok(()),
+                Some(d) => match Page::new(n) {
+                    None => Ok(()),
+                    Some(p) => self.add_pair(d, p),
+                },
+            },
+        }
+    }
+
+    // Adds a word that fits what came before it.
+    pub(crate) fn add(&mut self, item: Item) -> Result<(), AllocError>
+        ensures { OnOk result ((s : spec.Earlier) → Shows self.old s → Fits s item → Shows self.new (spec.with_item s item)) }
+    {
+        match item {
+            Item::Link(n) => match Page::new(n) {
+                Some(p) => self.add_link(p),
+                None => Ok(()),
+            },
+            Item::Destination(n) => {
+                self.add_destination(n);
+                Ok(())
+            }
+            Item::Source(n) => self.add_source(n),
+            Item::Done(_) => Ok(()),
+        }
+    }
+
+    // The answer for a list of so many words.
+    pub(crate) fn accept(self, words: u64) -> Accept
+        ensures words { result.words ≡ words }
+        ensures links { result.links ≡ btree_set_len self.links }
+        ensures pairs { result.pairs ≡ self.pairs }
+    {
+        Accept {
+            words,
+            links: self.links.len() as u64,
+            pairs: self.pairs,
+        }
+    }
+}

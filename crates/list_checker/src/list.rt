@@ -1,0 +1,51 @@
+//! Checking a list in a memory.
+
+ghost use Rattle.std.specs.Prelude.{◌≡◌, ℕ, ◌+◌, ◌<◌, ◌^◌, IfOk, IfErr};
+ghost use Rattle.segments.specs.Rules.{IsBare};
+ghost use Rattle.list_checker.specs.Checked.{IsAccept, IsCheckFault};
+
+use crate::earlier::{Accept, Earlier};
+use crate::fault::{CheckFault, ListFault};
+use crate::reasons::{following, judged};
+use kx_pages::{Image, Item};
+use page_memory::Memory;
+use segments::Segments;
+use std::alloc::Global;
+
+/// Whether the list of the image is accepted for the segments in this memory, in the image's mode: what is told of it, or
+/// its first fault. A list that is accepted and run brings each page of the segments what it is to have. Each word is
+/// read once; look-ups are in ordered sets.
+pub fn check(
+    alloc: Global,
+    memory: &Memory,
+    image: &Image,
+    segments: &Segments,
+) -> Result<Accept, CheckFault>
+    // The list is accepted, and this is its walk.
+    ensures accepted { IfOk result (λ a. IsAccept memory.now segments.now image.now a) }
+    // It is not, and this is its first fault.
+    ensures fault { IfErr result (λ e. IsCheckFault memory.now segments.now image.now e) }
+    // The segments meet the rules.
+    ensures valid { IsBare segments.now }
+{
+    let mut earlier = Earlier::new(alloc);
+    let mut place: Option<u64> = None;
+    let mut w = image.head;
+    let mut words = 0;
+    'words: loop {
+        let item = match judged(memory, image, segments, &earlier, place, w) {
+            Ok(item) => item,
+            Err(why) => return Err(CheckFault::List {
+                fault: ListFault { word: words, why },
+            }),
+        };
+        words += 1;
+        if let Item::Done(_) = item {
+            return Ok(earlier.accept(words));
+        }
+        earlier.add(item)?;
+        let next = following(place, item);
+        place = Some(next);
+        w = memory.word(next);
+    }
+}

@@ -1,0 +1,278 @@
+//! Why a word is refused.
+
+ghost use Rattle.std.specs.Prelude.{◌≡◌, ◌≢◌, ℕ, ◌+◌, ◌*◌, ◌/◌, ◌%◌, ◌<◌, ◌^◌, IsTrue, IfSome, MatchResult, Option, Some, None, true, false, not, eqb, ◌||◌, ◌&&◌};
+ghost use Rattle.page_memory.specs.Contents.{at};
+ghost use Rattle.segments.specs.Parts.{want, pages};
+ghost use Rattle.segments.specs.Rules.{IsBare};
+ghost use Rattle.kx_pages.specs.Items.{decode};
+ghost use Rattle.kx_pages.specs.Lists.{has, destinations, sources};
+ghost use Rattle.list_checker.specs.Faults as spec;
+ghost use Rattle.list_checker.specs.Walk.{swap_page};
+ghost use Rattle.list_checker.specs.Faults.{first_of, is_swap, is_wanted, are_wanted};
+ghost use Rattle.list_checker.specs.Checked.{Shows, why_refused, reasons_of_pair, reasons_of_link, reasons_of_place, reasons_of_done, reasons_of_source, IsJudged, Leads, IsPlace};
+
+use crate::earlier::Earlier;
+use crate::fault::Why;
+use kx_pages::{Image, Item, Mode, Page};
+use page_memory::Memory;
+use segments::Segments;
+
+// The first reason whose test holds.
+fn first(reasons: &[(bool, Why)]) -> Option<Why>
+    ensures { result ≡ first_of reasons.now }
+{
+    for (holds, why) in reasons {
+        if *holds {
+            return Some(*why);
+        }
+    }
+    None
+}
+
+fn is_kept(image: &Image) -> bool
+    ensures { result ≡ spec.is_kept (swap_page image.now.mode) }
+{
+    match image.mode {
+        Mode::Plain => false,
+        Mode::Kept { swap: _ } => true,
+    }
+}
+
+fn is_swap(image: &Image, p: Page) -> bool
+    ensures { result ≡ is_swap (swap_page image.now.mode) p }
+{
+    match image.mode {
+        Mode::Plain => false,
+        Mode::Kept { swap } => p == swap,
+    }
+}
+
+// At the head alone: the swap page is the control page.
+fn swap_meets_control(image: &Image, place: Option<u64>) -> bool
+    ensures { result ≡ spec.swap_meets_control image.now.control (swap_page image.now.mode) place }
+{
+    place.is_none() && is_swap(image, image.control)
+}
+
+pub(crate) fn has_its_bytes(memory: &Memory, segments: &Segments, d: Page, p: Page) -> bool
+    ensures { result ≡ are_wanted (want segments.now d) (at memory.now p) }
+{
+    match segments.wanted(d) {
+        Some(bytes) => memory.equals(p, bytes),
+        None => false,
+    }
+}
+
+// A link page is an earlier pair's page.
+fn link_is_spoiled(image: &Image, earlier: &Earlier, p: Page) -> bool
+    ensures { (s : spec.Earlier) → Shows earlier.now s → result ≡ (has p (destinations s.pairs) || (spec.is_kept (swap_page image.now.mode) && has p (sources s.pairs))) }
+{
+    earlier.is_destination(p) || is_kept(image) && earlier.is_source(p)
+}
+
+// A pair's page is a link page.
+fn pair_spoils_link(image: &Image, earlier: &Earlier, d: Page, p: Page) -> bool
+    ensures { (s : spec.Earlier) → Shows earlier.now s → result ≡ (has d s.links || (spec.is_kept (swap_page image.now.mode) && has p s.links)) }
+{
+    earlier.is_link(d) || is_kept(image) && earlier.is_link(p)
+}
+
+// A pair's page is an earlier pair's source.
+fn pairs_meet(image: &Image, earlier: &Earlier, d: Page, p: Page) -> bool
+    ensures { (s : spec.Earlier) → Shows earlier.now s → result ≡ (spec.is_kept (swap_page image.now.mode) && (has d (sources s.pairs) || has p (sources s.pairs))) }
+{
+    is_kept(image) && (earlier.is_source(d) || earlier.is_source(p))
+}
+
+fn is_control(image: &Image, p: Page) -> bool
+    ensures { result ≡ eqb p image.now.control }
+{
+    p == image.control
+}
+
+fn pair_touches_control(image: &Image, d: Page, p: Page) -> bool
+    ensures { result ≡ (eqb d image.now.control || eqb p image.now.control) }
+{
+    d == image.control || p == image.control
+}
+
+fn pair_touches_swap(image: &Image, d: Page, p: Page) -> bool
+    ensures { result ≡ (is_swap (swap_page image.now.mode) d || is_swap (swap_page image.now.mode) p) }
+{
+    is_swap(image, d) || is_swap(image, p)
+}
+
+fn link_touches_swap(image: &Image, place: Option<u64>, p: Page) -> bool
+    ensures { result ≡ (is_swap (swap_page image.now.mode) p || spec.swap_meets_control image.now.control (swap_page image.now.mode) place) }
+{
+    is_swap(image, p) || swap_meets_control(image, place)
+}
+
+fn is_wanted(segments: &Segments, d: Page) -> bool
+    ensures { result ≡ is_wanted (want segments.now d) }
+{
+    segments.wanted(d).is_some()
+}
+
+// Why a pair is refused.
+fn pair_reason(
+    memory: &Memory,
+    image: &Image,
+    segments: &Segments,
+    earlier: &Earlier,
+    d: Page,
+    p: Page,
+) -> Option<Why>
+    ensures { (s : spec.Earlier) → Shows earlier.now s → result ≡ first_of (reasons_of_pair memory.now segments.now image.now s d p) }
+{
+    first(&[
+        (!is_wanted(segments, d), Why::NotWanted),
+        (earlier.is_destination(d), Why::TwiceWritten),
+        (earlier.is_destination(p), Why::SourceSpoiled),
+        (pair_spoils_link(image, earlier, d, p), Why::LinkSpoiled),
+        (pair_touches_control(image, d, p), Why::ControlTouched),
+        (pairs_meet(image, earlier, d, p), Why::PairsMeet),
+        (pair_touches_swap(image, d, p), Why::SwapTouched),
+        (!has_its_bytes(memory, segments, d, p), Why::WrongBytes),
+    ])
+}
+
+// Why a link to a page is refused.
+fn link_reason(image: &Image, earlier: &Earlier, place: Option<u64>, p: Page) -> Option<Why>
+    ensures { (s : spec.Earlier) → Shows earlier.now s → result ≡ first_of (reasons_of_link image.now place s p) }
+{
+    first(&[
+        (earlier.is_link(p), Why::LinkAgain),
+        (link_is_spoiled(image, earlier, p), Why::LinkSpoiled),
+        (is_control(image, p), Why::ControlTouched),
+        (link_touches_swap(image, place, p), Why::SwapTouched),
+    ])
+}
+
+// Why a destination or source word is refused for its place.
+pub(crate) fn place_reason(place: Option<u64>) -> Option<Why>
+    ensures { result ≡ first_of (reasons_of_place place) }
+{
+    match place {
+        None => Some(Why::HeadKind),
+        Some(a) => if a % 4096 >= 4088 {
+            Some(Why::RunsOff)
+        } else {
+            None
+        },
+    }
+}
+
+// Why a done word is refused.
+fn done_reason(
+    image: &Image,
+    segments: &Segments,
+    earlier: &Earlier,
+    place: Option<u64>,
+) -> Option<Why>
+    ensures { (s : spec.Earlier) → Shows earlier.now s → result ≡ first_of (reasons_of_done segments.now image.now place s) }
+{
+    if swap_meets_control(image, place) {
+        return Some(Why::SwapTouched);
+    }
+    match earlier.first_missing(segments) {
+        Some(page) => Some(Why::Missing { page }),
+        None => None,
+    }
+}
+
+// No page of the segments has so great a number.
+fn past_the_pages(segments: &Segments) -> Option<Why>
+    ensures value { result ≡ Some Why.NotWanted }
+    ensures valid { IsBare segments.now }
+{
+    let _known = segments.count();
+    Some(Why::NotWanted)
+}
+
+// Why a source word with this page is refused, once its place is right.
+fn source_reason(
+    memory: &Memory,
+    image: &Image,
+    segments: &Segments,
+    earlier: &Earlier,
+    p: Page,
+) -> Option<Why>
+    ensures { (s : spec.Earlier) → Shows earlier.now s → result ≡ first_of (reasons_of_source memory.now segments.now image.now s p) }
+{
+    match earlier.next() {
+        None => Some(Why::NoDestination),
+        Some(t) => match Page::new(t) {
+            None => past_the_pages(segments),
+            Some(d) => pair_reason(memory, image, segments, earlier, d, p),
+        },
+    }
+}
+
+/// Why a word is refused, if it is.
+pub(crate) fn refusal(
+    memory: &Memory,
+    image: &Image,
+    segments: &Segments,
+    earlier: &Earlier,
+    place: Option<u64>,
+    item: Item,
+) -> Option<Why>
+    ensures { (s : spec.Earlier) → Shows earlier.now s → result ≡ why_refused memory.now segments.now image.now place s (Some item) }
+{
+    match item {
+        Item::Done(_) => done_reason(image, segments, earlier, place),
+        Item::Link(n) => match Page::new(n) {
+            None => Some(Why::PastLimit),
+            Some(p) => link_reason(image, earlier, place, p),
+        },
+        Item::Destination(n) => match Page::new(n) {
+            None => Some(Why::PastLimit),
+            Some(_) => place_reason(place),
+        },
+        Item::Source(n) => match Page::new(n) {
+            None => Some(Why::PastLimit),
+            Some(p) => match place_reason(place) {
+                Some(why) => Some(why),
+                None => source_reason(memory, image, segments, earlier, p),
+            },
+        },
+    }
+}
+
+/// The item that a word is, or why the word is refused.
+pub(crate) fn judged(
+    memory: &Memory,
+    image: &Image,
+    segments: &Segments,
+    earlier: &Earlier,
+    place: Option<u64>,
+    w: u64,
+) -> Result<Item, Why>
+    ensures exact { (s : spec.Earlier) → Shows earlier.now s → IsJudged memory.now segments.now image.now place s w result }
+    ensures valid { IsBare segments.now }
+{
+    let _known = segments.count();
+    match Item::of_word(w) {
+        None => Err(Why::Flags),
+        Some(item) => match refusal(memory, image, segments, earlier, place, item) {
+            None => Ok(item),
+            Some(why) => Err(why),
+        },
+    }
+}
+
+/// Where the word after an item stands.
+pub(crate) fn following(place: Option<u64>, item: Item) -> u64
+    requires { Leads place item }
+    ensures next { result ≡ spec.following place item }
+    ensures place { IsPlace result }
+{
+    match item {
+        Item::Link(n) => n * 4096,
+        _ => match place {
+            None => 0,
+            Some(a) => a + 8,
+        },
+    }
+}
