@@ -516,6 +516,8 @@ module _ (h : Load) (w : Writer) (s : StandsAt h w) (started_all : w.segments_le
         drawn = ap (λ v. v.left) pool ∙ s.left ∙ drawn_all.1;
         in_use = in_use;
         unfiled = λ p. ap (λ v. is_filed v p) pool ∙ s.filed p ∙ ap (has p) drawn_all.0;
+        once = s.inside.under_way.counts.once;
+        below = s.inside.writes.below;
         others = λ p z. laid_there p ∙ unused p z;
       }
     where
