@@ -1,0 +1,3 @@
+pub mod LaidWords
+pub mod LaidAccepted
+pub mod LaidPlan
