@@ -3,3 +3,6 @@ pub mod Exchange
 pub mod Bridge
 pub mod Holding
 pub mod Ready
+pub mod LaidWords
+pub mod LaidAccepted
+pub mod LaidPlan

@@ -8,6 +8,7 @@
 
 mod accepted;
 mod hold;
+pub mod load_laws;
 mod loaded;
 mod ran;
 mod run;
