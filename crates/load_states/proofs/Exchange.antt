@@ -23,7 +23,7 @@ one-swap swap M q a b = grind arith
 abbrev Away : ℕ × ℕ → ℕ × ℕ → Type 0
 Away q r = (q.0 ≢ r.0) × (q.0 ≢ r.1) × (q.1 ≢ r.0) × (q.1 ≢ r.1)
 
-abbrev NotIn : ℕ → ℕ × ℕ → Type 0
+abbrev pub NotIn : ℕ → ℕ × ℕ → Type 0
 NotIn p r = (r.0 ≢ p) × (r.1 ≢ p)
 
 alone : (qs : List (ℕ × ℕ)) (p : ℕ) → Each (NotIn p) qs → partner qs p ≡ p
@@ -104,24 +104,39 @@ off_swap M qs swap p n = go (eqb_tells p swap)
     go (inl e) = absurd (n e.1)
     go (inr e) = rw e.0
 
-module _ (M : Mem) (W : Wants) (head control swap : ℕ) (is : List Item) (a : AcceptedKept M W head control swap is) where
-  pub link_kept : (p : ℕ) → Has p (links is) → exchange M (pairs is) swap p ≡ M p
-  link_kept p h =
-      let apart : p ≢ swap = Each-at (λ l. l ≢ swap) (links is) p a.swap_apart.1 h in
-      off_swap M (pairs is) swap p apart ∙ ap M (alone (pairs is) p (links_out (pairs is) (links is) p a.plain.links_unwritten a.links_no_sources h))
+-- a link page keeps its words
+pub link_kept : (M : Mem) (W : Wants) (head control swap : ℕ) (is : List Item) → AcceptedKept M W head control swap is → (p : ℕ) → Has p (links is) → exchange M (pairs is) swap p ≡ M p
+link_kept M W head control swap is a p h =
+    let apart : p ≢ swap = Each-at (λ l. l ≢ swap) (links is) p a.swap_apart.1 h in
+    off_swap M (pairs is) swap p apart ∙ ap M (alone (pairs is) p (links_out (pairs is) (links is) p a.plain.links_unwritten a.links_no_sources h))
 
-  dest_partner : (qs : List (ℕ × ℕ)) (x : ℕ) → PairsApart qs → Has x (destinations qs) → Has (partner qs x) (sources qs)
-  dest_partner [] x b h = absurd h
-  dest_partner (q ∷ qs) x b (inl e) = let f : q.1 ≡ partner (q ∷ qs) x = grind (arith, e) in inl f
-  dest_partner (q ∷ qs) x b (inr h) =
-      let o = each_dest qs x b.0 h in
-      let f : partner qs x ≡ partner (q ∷ qs) x = grind (arith, o.0, o.1) in
-      inr (subst (λ y. Has y (sources qs)) f (dest_partner qs x b.1 h))
-    where
-      each_dest : (rs : List (ℕ × ℕ)) (y : ℕ) → Each (Away q) rs → Has y (destinations rs) → (q.0 ≢ y) × (q.1 ≢ y)
-      each_dest [] y c h = absurd h
-      each_dest (r ∷ rs) y c (inl e) = ((λ f. c.0.0 (f ∙ sym e)), λ f. c.0.2 (f ∙ sym e))
-      each_dest (r ∷ rs) y c (inr h) = each_dest rs y c.1 h
+no_destination : (p : ℕ) (qs : List (ℕ × ℕ)) → Each (NotIn p) qs → Has p (destinations qs) → ⊥
+no_destination p [] c h = h
+no_destination p (q ∷ qs) c (inl e) = c.0.0 e
+no_destination p (q ∷ qs) c (inr h) = no_destination p qs c.1 h
+
+by_whole : (W : Wants) (qs : List (ℕ × ℕ)) → ((p : ℕ) (b : List ℕ) → W p ≡ Some b → Has p (destinations qs)) → (p : ℕ) → (Has p (destinations qs) → ⊥) → (o : Option (List ℕ)) → W p ≡ o → W p ≡ None
+by_whole W qs whole p never None e = e
+by_whole W qs whole p never (Some b) e = absurd (never (whole p b e))
+
+-- no link page is wanted
+pub link_unwanted : (M : Mem) (W : Wants) (head control swap : ℕ) (is : List Item) → AcceptedKept M W head control swap is → (p : ℕ) → Has p (links is) → W p ≡ None
+link_unwanted M W head control swap is a p h =
+    by_whole W (pairs is) a.plain.whole p (no_destination p (pairs is) (links_out (pairs is) (links is) p a.plain.links_unwritten a.links_no_sources h)) (W p) refl
+
+-- the partner of a destination is a source
+destination_partner : (qs : List (ℕ × ℕ)) (x : ℕ) → PairsApart qs → Has x (destinations qs) → Has (partner qs x) (sources qs)
+destination_partner [] x b h = absurd h
+destination_partner (q ∷ qs) x b (inl e) = let f : q.1 ≡ partner (q ∷ qs) x = grind (arith, e) in inl f
+destination_partner (q ∷ qs) x b (inr h) =
+    let o = each_destination qs x b.0 h in
+    let f : partner qs x ≡ partner (q ∷ qs) x = grind (arith, o.0, o.1) in
+    inr (subst (λ y. Has y (sources qs)) f (destination_partner qs x b.1 h))
+  where
+    each_destination : (rs : List (ℕ × ℕ)) (y : ℕ) → Each (Away q) rs → Has y (destinations rs) → (q.0 ≢ y) × (q.1 ≢ y)
+    each_destination [] y c h = absurd h
+    each_destination (r ∷ rs) y c (inl e) = ((λ f. c.0.0 (f ∙ sym e)), λ f. c.0.2 (f ∙ sym e))
+    each_destination (r ∷ rs) y c (inr h) = each_destination rs y c.1 h
 
 partner_sources : (qs : List (ℕ × ℕ)) → PairsApart qs → Each (λ q. partner qs q.1 ≡ q.0) qs
 partner_sources [] a = tt
@@ -131,27 +146,17 @@ partner_sources (q ∷ qs) a =
     first : (q : ℕ × ℕ) (qs : List (ℕ × ℕ)) (r : ℕ × ℕ) → Away q r → partner qs r.1 ≡ r.0 → partner (q ∷ qs) r.1 ≡ r.0
     first q qs r h e = grind (arith, h.1, h.3, e)
 
-pub undone : (M M' : Mem) (W : Wants) (head control swap : ℕ) (is : List Item) → AcceptedKept M W head control swap is → ((p : ℕ) → W p ≡ None → M' p ≡ exchange M (pairs is) swap p) → (N : Mem) → ((p : ℕ) → N p ≡ exchange M' (pairs is) swap p)
-    → ((p : ℕ) → Has p (links is) → W p ≡ None) × ((p : ℕ) → p ≢ swap → (Has p (sources (pairs is)) → ⊥) → N p ≡ M p) × Each (λ q. N q.1 ≡ M' q.0) (pairs is)
-undone M M' W head control swap is a same N leaves =
-    let qs = pairs is in (
-      unwanted,
-      λ p n s. leaves p ∙ off_swap M' qs swap p n ∙ same (partner qs p) (no_source p s)
-          ∙ off_swap M qs swap (partner qs p) (stays_out qs swap p a.swap_apart.2 n) ∙ ap M (twice qs p a.apart),
-      Each-both qs (λ q e o. leaves q.1 ∙ off_swap M' qs swap q.1 o.1 ∙ ap M' e) (partner_sources qs a.apart) a.swap_apart.2,
-    )
-  where
-    by_whole : (p : ℕ) → (Has p (destinations (pairs is)) → ⊥) → (o : Option (List ℕ)) → W p ≡ o → W p ≡ None
-    by_whole p never None e = e
-    by_whole p never (Some b) e = absurd (never (a.plain.whole p b e))
+-- the second exchange, from memory M' to N
+module _ (W : Wants) (qs : List (ℕ × ℕ)) (w : ℕ) (apart : PairsApart qs) (out : Each (NotIn w) qs) (M' N : Mem) (leaves : (p : ℕ) → N p ≡ exchange M' qs w p) where
+  -- where M' is the exchange of M at the page that p's bytes come from
+  pub restores : (M : Mem) (p : ℕ) → p ≢ w → M' (partner qs p) ≡ exchange M qs w (partner qs p) → N p ≡ M p
+  restores M p n same =
+      leaves p ∙ off_swap M' qs w p n ∙ same ∙ off_swap M qs w (partner qs p) (stays_out qs w p out n) ∙ ap M (twice qs p apart)
 
-    no_dest : (p : ℕ) (qs : List (ℕ × ℕ)) → Each (NotIn p) qs → Has p (destinations qs) → ⊥
-    no_dest p [] c h = h
-    no_dest p (q ∷ qs) c (inl e) = c.0.0 e
-    no_dest p (q ∷ qs) c (inr h) = no_dest p qs c.1 h
+  pub no_source_wanted : ((p : ℕ) (b : List ℕ) → W p ≡ Some b → Has p (destinations qs)) → (p : ℕ) → (Has p (sources qs) → ⊥) → W (partner qs p) ≡ None
+  no_source_wanted whole p s =
+      by_whole W qs whole (partner qs p) (λ h. s (subst (λ y. Has y (sources qs)) (twice qs p apart) (destination_partner qs (partner qs p) apart h))) (W (partner qs p)) refl
 
-    unwanted : (p : ℕ) → Has p (links is) → W p ≡ None
-    unwanted p h = by_whole p (no_dest p (pairs is) (links_out (pairs is) (links is) p a.plain.links_unwritten a.links_no_sources h)) (W p) refl
-
-    no_source : (p : ℕ) → (Has p (sources (pairs is)) → ⊥) → W (partner (pairs is) p) ≡ None
-    no_source p s = by_whole (partner (pairs is) p) (λ h. s (subst (λ y. Has y (sources (pairs is))) (twice (pairs is) p a.apart) (dest_partner M W head control swap is a (pairs is) (partner (pairs is) p) a.apart h))) (W (partner (pairs is) p)) refl
+  -- each source gets what its destination held
+  pub sources_get : Each (λ q. N q.1 ≡ M' q.0) qs
+  sources_get = Each-both qs (λ q e o. leaves q.1 ∙ off_swap M' qs w q.1 o.1 ∙ ap M' e) (partner_sources qs apart) out

@@ -1,11 +1,13 @@
 -- Accepted lists whose pages are held, and their runs.
 use Rattle.std.proofs.Common.{◌≡◌, ℕ, ◌^◌, ◌<◌, List, [], ◌∷◌, length, Option, Some, None, refl, sym, ap, ◌∙◌, subst, inl, inr, ◌+◌, arith}
-use Rattle.std.specs.Prelude.{IsSome, map}
+use Rattle.std.specs.Prelude.{◌≢◌, IsSome, map, unwrap_or}
 use Rattle.kx_pages.specs.declared.item.Item.{Item}
 use Rattle.kx_pages.specs.declared.image.Mode.{Mode}
 use Rattle.kx_pages.specs.declared.image.Mode.TheVariants.{Plain, Kept}
-use Rattle.kx_pages.specs.Lists.{Each, Has}
-use Rattle.page_memory.specs.Contents.{Contents, at, IsHeld}
+use Rattle.kx_pages.specs.Lists.{Each, Has, destinations, sources}
+use Rattle.page_memory.specs.Contents.{Contents, at, IsHeld, after_set}
+use Rattle.page_memory.specs.Laws.{frame_at-insert_other, held-insert}
+use Rattle.std.proofs.lemmas.Option.{none-some}
 use Rattle.page_memory.specs.Memory.{Mem}
 use Rattle.relocate_machine.specs.Machine.{AreHeld, move_writes}
 use Rattle.segments.specs.Parts.{Part, want, overlay}
@@ -13,9 +15,11 @@ use Rattle.segments.specs.Rules.{IsBare}
 use Rattle.segments.specs.Laws.{AreSegments, AreSegments-from_IsBare, Has-from_want, pages_below}
 use Rattle.segments.specs.Elements.{Each-map, Each-both}
 use Rattle.list_checker.specs.declared.earlier.Accept.{Accept}
-use Rattle.list_checker.specs.Walk.{Accepted, AcceptedKept, IsAccepted, swap_page, links, pairs}
+use Rattle.list_checker.specs.Walk.{Accepted, AcceptedKept, PairsApart, IsAccepted, swap_page, links, pairs}
 use Rattle.list_checker.specs.Checked.{as_pair, IsAccept}
-use Rattle.load_states.specs.States.{Load, Checked, checked_of}
+use Rattle.load_states.specs.States.{Load, Checked, checked_of, swap_of}
+use Rattle.load_states.specs.Exchange.{exchange, partner}
+use Rattle.load_states.proofs.Exchange.{link_kept, link_unwanted, restores, no_source_wanted, sources_get}
 use Rattle.load_states.specs.Ready.{Told, HoldsPairs, IsReadyPlain, IsKept, IsReadyKept, IsToGoBack}
 use Rattle.load_states.proofs.Bridge.{Comes, begin_at, plain_runs, kept_runs}
 use Rattle.load_states.proofs.Holding.{Holds}
@@ -92,3 +96,119 @@ handed m n i j words M e f h = subst (λ i. Ends m i words M) (sym f) (subst (λ
 
 pub plain_ends : (c : Checked) (m : Contents) (i : Image) → IsReadyPlain c → m ≡ c.load.memory → i ≡ c.load.image → Ends m i c.words (overlay (at c.load.memory) (want c.load.segments))
 plain_ends c m i r e f = handed m c.load.memory i c.load.image c.words _ e f (ends_of c.load.memory c.load.image c.words _ (ready_runs c r))
+
+-- the run of a list with context preserved, over a memory that has its words
+pub swap_is : (M : Mem) (c : Checked) (swap : ℕ) (items : List Item) → IsKept M c swap items → swap_of c.load ≡ swap
+swap_is M c swap items k = ap (λ mode. unwrap_or (swap_page mode) 0) k.mode
+
+kept_comes : (M : Mem) (c : Checked) (swap : ℕ) (items : List Item) → IsKept M c swap items → Comes c.words 0 (begin_at c.load.image.mode c.load.image.head c.load.memory) (exchange (at c.load.memory) c.pairs (swap_of c.load))
+kept_comes M c swap items k =
+    let held : HoldsPairs c.load.memory (Kept swap) (pairs items) = subst (HoldsPairs c.load.memory (Kept swap)) (sym k.same_pairs) k.held in
+    let run = kept_runs M c.load.memory (want c.load.segments) c.load.image.head c.load.image.control swap items k.accepted k.words held in
+    let counted = subst (λ n. Comes n 0 (begin_at (Kept swap) c.load.image.head c.load.memory) (exchange (at c.load.memory) (pairs items) swap)) k.count run in
+    let paired = subst (λ qs. Comes c.words 0 (begin_at (Kept swap) c.load.image.head c.load.memory) (exchange (at c.load.memory) qs swap)) k.same_pairs counted in
+    let swapped = subst (λ w. Comes c.words 0 (begin_at (Kept swap) c.load.image.head c.load.memory) (exchange (at c.load.memory) c.pairs w)) (sym (swap_is M c swap items k)) paired in
+    subst (λ mode. Comes c.words 0 (begin_at mode c.load.image.head c.load.memory) (exchange (at c.load.memory) c.pairs (swap_of c.load))) (sym k.mode) swapped
+
+pub kept_ends : (M : Mem) (c : Checked) (swap : ℕ) (items : List Item) (m : Contents) (i : Image) → IsKept M c swap items → m ≡ c.load.memory → i ≡ c.load.image → Ends m i c.words (exchange (at c.load.memory) c.pairs (swap_of c.load))
+kept_ends M c swap items m i k e f = handed m c.load.memory i c.load.image c.words _ e f (ends_of c.load.memory c.load.image c.words _ (kept_comes M c swap items k))
+
+-- the pairs and the swap page have no page in common
+pub pairs_apart : (M : Mem) (c : Checked) (swap : ℕ) (items : List Item) → IsKept M c swap items → PairsApart c.pairs × Each (λ q. (q.0 ≢ swap_of c.load) × (q.1 ≢ swap_of c.load)) c.pairs
+pairs_apart M c swap items k =
+    let w = sym (swap_is M c swap items k) in (
+      subst PairsApart k.same_pairs k.accepted.apart,
+      subst (λ w. Each (λ q. (q.0 ≢ w) × (q.1 ≢ w)) c.pairs) w (subst (Each (λ q. (q.0 ≢ swap) × (q.1 ≢ swap))) k.same_pairs k.accepted.swap_apart.2),
+    )
+
+-- a list stays ready to run where its words stand, what is held stays held, and all else is as it was
+pub record Same (c d : Checked) : Type 0 where
+  pub image : d.load.image ≡ c.load.image
+  pub segments : d.load.segments ≡ c.load.segments
+  pub words : d.words ≡ c.words
+  pub links : d.links ≡ c.links
+  pub pairs : d.pairs ≡ c.pairs
+  pub stay : (q : ℕ) → IsHeld c.load.memory q → IsHeld d.load.memory q
+
+pub kept_stays : (M : Mem) (c d : Checked) (swap : ℕ) (items : List Item) → IsKept M c swap items → Same c d → ((p : ℕ) → Has p (links items) → at d.load.memory p ≡ M p) → IsKept M d swap items
+kept_stays M c d swap items k s words = record {
+  mode = ap (λ i. i.mode) s.image ∙ k.mode;
+  accepted = subst (λ i. AcceptedKept M (want d.load.segments) i.head i.control swap items) (sym s.image) (subst (λ S. AcceptedKept M (want S) c.load.image.head c.load.image.control swap items) (sym s.segments) k.accepted);
+  count = k.count ∙ sym s.words;
+  link_pages = k.link_pages ∙ sym s.links;
+  same_pairs = k.same_pairs ∙ sym s.pairs;
+  words = words;
+  held = subst (HoldsPairs d.load.memory (Kept swap)) (sym s.pairs) (Each-map c.pairs (λ q x. (x.0, (s.stay q.0 x.1.0, s.stay q.1 x.1.1, s.stay swap x.1.2))) k.held);
+}
+
+-- after the first run the list can run again
+pub goes_back : (c d : Checked) → (r : IsReadyKept c) → Same c d → ((p : ℕ) → at d.load.memory p ≡ exchange (at c.load.memory) c.pairs (swap_of c.load) p) → IsToGoBack d
+goes_back c d r s leaves = record {
+  before = at c.load.memory;
+  swap = r.swap;
+  items = r.items;
+  kept = kept_stays (at c.load.memory) c d r.swap r.items r.kept s (λ p h. leaves p ∙ unchanged p h);
+}
+  where
+    unchanged : (p : ℕ) → Has p (links r.items) → exchange (at c.load.memory) c.pairs (swap_of c.load) p ≡ at c.load.memory p
+    unchanged p h =
+        ap (λ qs. exchange (at c.load.memory) qs (swap_of c.load) p) (sym r.kept.same_pairs)
+        ∙ ap (λ w. exchange (at c.load.memory) (pairs r.items) w p) (swap_is (at c.load.memory) c r.swap r.items r.kept)
+        ∙ link_kept (at c.load.memory) (want c.load.segments) c.load.image.head c.load.image.control r.swap r.items r.kept.accepted p h
+
+-- what the second run leaves
+pub record Undoes (c : Checked) (N : Mem) : Type 0 where
+  pub restored : (M : Mem) → ((q : ℕ) → at c.load.memory q ≡ exchange M c.pairs (swap_of c.load) q) → (p : ℕ) → p ≢ swap_of c.load → N p ≡ M p
+  pub undone : (M : Mem) → ((q : ℕ) → want c.load.segments q ≡ None → at c.load.memory q ≡ exchange M c.pairs (swap_of c.load) q) → (p : ℕ) → p ≢ swap_of c.load → (Has p (sources c.pairs) → ⊥) → N p ≡ M p
+  pub sources : Each (λ q. N q.1 ≡ at c.load.memory q.0) c.pairs
+
+pub undoes : (c : Checked) → IsToGoBack c → (N : Mem) → ((p : ℕ) → N p ≡ exchange (at c.load.memory) c.pairs (swap_of c.load) p) → Undoes c N
+undoes c r N leaves =
+    let a = pairs_apart r.before c r.swap r.items r.kept in
+    let whole : (p : ℕ) (b : List ℕ) → want c.load.segments p ≡ Some b → Has p (destinations c.pairs) =
+    λ p b e. subst (λ qs. Has p (destinations qs)) r.kept.same_pairs (r.kept.accepted.plain.whole p b e) in
+    record {
+      restored = λ M same p n. restores (want c.load.segments) c.pairs (swap_of c.load) a.0 a.1 (at c.load.memory) N leaves M p n (same (partner c.pairs p));
+      undone = λ M same p n s. restores (want c.load.segments) c.pairs (swap_of c.load) a.0 a.1 (at c.load.memory) N leaves M p n
+          (same (partner c.pairs p) (no_source_wanted (want c.load.segments) c.pairs (swap_of c.load) a.0 a.1 (at c.load.memory) N leaves whole p s));
+      sources = sources_get (want c.load.segments) c.pairs (swap_of c.load) a.0 a.1 (at c.load.memory) N leaves;
+    }
+
+some_of : (o : Option (List ℕ)) → IsSome o → (b : List ℕ) × (o ≡ Some b)
+some_of None h = absurd cc
+some_of (Some b) h = (b, refl)
+
+destination_held : (m : Contents) (swap p : ℕ) (qs : List (ℕ × ℕ)) → HoldsPairs m (Kept swap) qs → Has p (destinations qs) → IsHeld m p
+destination_held m swap p [] h i = absurd i
+destination_held m swap p (q ∷ qs) h (inl e) = subst (IsHeld m) e h.0.1.0
+destination_held m swap p (q ∷ qs) h (inr i) = destination_held m swap p qs h.1 i
+
+-- a wanted page is held
+pub wanted_held : (c : Checked) → IsToGoBack c → (p : ℕ) → IsSome (want c.load.segments p) → IsHeld c.load.memory p
+wanted_held c r p h =
+    let b = some_of (want c.load.segments p) h in
+    destination_held c.load.memory r.swap p c.pairs r.kept.held (subst (λ qs. Has p (destinations qs)) r.kept.same_pairs (r.kept.accepted.plain.whole p b.0 b.1))
+
+-- a write to a wanted page leaves the list's words
+pub touched : (c d : Checked) (p : ℕ) (bytes : List ℕ) → IsToGoBack c → IsSome (want c.load.segments p) → d.load ≡ record c.load { memory = after_set c.load.memory p bytes } → d.words ≡ c.words → d.links ≡ c.links → d.pairs ≡ c.pairs → IsToGoBack d
+touched c d p bytes r h e words link_count same =
+    record {
+      before = r.before;
+      swap = r.swap;
+      items = r.items;
+      kept = kept_stays r.before c d r.swap r.items r.kept
+          (record {
+            image = ap (λ s. s.image) e;
+            segments = ap (λ s. s.segments) e;
+            words = words;
+            links = link_count;
+            pairs = same;
+            stay = λ q x. subst (λ (s : Load). IsHeld s.memory q) (sym e) (held-insert c.load.memory.pages p bytes q x);
+          })
+          (λ q x. ap (λ (s : Load). at s.memory q) e ∙ frame_at-insert_other c.load.memory.pages p bytes q (apart q x) ∙ r.kept.words q x);
+    }
+  where
+    apart : (q : ℕ) → Has q (links r.items) → q ≢ p
+    apart q x same =
+        let b = some_of (want c.load.segments p) h in
+        none-some b.0 (sym (link_unwanted r.before (want c.load.segments) c.load.image.head c.load.image.control r.swap r.items r.kept.accepted q x) ∙ ap (want c.load.segments) same ∙ b.1)

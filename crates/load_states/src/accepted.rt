@@ -14,7 +14,7 @@ ghost use Rattle.load_states.specs.Ready.{Told};
 ghost use Rattle.load_states.specs.Answers.{IsMadeOf};
 
 use crate::loaded::Loaded;
-use crate::ran::RanPlain;
+use crate::ran::{RanKept, RanPlain};
 use crate::run::run_to_end;
 use kx_pages::{Image, Mode};
 use list_checker::Accept;
@@ -162,5 +162,18 @@ impl AcceptedKept {
         ensures { result.now ≡ self.now.load.segments }
     {
         self.loaded.segments()
+    }
+
+    /// Runs the list. It has no refusal and takes no memory. It takes exactly as many steps as the walk has words, which
+    /// `steps` tells of what ran, and exchanges the two pages of each pair. All else stays.
+    pub fn exec(self) -> RanKept
+        ensures memory { (p : ℕ) → at result.load.memory p ≡ exchange (at self.load.memory) self.pairs (swap_of self.load) p }
+        ensures sets { result.load.memory.sets ≡ self.load.memory.sets }
+        ensures rest { result ≡ record self { load = with_memory self.load result.load.memory } }
+    {
+        let AcceptedKept { loaded, mut accept } = self;
+        let (mut memory, pool, image, segments) = loaded.parts();
+        accept.words = run_to_end(&mut memory, &image, accept.words);
+        RanKept::new(Loaded::from_parts(memory, pool, image, segments), accept)
     }
 }

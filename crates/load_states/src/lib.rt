@@ -19,4 +19,4 @@ mod tests;
 pub use accepted::{Accepted, AcceptedKept, AcceptedPlain};
 pub use filling::{BeginBack, Filling};
 pub use loaded::{Loaded, NotAccepted};
-pub use ran::RanPlain;
+pub use ran::{Back, RanKept, RanPlain};
