@@ -13,12 +13,12 @@ use Rattle.kimage_list.proofs.Lists.{has_count}
 use Rattle.load_states.specs.Loads.{entries_of, LoadIsAccepted}
 use Rattle.load_states.proofs.LaidAccepted.{Follows, Begins, Plan, plain_accepted, kept_accepted}
 
-pages_of-append : (es fs : List Entry) → pages_of (es ++ fs) ≡ pages_of es ++ pages_of fs
+pub pages_of-append : (es fs : List Entry) → pages_of (es ++ fs) ≡ pages_of es ++ pages_of fs
 pages_of-append [] fs = refl
 pages_of-append (Start p ∷ es) fs = pages_of-append es fs
 pages_of-append (Move p ∷ es) fs = ap (λ ys. p ∷ ys) (pages_of-append es fs)
 
-pages_of-range : (n p : ℕ) → pages_of (page_entries p n) ≡ range_with_len p n
+pub pages_of-range : (n p : ℕ) → pages_of (page_entries p n) ≡ range_with_len p n
 pages_of-range zero p = refl
 pages_of-range (suc n) p = let e : suc p ≡ p + 1 = omega arith in ap (λ ys. p ∷ ys) (pages_of-range n (suc p) ∙ ap (λ q. range_with_len q n) e)
 
@@ -44,7 +44,7 @@ begins-entries : (ss : List Part) → 0 < length ss → Begins (entries_of ss)
 begins-entries [] n = absurd (omega (arith, n))
 begins-entries (s ∷ ss) n = tt
 
-count-distinct : (x : ℕ) (xs : List ℕ) → Distinct xs → count x xs ≤ 1
+pub count-distinct : (x : ℕ) (xs : List ℕ) → Distinct xs → count x xs ≤ 1
 count-distinct x [] d = omega arith
 count-distinct x (y ∷ xs) d = go (eqb_tells y x) (count-distinct x xs d.1)
   where

@@ -6,3 +6,6 @@ pub mod Ready
 pub mod LaidWords
 pub mod LaidAccepted
 pub mod LaidPlan
+pub mod FillSteps
+pub mod Sealing
+pub mod Going

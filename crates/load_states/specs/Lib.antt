@@ -3,3 +3,4 @@ pub mod States
 pub mod Ready
 pub mod Answers
 pub mod Loads
+pub mod Fillings

@@ -7,6 +7,7 @@
 #![tactic(auto)]
 
 mod accepted;
+mod filling;
 mod hold;
 pub mod load_laws;
 mod loaded;
@@ -16,5 +17,6 @@ mod run;
 mod tests;
 
 pub use accepted::{Accepted, AcceptedKept, AcceptedPlain};
+pub use filling::{BeginBack, Filling};
 pub use loaded::{Loaded, NotAccepted};
 pub use ran::{Back, RanKept, RanPlain};
