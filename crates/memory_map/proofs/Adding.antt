@@ -1,10 +1,7 @@
--- Lines read one after another, and areas taken out one after another.
-use Rattle.std.proofs.Common.{◌≡◌, ◌<◌, ◌≤◌, ℕ, suc, ◌+◌, List, [], ◌∷◌, refl, Ok, length, drop, drop-cons, get_or, arith}
-use Rattle.std.specs.List.{flat_map}
-use Rattle.std.proofs.lemmas.List.{drop_all}
-use Rattle.memory_map.specs.Named.{Named, outside, without_area}
+-- Lines read one after another.
+use Rattle.std.proofs.Common.{◌≡◌, ℕ, ◌+◌, List, [], ◌∷◌, refl, Ok}
+use Rattle.memory_map.specs.Named.{Named}
 use Rattle.memory_map.specs.Text.{lines_onto, line_onto, Fails}
-use Rattle.memory_map.specs.declared.row.Row.{Row}
 use Rattle.memory_map.specs.declared.fault.MapFault.{MapFault}
 use Rattle.memory_map.specs.declared.fault.MapFault.TheVariants as faults
 
@@ -23,13 +20,3 @@ onto_fails n found line ls rest faults.NoRam split step = rw (split, step) refl
 pub onto_end : (n : ℕ) (found : Named) (ls : List (List ℕ)) → ls ≡ [] → lines_onto n found ls ≡ Ok found
 unfolding lines_onto
 onto_end n found ls none = rw none refl
-
-pub outside_step : (areas rows : List Row) (i : ℕ) (d : Row) → i < length areas → outside (drop i areas) rows ≡ outside (drop (i + 1) areas) (flat_map (without_area (get_or areas i d)) rows)
-unfolding outside
-outside_step areas rows i d h =
-    let plus : i + 1 ≡ suc i = omega arith in
-    rw (plus, drop-cons areas i d h) refl
-
-pub outside_end : (areas rows : List Row) (i : ℕ) → length areas ≤ i → outside (drop i areas) rows ≡ rows
-unfolding outside
-outside_end areas rows i h = rw (drop_all i areas h) refl

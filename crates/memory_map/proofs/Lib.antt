@@ -3,3 +3,4 @@ pub mod Index
 pub mod PageLemmas
 pub mod Reading
 pub mod Sets
+pub mod Parts

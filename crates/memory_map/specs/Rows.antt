@@ -1,5 +1,5 @@
 -- Ranges of bytes, and what they say of single bytes and pages. A page has 4,096 bytes.
-use Rattle.std.specs.Prelude.{ℕ, ◌+◌, ◌*◌, ◌≤◌, ◌^◌, ◌==◌, ◌&&◌, Bool, List, nat_lt, nat_le, min, max}
+use Rattle.std.specs.Prelude.{◌≡◌, ℕ, ◌<◌, ◌+◌, ◌*◌, ◌≤◌, ◌^◌, ◌==◌, ◌&&◌, Bool, List, [], ◌∷◌, nat_lt, nat_le, min, max}
 use Rattle.std.specs.List.{list_any, AllByRecursion}
 use Rattle.memory_map.specs.declared.row.Row.{Row}
 
@@ -37,3 +37,20 @@ pub record IsBelow (r : Row) : Type 0 where
 
 abbrev pub AreBelow : List Row → Type 0
 AreBelow rows = AllByRecursion IsBelow rows
+
+-- the row has bytes
+pub record HasBytes (r : Row) : Type 0 where
+  pub some : 0 < r.size
+
+abbrev pub HaveBytes : List Row → Type 0
+HaveBytes rows = AllByRecursion HasBytes rows
+
+-- rows of kind k that rise from byte b on: none is empty, no two meet or touch, and all lie below 2^46
+abbrev pub AreParts : ℕ → ℕ → List Row → Type 0
+AreParts k b [] = Unit {0}
+AreParts k b (r ∷ rs) = (b ≤ r.start) × (0 < r.size) × (row_end r ≤ 2 ^ 46) × (r.kind ≡ k) × AreParts k (row_end r + 1) rs
+
+-- each row starts at byte n or before it
+abbrev pub StartUpTo : ℕ → List Row → Type 0
+StartUpTo n [] = Unit {0}
+StartUpTo n (r ∷ rs) = (r.start ≤ n) × StartUpTo n rs

@@ -144,3 +144,39 @@ fn bytes_past_the_limit_are_passed_over(rt: HostRuntime) -> Result<(), Fail> {
     );
     Ok(())
 }
+
+#[test]
+fn crash_areas_meet_and_touch(rt: HostRuntime) -> Result<(), Fail> {
+    let map = Map::read(
+        rt.alloc(),
+        b"20000-2ffff : System RAM
+0-ffff : System RAM
+2000-3fff : Crash kernel
+1000-2fff : Crash kernel
+4000-47ff : Crash kernel
+8000-8fff : Crash kernel
+1f000-20fff : Crash kernel
+",
+    )?;
+    assert_eq!(rt; map.core_ranges().len(), 4);
+    let first = map.core_ranges().get(0).ok_or("a first range")?;
+    assert_eq!(rt;
+        *first,
+        Row {
+            start: 0x21000,
+            size: 0xf000,
+            kind: 1
+        }
+    );
+    let third = map.core_ranges().get(2).ok_or("a third range")?;
+    assert_eq!(rt;
+        *third,
+        Row {
+            start: 0x4800,
+            size: 0x3800,
+            kind: 1
+        }
+    );
+    assert_eq!(rt; map.ram().total(), 1 + 3 + 7 + 15);
+    Ok(())
+}
