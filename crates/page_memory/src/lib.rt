@@ -28,6 +28,7 @@ use std::alloc::{AllocError, Global};
 use std::collections::BTreeMap;
 use std::marker::Model;
 
+// What a page that is not held reads as.
 static ZEROS: [u8; 4096] = [0; 4096];
 
 /// A memory image. A page that is held stays held in every call, after a refusal too.
@@ -190,8 +191,8 @@ impl Memory {
         self.bytes(page_of_address(a))[place_of_address(a)]
     }
 
-    #[tactic(auto, unfolding(crate::specs::Memory::word))]
     /// The little-endian number in the eight bytes at address `a`, a multiple of 8 below 2^46.
+    #[tactic(auto, unfolding(crate::specs::Memory::word))]
     pub fn word(&self, a: u64) -> u64
         requires inside { a < 2 ^ 46 }
         requires aligned { a % 8 ≡ 0 }

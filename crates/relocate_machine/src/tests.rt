@@ -129,3 +129,15 @@ fn a_kept_move_exchanges_two_pages(rt: HostRuntime) -> Result<(), Fail> {
     assert!(rt; memory.equals(page(0x22)?, b"b"));
     Ok(())
 }
+
+#[test]
+#[tactic(auto, unfolding(crate::specs::Machine::writes_of, crate::specs::Machine::kind_of, crate::specs::Machine::step_of, crate::specs::Run::HeldFrom))]
+fn a_done_word_alone_takes_one_step(rt: HostRuntime) -> Result<(), Fail> {
+    let mut memory = Memory::empty(rt.alloc());
+    let outcome = run_held(&mut memory, 4, Mode::Plain, 1);
+    assert_eq!(rt; outcome, Outcome::Done { steps: 1 });
+    let mut machine = Machine::start(4, Mode::Plain);
+    assert_eq!(rt; machine.writes(&memory).destination, None);
+    assert_eq!(rt; machine.step(&mut memory), Step::Ended);
+    Ok(())
+}
