@@ -1,5 +1,5 @@
 -- Files that are taken one after the other.
-use Rattle.std.proofs.Common.{◌≡◌, ℕ, List, ◌++◌, Option, Some, None, Result, Ok, Err, sym, ap, ◌∙◌, refl, subst, inl, inr}
+use Rattle.std.proofs.Common.{◌≡◌, ℕ, List, Option, Some, None, Result, Ok, Err, ap, ◌∙◌, inr}
 use Rattle.std.specs.Prelude.{IfSome}
 use Rattle.kx_edge.specs.Edge.{Files}
 use Rattle.kexec_main.specs.Answers.{IsAmong, Answer, done, not_accepted, usage, unread, unwritten, unsaid, too_long, input, plan, no_pages, heavy, not_built, memory, answer_of}
@@ -23,15 +23,15 @@ pub refused_here : {X Y : Type 0} (names : List (List ℕ)) (what : Files → Re
     → TakesNot names what old before after a → TakesNot names (λ held. what held >>= more held) old before after a
 refused_here names what more old before after (unread n) h = h
 refused_here names what more old before after memory h = h
-refused_here names what more old before after done h = (h.0, bound what more old done h.1)
-refused_here names what more old before after (unwritten n) h = (h.0, bound what more old _ h.1)
-refused_here names what more old before after unsaid h = (h.0, bound what more old _ h.1)
+refused_here names what more old before after done h = absurd h
+refused_here names what more old before after (unwritten n) h = absurd h
+refused_here names what more old before after unsaid h = absurd h
 refused_here names what more old before after (too_long n l) h = (h.0, bound what more old _ h.1)
 refused_here names what more old before after (input f) h = (h.0, bound what more old _ h.1)
 refused_here names what more old before after (no_pages p n) h = (h.0, bound what more old _ h.1)
 refused_here names what more old before after (heavy n) h = (h.0, bound what more old _ h.1)
 refused_here names what more old before after (usage w) h = (h.0, bound what more old _ h.1)
-refused_here names what more old before after (not_accepted v) h = (h.0, bound what more old _ h.1)
+refused_here names what more old before after (not_accepted v) h = absurd h
 refused_here names what more old before after (plan x) h = (h.0, bound what more old _ h.1)
 refused_here names what more old before after (not_built w) h = (h.0, bound what more old _ h.1)
 
@@ -39,15 +39,15 @@ pub refused_later : {X Y : Type 0} (names : List (List ℕ)) (what : Files → R
     → IfSome old (λ held. what held ≡ Ok x) → TakesNot names (λ held. more held x) old before after a → TakesNot names (λ held. what held >>= more held) old before after a
 refused_later names what more x old before after (unread n) k h = h
 refused_later names what more x old before after memory k h = h
-refused_later names what more x old before after done k h = (h.0, later what more x old done k h.1)
-refused_later names what more x old before after (unwritten n) k h = (h.0, later what more x old _ k h.1)
-refused_later names what more x old before after unsaid k h = (h.0, later what more x old _ k h.1)
+refused_later names what more x old before after done k h = absurd h
+refused_later names what more x old before after (unwritten n) k h = absurd h
+refused_later names what more x old before after unsaid k h = absurd h
 refused_later names what more x old before after (too_long n l) k h = (h.0, later what more x old _ k h.1)
 refused_later names what more x old before after (input f) k h = (h.0, later what more x old _ k h.1)
 refused_later names what more x old before after (no_pages p n) k h = (h.0, later what more x old _ k h.1)
 refused_later names what more x old before after (heavy n) k h = (h.0, later what more x old _ k h.1)
 refused_later names what more x old before after (usage w) k h = (h.0, later what more x old _ k h.1)
-refused_later names what more x old before after (not_accepted v) k h = (h.0, later what more x old _ k h.1)
+refused_later names what more x old before after (not_accepted v) k h = absurd h
 refused_later names what more x old before after (plan f) k h = (h.0, later what more x old _ k h.1)
 refused_later names what more x old before after (not_built w) k h = (h.0, later what more x old _ k h.1)
 

@@ -1,5 +1,5 @@
 -- Files that are measured in turn.
-use Rattle.std.proofs.Common.{◌≡◌, ℕ, ◌-◌, List, [], ◌∷◌, length, Option, Some, None, Result, Ok, Err, refl, sym, ap, ◌∙◌, ⊎_elim, inl, inr}
+use Rattle.std.proofs.Common.{◌≡◌, ℕ, ◌-◌, List, [], ◌∷◌, length, Option, Some, None, Result, Ok, refl, ap, ◌∙◌, ⊎_elim, inl, inr}
 use Rattle.std.specs.Prelude.{IfSome}
 use Rattle.kx_edge.specs.Edge.{Files}
 use Rattle.kexec_main.specs.Answers.{IsAmong, Answer, done, not_accepted, usage, unread, unwritten, unsaid, too_long, input, plan, no_pages, heavy, not_built, memory}
@@ -38,11 +38,11 @@ turned : (old : Option Files) (left : ℕ) (rest : List (List ℕ)) (budget : �
     → Turns old left rest budget all → TakesNot rest (left_after left rest) old before after a → TakesNot all (left_after budget all) old before after a
 turned old left rest budget all before after (unread n) t h = (h.0, t.names n h.1)
 turned old left rest budget all before after memory t h = h
-turned old left rest budget all before after done t h = (h.0, t.answers _ h.1)
+turned old left rest budget all before after done t h = absurd h
 turned old left rest budget all before after (usage w) t h = (h.0, t.answers _ h.1)
-turned old left rest budget all before after (not_accepted v) t h = (h.0, t.answers _ h.1)
-turned old left rest budget all before after (unwritten n) t h = (h.0, t.answers _ h.1)
-turned old left rest budget all before after unsaid t h = (h.0, t.answers _ h.1)
+turned old left rest budget all before after (not_accepted v) t h = absurd h
+turned old left rest budget all before after (unwritten n) t h = absurd h
+turned old left rest budget all before after unsaid t h = absurd h
 turned old left rest budget all before after (too_long n l) t h = (h.0, t.answers _ h.1)
 turned old left rest budget all before after (input f) t h = (h.0, t.answers _ h.1)
 turned old left rest budget all before after (plan f) t h = (h.0, t.answers _ h.1)

@@ -1,15 +1,14 @@
 -- What a command reads of the files, one after the other: each is measured and read in its turn.
-use Rattle.std.specs.Prelude.{◌≡◌, ℕ, ◌-◌, Some, None, List, [], ◌∷◌, length, Option, IfSome, unwrap_or, Result, Ok, Err, nat_lt, if◌then◌else◌, ◌⊎◌}
+use Rattle.std.specs.Prelude.{◌≡◌, ℕ, ◌-◌, Some, None, List, [], ◌∷◌, length, Option, IfSome, unwrap_or, Result, Ok, Err, nat_lt, if◌then◌else◌}
 use Rattle.std.specs.FinMap.{get}
 use Rattle.kx_edge.specs.Edge.{Files, Rose}
 use Rattle.page_memory.specs.Contents.{Contents}
 use Rattle.page_memory.specs.File.{reading}
 use Rattle.page_pool.specs.File.{pool_reading}
-use Rattle.page_pool.specs.declared.fault.PoolFault.{PoolFault}
 use Rattle.kexec_words.specs.Values.{InputsValue}
 use Rattle.kexec_main.specs.declared.status.InputFault.TheVariants as inputs
 use Rattle.kexec_main.specs.declared.status.Status.{Status}
-use Rattle.kexec_main.specs.Answers.{IsAmong, Answer, unread, too_long, input, memory, answer_of}
+use Rattle.kexec_main.specs.Answers.{IsAmong, Answer, done, not_accepted, unwritten, unsaid, unread, too_long, input, memory, answer_of}
 
 -- the bytes of a file; one that is not held reads as the empty file
 abbrev pub file_at : Files → List ℕ → List ℕ
@@ -83,6 +82,10 @@ input_files i held = do
 abbrev pub TakesNot : {Y : Type 0} → List (List ℕ) → (Files → Result Y Answer) → Option Files → ℕ → ℕ → Answer → Type 0
 TakesNot names what old before after (unread which) = Rose before after × IsAmong names which
 TakesNot names what old before after memory = after ≡ before
+TakesNot names what old before after done = ⊥
+TakesNot names what old before after (not_accepted fault) = ⊥
+TakesNot names what old before after (unwritten name) = ⊥
+TakesNot names what old before after unsaid = ⊥
 TakesNot names what old before after other = (after ≡ before) × IfSome old (λ held. what held ≡ Err other)
 
 abbrev pub Takes : {X Y : Type 0} → (X → Y) → List (List ℕ) → (Files → Result Y Answer) → Option Files → Option Files → ℕ → ℕ → Result X Status → Type 0

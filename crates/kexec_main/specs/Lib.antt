@@ -2,3 +2,5 @@ pub mod Answers
 pub mod Values
 pub mod Files
 pub mod Texts
+pub mod Makes
+pub mod Trace

@@ -2,8 +2,10 @@
 #![tactic(auto)]
 
 mod deliver;
+mod output;
 mod status;
 mod take;
 mod text;
+mod trace;
 
-pub use status::{InputFault, Status};
+pub use status::{InputFault, NotBuilt, Part, PlanFault, Status};

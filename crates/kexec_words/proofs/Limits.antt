@@ -5,16 +5,16 @@ use Rattle.clap.specs.Words.{App, Row, Text, first_of, fault_of, matches_of}
 use Rattle.clap.specs.Kinds.{Kinds}
 use Rattle.clap.proofs.WalkLemmas.{both}
 use Rattle.kexec_words.specs.Found.{word_of, flag_of}
-use Rattle.kexec_words.specs.Numbers.{number_of, passing, is_page_address, in_form, some_in_form, hex_of, page_address_of, steps_of, swap_of, head_of, limit_of, sample_of, trace_numbers_from, trace_numbers_of}
-use Rattle.kexec_words.specs.Values.{InputsValue, CrashInputsValue, BootValue, LoadValue, LoadPanicValue, LoadedValue, ExecValue, TraceValue, CommandValue}
+use Rattle.kexec_words.specs.Numbers.{number_of, passing, is_page_address, in_form, some_in_form, hex_of, page_address_of, steps_of, swap_of, head_of, limit_of, trace_numbers_from}
+use Rattle.kexec_words.specs.Values.{InputsValue, CrashInputsValue, ExecValue, CommandValue}
 use Rattle.kexec_words.specs.Values.{boot, load, load_panic, check, dump, exec, trace, sample}
-use Rattle.kexec_words.specs.Meaning.{has_same_name, files_of, crash_files_of, with_numbers, mapped, image_from, needs_map, typed, image_where, inputs_of, boot_by, boot_with, boot_in, load_by, load_with, load_in, with_map, load_panic_with, load_panic_in, crash_inputs_of, exec_of, exec_with, exec_in, trace_with, trace_in, trace_numbers_by, sample_by, sample_in, taken_where, taken_by, named, command_named, command_of, plan_numbers_by}
+use Rattle.kexec_words.specs.Meaning.{has_same_name, files_of, crash_files_of, with_numbers, mapped, image_from, needs_map, typed, image_where, inputs_of, boot_by, boot_with, boot_in, load_by, load_with, load_in, with_map, load_panic_with, load_panic_in, crash_inputs_of, exec_of, exec_with, exec_in, trace_with, trace_in, trace_numbers_by, sample_by, sample_in, taken_where, taken_by, command_named, plan_numbers_by}
 use Rattle.kexec_words.specs.Meaning.{Answers, loaded_in}
 use Rattle.kexec_words.specs.Values.{command_value}
 use Rattle.kexec_words.specs.Apps.{boot_app, load_app, load_panic_app, check_app, dump_app, exec_app, trace_app, sample_app}
 use Rattle.kexec_words.specs.declared.commands.Command.{Command}
 use Rattle.kexec_words.specs.declared.faults.WordsFault.{WordsFault}
-use Rattle.kexec_words.specs.Limits.{HasParts, HasRange, IsWithinLimits, HasOutputsApart}
+use Rattle.kexec_words.specs.Limits.{HasParts, IsWithinLimits, HasOutputsApart}
 use Rattle.kexec_words.specs.declared.commands.ImageType.{ImageType}
 use Rattle.kexec_words.specs.declared.numbers.PlanNumbers.{PlanNumbers}
 use Rattle.kexec_words.specs.declared.numbers.TraceNumbers.{TraceNumbers}

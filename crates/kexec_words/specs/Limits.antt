@@ -1,7 +1,6 @@
 -- What callers may rely on in a command that is read (this project's own).
-use Rattle.std.specs.Prelude.{◌≡◌, ℕ, ◌<◌, ◌≤◌, ◌^◌, ◌%◌, true, false, length, is_some, IfSome, List, [], ◌∷◌}
-use Rattle.clap.specs.Words.{Text}
-use Rattle.kexec_words.specs.Values.{InputsValue, BootValue, LoadValue, LoadPanicValue, LoadedValue, ExecValue, TraceValue, CommandValue}
+use Rattle.std.specs.Prelude.{◌≡◌, ◌<◌, ◌≤◌, ◌^◌, ◌%◌, true, false, length, is_some, IfSome, [], ◌∷◌}
+use Rattle.kexec_words.specs.Values.{InputsValue, TraceValue, CommandValue}
 use Rattle.kexec_words.specs.Values.{boot, load, load_panic, check, dump, exec, trace, sample}
 use Rattle.kexec_words.specs.Meaning.{needs_map, has_same_name, files_of, crash_files_of}
 use Rattle.kexec_words.specs.declared.commands.ImageType.{ImageType}

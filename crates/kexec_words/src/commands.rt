@@ -3,7 +3,9 @@
 /// How often the list is run in kept mode: once, into the new kernel, or twice, and back into the old one.
 #[derive(Clone, Copy, Debug, PartialEq, Eq)]
 pub enum Runs {
+    /// Into the new kernel.
     Once,
+    /// Into the new kernel and back.
     Twice,
 }
 
@@ -25,30 +27,41 @@ pub enum ImageType {
 /// What `boot` and `load` read: the names of the files, and the kernel's command line.
 #[derive(Drop)]
 pub struct Inputs {
+    /// The memory file.
     pub memory: String,
+    /// The pool file.
     pub pool: String,
+    /// The text of the memory map.
     pub map: Option<String>,
+    /// The kernel.
     pub kernel: String,
+    /// The initial RAM disk.
     pub initrd: Option<String>,
+    /// The purgatory, an ELF64 object.
     pub purgatory: Option<String>,
+    /// The Multiboot modules, at most 12.
     pub modules: Vec<String>,
+    /// The kernel's command line; a text, and not the name of a file.
     pub command: Option<String>,
 }
 
 /// `boot`: load a kernel and run it.
 #[derive(Drop)]
 pub struct Boot {
+    /// What is read.
     pub inputs: Inputs,
     /// The file of the memory after the last run.
     pub out: String,
     /// The runs in kept mode; none is one run in plain mode.
     pub kept: Option<Runs>,
+    /// The type of the kernel.
     pub image: ImageType,
 }
 
 /// `load`: load a kernel and write its load record.
 #[derive(Drop)]
 pub struct Load {
+    /// What is read.
     pub inputs: Inputs,
     /// The file of the memory after the load.
     pub out: String,
@@ -56,23 +69,31 @@ pub struct Load {
     pub load_record: String,
     /// Whether the load is in kept mode.
     pub kept: bool,
+    /// The type of the kernel.
     pub image: ImageType,
 }
 
 /// What `load-panic` reads beside the memory map.
 #[derive(Drop)]
 pub struct CrashInputs {
+    /// The memory file.
     pub memory: String,
+    /// The places of the ELF notes.
     pub notes: Option<String>,
+    /// The crash kernel.
     pub kernel: String,
+    /// The initial RAM disk.
     pub initrd: Option<String>,
+    /// The purgatory, an ELF64 object.
     pub purgatory: Option<String>,
+    /// The kernel's command line; a text, and not the name of a file.
     pub command: Option<String>,
 }
 
 /// `load-panic`: load a crash kernel into the reserved area and write its load record.
 #[derive(Drop)]
 pub struct LoadPanic {
+    /// What is read, but for the memory map.
     pub inputs: CrashInputs,
     /// The file of the memory map.
     pub map: String,
@@ -85,14 +106,18 @@ pub struct LoadPanic {
 /// The files of `check` and `dump`: a memory, and a load record of it.
 #[derive(Drop)]
 pub struct Loaded {
+    /// The memory file.
     pub memory: String,
+    /// The file of the load record.
     pub load_record: String,
 }
 
 /// `exec`: check a load record and run it.
 #[derive(Drop)]
 pub struct Exec {
+    /// The memory file.
     pub memory: String,
+    /// The file of the load record.
     pub load_record: String,
     /// The file of the memory after the last run.
     pub out: String,
@@ -103,6 +128,7 @@ pub struct Exec {
 /// `trace`: run a list from its head word on, whether it is accepted or not.
 #[derive(Drop)]
 pub struct Trace {
+    /// The memory file.
     pub memory: String,
     /// The file of the memory after the steps.
     pub out: String,
@@ -117,13 +143,20 @@ pub struct Trace {
 /// A command with all that its words say.
 #[derive(Drop)]
 pub enum Command {
+    /// Load a kernel and run it.
     Boot(Boot),
+    /// Load a kernel and write its load record.
     Load(Load),
+    /// Load a crash kernel and write its load record.
     LoadPanic(LoadPanic),
+    /// Say whether a list is accepted, or its first fault.
     Check(Loaded),
+    /// Print a list and its segments.
     Dump(Loaded),
+    /// Check a list and run it.
     Exec(Exec),
+    /// Run a list for some steps.
     Trace(Trace),
-    /// The number of the sample; below 10^18.
+    /// Load and run a sample that is made from a number below 10^18.
     Sample { number: u64 },
 }

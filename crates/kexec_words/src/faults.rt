@@ -10,13 +10,21 @@ use thiserror::Error;
 /// The option or the word whose text has not its form, in the order in which they are tried.
 #[derive(Clone, Copy, Debug, PartialEq, Eq)]
 pub enum Which {
+    /// `--type`: raw, elf, bzimage or multiboot.
     Type,
+    /// `--kept` of `boot`: 1 or 2.
     Kept,
+    /// `--at`: 1 to 16 hexadecimal digits.
     At,
+    /// `--entry`: 1 to 16 hexadecimal digits.
     Entry,
+    /// `--swap`: 1 to 16 hexadecimal digits, a multiple of 4,096 below 2^46.
     Swap,
+    /// HEAD: 1 to 16 hexadecimal digits.
     Head,
+    /// LIMIT: 1 to 9 decimal digits, at most 100,000,000.
     Limit,
+    /// NUMBER: 1 to 18 decimal digits.
     Number,
 }
 
@@ -65,8 +73,8 @@ impl Which {
             Which::Kept => "1 or 2",
             Which::At | Which::Entry | Which::Head => "a hexadecimal number of 1 to 16 digits",
             Which::Swap =>
-                "a hexadecimal number of 1 to 16 digits that is a multiple of 1000 below 400000000000",
-            Which::Limit => "a decimal number of 1 to 9 digits that is at most 100000000",
+                "the address of a page: 1 to 16 hexadecimal digits, a multiple of 0x1000 below 0x400000000000",
+            Which::Limit => "a decimal number of 1 to 9 digits, at most 100000000",
             Which::Number => "a decimal number of 1 to 18 digits",
         }
     }

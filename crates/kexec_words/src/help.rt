@@ -11,14 +11,20 @@ kernel's kexec core do, checks the list of page moves, and runs it.
 Commands:
   boot        load a kernel and run it
   load        load a kernel and write its load record
-  load-panic  load a crash kernel into the reserved area and write its load record
-  check       say whether the list of a load record is accepted, or its first fault
+  load-panic  load a crash kernel and write its load record
+  check       say whether the list of a load record is accepted
   dump        print the words and the segments of a load record
   exec        check the list of a load record and run it
   trace       run a list for some steps, whether it is accepted or not
-  sample      make a memory, a pool and segments from a number, load and run them
+  sample      load and run what is made from a number
 
-Without its words, as kexec boot, each command prints what it takes.
+Files:
+  memory file  KXMEM001, the number of pages, and each page that is not all zero
+  pool file    free pages, on each line a hexadecimal page number or first-last
+  load record  KXREC001, the head word, the start values and the segments
+  memory map   the text of /proc/iomem, which Linux gives whole to root alone
+
+Without its words, as in kexec boot, each command prints what it takes.
 ";
 
 const BOOT: &str = "\
@@ -30,16 +36,17 @@ after the last run.
 Words:
   MEMORY   memory file to read: the memory before the load
   POOL     pool file to read: the free pages in the order of their use, on each
-           line a hexadecimal page number, or first-last
+           line a hexadecimal page number or first-last
   OUT      memory file to write: the memory after the last run
   KERNEL   file to read: the kernel
   MODULES  files to read: Multiboot modules, at most 12
 
 Options:
-  --kept RUNS       load in kept mode and run the list 1 or 2 times: into the new
-                    kernel, and for 2 back again; default: one run in plain mode
-  --map FILE        file to read: the memory map as /proc/iomem prints it; needed
-                    for each type but raw, and for --purgatory
+  --kept RUNS       load in kept mode and run the list 1 or 2 times: into the
+                    new kernel, and for 2 back again; default: one run in plain
+                    mode
+  --map FILE        file to read: the memory map, as /proc/iomem prints it;
+                    needed for each type but raw, and for --purgatory
   --type TYPE       raw, elf, bzimage or multiboot; default: what the file's own
                     header tells
   --at ADDRESS      the address of a raw kernel; needed for it, and without
@@ -51,9 +58,10 @@ Options:
   --purgatory FILE  file to read: the purgatory, an ELF64 object for x86-64 that
                     runs before the kernel; default: none
 
-ADDRESS is a hexadecimal number of 1 to 16 digits, without 0x. OUT is none of the
-files that are read. An option is given at most once, as --at 2000 or --at=2000,
-anywhere before a word --, after which each word is one of the words above.
+ADDRESS is a hexadecimal number of 1 to 16 digits, without 0x. OUT is none of
+the files that are read. An option is given at most once, as --at 2000 or
+--at=2000, anywhere before a word --, after which each word is one of the words
+above.
 ";
 
 const LOAD: &str = "\
@@ -65,17 +73,17 @@ load and the load record, which check, dump and exec read.
 Words:
   MEMORY   memory file to read: the memory before the load
   POOL     pool file to read: the free pages in the order of their use, on each
-           line a hexadecimal page number, or first-last
+           line a hexadecimal page number or first-last
   OUT      memory file to write: the memory after the load
   RECORD   load record to write
   KERNEL   file to read: the kernel
   MODULES  files to read: Multiboot modules, at most 12
 
 Options:
-  --kept            load in kept mode, so that the list can be run a second time,
-                    back into the old kernel; default: plain mode
-  --map FILE        file to read: the memory map as /proc/iomem prints it; needed
-                    for each type but raw, and for --purgatory
+  --kept            load in kept mode, so that the list can be run a second
+                    time, back into the old kernel; default: plain mode
+  --map FILE        file to read: the memory map, as /proc/iomem prints it;
+                    needed for each type but raw, and for --purgatory
   --type TYPE       raw, elf, bzimage or multiboot; default: what the file's own
                     header tells
   --at ADDRESS      the address of a raw kernel; needed for it, and without
@@ -87,17 +95,17 @@ Options:
   --purgatory FILE  file to read: the purgatory, an ELF64 object for x86-64 that
                     runs before the kernel; default: none
 
-ADDRESS is a hexadecimal number of 1 to 16 digits, without 0x. OUT and RECORD are
-two files, and none of those that are read. An option is given at most once, as
---at 2000 or --at=2000, anywhere before a word --, after which each word is one
-of the words above.
+ADDRESS is a hexadecimal number of 1 to 16 digits, without 0x. OUT and RECORD
+are two files, and none of those that are read. An option is given at most once,
+as --at 2000 or --at=2000, anywhere before a word --, after which each word is
+one of the words above.
 ";
 
 const LOAD_PANIC: &str = "\
 Usage: kexec load-panic --map FILE [OPTIONS] MEMORY OUT RECORD KERNEL
 
 Loads a crash kernel, a bzImage, into the area that the memory map names
-\"Crash kernel\", and writes the memory after the load and the load record, which
+Crash kernel, and writes the memory after the load and the load record, which
 check, dump and exec read.
 
 Words:
@@ -107,8 +115,8 @@ Words:
   KERNEL  file to read: the bzImage
 
 Options:
-  --map FILE        file to read: the memory map as /proc/iomem prints it; always
-                    needed
+  --map FILE        file to read: the memory map, as /proc/iomem prints it;
+                    always needed
   --command TEXT    the kernel's command line; default: none
   --initrd FILE     file to read: the initial RAM disk; default: none
   --purgatory FILE  file to read: the purgatory, an ELF64 object for x86-64 that
@@ -117,16 +125,16 @@ Options:
                     line an address and a size in bytes, both hexadecimal;
                     default: none
 
-OUT and RECORD are two files, and none of those that are read. An option is given
-at most once, as --map FILE or --map=FILE, anywhere before a word --, after which
-each word is one of the words above.
+OUT and RECORD are two files, and none of those that are read. An option is
+given at most once, as --map FILE or --map=FILE, anywhere before a word --,
+after which each word is one of the words above.
 ";
 
 const CHECK: &str = "\
 Usage: kexec check MEMORY RECORD
 
-Says whether the list of a load record is accepted in a memory, or the first word
-with a fault. It writes no file.
+Says whether the list of a load record is accepted in a memory, or the first
+word with a fault. It writes no file.
 
 Words:
   MEMORY  memory file to read: the memory after the load
@@ -147,8 +155,8 @@ Words:
 const EXEC: &str = "\
 Usage: kexec exec [--twice] MEMORY RECORD OUT
 
-Checks the list of a load record in a memory, runs it, and writes the memory after
-the last run.
+Checks the list of a load record in a memory, runs it, and writes the memory
+after the last run.
 
 Words:
   MEMORY  memory file to read: the memory after the load
@@ -177,14 +185,14 @@ Words:
 Options:
   --swap ADDRESS  the address of the swap page, for the moves of kept mode: a
                   hexadecimal number of 1 to 16 digits, without 0x, that is a
-                  multiple of 1000 below 400000000000; default: plain mode
+                  multiple of 0x1000 below 0x400000000000; default: plain mode
 ";
 
 const SAMPLE: &str = "\
 Usage: kexec sample NUMBER
 
-Makes a memory, a pool and segments from a number, loads and runs them, and prints
-the SHA-256 of the memory after the run. It reads and writes no file.
+Makes a memory, a pool and segments from a number, loads and runs them, and
+prints the SHA-256 of the memory after the run. It reads and writes no file.
 
 Words:
   NUMBER  the number to begin with: a decimal number of 1 to 18 digits

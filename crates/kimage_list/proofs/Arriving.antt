@@ -1,30 +1,27 @@
 -- A page is loaded while a list is written.
-use Rattle.std.proofs.Common.{◌≡◌, ℕ, zero, suc, ◌+◌, ◌-◌, ◌*◌, ◌^◌, ◌<◌, ◌≤◌, List, [], ◌∷◌, ◌++◌, length, Option, Some, None, refl, sym, ap, ◌∙◌, subst, ⊎_elim, inl, inr, arith, Bool, true, false, cond, length-append, append_assoc}
-use Rattle.std.specs.Prelude.{◌≢◌, ◌⊎◌, ◌/◌, ◌%◌, eqb, slice_index, is_some, unwrap_or, map}
-use Rattle.std.proofs.lemmas.Option.{none-some}
+use Rattle.std.proofs.Common.{◌≡◌, ℕ, ◌+◌, ◌≤◌, List, [], ◌∷◌, ◌++◌, length, Some, None, sym, ap, ◌∙◌, subst, ⊎_elim, inl, inr, arith, true, false, cond, length-append}
+use Rattle.std.specs.Prelude.{◌≢◌, ◌⊎◌, ◌/◌, eqb, is_some, unwrap_or}
 use Rattle.std.proofs.lemmas.List.{map-append}
 use Rattle.std.proofs.lemmas.Bool.Decides.{eqb_tells}
 use Rattle.page_memory.specs.Contents.{Contents, at, IsHeld}
 use Rattle.page_pool.specs.Pages.{Pages}
 use Rattle.std.proofs.lemmas.Bool.{eqb-true}
-use Rattle.kimage_list.proofs.Entering.{items-move, pages_of-move, number-front, number-new, next-entry, unsourced, apart, item_more, place_more, tight_more, steady_more}
+use Rattle.kimage_list.proofs.Entering.{items-move, pages_of-move, number-front, number-new, next-entry, unsourced, apart, item_more, place_more, tight_more}
 use Rattle.kimage_list.proofs.InHand.{count-first, moves}
 use Rattle.kimage_list.proofs.Linking.{place-inside, sources-keys, word-still, word-apart}
 use Rattle.kimage_list.proofs.Lists.{count-append, each-append, eqb-self}
 use Rattle.kimage_list.proofs.OpenList.{holds-append}
 use Rattle.kimage_list.proofs.Takes.{destinations-append, sources-append}
-use Rattle.kimage_list.specs.Drafts.{IsHome, amount, Draft, Writes, HasRoom, IsSteady, IsNext, loaded_from, CanTake}
+use Rattle.kimage_list.specs.Drafts.{IsHome, Draft, Writes, HasRoom, IsNext, loaded_from, CanTake}
 use Rattle.kimage_list.specs.Laying.{items, source_pages, Holds}
-use Rattle.kimage_list.specs.Load.{Loading, Entry, Start, Move, source_of, given, pages_of}
-use Rattle.kimage_list.specs.Opening.{open_pages, entry_place, next_place, number}
+use Rattle.kimage_list.specs.Load.{Loading, Move, source_of}
+use Rattle.kimage_list.specs.Opening.{open_pages, entry_place, number}
 use Rattle.kimage_list.specs.Tables.{Slots, slot, place_in, source_in}
-use Rattle.kimage_list.specs.Tracking.{Tracks}
-use Rattle.kimage_list.specs.declared.table.Loaded.{Loaded}
 use Rattle.kx_pages.specs.Items.{code}
-use Rattle.kx_pages.specs.Lists.{Each, destinations, sources, count}
+use Rattle.kx_pages.specs.Lists.{destinations, sources, count}
 use Rattle.kx_pages.specs.declared.item.Item.TheVariants.{Source}
 use Rattle.page_memory.specs.Contents.{page_of}
-use Rattle.page_memory.specs.Memory.{Mem, put, Wants, set_word}
+use Rattle.page_memory.specs.Memory.{set_word}
 
 source_of-new : (p s : ℕ) (ps : List (ℕ × ℕ)) → count p (destinations ps) ≡ 0 → source_of p (ps ++ (p, s) ∷ []) ≡ Some s
 source_of-new p s [] z = ap (λ b. cond b (Some s) None) (eqb-self p)

@@ -1,16 +1,14 @@
 -- How many pages a load takes.
-use Rattle.std.proofs.Common.{◌≡◌, ℕ, suc, ◌+◌, ◌<◌, ◌≤◌, List, [], ◌∷◌, ◌++◌, length, Option, Some, None, refl, sym, ap, ◌∙◌, subst, ⊎_elim, inl, inr, arith, take, drop, append_assoc, length-append, append-nil, Bool, true, false, cond}
-use Rattle.std.specs.Prelude.{◌≢◌, ◌⊎◌, ◌/◌, eqb, not, ◌||◌}
-use Rattle.std.proofs.Math.Seq.{drop-append_seam, take-append_seam}
+use Rattle.std.proofs.Common.{◌≡◌, ℕ, suc, ◌+◌, ◌≤◌, List, [], ◌∷◌, ◌++◌, length, Option, Some, None, refl, sym, ap, ◌∙◌, subst, ⊎_elim, inl, inr, arith, append_assoc, length-append, Bool, true, false, cond}
+use Rattle.std.specs.Prelude.{◌≢◌, ◌⊎◌, eqb, not, ◌||◌}
 use Rattle.std.proofs.lemmas.Option.{none-some}
 use Rattle.std.proofs.lemmas.Bool.{or_parts, eqb-false, ne_eqb}
 use Rattle.std.proofs.lemmas.Bool.Decides.{eqb_tells}
-use Rattle.kimage_list.proofs.Lists.{each_map, each_both, some_same, count-append, each-append, absent}
-use Rattle.kimage_list.proofs.Takes.{Takes, size, not_false, no_destination, destinations-append, Awaited, taken_took, Sound, given_sound, wished, others, wished-cons, others-cons, length-without}
+use Rattle.kimage_list.proofs.Lists.{each_map, each_both, some_same, each-append, absent}
+use Rattle.kimage_list.proofs.Takes.{Takes, size, not_false, no_destination, destinations-append, Awaited, taken_took, Sound, given_sound, wished, others, length-without}
 use Rattle.kimage_list.specs.Drafts.{one, amount}
-use Rattle.kimage_list.specs.Load.{without, source_of, is_for, Loading, Entry, begun, draw, taken, given, served, requests, pages_of}
-use Rattle.kx_pages.specs.Lists.{Each, Has, destinations, sources, has, count}
-use Rattle.page_memory.specs.Memory.{Wants}
+use Rattle.kimage_list.specs.Load.{without, source_of, is_for, Loading, draw, taken, given}
+use Rattle.kx_pages.specs.Lists.{Each, Has, destinations, has, count}
 
 -- a list of distinct members of another is no longer
 has-without : (x y : ℕ) (ys : List ℕ) → x ≢ y → Has y ys → Has y (without x ys)

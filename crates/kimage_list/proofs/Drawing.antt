@@ -5,7 +5,7 @@ use Rattle.std.proofs.lemmas.Option.{none-some}
 use Rattle.std.proofs.lemmas.Bool.Decides.{eqb_tells}
 use Rattle.std.specs.Ordering.{nat_cmp, is_eq}
 use Rattle.std.specs.Cmp.{nat_cmp_total, eq_by_cmp_equiv}
-use Rattle.std.specs.FinMap.{FinMap, get, insert, get-insert}
+use Rattle.std.specs.FinMap.{get, get-insert}
 use Rattle.page_pool.specs.Pages.{Pages, is_filed, marked}
 use Rattle.kimage_list.proofs.Lists.{count-append, eqb-self}
 use Rattle.kimage_list.proofs.Tables.{apart}

@@ -1,17 +1,16 @@
 -- Below the need no page runs out, and no page past it is drawn.
-use Rattle.std.proofs.Common.{◌≡◌, ℕ, zero, suc, ◌+◌, ◌-◌, ◌<◌, ◌≤◌, List, [], ◌∷◌, ◌++◌, length, Option, Some, None, refl, sym, ap, ◌∙◌, subst, ⊎_elim, inl, inr, arith, take, length-append, Bool, true, false, cond}
+use Rattle.std.proofs.Common.{◌≡◌, ℕ, zero, suc, ◌+◌, ◌≤◌, List, [], ◌∷◌, ◌++◌, length, Option, Some, None, refl, sym, ap, ◌∙◌, subst, ⊎_elim, inl, inr, arith, take, length-append, Bool, true, false, cond}
 use Rattle.std.specs.Prelude.{◌≢◌, ◌⊎◌, eqb}
 use Rattle.std.proofs.lemmas.Bool.{eqb-false, cases_lt}
 use Rattle.std.proofs.lemmas.Bool.Decides.{eqb_tells}
 use Rattle.kimage_list.proofs.Counting.{no_longer, Full, Waits, taken_none, full_on, length-destinations}
-use Rattle.kimage_list.proofs.InHand.{count-first}
 use Rattle.kimage_list.proofs.Lists.{each_map, count-append, each-append}
 use Rattle.kimage_list.proofs.Parts.{served-append}
-use Rattle.kimage_list.proofs.Takes.{size, sources-append, Awaited, wished, others}
+use Rattle.kimage_list.proofs.Takes.{sources-append, wished, others}
 use Rattle.kimage_list.specs.Counted.{Counts, Allowed, AlwaysTakes, OneMore}
-use Rattle.kimage_list.specs.Drafts.{one, used, Draft, CanTake, amount}
-use Rattle.kimage_list.specs.Load.{is_for, Loading, taken, given, pages_of, served, begun}
-use Rattle.kx_pages.specs.Lists.{Each, Has, destinations, sources, count}
+use Rattle.kimage_list.specs.Drafts.{one, used, Draft}
+use Rattle.kimage_list.specs.Load.{Loading, taken, given, pages_of, served, begun}
+use Rattle.kx_pages.specs.Lists.{Each, Has, sources, count}
 
 each_at : (P : ℕ → Type 0) (xs : List ℕ) (x : ℕ) → Each P xs → 1 ≤ count x xs → P x
 each_at P [] x h c = absurd (omega (arith, c))

@@ -1,32 +1,25 @@
 -- An entry is added while a list is written.
-use Rattle.std.proofs.Common.{◌≡◌, ℕ, zero, suc, ◌+◌, ◌-◌, ◌*◌, ◌^◌, ◌<◌, ◌≤◌, List, [], ◌∷◌, ◌++◌, length, Option, Some, None, refl, sym, ap, ◌∙◌, subst, ⊎_elim, inl, inr, arith, Bool, true, false, cond, length-append, append_assoc}
-use Rattle.std.specs.Prelude.{◌≢◌, ◌⊎◌, ◌/◌, ◌%◌, eqb, slice_index, is_some, unwrap_or, map}
-use Rattle.std.proofs.lemmas.Option.{none-some}
-use Rattle.std.proofs.lemmas.List.{map-append}
+use Rattle.std.proofs.Common.{◌≡◌, ℕ, suc, ◌+◌, ◌-◌, ◌*◌, ◌^◌, ◌<◌, ◌≤◌, List, [], ◌∷◌, ◌++◌, length, Some, refl, sym, ap, ◌∙◌, subst, ⊎_elim, inl, inr, arith, Bool, true, false, cond, length-append}
+use Rattle.std.specs.Prelude.{◌≢◌, ◌⊎◌, ◌/◌, ◌%◌, eqb, slice_index}
 use Rattle.std.proofs.lemmas.Bool.Decides.{eqb_tells}
 use Rattle.page_memory.specs.Contents.{Contents, at, IsHeld}
 use Rattle.page_pool.specs.Pages.{Pages}
-use Rattle.byteorder.specs.Endian.{little_bytes}
 use Rattle.kimage_list.proofs.Exchange.{still, keys_are}
 use Rattle.kimage_list.proofs.InHand.{count-first}
 use Rattle.kimage_list.proofs.Linking.{items-full, place-inside, next-listed, sources-keys, word-still, word-apart}
-use Rattle.kimage_list.proofs.Lists.{put-apart, put-same, each_map, count-append, each-append, absent, distinct_from, heads_same, nil_cons}
-use Rattle.kimage_list.proofs.OpenList.{entry_added, holds-append}
+use Rattle.kimage_list.proofs.Lists.{put-apart, count-append, absent, distinct_from, heads_same, nil_cons}
+use Rattle.kimage_list.proofs.OpenList.{entry_added}
 use Rattle.kimage_list.proofs.Room.{room}
-use Rattle.kimage_list.proofs.Takes.{destinations-append, sources-append}
-use Rattle.kimage_list.specs.Drafts.{IsHome, one, used, amount, Draft, Writes, CanTake, linked, IsFull, HasRoom, IsSteady, Room, RoomBy, IsNext, started, loaded_from}
+use Rattle.kimage_list.specs.Drafts.{Draft, Writes, HasRoom, IsSteady, started}
 use Rattle.kimage_list.specs.Laying.{items, source_pages, Holds}
-use Rattle.kimage_list.specs.Load.{Loading, Entry, Start, Move, source_of, taken, given, pages_of}
+use Rattle.kimage_list.specs.Load.{Entry, Start, Move, pages_of}
 use Rattle.kimage_list.specs.Opening.{open_pages, entry_place, next_place, Tight, number}
-use Rattle.kimage_list.specs.Tables.{Slots, slot, place_in, source_in}
-use Rattle.kimage_list.specs.Tracking.{Tracks}
-use Rattle.kimage_list.specs.declared.table.Loaded.{Loaded}
+use Rattle.kimage_list.specs.Tables.{Slots, slot, place_in}
 use Rattle.kx_pages.specs.Items.{code}
 use Rattle.kx_pages.specs.Lists.{Each, Distinct, destinations, sources, count}
 use Rattle.kx_pages.specs.declared.item.Item.{Item}
-use Rattle.kx_pages.specs.declared.item.Item.TheVariants.{Destination, Source, Link}
-use Rattle.page_memory.specs.Contents.{page_of, page_with_word}
-use Rattle.page_memory.specs.Memory.{Mem, put, Wants, set_word}
+use Rattle.kx_pages.specs.declared.item.Item.TheVariants.{Destination, Source}
+use Rattle.page_memory.specs.Memory.{Mem, put, set_word}
 
 items-start : (es : List Entry) (ps : List (ℕ × ℕ)) (p : ℕ) → destinations ps ≡ pages_of es → items (es ++ Start p ∷ []) ps ≡ items es ps ++ Destination p ∷ []
 items-start [] ps p o = refl

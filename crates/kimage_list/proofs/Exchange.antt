@@ -1,13 +1,13 @@
 -- One word of a list that is being written is changed.
 use Rattle.std.proofs.Common.{◌≡◌, ℕ, zero, suc, ◌+◌, ◌-◌, ◌*◌, ◌<◌, ◌≤◌, List, [], ◌∷◌, ◌++◌, length, Some, refl, sym, ap, ◌∙◌, subst, ⊎_elim, inl, inr, arith, take, drop, append_assoc, length-append}
 use Rattle.std.specs.Prelude.{◌≢◌, ◌⊎◌, ◌/◌, ◌%◌, map, slice_index}
-use Rattle.std.proofs.lemmas.List.{take_all, length-take, length-drop, map-append, length-map}
+use Rattle.std.proofs.lemmas.List.{length-take, length-drop, map-append, length-map}
 use Rattle.std.proofs.lemmas.Bool.{cases_lt}
 use Rattle.std.specs.Prelude.{Bool, true, false, cond, eqb, unwrap_or}
 use Rattle.std.proofs.lemmas.Bool.Decides.{eqb_tells}
 use Rattle.std.proofs.lemmas.Option.{none-some}
 use Rattle.kimage_list.proofs.Lists.{some_same, nil_cons, heads_same, length-items, put-apart, put-same, each_map, each_both}
-use Rattle.kimage_list.proofs.Words.{length-in_bytes, word-changed}
+use Rattle.kimage_list.proofs.Words.{word-changed}
 use Rattle.kimage_list.specs.Laying.{in_bytes, items, source_pages, Holds}
 use Rattle.kimage_list.specs.Load.{Entry, Start, Move, source_of, at_home, pages_of}
 use Rattle.kimage_list.specs.Opening.{onward, open_pages, entry_place, number}

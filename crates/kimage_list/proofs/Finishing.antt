@@ -1,11 +1,10 @@
 -- The list is finished: memory is the laid memory.
-use Rattle.std.proofs.Common.{◌≡◌, ℕ, zero, suc, ◌+◌, ◌-◌, ◌*◌, ◌^◌, ◌<◌, ◌≤◌, List, [], ◌∷◌, ◌++◌, length, refl, sym, ap, ◌∙◌, subst, ⊎_elim, inl, inr, arith, true, false, cond}
+use Rattle.std.proofs.Common.{◌≡◌, ℕ, ◌+◌, ◌-◌, ◌^◌, ◌<◌, ◌≤◌, List, [], ◌∷◌, ◌++◌, length, refl, sym, ap, ◌∙◌, subst, ⊎_elim, inl, inr, arith, true, false, cond}
 use Rattle.std.specs.Prelude.{◌≢◌, ◌⊎◌, ◌/◌, ◌%◌, eqb}
 use Rattle.std.proofs.lemmas.Bool.Decides.{eqb_tells}
 use Rattle.std.proofs.lemmas.Bool.{cases_lt}
 use Rattle.page_memory.specs.Contents.{Contents, at, IsHeld}
 use Rattle.page_pool.specs.Pages.{Pages}
-use Rattle.kimage_list.proofs.InHand.{count-first}
 use Rattle.kimage_list.proofs.Linking.{items-full, next-listed, sources-keys, word-still, word-apart}
 use Rattle.kimage_list.proofs.Lists.{count-append, keys, keys-append, keys-link_pages, keys-source_pages, holds_all, put_all_other, distinct_from}
 use Rattle.kimage_list.proofs.OpenList.{list_ended, holds-append}
@@ -13,8 +12,8 @@ use Rattle.kimage_list.specs.Drafts.{Draft, Writes, HasLink, laid_by}
 use Rattle.kimage_list.specs.Laying.{items, source_pages, link_pages, put_all, Holds}
 use Rattle.kimage_list.specs.Opening.{next_place, open_pages}
 use Rattle.kimage_list.specs.Tables.{Slots}
-use Rattle.kx_pages.specs.Lists.{Distinct, destinations, sources, count}
-use Rattle.page_memory.specs.Memory.{Mem, put, set_word}
+use Rattle.kx_pages.specs.Lists.{Distinct, sources, count}
+use Rattle.page_memory.specs.Memory.{Mem, set_word}
 
 same_page : (N K : Mem) (xs : List (ℕ × (List ℕ))) (p : ℕ) → Holds N xs → Holds K xs → 1 ≤ count p (keys xs) → N p ≡ K p
 same_page N K [] p h k c = absurd (omega (arith, c))

@@ -1,17 +1,16 @@
 -- A draft stays under way.
-use Rattle.std.proofs.Common.{◌≡◌, ℕ, zero, suc, ◌+◌, ◌-◌, ◌*◌, ◌<◌, ◌≤◌, List, [], ◌∷◌, ◌++◌, length, Option, Some, None, refl, sym, ap, ◌∙◌, subst, ⊎_elim, inl, inr, arith, take, drop, length-append, append_assoc, append-nil, Bool, true, false, cond}
-use Rattle.std.specs.Prelude.{◌≢◌, ◌⊎◌, ◌/◌, ◌%◌, ◌||◌, eqb, nat_eq}
+use Rattle.std.proofs.Common.{◌≡◌, ℕ, ◌+◌, ◌*◌, ◌≤◌, List, [], ◌∷◌, ◌++◌, length, Option, Some, None, refl, sym, ap, ◌∙◌, subst, inl, inr, arith, drop, length-append, append_assoc, append-nil, Bool, true, false}
+use Rattle.std.specs.Prelude.{◌≢◌, ◌⊎◌, ◌/◌, ◌%◌, eqb}
 use Rattle.std.proofs.Math.Seq.{drop-append_seam}
 use Rattle.std.proofs.lemmas.Bool.Decides.{eqb_tells}
 use Rattle.kimage_list.proofs.Counting.{Full, full_on, none_filed}
 use Rattle.kimage_list.proofs.Enough.{full_of, always_takes, wished-inside, wished-once}
 use Rattle.kimage_list.proofs.Entering.{pages_of-start, pages_of-move}
-use Rattle.kimage_list.proofs.Lists.{count-append, each-append}
 use Rattle.kimage_list.proofs.Takes.{wished, others, taken_took}
 use Rattle.kimage_list.specs.Counted.{Counts, Allowed, UnderWay, RoomIsThere, PageIsThere, StartIsThere, AllDrawn, OpensUnderWay}
-use Rattle.kimage_list.specs.Drafts.{initial, first_taken, amount, IsHome, Draft, CanTake, linked, started, loaded_from, Room, RoomBy, HasRoom, IsSteady, IsFull}
-use Rattle.kimage_list.specs.Load.{Loading, Entry, Start, Move, taken, given, pages_of}
-use Rattle.kx_pages.specs.Lists.{Each, Has, destinations, sources, count}
+use Rattle.kimage_list.specs.Drafts.{initial, first_taken, Draft, CanTake, linked, loaded_from, Room, RoomBy, HasRoom}
+use Rattle.kimage_list.specs.Load.{Loading, Start, Move, taken, given, pages_of}
+use Rattle.kx_pages.specs.Lists.{Each, Has, count}
 use Rattle.page_memory.specs.Memory.{Mem, Wants}
 
 -- the counts after a request

@@ -1,5 +1,5 @@
 -- Taking a page while a list is written.
-use Rattle.std.proofs.Common.{◌≡◌, ℕ, zero, suc, ◌+◌, ◌-◌, ◌*◌, ◌^◌, ◌<◌, ◌≤◌, List, [], ◌∷◌, ◌++◌, length, Option, Some, None, refl, sym, ap, ◌∙◌, subst, ⊎_elim, inl, inr, arith, Bool, true, false, cond}
+use Rattle.std.proofs.Common.{◌≡◌, ℕ, zero, suc, ◌+◌, ◌*◌, ◌^◌, ◌<◌, ◌≤◌, List, [], ◌∷◌, length, Option, Some, None, refl, sym, ap, ◌∙◌, subst, ⊎_elim, inl, inr, arith, Bool, true, false, cond}
 use Rattle.std.specs.Prelude.{◌≢◌, ◌⊎◌, ◌/◌, ◌%◌, eqb, slice_index}
 use Rattle.std.proofs.lemmas.Option.{none-some}
 use Rattle.std.proofs.lemmas.Bool.Decides.{eqb_tells}
@@ -9,18 +9,18 @@ use Rattle.kimage_list.proofs.Drawing.{source_of-at_home}
 use Rattle.kimage_list.proofs.Exchange.{exchange_at}
 use Rattle.kimage_list.proofs.Lists.{each_map, count-append, absent, distinct_from, eqb-self}
 use Rattle.kimage_list.proofs.Takes.{Takes as Moves, count-at_home, taken_took}
-use Rattle.kimage_list.specs.Drafts.{one, used, amount, Draft, Writes, CanTake, CanMove, moved}
+use Rattle.kimage_list.specs.Drafts.{one, amount, Draft, Writes, CanTake, CanMove, moved}
 use Rattle.kimage_list.specs.Laying.{items, source_pages, Holds}
-use Rattle.kimage_list.specs.Load.{Loading, Entry, source_of, at_home, taken, pages_of}
-use Rattle.kimage_list.specs.Opening.{open_pages, entry_place, next_place, Tight, number}
-use Rattle.kimage_list.specs.Tables.{Slots, slot, place_in}
-use Rattle.kimage_list.specs.Tracking.{Tracks, Gives, Took, Exchanged as Pair}
+use Rattle.kimage_list.specs.Load.{Loading, source_of, at_home, taken}
+use Rattle.kimage_list.specs.Opening.{open_pages, entry_place, number}
+use Rattle.kimage_list.specs.Tables.{Slots}
+use Rattle.kimage_list.specs.Tracking.{Gives, Took, Exchanged as Pair}
 use Rattle.kimage_list.specs.declared.taking.Moved.{Moved}
 use Rattle.kimage_list.specs.declared.taking.Taken.{Taken}
 use Rattle.kx_pages.specs.Items.{code}
-use Rattle.kx_pages.specs.Lists.{Each, Distinct, destinations, sources, count}
+use Rattle.kx_pages.specs.Lists.{Each, sources, count}
 use Rattle.kx_pages.specs.declared.item.Item.TheVariants.{Source}
-use Rattle.page_memory.specs.Memory.{Mem, put, Wants, set_word}
+use Rattle.page_memory.specs.Memory.{Mem, put, set_word}
 
 pub count-first : (x : ℕ) (xs : List ℕ) → count x (x ∷ xs) ≡ 1 + count x xs
 count-first x xs = ap (λ b. cond b 1 0 + count x xs) (eqb-self x)

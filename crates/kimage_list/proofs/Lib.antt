@@ -18,3 +18,5 @@ pub mod Opening
 pub mod Going
 pub mod Spanned
 pub mod Standings
+pub mod Segmented
+pub mod Examples

@@ -1,26 +1,23 @@
 -- A link page is added while a list is written.
-use Rattle.std.proofs.Common.{◌≡◌, ℕ, zero, suc, ◌+◌, ◌-◌, ◌*◌, ◌^◌, ◌<◌, ◌≤◌, List, [], ◌∷◌, ◌++◌, length, Option, Some, None, refl, sym, ap, ◌∙◌, subst, ⊎_elim, inl, inr, arith, Bool, true, false, cond, length-append, append_assoc}
+use Rattle.std.proofs.Common.{◌≡◌, ℕ, zero, suc, ◌+◌, ◌-◌, ◌*◌, ◌^◌, ◌<◌, ◌≤◌, List, [], ◌∷◌, ◌++◌, length, Option, Some, None, refl, sym, ap, ◌∙◌, subst, inl, inr, arith, true, false, length-append, append_assoc}
 use Rattle.std.specs.Prelude.{◌≢◌, ◌⊎◌, ◌/◌, ◌%◌, eqb, slice_index}
 use Rattle.std.proofs.lemmas.Option.{none-some}
 use Rattle.std.proofs.lemmas.Bool.Decides.{eqb_tells}
 use Rattle.page_memory.specs.Contents.{Contents, at, IsHeld}
 use Rattle.page_pool.specs.Pages.{Pages}
-use Rattle.byteorder.specs.Endian.{little_bytes}
 use Rattle.kimage_list.proofs.Exchange.{still}
 use Rattle.kimage_list.proofs.InHand.{count-first}
-use Rattle.kimage_list.proofs.Lists.{put-apart, put-same, each_map, count-append, absent, distinct_from, heads_same, nil_cons}
+use Rattle.kimage_list.proofs.Lists.{put-apart, each_map, count-append, absent, distinct_from, heads_same, nil_cons}
 use Rattle.kimage_list.proofs.OpenList.{next_page, first_link, link_added}
-use Rattle.kimage_list.specs.Drafts.{one, used, amount, Draft, Writes, CanTake, linked, IsFull, HeadIs}
+use Rattle.kimage_list.specs.Drafts.{one, Draft, Writes, linked, IsFull, HeadIs}
 use Rattle.kimage_list.specs.Laying.{items, source_pages, Holds}
-use Rattle.kimage_list.specs.Load.{Loading, Entry, Start, Move, source_of, taken, given, pages_of}
+use Rattle.kimage_list.specs.Load.{Loading, Entry, Start, Move, source_of, pages_of}
 use Rattle.kimage_list.specs.Opening.{open_pages, entry_place, next_place, Tight, number}
 use Rattle.kimage_list.specs.Tables.{Slots, slot, place_in, source_in}
-use Rattle.kimage_list.specs.Tracking.{Tracks}
 use Rattle.kimage_list.specs.declared.table.Loaded.{Loaded}
 use Rattle.kx_pages.specs.Items.{code}
 use Rattle.kx_pages.specs.Lists.{Each, Distinct, destinations, sources, count}
-use Rattle.kx_pages.specs.declared.item.Item.{Item}
-use Rattle.kx_pages.specs.declared.item.Item.TheVariants.{Destination, Source, Link}
+use Rattle.kx_pages.specs.declared.item.Item.TheVariants.{Link}
 use Rattle.page_memory.specs.Contents.{page_of, page_with_word}
 use Rattle.page_memory.specs.Memory.{Mem, put, Wants, set_word}
 

@@ -1,6 +1,6 @@
 -- Counting and membership on lists, and pages that are set.
-use Rattle.std.proofs.Common.{◌≡◌, ℕ, zero, suc, ◌+◌, ◌≤◌, List, [], ◌∷◌, ◌++◌, length, Option, Some, refl, sym, ap, ◌∙◌, ⊎_elim, inl, inr, arith, cond, drop}
-use Rattle.std.specs.Prelude.{◌≢◌, ◌⊎◌, map, unwrap_or, eqb, true, false}
+use Rattle.std.proofs.Common.{◌≡◌, ℕ, suc, ◌+◌, ◌≤◌, List, [], ◌∷◌, ◌++◌, length, Some, refl, sym, ap, ◌∙◌, ⊎_elim, inl, inr, arith, drop}
+use Rattle.std.specs.Prelude.{◌≢◌, map, unwrap_or, eqb, true}
 use Rattle.std.proofs.lemmas.Bool.Decides.{eqb_tells}
 use Rattle.kx_pages.specs.Lists.{Each, Has, Distinct, count, sources}
 use Rattle.kx_pages.specs.declared.item.Item.{Item}

@@ -1,13 +1,12 @@
 -- The next word of a list that is being written.
-use Rattle.std.proofs.Common.{◌≡◌, ℕ, zero, suc, ◌+◌, ◌-◌, ◌*◌, ◌<◌, ◌≤◌, List, [], ◌∷◌, ◌++◌, length, refl, sym, ap, ◌∙◌, subst, arith, take, drop, append_assoc, length-append, append-nil}
+use Rattle.std.proofs.Common.{◌≡◌, ℕ, zero, suc, ◌+◌, ◌-◌, ◌*◌, ◌<◌, ◌≤◌, List, [], ◌∷◌, ◌++◌, length, refl, sym, ap, ◌∙◌, subst, arith, take, drop, length-append, append-nil}
 use Rattle.std.specs.Prelude.{◌≢◌, ◌/◌, ◌%◌, map}
-use Rattle.std.proofs.lemmas.List.{take_all, length-take, length-drop, map-append, length-map}
-use Rattle.byteorder.specs.Endian.{little_bytes}
+use Rattle.std.proofs.lemmas.List.{take_all, length-drop, map-append, length-map}
 use Rattle.kimage_list.proofs.Words.{next-word}
-use Rattle.kimage_list.proofs.Exchange.{short-take, put-written, nth_apart, still, keys_are}
-use Rattle.kimage_list.proofs.Lists.{put-apart, put-same, each_map}
-use Rattle.kimage_list.specs.Laying.{in_bytes, link_pages, chained, Holds}
-use Rattle.kimage_list.specs.Opening.{onward, open_pages, next_place, Tight, ended_pages}
+use Rattle.kimage_list.proofs.Exchange.{put-written, still, keys_are}
+use Rattle.kimage_list.proofs.Lists.{put-apart, put-same}
+use Rattle.kimage_list.specs.Laying.{in_bytes, link_pages, Holds}
+use Rattle.kimage_list.specs.Opening.{open_pages, next_place, Tight, ended_pages}
 use Rattle.kx_pages.specs.Items.{code}
 use Rattle.kx_pages.specs.Lists.{Each, Distinct}
 use Rattle.kx_pages.specs.declared.item.Item.{Item}

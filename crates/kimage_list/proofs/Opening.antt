@@ -1,12 +1,12 @@
 -- A list before its first entry.
-use Rattle.std.proofs.Common.{◌≡◌, ℕ, zero, suc, ◌+◌, ◌-◌, ◌<◌, ◌≤◌, ◌^◌, List, [], ◌∷◌, ◌++◌, length, Option, Some, None, refl, sym, ap, ◌∙◌, subst, ⊎_elim, inl, inr, arith, take, Bool, true, false, cond, append-nil}
-use Rattle.std.specs.Prelude.{◌≢◌, ◌⊎◌, eqb, slice_index, nat_eq, is_some}
+use Rattle.std.proofs.Common.{◌≡◌, ℕ, zero, suc, ◌+◌, ◌<◌, ◌≤◌, List, [], ◌∷◌, ◌++◌, length, Some, None, refl, sym, ap, ◌∙◌, subst, inl, inr, arith, take, Bool, true, false, cond, append-nil}
+use Rattle.std.specs.Prelude.{◌≢◌, ◌⊎◌, eqb, slice_index, is_some}
 use Rattle.std.proofs.lemmas.Option.{none-some}
 use Rattle.std.proofs.lemmas.Bool.Decides.{eqb_tells}
 use Rattle.page_memory.specs.Contents.{Contents, at, IsHeld}
 use Rattle.page_pool.specs.Pages.{Pages, is_filed}
 use Rattle.page_pool.specs.Counts.{IsOnce}
-use Rattle.kimage_list.proofs.Lists.{count-append, eqb-self}
+use Rattle.kimage_list.proofs.Lists.{count-append}
 use Rattle.std.specs.List.{slice_get}
 use Rattle.std.specs.Prelude.{◌||◌}
 use Rattle.std.proofs.lemmas.List.{take_more}
@@ -15,7 +15,7 @@ use Rattle.std.proofs.lemmas.Option.{slice_get_within, get_or_from_slice_get}
 use Rattle.kx_pages.specs.Spans.{Run, in_span, in_spans}
 use Rattle.kimage_list.specs.Beginning.{AreHeld, IsFresh}
 use Rattle.kimage_list.specs.Drafts.{initial, first_taken, Draft, Writes}
-use Rattle.kimage_list.specs.Load.{Loading, given}
+use Rattle.kimage_list.specs.Load.{Loading}
 use Rattle.kimage_list.specs.Tables.{Slots, slot, source_in, place_in, fresh_slot}
 use Rattle.kx_pages.specs.Lists.{count}
 use Rattle.page_memory.specs.Memory.{Mem, Wants}

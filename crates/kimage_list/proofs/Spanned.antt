@@ -1,6 +1,6 @@
 -- The pages of spans, one by one.
-use Rattle.std.proofs.Common.{◌≡◌, ℕ, zero, suc, ◌+◌, ◌<◌, ◌≤◌, ◌^◌, List, [], ◌∷◌, ◌++◌, length, refl, sym, ap, ◌∙◌, ⊎_elim, inl, inr, arith, length-append, Bool, true, false, cond}
-use Rattle.std.specs.Prelude.{◌≢◌, ◌⊎◌, ◌&&◌, ◌||◌, eqb, nat_lt, nat_le}
+use Rattle.std.proofs.Common.{◌≡◌, ℕ, zero, suc, ◌+◌, ◌<◌, ◌≤◌, ◌^◌, List, [], ◌∷◌, ◌++◌, length, refl, ap, ⊎_elim, inl, inr, arith, length-append, Bool, true, false}
+use Rattle.std.specs.Prelude.{◌≢◌, ◌⊎◌, ◌||◌, eqb}
 use Rattle.std.proofs.lemmas.Bool.{cases_lt, or_cases, false≢true}
 use Rattle.std.proofs.lemmas.Bool.Decides.{eqb_tells}
 use Rattle.kx_pages.specs.Lists.{Each, Has, count}
@@ -25,7 +25,7 @@ has-append_right : (x : ℕ) (xs ys : List ℕ) → Has x ys → Has x (xs ++ ys
 has-append_right x [] ys h = h
 has-append_right x (y ∷ xs) ys h = inr (has-append_right x xs ys h)
 
-has-from : (x p n : ℕ) → p ≤ x → x < p + n → Has x (pages_from p n)
+pub has-from : (x p n : ℕ) → p ≤ x → x < p + n → Has x (pages_from p n)
 has-from x p zero a b = absurd (omega (arith, a, b))
 has-from x p (suc n) a b = go (eqb_tells p x) (has-from x (suc p) n)
   where
@@ -33,7 +33,7 @@ has-from x p (suc n) a b = go (eqb_tells p x) (has-from x (suc p) n)
     go (inl t) ih = inl t.1
     go (inr t) ih = inr (ih (omega (arith, a, t.1)) (omega (arith, b)))
 
-span_inside : (r : Run) (x : ℕ) → in_span r x ≡ true → (r.first ≤ x) × (x < end r)
+pub span_inside : (r : Run) (x : ℕ) → in_span r x ≡ true → (r.first ≤ x) × (x < end r)
 span_inside r x h = grind (arith, h)
 
 -- a page of the spans is one of their pages
@@ -52,7 +52,7 @@ from-below x p (suc n) a = let ih = from-below x (suc p) n (omega (arith, a)) in
     go (inl t) ih = absurd (omega (arith, a, t.1))
     go (inr t) ih = rw t.0 (omega (arith, ih))
 
-from-above : (x p n : ℕ) → p + n ≤ x → count x (pages_from p n) ≡ 0
+pub from-above : (x p n : ℕ) → p + n ≤ x → count x (pages_from p n) ≡ 0
 from-above x p zero a = refl
 from-above x p (suc n) a = go (eqb_tells p x) (from-above x (suc p) n (omega (arith, a)))
   where
@@ -95,7 +95,7 @@ each-from : (p n : ℕ) → Each (λ x. (p ≤ x) × (x < p + n)) (pages_from p 
 each-from p zero = tt
 each-from p (suc n) = ((omega arith, omega arith), each_map (pages_from (suc p) n) (λ x h. (omega (arith, h.0), omega (arith, h.1))) (each-from (suc p) n))
 
-span_tells : (r : Run) (x : ℕ) → r.first ≤ x → x < end r → in_span r x ≡ true
+pub span_tells : (r : Run) (x : ℕ) → r.first ≤ x → x < end r → in_span r x ≡ true
 span_tells r x a b = grind (arith, a, b)
 
 or_right : (b c : Bool) → c ≡ true → (b || c) ≡ true

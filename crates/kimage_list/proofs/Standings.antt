@@ -1,18 +1,18 @@
 -- Where the writer stands.
 use Rattle.std.proofs.Common.{◌≡◌, ℕ, zero, suc, ◌+◌, ◌-◌, ◌*◌, ◌<◌, ◌≤◌, ◌^◌, List, [], ◌∷◌, ◌++◌, length, Option, Some, None, refl, sym, ap, ◌∙◌, subst, ⊎_elim, inl, inr, arith, take, drop, length-append, append_assoc, append-nil, Bool, true, false, cond}
-use Rattle.std.specs.Prelude.{◌≢◌, ◌⊎◌, ◌/◌, ◌%◌, eqb, is_some, unwrap_or, slice_index, replicate, map}
+use Rattle.std.specs.Prelude.{◌≢◌, ◌⊎◌, ◌↔◌, ◌/◌, ◌%◌, eqb, is_some, unwrap_or, slice_index, replicate}
 use Rattle.std.proofs.Math.Seq.{drop-append_seam}
 use Rattle.std.proofs.lemmas.Bool.{cases_lt, eqb-true, false≢true}
 use Rattle.std.proofs.lemmas.Bool.Decides.{eqb_tells}
 use Rattle.std.proofs.lemmas.Option.{none-some}
 use Rattle.page_memory.specs.Contents.{Contents, at, page_of}
-use Rattle.page_memory.specs.Memory.{Mem, Wants}
+use Rattle.page_memory.specs.Memory.{Wants}
 use Rattle.page_pool.specs.Pages.{Pages}
 use Rattle.std.proofs.lemmas.List.{take-append-drop}
 use Rattle.kimage_list.specs.declared.table.Loaded.{Loaded}
 use Rattle.kx_pages.specs.declared.image.Mode.{Mode}
 use Rattle.kx_pages.specs.declared.image.Image.{Image}
-use Rattle.kx_pages.specs.Lists.{Each, Has, has, count, destinations, sources}
+use Rattle.kx_pages.specs.Lists.{Has, has, count, destinations, sources}
 use Rattle.kx_pages.specs.Spans.{Run, AreApart, pages, in_spans}
 use Rattle.kx_pages.specs.Items.{code}
 use Rattle.kx_pages.specs.declared.item.Item.{Item}
@@ -24,14 +24,14 @@ use Rattle.kimage_list.specs.Laying.{Holds, items, source_pages, put_all, link_p
 use Rattle.kimage_list.specs.Opening.{open_pages, laid_so_far}
 use Rattle.kimage_list.specs.Tables.{Slots, slot, source_in}
 use Rattle.kimage_list.specs.Drafts.{Draft, Writes, CanTake, IsSteady, HasRoom, Room, RoomBy, HasLink, IsNext, laid_by, first_taken, linked, started, loaded_from, HeadIs}
-use Rattle.kimage_list.specs.Counted.{Counts, UnderWay}
+use Rattle.kimage_list.specs.Counted.{UnderWay}
 use Rattle.kimage_list.specs.Calls.{IsPrepared, IsWritten, load_begun}
 use Rattle.kimage_list.specs.declared.open_list.OpenList.{OpenList}
 use Rattle.kimage_list.specs.declared.written.Written.{Written}
 use Rattle.kx_pages.specs.declared.image.Mode.TheVariants as mode
 use Rattle.page_pool.specs.Pages.{is_filed}
-use Rattle.kimage_list.specs.Writers.{Load, Writer, StandsAt, IsOpen, IsAwaited, draft_of, is_wanted, need, pages_in, with_destination, with_source, with_bytes, destination_after}
-use Rattle.kimage_list.proofs.Lists.{count-append, keys, keys-append, keys-source_pages, keys-link_pages, put_all_other, has_count, some_same, eqb-self, nil_cons, each_map}
+use Rattle.kimage_list.specs.Writers.{Load, Writer, StandsAt, IsOpen, IsAwaited, KeepsPages, draft_of, is_wanted, need, pages_in, with_destination, with_bytes, destination_after}
+use Rattle.kimage_list.proofs.Lists.{count-append, keys, keys-append, keys-source_pages, keys-link_pages, put_all_other, has_count, eqb-self, nil_cons, each_map}
 use Rattle.kimage_list.proofs.Takes.{no_destination}
 use Rattle.kimage_list.proofs.Counting.{no_longer, length-destinations}
 use Rattle.kimage_list.proofs.Enough.{has_of_count, once_more}
@@ -516,6 +516,8 @@ module _ (h : Load) (w : Writer) (s : StandsAt h w) (started_all : w.segments_le
         drawn = ap (λ v. v.left) pool ∙ s.left ∙ drawn_all.1;
         in_use = in_use;
         unfiled = λ p. ap (λ v. is_filed v p) pool ∙ s.filed p ∙ ap (has p) drawn_all.0;
+        once = s.inside.under_way.counts.once;
+        below = s.inside.writes.below;
         others = λ p z. laid_there p ∙ unused p z;
       }
     where
@@ -547,3 +549,28 @@ prepared M pool wanted segments wish memory table n list size enough same once u
       apart = apart;
       some = some;
     })
+
+pub pages_kept : (h : Load) (w : Writer) (s : StandsAt h w) → KeepsPages h s.loading
+pages_kept h w s =
+    let k = s.inside.under_way.counts in
+    record {
+      drawn = k.front;
+      ends = k.ends;
+      in_use = λ x. omega (arith, k.conserved x, ap (count x) k.ends, count-append x k.front s.loading.left);
+      filed = each_map s.loading.filed (λ p a. (a.0, λ g. a.1 (subst (Has p) (sym k.order) g))) k.files;
+      sources = k.homes;
+    }
+
+waiting : (h : Load) (w : Writer) (s : StandsAt h w) (d : ℕ) → is_wanted h d ≡ true → (Has d (pages_of h.entries) → ⊥) → IsAwaited w d
+waiting h w s d t n = go (slot w.table d) refl
+  where
+    go : (o : Option (Option Loaded)) → slot w.table d ≡ o → slot w.table d ≡ Some None
+    go None e = absurd (false≢true (sym (s.inside.writes.tracks.wanted d ∙ ap is_some e) ∙ t))
+    go (Some None) e = e
+    go (Some (Some x)) e = absurd (n (subst (Has d) s.inside.writes.order (has_destination d x.source s.loading.pairs (sym (s.inside.writes.tracks.loaded d) ∙ ap source_in e))))
+
+pub awaited_exactly : (h : Load) (w : Writer) → StandsAt h w → (d : ℕ) → IsAwaited w d ↔ ((is_wanted h d ≡ true) × (Has d (pages_of h.entries) → ⊥))
+awaited_exactly h w s d = (
+  λ a. let t = awaited h w s d a in (t.wanted, λ g. let one = has_count d (pages_of h.entries) g in omega (arith, one, t.new)),
+  λ b. waiting h w s d b.0 b.1,
+)

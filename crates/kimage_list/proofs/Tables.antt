@@ -1,6 +1,6 @@
 -- A table as a finite map.
-use Rattle.std.proofs.Common.{◌≡◌, ℕ, Bool, true, false, cond, refl, sym, ap, ◌∙◌, Some, None, Option, inl, inr}
-use Rattle.std.specs.Prelude.{◌≢◌, ◌⊎◌, eqb, IsSome, is_some, [], List}
+use Rattle.std.proofs.Common.{◌≡◌, ℕ, true, false, cond, refl, sym, ap, ◌∙◌, Some, None, Option, inl, inr}
+use Rattle.std.specs.Prelude.{◌≢◌, ◌⊎◌, eqb, IsSome, is_some, []}
 use Rattle.std.specs.Map.{lookup}
 use Rattle.std.proofs.lemmas.Bool.{false≢true}
 use Rattle.std.specs.Ordering.{nat_cmp, is_eq}

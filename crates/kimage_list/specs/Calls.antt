@@ -1,8 +1,8 @@
 -- What the writer's calls begin with, and what they leave.
-use Rattle.std.specs.Prelude.{◌≡◌, ℕ, ◌+◌, ◌≤◌, ◌<◌, List, [], length, take, drop, false, None, Some}
-use Rattle.page_memory.specs.Contents.{Contents, at}
+use Rattle.std.specs.Prelude.{◌≡◌, ℕ, ◌+◌, ◌≤◌, ◌<◌, ◌^◌, List, [], take, drop, false, None, Some}
+use Rattle.page_memory.specs.Contents.{at}
 use Rattle.page_memory.specs.Memory.{Mem}
-use Rattle.page_pool.specs.Pages.{Pages, is_filed}
+use Rattle.page_pool.specs.Pages.{is_filed}
 use Rattle.kx_pages.specs.Lists.{count, sources}
 use Rattle.kx_pages.specs.Spans.{Run, AreApart}
 use Rattle.kx_pages.specs.declared.image.Wish.{Wish}
@@ -52,5 +52,8 @@ pub record IsWritten (h : Load) (w : Written) : Type 0 where
   pub drawn : w.pool.left ≡ drop (need h) h.pool
   pub in_use : (x : ℕ) → count x loading.spare + count x (sources loading.pairs) ≡ count x (take (need h) h.pool)
   pub unfiled : (p : ℕ) → is_filed w.pool p ≡ false
+  -- the pool's pages differ, and those in use have numbers below 2 ^ 34
+  pub once : (x : ℕ) → count x h.pool ≤ 1
+  pub below : (x : ℕ) → 1 ≤ count x (take (need h) h.pool) → x < 2 ^ 34
   -- memory agrees with what it was at every other page
   pub others : (p : ℕ) → count p (take (need h) h.pool) ≡ 0 → at w.memory p ≡ h.before p

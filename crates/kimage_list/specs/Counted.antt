@@ -1,5 +1,5 @@
 -- How the pages of a load are counted, and what follows.
-use Rattle.std.specs.Prelude.{◌≡◌, ℕ, ◌+◌, ◌<◌, ◌≤◌, ◌*◌, ◌/◌, List, [], ◌∷◌, ◌++◌, length, take, drop, Bool, true, false, Option, Some, None}
+use Rattle.std.specs.Prelude.{◌≡◌, ℕ, ◌+◌, ◌<◌, ◌≤◌, ◌*◌, ◌/◌, List, [], ◌∷◌, ◌++◌, length, take, drop, Bool, true, false, Some, None}
 use Rattle.page_memory.specs.Memory.{Mem, Wants}
 use Rattle.kx_pages.specs.Lists.{Each, Has, count, destinations}
 use Rattle.kimage_list.specs.Load.{Loading, Request, begun, taken, given, served, pages_of}

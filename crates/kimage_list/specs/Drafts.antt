@@ -7,7 +7,6 @@ use Rattle.kx_pages.specs.Items.{code}
 use Rattle.kx_pages.specs.Lists.{Each, count, destinations, sources}
 use Rattle.kx_pages.specs.declared.item.Item.TheVariants.{Source, Link}
 use Rattle.kimage_list.specs.declared.taking.Moved.{Moved}
-use Rattle.kimage_list.specs.declared.taking.Taken.{Taken}
 use Rattle.kimage_list.specs.Load.{Loading, Request, Entry, Start, Move, pages_of, begun, taken, given}
 use Rattle.kimage_list.specs.Laying.{Holds, items, source_pages, link_pages, put_all}
 use Rattle.kimage_list.specs.Opening.{open_pages, entry_place, next_place, Tight, number}

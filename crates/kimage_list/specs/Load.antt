@@ -1,7 +1,7 @@
 -- Which pages a load takes: its entries, the requests for pages that they make, and how the pool serves them. The rules
 -- and their order are this project's own; they follow the kernel's kexec core, which keeps a drawn destination page for
 -- its own request (kimage_alloc_page).
-use Rattle.std.specs.Prelude.{◌≡◌, ℕ, suc, ◌+◌, ◌/◌, ◌%◌, Bool, true, false, cond, not, ◌||◌, eqb, List, [], ◌∷◌, ◌++◌, length, replicate, Option, Some, None}
+use Rattle.std.specs.Prelude.{ℕ, zero, suc, ◌+◌, ◌/◌, ◌%◌, Bool, true, false, cond, not, ◌||◌, eqb, List, [], ◌∷◌, ◌++◌, replicate, Option, Some, None}
 use Rattle.kx_pages.specs.Lists.{has}
 use Rattle.kx_pages.specs.declared.image.Wish.{Wish}
 use Rattle.kx_pages.specs.declared.image.Wish.TheVariants.{Plain, Kept}
@@ -17,6 +17,11 @@ abbrev pub pages_of : List Entry → List ℕ
 pages_of [] = []
 pages_of (Start p ∷ es) = pages_of es
 pages_of (Move p ∷ es) = p ∷ pages_of es
+
+-- the source entries of n pages, from page p on
+abbrev pub page_entries : ℕ → ℕ → List Entry
+page_entries p zero = []
+page_entries p (suc n) = Move p ∷ page_entries (suc p) n
 
 -- how many of them are destination entries
 abbrev pub starts : List Entry → ℕ

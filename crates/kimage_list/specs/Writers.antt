@@ -1,15 +1,15 @@
 -- A load under way: what it was asked for so far, and where the writer stands then.
-use Rattle.std.specs.Prelude.{◌≡◌, ◌≢◌, ℕ, zero, suc, ◌+◌, ◌≤◌, ◌<◌, List, [], ◌∷◌, ◌++◌, length, take, drop, slice_index, Bool, true, false, cond, eqb, Option, Some, None, refl}
+use Rattle.std.specs.Prelude.{◌≡◌, ℕ, zero, suc, ◌+◌, ◌≤◌, List, [], ◌∷◌, ◌++◌, ◌⊎◌, not, filter, length, take, slice_index, Bool, true, false, cond, eqb, Option, Some, None, refl}
 use Rattle.std.specs.Coded.{Coded, code_by, coded×, coded_ℕ, coded_option}
-use Rattle.page_memory.specs.Contents.{Contents, contents_code, at, IsHeld}
+use Rattle.page_memory.specs.Contents.{Contents, contents_code, at}
 use Rattle.page_memory.specs.Memory.{Mem, Wants}
 use Rattle.page_pool.specs.Pages.{Pages, pages_code, is_filed}
 use Rattle.kx_pages.specs.Spans.{Run, in_spans, pages, AreApart}
-use Rattle.kx_pages.specs.Lists.{has, count, sources}
+use Rattle.kx_pages.specs.Lists.{Each, Has, has, count, sources}
 use Rattle.kx_pages.specs.declared.image.Wish.{Wish}
 use Rattle.kx_pages.specs.declared.image.Mode.{Mode}
 use Rattle.kx_pages.specs.declared.image.Mode.TheVariants as mode
-use Rattle.kimage_list.specs.Load.{Loading, Entry, Start, Move, pages_of, starts, first_count, requests, need_of, begun, loaded}
+use Rattle.kimage_list.specs.Load.{Loading, Entry, Start, Move, pages_of, starts, first_count, need_of, loaded}
 use Rattle.kimage_list.specs.Laying.{control_of, mode_of, mode_with, links_of}
 use Rattle.kimage_list.specs.Opening.{laid_so_far}
 use Rattle.kimage_list.specs.Tables.{Slots, slots_code, slot}
@@ -133,3 +133,19 @@ pub record StandsAt (h : Load) (w : Writer) : Type 0 where
   pub segments_left : w.segments_left + starts h.entries ≡ h.segments
   pub destination : w.destination ≡ destination_after None h.entries
   pub inside : IsOpen h loading w
+
+-- Where the pages of a load are: each page drawn so far is filed or in use, a filed page is a destination that is not
+-- loaded yet, and a source is its own destination or no destination.
+pub record KeepsPages (h : Load) (l : Loading) : Type 0 where
+  pub drawn : List ℕ
+  pub ends : h.pool ≡ drawn ++ l.left
+  pub in_use : (x : ℕ) → count x drawn ≡ count x l.filed + count x l.spare + count x (sources l.pairs)
+  pub filed : Each (λ p. (is_wanted h p ≡ true) × (Has p (pages_of h.entries) → ⊥)) l.filed
+  pub sources : Each (λ q. (q.1 ≡ q.0) ⊎ (is_wanted h q.1 ≡ false)) l.pairs
+
+-- The pages taken first, the control page, the swap page and the first link page, are the first pages of the pool that
+-- are no destinations. D tells the destinations.
+abbrev pub FirstPages : Type 0
+FirstPages =
+    (D : ℕ → Bool) (wish : Wish) (e : Entry) (es : List Entry) (pool : List ℕ) (l : Loading) → loaded D wish (e ∷ es) pool ≡ Some l →
+    take (first_count wish + 1) l.spare ≡ take (first_count wish + 1) (filter (λ p. not (D p)) pool)

@@ -7,8 +7,8 @@ mod begin;
 pub mod laws;
 mod open_list;
 mod pages;
-pub mod table;
-pub mod taking;
+mod table;
+mod taking;
 #[cfg(test)]
 mod tests;
 mod writer;

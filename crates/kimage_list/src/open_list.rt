@@ -151,7 +151,8 @@ impl OpenList {
             head,
             ..
         } = self;
-        write_word(&mut memory, next, Item::Done(0).word());
+        let done = Item::Done(0).word();
+        write_word(&mut memory, next, done);
         EndedList { memory, pool, head }
     }
 }

@@ -148,7 +148,7 @@ fn open(mut list: OpenList, segments: usize, wish: Wish) -> ListWriter
     requires { (h : Load) × IsPrepared h list segments wish }
     ensures { (h : Load) → IsPrepared h list segments wish → StandsAt h result }
 {
-    let control = list.take_first();
+    let first = list.take_first();
     let mode = match wish {
         Wish::Plain => Mode::Plain,
         Wish::Kept => Mode::Kept {
@@ -157,7 +157,7 @@ fn open(mut list: OpenList, segments: usize, wish: Wish) -> ListWriter
     };
     ListWriter {
         list,
-        control,
+        control: first,
         mode,
         segments_left: segments,
         destination: None,

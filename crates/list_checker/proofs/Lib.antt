@@ -9,3 +9,4 @@ pub mod Loop
 pub mod Follow
 pub mod CrashLists
 pub mod OneWay
+pub mod Unique

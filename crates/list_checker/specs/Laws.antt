@@ -4,7 +4,7 @@ use Rattle.kx_pages.specs.declared.item.Item.{Item}
 use Rattle.list_checker.specs.declared.fault.Why.{Why}
 use Rattle.page_memory.specs.Memory.{Mem, Wants}
 use Rattle.kx_pages.specs.Lists.{Has}
-use Rattle.list_checker.specs.Walk.{IsAccepted, links, pairs}
+use Rattle.list_checker.specs.Walk.{Walk, IsAccepted, links, pairs}
 use Rattle.list_checker.specs.Faults.{Faulty, Faultless, Earlier, nothing_earlier}
 
 -- all lists the wanted pages
@@ -32,3 +32,7 @@ CheckEnds =
     × ((n : ℕ) (why : Why) → Faulty M W all control swap None nothing_earlier head n why →
     ((is : List Item) → IsAccepted M W head control swap is → ⊥)
     × ((m : ℕ) (also : Why) → Faulty M W all control swap None nothing_earlier head m also → (n ≡ m) × (why ≡ also)))
+
+-- a head has at most one walk in a memory
+abbrev pub OneWalk : Type 0
+OneWalk = (M : Mem) (head : ℕ) (is js : List Item) → Walk M head is → Walk M head js → is ≡ js

@@ -5,7 +5,7 @@
 //! what it is to have, or the first word that shows that it does not.
 #![tactic(auto)]
 
-ghost use Rattle.list_checker.specs.Laws.{CheckExact, CheckEnds};
+ghost use Rattle.list_checker.specs.Laws.{CheckExact, CheckEnds, OneWalk};
 
 mod crash;
 mod earlier;
@@ -35,4 +35,9 @@ pub fn check_is_exact()
 /// Each memory and head has an accepted walk or one first fault, and not both: a law about the definitions.
 pub fn check_ends()
     ensures { CheckEnds }
+{}
+
+/// A head has at most one walk in a memory: a law about the definitions.
+pub fn one_walk()
+    ensures { OneWalk }
 {}

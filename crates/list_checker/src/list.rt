@@ -1,6 +1,7 @@
 //! Checking a list in a memory.
 
 ghost use Rattle.std.specs.Prelude.{◌≡◌, ℕ, ◌+◌, ◌<◌, ◌^◌, IfOk, IfErr};
+ghost use Rattle.segments.specs.Rules.{IsBare};
 ghost use Rattle.list_checker.specs.Checked.{IsAccept, IsCheckFault};
 
 use crate::earlier::{Accept, Earlier};
@@ -24,6 +25,8 @@ pub fn check(
     ensures accepted { IfOk result (λ a. IsAccept memory.now segments.now image.now a) }
     // It is not, and this is its first fault.
     ensures fault { IfErr result (λ e. IsCheckFault memory.now segments.now image.now e) }
+    // The segments meet the rules.
+    ensures valid { IsBare segments.now }
 {
     let mut earlier = Earlier::new(alloc);
     let mut place: Option<u64> = None;

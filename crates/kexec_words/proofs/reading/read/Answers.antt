@@ -1,4 +1,4 @@
-use Rattle.std.proofs.Common.{◌≡◌, Some, map, string_bytes}
+use Rattle.std.proofs.Common.{Some, map, string_bytes}
 use Rattle.kexec_words.proofs.Limits.{within_limits, outputs_apart}
 use Rattle.kexec_words.proofs.reading.read.Goals as goal
 

@@ -1,7 +1,5 @@
-use Rattle.std.proofs.Common.{◌∷◌, [], arith, ap}
 use Rattle.kimage_list.proofs.taking.draw_page.Goals as goal
 use Rattle.kimage_list.proofs.Drawing.{gives-given, gives-exchanged, gives-none, draws-filed, drawn_once}
-use Rattle.kx_pages.specs.Lists.{count}
 
 pub returns-in-Given : goal.returns-in-Given
 returns-in-Given c = λ D l s.

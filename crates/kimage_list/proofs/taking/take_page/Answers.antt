@@ -1,5 +1,5 @@
 use Rattle.kimage_list.proofs.taking.take_page.Goals as goal
-use Rattle.kimage_list.proofs.Drawing.{gives-filed, taken-unfiled}
+use Rattle.kimage_list.proofs.Drawing.{gives-filed}
 
 pub returns-in-Some-take_filed : goal.returns-in-Some-take_filed
 returns-in-Some-take_filed c = λ D l s.

@@ -1,4 +1,4 @@
-use Rattle.std.proofs.Common.{ap, ◌∙◌, ℕ, ◌+◌, [], arith, sym}
+use Rattle.std.proofs.Common.{ap, ◌∙◌, ◌+◌, [], sym}
 use Rattle.page_memory.specs.Contents.{at}
 use Rattle.kimage_list.proofs.open_list.OpenList.add_start.Goals as goal
 use Rattle.kimage_list.proofs.Entering.{entered, steady_start, same_writes}

@@ -23,4 +23,4 @@ write_word-requires-clause-held c =
 pub returns-clause-memory : goal.returns-clause-memory
 returns-clause-memory c = λ d w h.
     let s = c.args.self in
-    finished d s.memory s.pool s.table s.next s.entries w h c.write_word.new.memory (c.write_word.ensures.value ∙ ap (set_word (at s.memory) s.next) c.word.ensures)
+    finished d s.memory s.pool s.table s.next s.entries w h c.write_word.new.memory (c.write_word.ensures.value ∙ ap (set_word (at s.memory) s.next) c.word-done.ensures)

@@ -5,10 +5,9 @@ use Rattle.kimage_list.proofs.open_list.OpenList.load_page.Goals as goal
 use Rattle.kimage_list.proofs.Arriving.{arrived, has_slot, home_of, hand_held, in_hand}
 use Rattle.kimage_list.proofs.Entering.{filled_in, steady_more, same_writes}
 use Rattle.kimage_list.proofs.Lists.{put-same}
-use Rattle.kimage_list.specs.Drafts.{Draft, Writes, Room, CanTake, IsNext, loaded_from, HeadIs}
-use Rattle.kimage_list.specs.Load.{Loading, Move}
+use Rattle.kimage_list.specs.Drafts.{loaded_from, HeadIs}
+use Rattle.kimage_list.specs.Load.{Move}
 use Rattle.kimage_list.specs.Tables.{Slots, slot}
-use Rattle.kimage_list.specs.declared.table.Loaded.{Loaded}
 use Rattle.kx_pages.specs.Items.{code}
 use Rattle.kx_pages.specs.declared.item.Item.TheVariants.{Source}
 use Rattle.page_memory.specs.Contents.{page_of}

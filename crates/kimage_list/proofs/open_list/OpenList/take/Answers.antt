@@ -2,7 +2,6 @@ use Rattle.std.proofs.Common.{refl, ◌∙◌}
 use Rattle.page_memory.specs.Contents.{at}
 use Rattle.kimage_list.proofs.open_list.OpenList.take.Goals as goal
 use Rattle.kimage_list.proofs.InHand.{can_move, after, took_of, unmoved}
-use Rattle.kimage_list.specs.Tracking.{Took}
 
 pub settle-requires : goal.settle-requires
 settle-requires c =

@@ -1,4 +1,4 @@
-use Rattle.std.proofs.Common.{ℕ, ap, ◌+◌, ◌∙◌, arith, []}
+use Rattle.std.proofs.Common.{ap, ◌∙◌, arith}
 use Rattle.kimage_list.proofs.open_list.OpenList.take_first.Goals as goal
 use Rattle.kimage_list.proofs.Opening.{first_given}
 use Rattle.kx_pages.specs.Lists.{count, sources}

@@ -1,9 +1,9 @@
-use Rattle.std.proofs.Common.{◌≡◌, ℕ, ◌*◌, ◌/◌, [], ◌∷◌, sym, ap, ◌∙◌, subst, arith}
+use Rattle.std.proofs.Common.{◌≡◌, ℕ, ◌*◌, ◌/◌, [], sym, ap, ◌∙◌, subst, arith}
 use Rattle.page_memory.specs.Contents.{at, IsHeld}
 use Rattle.kimage_list.proofs.open_list.OpenList.take_link.Goals as goal
 use Rattle.kimage_list.proofs.open_list.OpenList.take_link.Goals.{then-self-eq0, else-self-eq0}
 use Rattle.kimage_list.proofs.Linking.{link_held, next_held, next_low, next_aligned, first, later, head_first, head_later}
-use Rattle.kimage_list.specs.Drafts.{Draft, Writes, CanTake, IsFull, linked, HeadIs}
+use Rattle.kimage_list.specs.Drafts.{Writes, linked, HeadIs}
 use Rattle.kx_pages.specs.Items.{code}
 use Rattle.kx_pages.specs.declared.item.Item.TheVariants.{Link}
 use Rattle.page_memory.specs.Contents.{page_of}

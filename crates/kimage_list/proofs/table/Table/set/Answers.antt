@@ -1,4 +1,4 @@
-use Rattle.std.proofs.Common.{refl, Some, ◌∙◌, sym}
+use Rattle.std.proofs.Common.{refl, Some}
 use Rattle.kimage_list.proofs.Tables.{put_here, put_others, not_none}
 use Rattle.kimage_list.proofs.table.Table.set.Goals as goal
 

@@ -1,4 +1,4 @@
-use Rattle.std.proofs.Common.{◌∙◌, ◌-◌, Some, sym, subst, ap, refl}
+use Rattle.std.proofs.Common.{◌-◌, Some, sym, subst, ap, refl}
 use Rattle.kimage_list.specs.Writers.{StandsAt, with_destination, draft_of}
 use Rattle.kimage_list.specs.Calls.{writer_of}
 use Rattle.kimage_list.proofs.Standings.{start_room, start_added}

@@ -1,9 +1,9 @@
-use Rattle.std.proofs.Common.{◌≡◌, ℕ, ◌∙◌, ◌+◌, ◌^◌, ◌<◌, Some, sym, subst, ap, refl}
+use Rattle.std.proofs.Common.{◌≡◌, ℕ, ◌∙◌, ◌+◌, Some, sym, subst, ap, refl}
 use Rattle.page_memory.specs.Contents.{page_of}
 use Rattle.kimage_list.specs.Writers.{Load, Writer, StandsAt, IsAwaited, with_source, draft_of}
 use Rattle.kimage_list.specs.Calls.{writer_of}
 use Rattle.kimage_list.proofs.Lists.{some_same}
-use Rattle.kimage_list.proofs.Standings.{awaited, rebytes, source_ready, source_added, given_bytes, starts_few, is_next, Waits}
+use Rattle.kimage_list.proofs.Standings.{awaited, rebytes, source_ready, source_added, given_bytes, starts_few, is_next}
 use Rattle.kimage_list.proofs.writer.ListWriter.add_source.Goals as goal
 
 -- the destination page is the awaited one

@@ -1,4 +1,4 @@
-use Rattle.std.proofs.Common.{◌∙◌, sym, subst, ap, refl}
+use Rattle.std.proofs.Common.{sym, subst, ap}
 use Rattle.kimage_list.specs.Writers.{StandsAt, draft_of}
 use Rattle.kimage_list.specs.Calls.{writer_of}
 use Rattle.kimage_list.proofs.Standings.{has_link, list_written, image_with}

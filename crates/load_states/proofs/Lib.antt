@@ -1,0 +1,8 @@
+pub mod Moves
+pub mod Exchange
+pub mod Bridge
+pub mod Holding
+pub mod Ready
+pub mod LaidWords
+pub mod LaidAccepted
+pub mod LaidPlan

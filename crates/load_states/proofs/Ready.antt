@@ -1,0 +1,214 @@
+-- Accepted lists whose pages are held, and their runs.
+use Rattle.std.proofs.Common.{◌≡◌, ℕ, ◌^◌, ◌<◌, List, [], ◌∷◌, length, Option, Some, None, refl, sym, ap, ◌∙◌, subst, inl, inr, ◌+◌, arith}
+use Rattle.std.specs.Prelude.{◌≢◌, IsSome, map, unwrap_or}
+use Rattle.kx_pages.specs.declared.item.Item.{Item}
+use Rattle.kx_pages.specs.declared.image.Mode.{Mode}
+use Rattle.kx_pages.specs.declared.image.Mode.TheVariants.{Plain, Kept}
+use Rattle.kx_pages.specs.Lists.{Each, Has, destinations, sources}
+use Rattle.page_memory.specs.Contents.{Contents, at, IsHeld, after_set}
+use Rattle.page_memory.specs.Laws.{frame_at-insert_other, held-insert}
+use Rattle.std.proofs.lemmas.Option.{none-some}
+use Rattle.page_memory.specs.Memory.{Mem}
+use Rattle.relocate_machine.specs.Machine.{AreHeld, move_writes}
+use Rattle.segments.specs.Parts.{Part, want, overlay}
+use Rattle.segments.specs.Rules.{IsBare}
+use Rattle.segments.specs.Laws.{AreSegments, AreSegments-from_IsBare, Has-from_want, pages_below}
+use Rattle.segments.specs.Elements.{Each-map, Each-both}
+use Rattle.list_checker.specs.declared.earlier.Accept.{Accept}
+use Rattle.list_checker.specs.Walk.{Accepted, AcceptedKept, PairsApart, IsAccepted, swap_page, links, pairs}
+use Rattle.list_checker.specs.Checked.{as_pair, IsAccept}
+use Rattle.load_states.specs.States.{Load, Checked, checked_of, swap_of}
+use Rattle.load_states.specs.Exchange.{exchange, partner}
+use Rattle.load_states.proofs.Exchange.{link_kept, link_unwanted, restores, no_source_wanted, sources_get}
+use Rattle.load_states.specs.Ready.{Told, HoldsPairs, IsReadyPlain, IsKept, IsReadyKept, IsToGoBack}
+use Rattle.load_states.proofs.Bridge.{Comes, begin_at, plain_runs, kept_runs}
+use Rattle.load_states.proofs.Holding.{Holds}
+use Rattle.kx_pages.specs.declared.image.Image.{Image}
+use Rattle.relocate_machine.specs.Machine.{start_of}
+use Rattle.relocate_machine.specs.Run.{HeldFrom, run_of}
+use Rattle.relocate_machine.specs.declared.step.Outcome.TheVariants as outcomes
+
+-- each destination of an accepted list is a page
+below : (W : ℕ → Option (List ℕ)) (M : Mem) (qs : List (ℕ × ℕ)) → ((p : ℕ) (b : List ℕ) → W p ≡ Some b → p < 2 ^ 34) → Each (λ q. W q.0 ≡ Some (M q.1)) qs → Each (λ q. q.0 < 2 ^ 34) qs
+below W M qs h k = Each-map qs (λ q e. h q.0 (M q.1) e) k
+
+wanted_below : (S : List Part) → IsBare S → (p : ℕ) (b : List ℕ) → want S p ≡ Some b → p < 2 ^ 34
+wanted_below S k p b e = let a = AreSegments-from_IsBare S k in pages_below S p a.placed (Has-from_want S p b a.placed e)
+
+told_of : (s : Load) (a : Accept) → IsAccept s.memory s.segments s.image a → Told s a.words a.links (map as_pair a.pairs.items)
+told_of s a h = record { items = h.0; accepted = h.1; count = h.2; link_pages = h.3; same_pairs = h.4 }
+
+-- a plain list that is accepted and whose pages are held
+pub plain_ready : (s : Load) (a : Accept) → IsAccept s.memory s.segments s.image a → IsBare s.segments → s.image.mode ≡ Plain → Holds s.memory s.image.mode (map as_pair a.pairs.items) → IsReadyPlain (checked_of s a)
+plain_ready s a h k m held =
+    let told = told_of s a h in
+    let plain : Accepted (at s.memory) (want s.segments) s.image.head s.image.control h.0 = subst (λ mode. IsAccepted (at s.memory) (want s.segments) s.image.head s.image.control (swap_page mode) h.0) m h.1 in
+    let low : Each (λ q. q.0 < 2 ^ 34) (map as_pair a.pairs.items) = subst (Each (λ q. q.0 < 2 ^ 34)) h.4 (below (want s.segments) (at s.memory) (pairs h.0) (wanted_below s.segments k) plain.right_bytes) in
+    record {
+      mode = m;
+      told = told;
+      held = Each-both (map as_pair a.pairs.items) (λ q x y. (x, y)) low (subst (λ mode. Holds s.memory mode (map as_pair a.pairs.items)) m held);
+    }
+
+-- the same with context preserved
+pub kept_ready : (s : Load) (a : Accept) (swap : ℕ) → IsAccept s.memory s.segments s.image a → IsBare s.segments → s.image.mode ≡ Kept swap → Holds s.memory s.image.mode (map as_pair a.pairs.items) → IsReadyKept (checked_of s a)
+kept_ready s a swap h k m held =
+    let kept : AcceptedKept (at s.memory) (want s.segments) s.image.head s.image.control swap h.0 = subst (λ mode. IsAccepted (at s.memory) (want s.segments) s.image.head s.image.control (swap_page mode) h.0) m h.1 in
+    let low : Each (λ q. q.0 < 2 ^ 34) (map as_pair a.pairs.items) = subst (Each (λ q. q.0 < 2 ^ 34)) h.4 (below (want s.segments) (at s.memory) (pairs h.0) (wanted_below s.segments k) kept.plain.right_bytes) in
+    record {
+      swap = swap;
+      items = h.0;
+      kept = record {
+        mode = m;
+        accepted = kept;
+        count = h.2;
+        link_pages = h.3;
+        same_pairs = h.4;
+        words = λ p x. refl;
+        held = Each-both (map as_pair a.pairs.items) (λ q x y. (x, y)) low (subst (λ mode. Holds s.memory mode (map as_pair a.pairs.items)) m held);
+      };
+    }
+
+-- the run of a plain list
+pub ready_runs : (c : Checked) → IsReadyPlain c → Comes c.words 0 (begin_at c.load.image.mode c.load.image.head c.load.memory) (overlay (at c.load.memory) (want c.load.segments))
+ready_runs c r =
+    let items = r.told.items in
+    let plain : Accepted (at c.load.memory) (want c.load.segments) c.load.image.head c.load.image.control items = subst (λ mode. IsAccepted (at c.load.memory) (want c.load.segments) c.load.image.head c.load.image.control (swap_page mode) items) r.mode r.told.accepted in
+    let held : HoldsPairs c.load.memory Plain (pairs items) = subst (HoldsPairs c.load.memory Plain) (sym r.told.same_pairs) r.held in
+    let run = plain_runs c.load.memory (want c.load.segments) c.load.image.head c.load.image.control items plain held in
+    let counted = subst (λ n. Comes n 0 (begin_at Plain c.load.image.head c.load.memory) (overlay (at c.load.memory) (want c.load.segments))) r.told.count run in
+    subst (λ mode. Comes c.words 0 (begin_at mode c.load.image.head c.load.memory) (overlay (at c.load.memory) (want c.load.segments))) (sym r.mode) counted
+
+-- the run of the image's list ends after exactly so many steps, its pages are held, and it leaves M
+pub record Ends (m : Contents) (i : Image) (words : ℕ) (M : Mem) : Type 0 where
+  pub held : HeldFrom words (begin_at i.mode i.head m)
+  pub ends : (run_of m i.head i.mode words).1 ≡ outcomes.Done words
+  pub leaves : (p : ℕ) → at (run_of m i.head i.mode words).0.memory p ≡ M p
+  pub sets : (run_of m i.head i.mode words).0.memory.sets ≡ m.sets
+  pub stay : (q : ℕ) → IsHeld m q → IsHeld (run_of m i.head i.mode words).0.memory q
+
+ends_of : (m : Contents) (i : Image) (words : ℕ) (M : Mem) → Comes words 0 (begin_at i.mode i.head m) M → Ends m i words M
+ends_of m i words M f = let z : 0 + words ≡ words = omega arith in record { held = f.held; ends = f.out ∙ ap outcomes.Done z; leaves = f.leaves; sets = f.sets; stay = f.stay }
+
+-- the same of a memory and an image that were handed over
+handed : (m n : Contents) (i j : Image) (words : ℕ) (M : Mem) → m ≡ n → i ≡ j → Ends n j words M → Ends m i words M
+handed m n i j words M e f h = subst (λ i. Ends m i words M) (sym f) (subst (λ m. Ends m j words M) (sym e) h)
+
+pub plain_ends : (c : Checked) (m : Contents) (i : Image) → IsReadyPlain c → m ≡ c.load.memory → i ≡ c.load.image → Ends m i c.words (overlay (at c.load.memory) (want c.load.segments))
+plain_ends c m i r e f = handed m c.load.memory i c.load.image c.words _ e f (ends_of c.load.memory c.load.image c.words _ (ready_runs c r))
+
+-- the run of a list with context preserved, over a memory that has its words
+pub swap_is : (M : Mem) (c : Checked) (swap : ℕ) (items : List Item) → IsKept M c swap items → swap_of c.load ≡ swap
+swap_is M c swap items k = ap (λ mode. unwrap_or (swap_page mode) 0) k.mode
+
+kept_comes : (M : Mem) (c : Checked) (swap : ℕ) (items : List Item) → IsKept M c swap items → Comes c.words 0 (begin_at c.load.image.mode c.load.image.head c.load.memory) (exchange (at c.load.memory) c.pairs (swap_of c.load))
+kept_comes M c swap items k =
+    let held : HoldsPairs c.load.memory (Kept swap) (pairs items) = subst (HoldsPairs c.load.memory (Kept swap)) (sym k.same_pairs) k.held in
+    let run = kept_runs M c.load.memory (want c.load.segments) c.load.image.head c.load.image.control swap items k.accepted k.words held in
+    let counted = subst (λ n. Comes n 0 (begin_at (Kept swap) c.load.image.head c.load.memory) (exchange (at c.load.memory) (pairs items) swap)) k.count run in
+    let paired = subst (λ qs. Comes c.words 0 (begin_at (Kept swap) c.load.image.head c.load.memory) (exchange (at c.load.memory) qs swap)) k.same_pairs counted in
+    let swapped = subst (λ w. Comes c.words 0 (begin_at (Kept swap) c.load.image.head c.load.memory) (exchange (at c.load.memory) c.pairs w)) (sym (swap_is M c swap items k)) paired in
+    subst (λ mode. Comes c.words 0 (begin_at mode c.load.image.head c.load.memory) (exchange (at c.load.memory) c.pairs (swap_of c.load))) (sym k.mode) swapped
+
+pub kept_ends : (M : Mem) (c : Checked) (swap : ℕ) (items : List Item) (m : Contents) (i : Image) → IsKept M c swap items → m ≡ c.load.memory → i ≡ c.load.image → Ends m i c.words (exchange (at c.load.memory) c.pairs (swap_of c.load))
+kept_ends M c swap items m i k e f = handed m c.load.memory i c.load.image c.words _ e f (ends_of c.load.memory c.load.image c.words _ (kept_comes M c swap items k))
+
+-- the pairs and the swap page have no page in common
+pub pairs_apart : (M : Mem) (c : Checked) (swap : ℕ) (items : List Item) → IsKept M c swap items → PairsApart c.pairs × Each (λ q. (q.0 ≢ swap_of c.load) × (q.1 ≢ swap_of c.load)) c.pairs
+pairs_apart M c swap items k =
+    let w = sym (swap_is M c swap items k) in (
+      subst PairsApart k.same_pairs k.accepted.apart,
+      subst (λ w. Each (λ q. (q.0 ≢ w) × (q.1 ≢ w)) c.pairs) w (subst (Each (λ q. (q.0 ≢ swap) × (q.1 ≢ swap))) k.same_pairs k.accepted.swap_apart.2),
+    )
+
+-- a list stays ready to run where its words stand, what is held stays held, and all else is as it was
+pub record Same (c d : Checked) : Type 0 where
+  pub image : d.load.image ≡ c.load.image
+  pub segments : d.load.segments ≡ c.load.segments
+  pub words : d.words ≡ c.words
+  pub links : d.links ≡ c.links
+  pub pairs : d.pairs ≡ c.pairs
+  pub stay : (q : ℕ) → IsHeld c.load.memory q → IsHeld d.load.memory q
+
+pub kept_stays : (M : Mem) (c d : Checked) (swap : ℕ) (items : List Item) → IsKept M c swap items → Same c d → ((p : ℕ) → Has p (links items) → at d.load.memory p ≡ M p) → IsKept M d swap items
+kept_stays M c d swap items k s words = record {
+  mode = ap (λ i. i.mode) s.image ∙ k.mode;
+  accepted = subst (λ i. AcceptedKept M (want d.load.segments) i.head i.control swap items) (sym s.image) (subst (λ S. AcceptedKept M (want S) c.load.image.head c.load.image.control swap items) (sym s.segments) k.accepted);
+  count = k.count ∙ sym s.words;
+  link_pages = k.link_pages ∙ sym s.links;
+  same_pairs = k.same_pairs ∙ sym s.pairs;
+  words = words;
+  held = subst (HoldsPairs d.load.memory (Kept swap)) (sym s.pairs) (Each-map c.pairs (λ q x. (x.0, (s.stay q.0 x.1.0, s.stay q.1 x.1.1, s.stay swap x.1.2))) k.held);
+}
+
+-- after the first run the list can run again
+pub goes_back : (c d : Checked) → (r : IsReadyKept c) → Same c d → ((p : ℕ) → at d.load.memory p ≡ exchange (at c.load.memory) c.pairs (swap_of c.load) p) → IsToGoBack d
+goes_back c d r s leaves = record {
+  before = at c.load.memory;
+  swap = r.swap;
+  items = r.items;
+  kept = kept_stays (at c.load.memory) c d r.swap r.items r.kept s (λ p h. leaves p ∙ unchanged p h);
+}
+  where
+    unchanged : (p : ℕ) → Has p (links r.items) → exchange (at c.load.memory) c.pairs (swap_of c.load) p ≡ at c.load.memory p
+    unchanged p h =
+        ap (λ qs. exchange (at c.load.memory) qs (swap_of c.load) p) (sym r.kept.same_pairs)
+        ∙ ap (λ w. exchange (at c.load.memory) (pairs r.items) w p) (swap_is (at c.load.memory) c r.swap r.items r.kept)
+        ∙ link_kept (at c.load.memory) (want c.load.segments) c.load.image.head c.load.image.control r.swap r.items r.kept.accepted p h
+
+-- what the second run leaves
+pub record Undoes (c : Checked) (N : Mem) : Type 0 where
+  pub restored : (M : Mem) → ((q : ℕ) → at c.load.memory q ≡ exchange M c.pairs (swap_of c.load) q) → (p : ℕ) → p ≢ swap_of c.load → N p ≡ M p
+  pub undone : (M : Mem) → ((q : ℕ) → want c.load.segments q ≡ None → at c.load.memory q ≡ exchange M c.pairs (swap_of c.load) q) → (p : ℕ) → p ≢ swap_of c.load → (Has p (sources c.pairs) → ⊥) → N p ≡ M p
+  pub sources : Each (λ q. N q.1 ≡ at c.load.memory q.0) c.pairs
+
+pub undoes : (c : Checked) → IsToGoBack c → (N : Mem) → ((p : ℕ) → N p ≡ exchange (at c.load.memory) c.pairs (swap_of c.load) p) → Undoes c N
+undoes c r N leaves =
+    let a = pairs_apart r.before c r.swap r.items r.kept in
+    let whole : (p : ℕ) (b : List ℕ) → want c.load.segments p ≡ Some b → Has p (destinations c.pairs) =
+    λ p b e. subst (λ qs. Has p (destinations qs)) r.kept.same_pairs (r.kept.accepted.plain.whole p b e) in
+    record {
+      restored = λ M same p n. restores (want c.load.segments) c.pairs (swap_of c.load) a.0 a.1 (at c.load.memory) N leaves M p n (same (partner c.pairs p));
+      undone = λ M same p n s. restores (want c.load.segments) c.pairs (swap_of c.load) a.0 a.1 (at c.load.memory) N leaves M p n
+          (same (partner c.pairs p) (no_source_wanted (want c.load.segments) c.pairs (swap_of c.load) a.0 a.1 (at c.load.memory) N leaves whole p s));
+      sources = sources_get (want c.load.segments) c.pairs (swap_of c.load) a.0 a.1 (at c.load.memory) N leaves;
+    }
+
+some_of : (o : Option (List ℕ)) → IsSome o → (b : List ℕ) × (o ≡ Some b)
+some_of None h = absurd cc
+some_of (Some b) h = (b, refl)
+
+destination_held : (m : Contents) (swap p : ℕ) (qs : List (ℕ × ℕ)) → HoldsPairs m (Kept swap) qs → Has p (destinations qs) → IsHeld m p
+destination_held m swap p [] h i = absurd i
+destination_held m swap p (q ∷ qs) h (inl e) = subst (IsHeld m) e h.0.1.0
+destination_held m swap p (q ∷ qs) h (inr i) = destination_held m swap p qs h.1 i
+
+-- a wanted page is held
+pub wanted_held : (c : Checked) → IsToGoBack c → (p : ℕ) → IsSome (want c.load.segments p) → IsHeld c.load.memory p
+wanted_held c r p h =
+    let b = some_of (want c.load.segments p) h in
+    destination_held c.load.memory r.swap p c.pairs r.kept.held (subst (λ qs. Has p (destinations qs)) r.kept.same_pairs (r.kept.accepted.plain.whole p b.0 b.1))
+
+-- a write to a wanted page leaves the list's words
+pub touched : (c d : Checked) (p : ℕ) (bytes : List ℕ) → IsToGoBack c → IsSome (want c.load.segments p) → d.load ≡ record c.load { memory = after_set c.load.memory p bytes } → d.words ≡ c.words → d.links ≡ c.links → d.pairs ≡ c.pairs → IsToGoBack d
+touched c d p bytes r h e words link_count same =
+    record {
+      before = r.before;
+      swap = r.swap;
+      items = r.items;
+      kept = kept_stays r.before c d r.swap r.items r.kept
+          (record {
+            image = ap (λ s. s.image) e;
+            segments = ap (λ s. s.segments) e;
+            words = words;
+            links = link_count;
+            pairs = same;
+            stay = λ q x. subst (λ (s : Load). IsHeld s.memory q) (sym e) (held-insert c.load.memory.pages p bytes q x);
+          })
+          (λ q x. ap (λ (s : Load). at s.memory q) e ∙ frame_at-insert_other c.load.memory.pages p bytes q (apart q x) ∙ r.kept.words q x);
+    }
+  where
+    apart : (q : ℕ) → Has q (links r.items) → q ≢ p
+    apart q x same =
+        let b = some_of (want c.load.segments p) h in
+        none-some b.0 (sym (link_unwanted r.before (want c.load.segments) c.load.image.head c.load.image.control r.swap r.items r.kept.accepted q x) ∙ ap (want c.load.segments) same ∙ b.1)

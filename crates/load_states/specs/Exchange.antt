@@ -1,0 +1,18 @@
+-- What a run with context preserved does to memory: each pair's two pages exchange their bytes.
+use Rattle.std.specs.Prelude.{ℕ, cond, eqb, List, [], ◌∷◌}
+use Rattle.page_memory.specs.Memory.{Mem}
+
+-- the page whose bytes page p gets: the other page of its pair of destination and source, or itself
+abbrev pub partner : List (ℕ × ℕ) → ℕ → ℕ
+partner [] p = p
+partner (q ∷ qs) p = cond (eqb q.0 p) q.1 (cond (eqb q.1 p) q.0 (partner qs p))
+
+-- the source of the last pair, whose bytes the swap page keeps; the swap page itself where there is no pair
+abbrev pub last_source : List (ℕ × ℕ) → ℕ → ℕ
+last_source [] swap = swap
+last_source (q ∷ qs) swap = last_source qs q.1
+
+-- the exchange: each destination has what its source had, each source what its destination had, the swap page what the
+-- last pair's source had, and every other page what it had
+abbrev pub exchange : Mem → List (ℕ × ℕ) → ℕ → Mem
+exchange M qs swap p = M (cond (eqb p swap) (last_source qs swap) (partner qs p))

@@ -1,0 +1,5 @@
+pub mod Exchange
+pub mod States
+pub mod Ready
+pub mod Answers
+pub mod Loads

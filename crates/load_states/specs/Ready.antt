@@ -1,0 +1,55 @@
+-- Accepted lists in the memory that a state owns.
+use Rattle.std.specs.Prelude.{◌≡◌, ℕ, ◌<◌, ◌^◌, List, length, Option, Some, None}
+use Rattle.kx_pages.specs.declared.item.Item.{Item}
+use Rattle.kx_pages.specs.declared.image.Mode.{Mode}
+use Rattle.kx_pages.specs.declared.image.Mode.TheVariants.{Plain, Kept}
+use Rattle.kx_pages.specs.Lists.{Each, Has}
+use Rattle.page_memory.specs.Contents.{Contents, at}
+use Rattle.page_memory.specs.Memory.{Mem}
+use Rattle.relocate_machine.specs.Machine.{AreHeld, move_writes}
+use Rattle.segments.specs.Parts.{want}
+use Rattle.list_checker.specs.Walk.{Accepted, AcceptedKept, IsAccepted, swap_page, links, pairs}
+use Rattle.load_states.specs.States.{Load, Checked}
+
+-- the list of the load is accepted for its segments in its memory and mode, by a walk of so many words with so many link
+-- pages and these pairs
+pub record Told (s : Load) (words link_count : ℕ) (qs : List (ℕ × ℕ)) : Type 0 where
+  pub items : List Item
+  pub accepted : IsAccepted (at s.memory) (want s.segments) s.image.head s.image.control (swap_page s.image.mode) items
+  pub count : length items ≡ words
+  pub link_pages : length (links items) ≡ link_count
+  pub same_pairs : pairs items ≡ qs
+
+-- each page that the pairs' moves write is held
+abbrev pub HoldsPairs : Contents → Mode → List (ℕ × ℕ) → Type 0
+HoldsPairs m mode qs = Each (λ q. (q.0 < 2 ^ 34) × AreHeld m (move_writes mode q.0 q.1)) qs
+
+-- a plain list is accepted in the memory that the state owns, and each page that its run writes is held
+pub record IsReadyPlain (c : Checked) : Type 0 where
+  pub mode : c.load.image.mode ≡ Plain
+  pub told : Told c.load c.words c.links c.pairs
+  pub held : HoldsPairs c.load.memory Plain c.pairs
+
+-- These items are a list that is accepted in the memory M with context preserved. Their words stand in the memory that
+-- the state owns, and each page that their run writes is held.
+pub record IsKept (M : Mem) (c : Checked) (swap : ℕ) (items : List Item) : Type 0 where
+  pub mode : c.load.image.mode ≡ Kept swap
+  pub accepted : AcceptedKept M (want c.load.segments) c.load.image.head c.load.image.control swap items
+  pub count : length items ≡ c.words
+  pub link_pages : length (links items) ≡ c.links
+  pub same_pairs : pairs items ≡ c.pairs
+  pub words : (p : ℕ) → Has p (links items) → at c.load.memory p ≡ M p
+  pub held : HoldsPairs c.load.memory (Kept swap) c.pairs
+
+-- the list is accepted in the memory that the state owns
+pub record IsReadyKept (c : Checked) : Type 0 where
+  pub swap : ℕ
+  pub items : List Item
+  pub kept : IsKept (at c.load.memory) c swap items
+
+-- the list was accepted in the memory before its first run
+pub record IsToGoBack (c : Checked) : Type 0 where
+  pub before : Mem
+  pub swap : ℕ
+  pub items : List Item
+  pub kept : IsKept before c swap items

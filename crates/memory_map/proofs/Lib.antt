@@ -1,0 +1,5 @@
+pub mod Adding
+pub mod Index
+pub mod PageLemmas
+pub mod Reading
+pub mod Sets

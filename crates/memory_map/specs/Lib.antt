@@ -1,0 +1,5 @@
+pub mod Rows
+pub mod Named
+pub mod Text
+pub mod Index
+pub mod Reader
