@@ -1,5 +1,5 @@
 -- The machine of relocate_machine follows an accepted list.
-use Rattle.std.proofs.Common.{◌≡◌, ℕ, zero, suc, ◌+◌, ◌*◌, ◌/◌, ◌%◌, ◌^◌, ◌<◌, List, [], ◌∷◌, length, Bool, true, false, cond, None, refl, sym, ap, ◌∙◌, subst, inl, inr, take, drop, arith}
+use Rattle.std.proofs.Common.{◌≡◌, ℕ, suc, ◌+◌, ◌*◌, ◌/◌, ◌%◌, ◌^◌, ◌<◌, List, [], ◌∷◌, length, Bool, true, false, cond, None, refl, sym, ap, ◌∙◌, subst, inl, inr, arith}
 use Rattle.std.specs.Prelude.{◌≢◌, nat_le, bit_and, ◌==◌, eqb}
 use Rattle.std.proofs.lemmas.Bool.Decides.{nat_tests}
 use Rattle.std.proofs.lemmas.Nat.Bits.{and_pow}
@@ -21,7 +21,7 @@ use Rattle.kx_pages.specs.Lists.{Each, Has}
 use Rattle.page_memory.specs.Memory.{Mem, Wants, word, copied_page}
 use Rattle.list_checker.specs.Walk.{Reads, Walk, links, pairs_from, pairs, Accepted, AcceptedKept}
 use Rattle.segments.specs.Parts.{overlay}
-use Rattle.segments.specs.Elements.{Each-map, Each-both, Each-at}
+use Rattle.segments.specs.Elements.{Each-both, Each-at}
 use Rattle.load_states.specs.Exchange.{exchange}
 use Rattle.load_states.proofs.Moves.{moves, moved_in, moved-apart, moves_alike, copied_alike, lays_over, Spares}
 use Rattle.load_states.proofs.Exchange.{exchanges}

@@ -3,7 +3,7 @@ use Rattle.std.proofs.Common.{◌≡◌, ℕ, List, [], ◌∷◌, Option, Some,
 use Rattle.std.specs.Prelude.{◌≢◌, cond, eqb, unwrap_or}
 use Rattle.kx_pages.specs.declared.image.Mode.{Mode}
 use Rattle.kx_pages.specs.declared.image.Mode.TheVariants.{Plain, Kept}
-use Rattle.segments.specs.Elements.{Each-map, Each-both, Each-at}
+use Rattle.segments.specs.Elements.{Each-map, Each-both}
 use Rattle.page_memory.specs.Memory.{Mem, Wants, copied_page, put}
 use Rattle.kx_pages.specs.Lists.{Each, Has, destinations}
 use Rattle.list_checker.specs.Walk.{InOrder}

@@ -1,18 +1,16 @@
 -- Accepted lists whose pages are held, and their runs.
-use Rattle.std.proofs.Common.{◌≡◌, ℕ, ◌^◌, ◌<◌, List, [], ◌∷◌, length, Option, Some, None, refl, sym, ap, ◌∙◌, subst, inl, inr, ◌+◌, arith}
+use Rattle.std.proofs.Common.{◌≡◌, ℕ, ◌^◌, ◌<◌, List, [], ◌∷◌, Option, Some, None, refl, sym, ap, ◌∙◌, subst, inl, inr, ◌+◌, arith}
 use Rattle.std.specs.Prelude.{◌≢◌, IsSome, map, unwrap_or}
 use Rattle.kx_pages.specs.declared.item.Item.{Item}
-use Rattle.kx_pages.specs.declared.image.Mode.{Mode}
 use Rattle.kx_pages.specs.declared.image.Mode.TheVariants.{Plain, Kept}
 use Rattle.kx_pages.specs.Lists.{Each, Has, destinations, sources}
 use Rattle.page_memory.specs.Contents.{Contents, at, IsHeld, after_set}
 use Rattle.page_memory.specs.Laws.{frame_at-insert_other, held-insert}
 use Rattle.std.proofs.lemmas.Option.{none-some}
 use Rattle.page_memory.specs.Memory.{Mem}
-use Rattle.relocate_machine.specs.Machine.{AreHeld, move_writes}
 use Rattle.segments.specs.Parts.{Part, want, overlay}
 use Rattle.segments.specs.Rules.{IsBare}
-use Rattle.segments.specs.Laws.{AreSegments, AreSegments-from_IsBare, Has-from_want, pages_below}
+use Rattle.segments.specs.Laws.{AreSegments-from_IsBare, Has-from_want, pages_below}
 use Rattle.segments.specs.Elements.{Each-map, Each-both}
 use Rattle.list_checker.specs.declared.earlier.Accept.{Accept}
 use Rattle.list_checker.specs.Walk.{Accepted, AcceptedKept, PairsApart, IsAccepted, swap_page, links, pairs}
@@ -24,7 +22,6 @@ use Rattle.load_states.specs.Ready.{Told, HoldsPairs, IsReadyPlain, IsKept, IsRe
 use Rattle.load_states.proofs.Bridge.{Comes, begin_at, plain_runs, kept_runs}
 use Rattle.load_states.proofs.Holding.{Holds}
 use Rattle.kx_pages.specs.declared.image.Image.{Image}
-use Rattle.relocate_machine.specs.Machine.{start_of}
 use Rattle.relocate_machine.specs.Run.{HeldFrom, run_of}
 use Rattle.relocate_machine.specs.declared.step.Outcome.TheVariants as outcomes
 

@@ -1,10 +1,10 @@
 -- What accept answers.
-use Rattle.std.specs.Prelude.{◌≡◌, Some, None, IsSome}
-use Rattle.kx_pages.specs.declared.image.Mode.TheVariants.{Plain, Kept}
+use Rattle.std.specs.Prelude.{◌≡◌, IsSome}
+use Rattle.kx_pages.specs.declared.image.Mode.TheVariants.{Plain}
 use Rattle.list_checker.specs.Walk.{swap_page}
 use Rattle.load_states.specs.declared.accepted.Accepted.{Accepted}
 use Rattle.load_states.specs.declared.accepted.Accepted.TheVariants as variants
-use Rattle.load_states.specs.States.{Load, Checked, IsLeftAs, checked_of}
+use Rattle.load_states.specs.States.{Load, IsLeftAs, checked_of}
 use Rattle.list_checker.specs.declared.earlier.Accept.{Accept}
 use Rattle.load_states.specs.Ready.{Told}
 

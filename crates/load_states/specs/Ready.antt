@@ -1,5 +1,5 @@
 -- Accepted lists in the memory that a state owns.
-use Rattle.std.specs.Prelude.{◌≡◌, ℕ, ◌<◌, ◌^◌, List, length, Option, Some, None}
+use Rattle.std.specs.Prelude.{◌≡◌, ℕ, ◌<◌, ◌^◌, List, length}
 use Rattle.kx_pages.specs.declared.item.Item.{Item}
 use Rattle.kx_pages.specs.declared.image.Mode.{Mode}
 use Rattle.kx_pages.specs.declared.image.Mode.TheVariants.{Plain, Kept}
@@ -8,7 +8,7 @@ use Rattle.page_memory.specs.Contents.{Contents, at}
 use Rattle.page_memory.specs.Memory.{Mem}
 use Rattle.relocate_machine.specs.Machine.{AreHeld, move_writes}
 use Rattle.segments.specs.Parts.{want}
-use Rattle.list_checker.specs.Walk.{Accepted, AcceptedKept, IsAccepted, swap_page, links, pairs}
+use Rattle.list_checker.specs.Walk.{AcceptedKept, IsAccepted, swap_page, links, pairs}
 use Rattle.load_states.specs.States.{Load, Checked}
 
 -- the list of the load is accepted for its segments in its memory and mode, by a walk of so many words with so many link

@@ -6,7 +6,6 @@ use Rattle.kx_pages.specs.declared.image.Image.{Image}
 use Rattle.kx_pages.specs.declared.image.Mode.{Mode}
 use Rattle.kx_pages.specs.declared.image.Mode.TheVariants.{Plain, Kept}
 use Rattle.page_memory.specs.Contents.{Contents, contents_code, at}
-use Rattle.page_memory.specs.Memory.{Mem}
 use Rattle.page_pool.specs.Pages.{Pages, pages_code}
 use Rattle.segments.specs.Parts.{Part}
 use Rattle.list_checker.specs.Walk.{swap_page}

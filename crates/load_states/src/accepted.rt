@@ -106,7 +106,7 @@ impl AcceptedPlain {
     {
         let AcceptedPlain { loaded, accept } = self;
         let (mut memory, _, image, _) = loaded.parts();
-        let steps = run_to_end(&mut memory, &image, accept.words);
+        let steps = run_to_end(&mut memory, image.head, image.mode, accept.words);
         RanPlain::new(memory, steps)
     }
 }
@@ -173,7 +173,7 @@ impl AcceptedKept {
     {
         let AcceptedKept { loaded, mut accept } = self;
         let (mut memory, pool, image, segments) = loaded.parts();
-        accept.words = run_to_end(&mut memory, &image, accept.words);
+        accept.words = run_to_end(&mut memory, image.head, image.mode, accept.words);
         RanKept::new(Loaded::from_parts(memory, pool, image, segments), accept)
     }
 }

@@ -138,7 +138,7 @@ impl RanKept {
     {
         let RanKept { loaded, accept } = self;
         let (mut memory, pool, image, segments) = loaded.parts();
-        let steps = run_to_end(&mut memory, &image, accept.words);
+        let steps = run_to_end(&mut memory, image.head, image.mode, accept.words);
         Back {
             loaded: Loaded::from_parts(memory, pool, image, segments),
             steps,

@@ -1,4 +1,4 @@
-use Rattle.std.proofs.Common.{◌≡◌, sym, ap, ◌∙◌}
+use Rattle.std.proofs.Common.{sym, ap, ◌∙◌}
 use Rattle.load_states.proofs.Ready.{plain_ready, kept_ready}
 use Rattle.load_states.proofs.accepted.of_mode.Goals as goal
 

@@ -1,4 +1,4 @@
-use Rattle.std.proofs.Common.{arith, sym, ap, ◌∙◌}
+use Rattle.std.proofs.Common.{◌∙◌}
 use Rattle.load_states.proofs.Holding.{holds_more, holds_all}
 use Rattle.load_states.proofs.hold.hold_pairs.Goals as goal
 

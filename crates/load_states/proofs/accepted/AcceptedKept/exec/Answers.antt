@@ -1,8 +1,8 @@
-use Rattle.std.proofs.Common.{◌≡◌, ℕ, ap, sym, ◌∙◌, subst}
+use Rattle.std.proofs.Common.{ap, sym, ◌∙◌, subst}
 use Rattle.page_memory.specs.Contents.{Contents, at, IsHeld}
 use Rattle.load_states.specs.States.{Load, Checked, checked_of, swap_of}
 use Rattle.load_states.specs.Exchange.{exchange}
-use Rattle.load_states.proofs.Ready.{kept_ends, goes_back, Same}
+use Rattle.load_states.proofs.Ready.{kept_ends, goes_back}
 use Rattle.load_states.proofs.accepted.AcceptedKept.exec.Goals as goal
 
 pub run_to_end-requires : goal.run_to_end-requires

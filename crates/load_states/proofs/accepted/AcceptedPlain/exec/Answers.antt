@@ -1,4 +1,4 @@
-use Rattle.std.proofs.Common.{◌≡◌, ℕ, ap, sym, ◌∙◌}
+use Rattle.std.proofs.Common.{ap, ◌∙◌}
 use Rattle.page_memory.specs.Contents.{Contents, at}
 use Rattle.segments.specs.Parts.{overlay, want}
 use Rattle.load_states.specs.States.{Checked, Ran, checked_of}

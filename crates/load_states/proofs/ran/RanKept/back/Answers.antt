@@ -1,7 +1,5 @@
-use Rattle.std.proofs.Common.{◌≡◌, ℕ, ap, sym, ◌∙◌, subst}
-use Rattle.kx_pages.specs.Lists.{Each, Has, sources}
+use Rattle.std.proofs.Common.{ap, ◌∙◌, subst}
 use Rattle.page_memory.specs.Contents.{Contents, at}
-use Rattle.page_memory.specs.Memory.{Mem}
 use Rattle.load_states.specs.States.{Load, Checked, checked_of, swap_of}
 use Rattle.load_states.specs.Exchange.{exchange}
 use Rattle.load_states.proofs.Ready.{Undoes, kept_ends, undoes}
