@@ -2,7 +2,7 @@
 use Rattle.std.proofs.Common.{◌≡◌, ℕ, List, Option, Some, None, Result, Ok, Err, inl, inr}
 use Rattle.std.specs.Prelude.{IfSome}
 use Rattle.kx_edge.specs.Edge.{Files}
-use Rattle.kexec_main.specs.Answers.{Answer, Goods, Moment, Calm, Untouched, Delivers, Meets, done, not_accepted, usage, unread, unwritten, unsaid, too_long, input, plan, no_pages, heavy, not_built, memory, answer_of, ended}
+use Rattle.kexec_main.specs.Answers.{Answer, Goods, Moment, Calm, Untouched, Delivers, Meets, done, not_accepted, usage, unread, unwritten, unsaid, too_long, input, plan, no_pages, heavy, not_kept, not_built, memory, answer_of, ended}
 use Rattle.kexec_main.specs.declared.status.Status.{Status}
 use Rattle.kexec_main.specs.Files.{TakesNot}
 use Rattle.kexec_main.specs.Makes.{Makes, MakesNot}
@@ -29,6 +29,7 @@ meets_taken names reads makes before after (plan f) t u = (u, record { shelf = t
 meets_taken names reads makes before after (no_pages p n) t u = (u, record { shelf = t.0; sink = u.sink }, told before.files (λ held h. inl h) t.1)
 meets_taken names reads makes before after (heavy n) t u = (u, record { shelf = t.0; sink = u.sink }, told before.files (λ held h. inl h) t.1)
 meets_taken names reads makes before after (not_built w) t u = (u, record { shelf = t.0; sink = u.sink }, told before.files (λ held h. inl h) t.1)
+meets_taken names reads makes before after not_kept t u = (u, record { shelf = t.0; sink = u.sink }, told before.files (λ held h. inl h) t.1)
 
 -- what was read makes no goods
 pub meets_made : {X : Type 0} (names : List (List ℕ)) (reads : Files → Result X Answer) (makes : X → Result Goods Answer → Type 0) (before after : Moment) (x : X) (a : Answer)
@@ -46,6 +47,7 @@ meets_made names reads makes before after x (plan f) r m u c = (u, c, told befor
 meets_made names reads makes before after x (no_pages p n) r m u c = (u, c, told before.files (λ held h. inr (x, h, m)) r)
 meets_made names reads makes before after x (heavy n) r m u c = (u, c, told before.files (λ held h. inr (x, h, m)) r)
 meets_made names reads makes before after x (not_built w) r m u c = (u, c, told before.files (λ held h. inr (x, h, m)) r)
+meets_made names reads makes before after x not_kept r m u c = (u, c, told before.files (λ held h. inr (x, h, m)) r)
 
 -- the goods went out, or could not
 pub meets_delivered : {X : Type 0} (names : List (List ℕ)) (reads : Files → Result X Answer) (makes : X → Result Goods Answer → Type 0) (before after : Moment) (x : X) (goods : Goods) (a : Answer)
@@ -63,6 +65,7 @@ meets_delivered names reads makes before after x goods (plan f) r m d = absurd d
 meets_delivered names reads makes before after x goods (no_pages p n) r m d = absurd d
 meets_delivered names reads makes before after x goods (heavy n) r m d = absurd d
 meets_delivered names reads makes before after x goods (not_built w) r m d = absurd d
+meets_delivered names reads makes before after x goods not_kept r m d = absurd d
 
 -- the answer of a call that `?` hands on
 pub meets_handed_on : {X T : Type 0} (names : List (List ℕ)) (reads : Files → Result X Answer) (makes : X → Result Goods Answer → Type 0) (before after : Moment) (result : Result T Status) (e : Status)

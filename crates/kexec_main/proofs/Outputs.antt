@@ -1,7 +1,7 @@
 -- Outputs that are files of memories.
 use Rattle.std.proofs.Common.{ℕ, List, Result, Err, ◌∙◌}
 use Rattle.page_memory.specs.Memory.{Mem, Agree}
-use Rattle.kexec_main.specs.Answers.{Answer, Goods, done, not_accepted, usage, unread, unwritten, unsaid, too_long, input, plan, no_pages, heavy, not_built, memory}
+use Rattle.kexec_main.specs.Answers.{Answer, Goods, done, not_accepted, usage, unread, unwritten, unsaid, too_long, input, plan, no_pages, heavy, not_kept, not_built, memory}
 use Rattle.kexec_main.specs.Makes.{IsFileOf, IsTooHeavy, WritesNot, MakesNot}
 
 -- memories that agree have the same files
@@ -26,3 +26,4 @@ not_written makes x N M (input v) g f h = absurd h
 not_written makes x N M (plan v) g f h = absurd h
 not_written makes x N M (no_pages p n) g f h = absurd h
 not_written makes x N M (not_built w) g f h = absurd h
+not_written makes x N M not_kept g f h = absurd h

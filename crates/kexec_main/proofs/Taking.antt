@@ -2,7 +2,7 @@
 use Rattle.std.proofs.Common.{◌≡◌, ℕ, List, Option, Some, None, Result, Ok, Err, ap, ◌∙◌, inr}
 use Rattle.std.specs.Prelude.{IfSome}
 use Rattle.kx_edge.specs.Edge.{Files}
-use Rattle.kexec_main.specs.Answers.{IsAmong, Answer, done, not_accepted, usage, unread, unwritten, unsaid, too_long, input, plan, no_pages, heavy, not_built, memory, answer_of}
+use Rattle.kexec_main.specs.Answers.{IsAmong, Answer, done, not_accepted, usage, unread, unwritten, unsaid, too_long, input, plan, no_pages, heavy, not_kept, not_built, memory, answer_of}
 use Rattle.kexec_main.specs.declared.status.Status.{Status}
 use Rattle.kexec_words.specs.Meaning.{given}
 use Rattle.kexec_main.specs.Files.{TakesNot, Takes, ◌>>=◌}
@@ -34,6 +34,7 @@ refused_here names what more old before after (usage w) h = (h.0, bound what mor
 refused_here names what more old before after (not_accepted v) h = absurd h
 refused_here names what more old before after (plan x) h = (h.0, bound what more old _ h.1)
 refused_here names what more old before after (not_built w) h = (h.0, bound what more old _ h.1)
+refused_here names what more old before after not_kept h = (h.0, bound what more old _ h.1)
 
 pub refused_later : {X Y : Type 0} (names : List (List ℕ)) (what : Files → Result X Answer) (more : Files → X → Result Y Answer) (x : X) (old : Option Files) (before after : ℕ) (a : Answer)
     → IfSome old (λ held. what held ≡ Ok x) → TakesNot names (λ held. more held x) old before after a → TakesNot names (λ held. what held >>= more held) old before after a
@@ -50,6 +51,7 @@ refused_later names what more x old before after (usage w) k h = (h.0, later wha
 refused_later names what more x old before after (not_accepted v) k h = absurd h
 refused_later names what more x old before after (plan f) k h = (h.0, later what more x old _ k h.1)
 refused_later names what more x old before after (not_built w) k h = (h.0, later what more x old _ k h.1)
+refused_later names what more x old before after not_kept k h = (h.0, later what more x old _ k h.1)
 
 pub more_names : {X : Type 0} (few many : List (List ℕ)) (what : Files → Result X Answer) (old : Option Files) (before after : ℕ) (a : Answer)
     → ((n : List ℕ) → IsAmong few n → IsAmong many n) → TakesNot few what old before after a → TakesNot many what old before after a
@@ -66,6 +68,7 @@ more_names few many what old before after (usage w) f h = h
 more_names few many what old before after (not_accepted v) f h = h
 more_names few many what old before after (plan x) f h = h
 more_names few many what old before after (not_built w) f h = h
+more_names few many what old before after not_kept f h = h
 
 -- the answer of a call that `?` hands on
 pub handed_on : {Y T : Type 0} (view : T → Y) (names : List (List ℕ)) (what : Files → Result Y Answer) (old now : Option Files) (before after : ℕ) (result : Result T Status) (e : Status)

@@ -2,7 +2,7 @@
 use Rattle.std.proofs.Common.{◌≡◌, ℕ, ◌-◌, List, [], ◌∷◌, length, Option, Some, None, Result, Ok, refl, ap, ◌∙◌, ⊎_elim, inl, inr}
 use Rattle.std.specs.Prelude.{IfSome}
 use Rattle.kx_edge.specs.Edge.{Files}
-use Rattle.kexec_main.specs.Answers.{IsAmong, Answer, done, not_accepted, usage, unread, unwritten, unsaid, too_long, input, plan, no_pages, heavy, not_built, memory}
+use Rattle.kexec_main.specs.Answers.{IsAmong, Answer, done, not_accepted, usage, unread, unwritten, unsaid, too_long, input, plan, no_pages, heavy, not_kept, not_built, memory}
 use Rattle.kexec_main.specs.Files.{TakesNot, measured, left_after, ◌>>=◌}
 use Rattle.kexec_main.proofs.Taking.{refused_here, more_names}
 
@@ -49,6 +49,7 @@ turned old left rest budget all before after (plan f) t h = (h.0, t.answers _ h.
 turned old left rest budget all before after (no_pages p n) t h = (h.0, t.answers _ h.1)
 turned old left rest budget all before after (heavy n) t h = (h.0, t.answers _ h.1)
 turned old left rest budget all before after (not_built w) t h = (h.0, t.answers _ h.1)
+turned old left rest budget all before after not_kept t h = (h.0, t.answers _ h.1)
 
 -- the turn of a file that is refused
 pub turn_refused : (old : Option Files) (left : ℕ) (name : List ℕ) (rest : List (List ℕ)) (budget : ℕ) (all : List (List ℕ)) (before after : ℕ) (a : Answer)

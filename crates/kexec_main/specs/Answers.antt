@@ -23,6 +23,7 @@ pub data Answer : Type 0 where
   plan : PlanFault → Answer
   no_pages : (pool need : ℕ) → Answer
   heavy : (count : ℕ) → Answer
+  not_kept : Answer
   not_built : NotBuilt → Answer
   memory : Answer
 
@@ -38,6 +39,7 @@ answer_of (status.Input fault) = input fault
 answer_of (status.Plan fault) = plan fault
 answer_of (status.NoPages pool need) = no_pages pool need
 answer_of (status.Heavy count) = heavy count
+answer_of status.NotKept = not_kept
 answer_of (status.NotBuilt what) = not_built what
 answer_of status.Memory = memory
 
@@ -59,6 +61,7 @@ code_of (status.Input fault) = 7
 code_of (status.Plan fault) = 8
 code_of (status.NoPages pool need) = 9
 code_of (status.Heavy count) = 10
+code_of status.NotKept = 11
 code_of status.Memory = 12
 code_of (status.NotBuilt what) = 64
 

@@ -6,6 +6,8 @@ ghost use Rattle.kexec_main.specs.declared.status.Status.TheVariants.{Memory};
 
 use kexec_words::UsageWhy;
 use list_checker::ListFault;
+use load_record::RecFault;
+use memory_map::MapFault;
 use page_memory::MemFault;
 use page_pool::PoolFault;
 use segments::SegFault;
@@ -19,6 +21,10 @@ pub enum InputFault {
     Mem { fault: MemFault },
     #[error("{fault}")]
     Pool { fault: PoolFault },
+    #[error("{fault}")]
+    Map { fault: MapFault },
+    #[error("{fault}")]
+    Rec { fault: RecFault },
 }
 
 /// A part of a request that the kernel's type has no use for.
@@ -50,10 +56,8 @@ pub enum NotBuilt {
     Format,
     #[error("--purgatory is not built yet")]
     Purgatory,
-    #[error("--map is not built yet")]
-    Map,
-    #[error("--kept is not built yet")]
-    Kept,
+    #[error("crash records are not served yet")]
+    Crash,
 }
 
 /// How a command ended. Its text says in one sentence what was wrong, where, and what was wanted.
@@ -95,6 +99,9 @@ pub enum Status {
     /// The memory to write has more pages that are not all zeros than a memory file can have.
     #[error("{count} pages of the memory are not all zeros, and a memory file has at most 131072")]
     Heavy { count: u64 },
+    /// `exec --twice` was given a record that is not in kept mode.
+    #[error("the record is in plain mode, and --twice needs one that was loaded with --kept")]
+    NotKept,
     /// The program does not do this yet.
     #[error("{what}")]
     NotBuilt { what: NotBuilt },
@@ -120,6 +127,7 @@ impl Status {
             Status::Plan { .. } => 8,
             Status::NoPages { .. } => 9,
             Status::Heavy { .. } => 10,
+            Status::NotKept => 11,
             Status::Memory => 12,
             Status::NotBuilt { .. } => 64,
         }
