@@ -2,7 +2,9 @@
 #![tactic(auto)]
 
 mod deliver;
+mod loading;
 mod output;
+mod running;
 mod status;
 mod take;
 mod text;
