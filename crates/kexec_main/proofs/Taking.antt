@@ -5,7 +5,7 @@ use Rattle.kx_edge.specs.Edge.{Files}
 use Rattle.kexec_main.specs.Answers.{IsAmong, Answer, done, not_accepted, usage, unread, unwritten, unsaid, too_long, input, plan, no_pages, heavy, not_kept, not_built, memory, answer_of}
 use Rattle.kexec_main.specs.declared.status.Status.{Status}
 use Rattle.kexec_words.specs.Meaning.{given}
-use Rattle.kexec_main.specs.Files.{TakesNot, Takes, ◌>>=◌}
+use Rattle.kexec_main.specs.Files.{as_list, TakesNot, Takes, ◌>>=◌}
 
 -- what refuses a part refuses the whole
 bound : {X Y : Type 0} (what : Files → Result X Answer) (more : Files → X → Result Y Answer) (old : Option Files) (a : Answer)
@@ -79,3 +79,7 @@ handed_on view names what old now before after result e is same h = rw is (same,
 pub among_given : (o : Option (List ℕ)) (names : List (List ℕ)) (n : List ℕ) → IsAmong names n → IsAmong (given o names) n
 among_given None names n a = a
 among_given (Some x) names n a = inr a
+
+pub among_initrd : (o : Option (List ℕ)) (names : List (List ℕ)) (n : List ℕ) → IsAmong (as_list o) n → IsAmong (given o names) n
+among_initrd None names n a = absurd a
+among_initrd (Some x) names n a = ⊎_elim inl absurd a

@@ -5,6 +5,9 @@ use Rattle.kx_edge.specs.Edge.{Files, Rose}
 use Rattle.page_memory.specs.Contents.{Contents}
 use Rattle.page_memory.specs.File.{reading}
 use Rattle.page_pool.specs.File.{pool_reading}
+use Rattle.memory_map.specs.Named.{Named}
+use Rattle.memory_map.specs.Text.{map_reading}
+use Rattle.memory_map.specs.declared.fault.MapFault.{MapFault}
 use Rattle.kexec_words.specs.Values.{InputsValue}
 use Rattle.kexec_main.specs.declared.status.InputFault.TheVariants as inputs
 use Rattle.kexec_main.specs.declared.status.Status.{Status}
@@ -51,6 +54,18 @@ pool_file name held = do
   bytes ← measured text_limit name held
   or_input (λ e. input (inputs.Pool e)) (pool_reading bytes)
 
+-- a memory map, where one is given
+abbrev pub map_file : List ℕ → Files → Result Named Answer
+map_file name held = do
+  bytes ← measured text_limit name held
+  or_input (λ e. input (inputs.Map e)) (map_reading bytes)
+
+abbrev pub map_given : Option (List ℕ) → Files → Result (Option Named) Answer
+map_given None held = Ok None
+map_given (Some name) held = do
+  m ← map_file name held
+  Ok (Some m)
+
 -- how many bytes are left for further files of the kernel after these, which fit one after the other
 abbrev pub left_after : ℕ → List (List ℕ) → Files → Result ℕ Answer
 left_after left [] held = Ok left
@@ -62,6 +77,7 @@ left_after left (name ∷ names) held = do
 pub record Inputs : Type 0 where
   pub memory : Contents
   pub pool : List ℕ
+  pub map : Option Named
   pub kernel : List ℕ
 
 abbrev pub as_list : Option (List ℕ) → List (List ℕ)
@@ -72,10 +88,11 @@ abbrev pub input_files : InputsValue → Files → Result Inputs Answer
 input_files i held = do
   m ← memory_file i.memory held
   p ← pool_file i.pool held
+  map ← map_given i.map held
   k ← measured kernel_limit i.kernel held
   left ← left_after (kernel_limit - length k) (as_list i.initrd) held
   none ← left_after left i.modules held
-  Ok (record { memory = m; pool = p; kernel = k })
+  Ok (record { memory = m; pool = p; map = map; kernel = k })
 
 -- What a call that takes files gives: `what` is what it reads of them, and the files that it may fail to read have these
 -- names. It changes no file, and the count of faults rises only where it fails to read one.

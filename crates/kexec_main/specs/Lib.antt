@@ -6,3 +6,4 @@ pub mod Makes
 pub mod Trace
 pub mod Runs
 pub mod Loads
+pub mod Boot

@@ -13,4 +13,4 @@ abbrev pub goods_of : MadeGoods → Goods
 goods_of g = record { outputs = map output_of g.outputs.items; text = string_bytes g.text; fault = g.fault }
 
 abbrev pub inputs_of : Taken → Inputs
-inputs_of t = record { memory = t.memory; pool = t.pool.left; kernel = t.kernel.items }
+inputs_of t = record { memory = t.memory; pool = t.pool.left; map = t.map; kernel = t.kernel.items }

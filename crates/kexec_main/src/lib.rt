@@ -1,6 +1,7 @@
 //! The top call: a command's words, over files and a text output.
 #![tactic(auto)]
 
+mod boot;
 mod deliver;
 mod loading;
 mod output;

@@ -1,6 +1,11 @@
 //! Accepted lists are run.
 
-ghost use Rattle.std.specs.Prelude.{◌≡◌, ◌++◌, length, IfOk, Some, None, string_bytes};
+ghost use Rattle.std.specs.Prelude.{◌≡◌, ◌++◌, List, length, IfOk, IfErr, Some, None, string_bytes};
+ghost use Rattle.kx_pages.specs.declared.item.Item.{Item};
+ghost use Rattle.list_checker.specs.Walk.{IsAccepted, swap_page};
+ghost use Rattle.segments.specs.Parts.{want};
+ghost use Rattle.kexec_main.specs.Answers.{answer_of, memory};
+ghost use Rattle.kexec_main.specs.Boot.{HasMode, RunsLoaded};
 ghost use Rattle.page_memory.specs.Contents.{at};
 ghost use Rattle.page_memory.specs.Memory.{Agree};
 ghost use Rattle.list_checker.specs.Checked.{as_pair};
@@ -9,11 +14,13 @@ ghost use Rattle.load_states.specs.Exchange.{exchange};
 ghost use Rattle.kexec_main.specs.Texts.{load_lines, ran_line};
 ghost use Rattle.kexec_main.specs.Runs.{after_runs, run_text};
 
+use crate::loading::accept;
+use crate::status::Status;
 use crate::text::{load_lines, push_ran_line};
 use kexec_words::Runs;
 use kx_pages::{Image, Start};
 use list_checker::Accept;
-use load_states::{AcceptedKept, AcceptedPlain, RanKept};
+use load_states::{Accepted, AcceptedKept, AcceptedPlain, Loaded, RanKept};
 use page_memory::Memory;
 use std::alloc::{AllocError, Global};
 
@@ -96,5 +103,24 @@ pub(crate) fn run_kept(
             let memory = run_back(alloc, ran, &mut text)?;
             Ok(Ran { memory, text })
         }
+    }
+}
+
+/// Accepts a load whose list is accepted, and runs it.
+pub(crate) fn run_loaded(
+    alloc: Global,
+    loaded: Loaded,
+    runs: Option<Runs>,
+    start: &Start,
+) -> Result<Ran, Status>
+    requires accepted { (is : List Item) × IsAccepted (at loaded.memory) (want loaded.segments) loaded.image.head loaded.image.control (swap_page loaded.image.mode) is }
+    requires mode { HasMode runs loaded.image.mode }
+    ensures ran { IfOk result (λ r. RunsLoaded runs loaded start.now (at r.memory) (string_bytes r.text)) }
+    ensures memory { IfErr result (λ s. answer_of s ≡ memory) }
+{
+    match (accept(alloc, loaded)?, runs) {
+        (Accepted::Plain(plain), None) => Ok(run_plain(alloc, plain, start)?),
+        (Accepted::Kept(kept), Some(runs)) => Ok(run_kept(alloc, kept, runs, start)?),
+        _ => unreachable!(),
     }
 }

@@ -1,7 +1,7 @@
 //! Files are taken in their turn, measured, and read.
 
 ghost use Rattle.std.specs.Prelude.{◌≡◌, ◌<◌, ◌≤◌, ◌∷◌, [], ℕ, length, false, map, option_map, string_bytes, IfOk};
-ghost use Rattle.kexec_main.specs.Files.{Takes, measured, memory_file, pool_file, left_after, input_files, as_list};
+ghost use Rattle.kexec_main.specs.Files.{Takes, measured, memory_file, pool_file, map_file, map_given, left_after, input_files, as_list};
 ghost use Rattle.kexec_main.specs.Values.{inputs_of};
 ghost use Rattle.kexec_words.specs.Values.{inputs_value};
 ghost use Rattle.kexec_words.specs.Meaning.{files_of};
@@ -9,6 +9,7 @@ ghost use Rattle.page_pool.specs.Pages.{is_filed};
 
 use crate::status::{InputFault, Status};
 use kx_edge::{Shelf, ShelfFault};
+use memory_map::{Map, MapFault};
 use kexec_words::Inputs;
 use page_memory::{MemFault, Memory};
 use page_pool::{Pool, PoolFault};
@@ -82,6 +83,38 @@ pub(crate) fn take_pool<S: Shelf>(
     }
 }
 
+// Takes a memory map and reads it.
+fn take_map_file<S: Shelf>(
+    alloc: Global,
+    name: String,
+    shelf: &mut S,
+) -> Result<Map, Status>
+    ensures { Takes (λ m. m) (string_bytes name ∷ []) (map_file (string_bytes name)) (S.files shelf.old) (S.files shelf.new) (S.faults shelf.old) (S.faults shelf.new) result }
+{
+    let bytes = take_file(alloc, name, TEXT_LIMIT, shelf)?;
+    match Map::read(alloc, &bytes) {
+        Ok(map) => Ok(map),
+        Err(MapFault::Memory) => Err(Status::Memory),
+        Err(fault) => Err(Status::Input {
+            fault: InputFault::Map { fault },
+        }),
+    }
+}
+
+/// Takes the memory map, where one is given, and reads it.
+pub(crate) fn take_map<S: Shelf>(
+    alloc: Global,
+    name: Option<String>,
+    shelf: &mut S,
+) -> Result<Option<Map>, Status>
+    ensures { Takes (λ m. m) (as_list (option_map string_bytes name)) (map_given (option_map string_bytes name)) (S.files shelf.old) (S.files shelf.new) (S.faults shelf.old) (S.faults shelf.new) result }
+{
+    match name {
+        Some(name) => Ok(Some(take_map_file(alloc, name, shelf)?)),
+        None => Ok(None),
+    }
+}
+
 /// Takes files that may have so many bytes together, and answers how many are left.
 pub(crate) fn measure_all<S: Shelf>(
     alloc: Global,
@@ -105,6 +138,7 @@ pub(crate) fn measure_all<S: Shelf>(
 pub(crate) struct Taken {
     pub(crate) memory: Memory,
     pub(crate) pool: Pool,
+    pub(crate) map: Option<Map>,
     pub(crate) kernel: Vec<u8>,
 }
 
@@ -127,10 +161,12 @@ pub(crate) fn take_inputs<S: Shelf>(
 ) -> Result<Taken, Status>
     ensures takes { Takes inputs_of (files_of (inputs_value inputs)) (input_files (inputs_value inputs)) (S.files shelf.old) (S.files shelf.new) (S.faults shelf.old) (S.faults shelf.new) result }
     ensures unfiled { IfOk result (λ t. (q : ℕ) → is_filed t.pool q ≡ false) }
+    ensures within { IfOk result (λ t. length t.kernel.items ≤ 268435456) }
 {
     let Inputs {
         memory,
         pool,
+        map,
         kernel,
         initrd,
         modules,
@@ -138,6 +174,7 @@ pub(crate) fn take_inputs<S: Shelf>(
     } = inputs;
     let memory = take_memory(alloc, memory, shelf)?;
     let pool = take_pool(alloc, pool, shelf)?;
+    let map = take_map(alloc, map, shelf)?;
     let kernel = take_file(alloc, kernel, KERNEL_LIMIT, shelf)?;
     let initrd = as_list(alloc, initrd)?;
     let left = measure_all(alloc, initrd, KERNEL_LIMIT - kernel.len(), shelf)?;
@@ -145,6 +182,7 @@ pub(crate) fn take_inputs<S: Shelf>(
     Ok(Taken {
         memory,
         pool,
+        map,
         kernel,
     })
 }
