@@ -1,5 +1,5 @@
 -- What `boot` and `load` make of what they read, for raw kernels.
-use Rattle.std.specs.Prelude.{◌≡◌, ℕ, ◌≤◌, List, [], ◌∷◌, length, false, Option, Some, None, Result, Ok, Err}
+use Rattle.std.specs.Prelude.{◌≡◌, ℕ, ◌≤◌, List, [], ◌∷◌, length, Bool, true, false, cond, Option, Some, None, Result, Ok, Err}
 use Rattle.kx_pages.specs.declared.image.Start.{Start}
 use Rattle.kx_pages.specs.declared.image.Wish.{Wish}
 use Rattle.kx_pages.specs.declared.image.Wish.TheVariants.{Plain, Kept}
@@ -19,8 +19,10 @@ use Rattle.kexec_main.specs.Answers.{Answer, Goods, answer_of, plan, no_pages, h
 use Rattle.kexec_main.specs.declared.status.Status.{Status}
 use Rattle.kexec_main.specs.Files.{Inputs}
 use Rattle.kexec_main.specs.Makes.{IsFileOf, IsOneFile, IsTooHeavy}
-use Rattle.kexec_main.specs.Loads.{raw_segment, IsRefusal, LoadsNot}
+use Rattle.kexec_main.specs.Loads.{raw_segment, unused_part, wish_of, IsRefusal, LoadsNot}
 use Rattle.kexec_main.specs.Runs.{after_runs, list_text, run_text}
+use Rattle.kexec_main.specs.Texts.{load_lines}
+use Rattle.kexec_words.specs.Values.{BootValue, LoadValue}
 
 -- the mode of the list for these runs
 abbrev pub HasMode : Option Runs → Mode → Type 0
@@ -70,6 +72,17 @@ boots_segments ss entry runs wish out i (Ok goods) =
 boots_segments ss entry runs wish out i (Err (heavy count)) = (c : Checked) × IsLoaded wish ss i c × IsTooHeavy (after_runs runs c) count
 boots_segments ss entry runs wish out i (Err other) = RefusesLoad wish ss i other
 
+-- what is said of a load, by what is told of its accepted list
+abbrev pub IsToldText : Load → Start → List ℕ → Type 0
+IsToldText load start text =
+    (words : ℕ) × (links : ℕ) × (qs : List (ℕ × ℕ)) × Told load words links qs × (text ≡ load_lines words links (length qs) load.image start)
+
+-- a part that the kernel has no use for is refused
+abbrev pub IsUnused : Option UnusedPart → Result (Unit {0}) Status → Type 0
+IsUnused unused (Ok x) = unused ≡ None
+IsUnused None (Err status) = ⊥
+IsUnused (Some part) (Err status) = answer_of status ≡ plan (plans.Unused part)
+
 -- a part that the kernel has no use for refuses first
 abbrev pub or_unused : Option UnusedPart → (Result Goods Answer → Type 0) → Result Goods Answer → Type 0
 or_unused None makes r = makes r
@@ -88,3 +101,11 @@ loads_segments ss entry wish out load_record i (Ok goods) =
     × (goods.outputs ≡ (out, bytes) ∷ (load_record, record_file (record_of_load c.load (start_at entry))) ∷ [])
 loads_segments ss entry wish out load_record i (Err (heavy count)) = (c : Checked) × IsLoaded wish ss i c × IsTooHeavy (at c.load.memory) count
 loads_segments ss entry wish out load_record i (Err other) = RefusesLoad wish ss i other
+
+-- what `boot` makes of a raw kernel that goes to this address and is entered at that one
+abbrev pub boots : ℕ → ℕ → BootValue → Inputs → Result Goods Answer → Type 0
+boots address entry b i r = or_unused (unused_part b.inputs) (boots_segments (raw_segment address i.kernel ∷ []) entry b.kept (wish_of b.kept) b.out i) r
+
+-- what `load` makes of it
+abbrev pub loads : ℕ → ℕ → LoadValue → Inputs → Result Goods Answer → Type 0
+loads address entry l i r = or_unused (unused_part l.inputs) (loads_segments (raw_segment address i.kernel ∷ []) entry (cond l.kept Kept Plain) l.out l.load_record i) r

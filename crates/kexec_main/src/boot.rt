@@ -1,27 +1,36 @@
 //! `boot` and `load` of raw kernels.
 
-ghost use Rattle.std.specs.Prelude.{◌≡◌, ◌≤◌, ◌∷◌, [], ℕ, length, false, string_bytes, IfOk};
+ghost use Rattle.std.specs.Prelude.{◌≡◌, ◌≤◌, ◌∷◌, [], ℕ, List, length, false, string_bytes, IfOk, IfErr};
+ghost use Rattle.kx_pages.specs.declared.item.Item.{Item};
+ghost use Rattle.list_checker.specs.Walk.{IsAccepted, swap_page};
+ghost use Rattle.segments.specs.Parts.{want};
+ghost use Rattle.page_memory.specs.Contents.{at};
+ghost use Rattle.load_record.specs.File.{record_file};
 ghost use Rattle.page_pool.specs.Pages.{is_filed};
-ghost use Rattle.kexec_words.specs.Values.{boot_value, inputs_value, load_value};
+ghost use Rattle.kexec_words.specs.Values.{boot_value, load_value};
 ghost use Rattle.kexec_words.specs.Meaning.{files_of};
-ghost use Rattle.kexec_main.specs.Answers.{Meets, ended};
-ghost use Rattle.kexec_main.specs.Boot.{LoadsRaw, boots_segments, loads_segments, or_unused, start_at};
+ghost use Rattle.kexec_main.specs.Answers.{Meets, answer_of, ended, memory};
+ghost use Rattle.kexec_main.specs.Boot.{IsToldText, IsUnused, LoadsRaw, boots, boots_segments, loads, loads_segments, record_of_load, start_at};
 ghost use Rattle.kexec_main.specs.Files.{input_files};
-ghost use Rattle.kexec_main.specs.Loads.{raw_segment, unused_part, wish_of};
+ghost use Rattle.kexec_main.specs.Loads.{raw_segment, wish_of};
 ghost use Rattle.kexec_main.specs.Makes.{Makes};
-ghost use Rattle.kexec_main.specs.Values.{inputs_of};
+ghost use Rattle.kexec_main.specs.Values.{inputs_of, output_of};
 
-use crate::deliver::{Goods, deliver};
+use crate::deliver::{Goods, Output, deliver};
 use crate::loading::{load, plan, unused_part};
 use crate::output::memory_output;
 use crate::running::run_loaded;
 use crate::status::{Part, PlanFault, Status};
 use crate::take::{Taken, take_inputs};
-use kexec_words::{Inputs, Runs};
+use crate::text::load_lines;
+use kexec_words::{Boot, Load, Runs};
 use kx_edge::{Shelf, Sink};
 use kx_pages::{Start, Wish};
+use list_checker::{CheckFault, check};
+use load_record::LoadRecord;
 use load_states::Loaded;
-use std::alloc::Global;
+use page_memory::Memory;
+use std::alloc::{AllocError, Global};
 
 /// Where a raw kernel goes, and where it is entered.
 #[derive(Clone, Copy, Debug, PartialEq, Eq)]
@@ -88,4 +97,142 @@ fn boot_raw(
         text: ran.text,
         fault: None,
     })
+}
+
+// What is said of a load whose list is accepted.
+fn loaded_text(alloc: Global, loaded: &Loaded, start: &Start) -> Result<String, Status>
+    requires { (is : List Item) × IsAccepted (at loaded.now.memory) (want loaded.now.segments) loaded.now.image.head loaded.now.image.control (swap_page loaded.now.image.mode) is }
+    ensures text { IfOk result (λ s. IsToldText loaded.now start.now (string_bytes s)) }
+    ensures memory { IfErr result (λ s. answer_of s ≡ memory) }
+{
+    let image = loaded.image();
+    match check(alloc, loaded.memory(), &image, loaded.segments()) {
+        Ok(accept) => Ok(load_lines(
+            alloc,
+            accept.words,
+            accept.links,
+            accept.pairs.len() as u64,
+            &image,
+            start,
+        )?),
+        Err(CheckFault::Memory) => Err(Status::Memory),
+        Err(CheckFault::List { .. }) => unreachable!(),
+    }
+}
+
+// The record of a load, as a file of this name, and the memory that it was of.
+fn record_output(
+    alloc: Global,
+    loaded: Loaded,
+    start: Start,
+    name: String,
+) -> Result<(Memory, Output), AllocError>
+    ensures memory { IfOk result (λ r. r.0 ≡ loaded.memory) }
+    ensures record { IfOk result (λ r. output_of r.1 ≡ (string_bytes name, record_file (record_of_load loaded start))) }
+{
+    let (memory, _, image, segments) = loaded.parts();
+    let record = LoadRecord {
+        crash: false,
+        image,
+        start,
+        regions: 0,
+        digest: 0,
+        segments,
+    };
+    let bytes = record.write(alloc)?;
+    Ok((memory, Output { name, bytes }))
+}
+
+// Loads a raw kernel, and makes the file of the memory after the load and its record.
+fn load_goods(
+    alloc: Global,
+    taken: Taken,
+    raw: Raw,
+    wish: Wish,
+    out: String,
+    load_record: String,
+) -> Result<Goods, Status>
+    requires unfiled { (q : ℕ) → is_filed taken.pool q ≡ false }
+    requires within { length taken.kernel.items ≤ 268435456 }
+    ensures { Makes (loads_segments (raw_segment raw.at taken.kernel.items ∷ []) raw.entry wish (string_bytes out) (string_bytes load_record)) (inputs_of taken) result }
+{
+    let loaded = load_raw(alloc, taken, raw.at, wish)?;
+    let start = start_at(raw.entry);
+    let text = loaded_text(alloc, &loaded, &start)?;
+    let (memory, record) = record_output(alloc, loaded, start, load_record)?;
+    let mut outputs = memory_output(alloc, &memory, out)?;
+    outputs.push(record)?;
+    Ok(Goods {
+        outputs,
+        text,
+        fault: None,
+    })
+}
+
+// Refuses a part that a raw kernel has no use for.
+fn refuse_unused(unused: Option<Part>) -> Result<(), Status>
+    ensures { IsUnused unused result }
+{
+    match unused {
+        Some(part) => Err(Status::Plan {
+            fault: PlanFault::Unused { part },
+        }),
+        None => Ok(()),
+    }
+}
+
+/// Loads a raw kernel and runs it: takes the files, does the work in memory, puts the memory after the last run and
+/// says how it went.
+pub(crate) fn boot<S: Shelf, O: Sink>(
+    alloc: Global,
+    boot: Boot,
+    raw: Raw,
+    shelf: &mut S,
+    out: &mut O,
+) -> Result<(), Status>
+    ensures { Meets (files_of (boot_value boot).inputs) (input_files (boot_value boot).inputs) (boots raw.at raw.entry (boot_value boot))
+        (record { files = S.files shelf.old; shelf_faults = S.faults shelf.old; said = O.said out.old; sink_faults = O.faults out.old })
+        (record { files = S.files shelf.new; shelf_faults = S.faults shelf.new; said = O.said out.new; sink_faults = O.faults out.new })
+        (ended result) }
+{
+    let Boot {
+        inputs,
+        out: name,
+        kept,
+        ..
+    } = boot;
+    let unused = unused_part(&inputs);
+    let taken = take_inputs(alloc, inputs, shelf)?;
+    refuse_unused(unused)?;
+    let goods = boot_raw(alloc, taken, raw, kept, name)?;
+    deliver(goods, shelf, out)
+}
+
+/// Loads a raw kernel: takes the files, does the work in memory, puts the memory after the load and its record, and
+/// says how it went.
+pub(crate) fn load_command<S: Shelf, O: Sink>(
+    alloc: Global,
+    words: Load,
+    raw: Raw,
+    shelf: &mut S,
+    out: &mut O,
+) -> Result<(), Status>
+    ensures { Meets (files_of (load_value words).inputs) (input_files (load_value words).inputs) (loads raw.at raw.entry (load_value words))
+        (record { files = S.files shelf.old; shelf_faults = S.faults shelf.old; said = O.said out.old; sink_faults = O.faults out.old })
+        (record { files = S.files shelf.new; shelf_faults = S.faults shelf.new; said = O.said out.new; sink_faults = O.faults out.new })
+        (ended result) }
+{
+    let Load {
+        inputs,
+        out: name,
+        load_record,
+        kept,
+        ..
+    } = words;
+    let wish = if kept { Wish::Kept } else { Wish::Plain };
+    let unused = unused_part(&inputs);
+    let taken = take_inputs(alloc, inputs, shelf)?;
+    refuse_unused(unused)?;
+    let goods = load_goods(alloc, taken, raw, wish, name, load_record)?;
+    deliver(goods, shelf, out)
 }
