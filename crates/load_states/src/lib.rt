@@ -7,6 +7,8 @@
 #![tactic(auto)]
 
 mod accepted;
+#[cfg(test)]
+mod fill_tests;
 mod filling;
 mod hold;
 pub mod load_laws;
