@@ -3,3 +3,4 @@ pub mod Exchange
 pub mod Bridge
 pub mod Holding
 pub mod Ready
+pub mod Laying

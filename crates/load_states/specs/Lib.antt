@@ -2,3 +2,4 @@ pub mod Exchange
 pub mod States
 pub mod Ready
 pub mod Answers
+pub mod Laying

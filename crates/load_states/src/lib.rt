@@ -7,7 +7,9 @@
 #![tactic(auto)]
 
 mod accepted;
+mod crash;
 mod hold;
+mod lay;
 mod loaded;
 mod ran;
 mod run;
@@ -15,5 +17,6 @@ mod run;
 mod tests;
 
 pub use accepted::{Accepted, AcceptedKept, AcceptedPlain};
+pub use crash::{AcceptedCrash, CrashLoaded, load_crash};
 pub use loaded::{Loaded, NotAccepted};
 pub use ran::{Back, RanKept, RanPlain};
