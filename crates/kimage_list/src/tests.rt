@@ -18,6 +18,9 @@ fn pool_of(alloc: Global, numbers: &[u64]) -> Result<Pool, Fail>
     for n in numbers {
         list.push(Page::new(*n).ok_or("a page")?)?;
     }
+    if list.len() > 262144 {
+        return Err("at most 262,144 pages".into());
+    }
     match Pool::new(alloc, list) {
         Ok(pool) => Ok(pool),
         Err(_) => Err("a pool".into()),

@@ -14,7 +14,7 @@ use Rattle.list_checker.specs.Walk.{Reads, Walk, links, DestinationFirst, pairs_
 use Rattle.list_checker.specs.Faults.{Earlier, nothing_earlier, with_item, following, are_wanted, is_swap, is_kept, reasons, swap_meets_control, Faultless}
 use Rattle.list_checker.specs.Laws.{AcceptedWith, CheckExact}
 use Rattle.segments.specs.Elements.{Each-map, Each-both, Each-at, Each-from_Has, Each-append, Each-left, Each-right, Each-from_has_not, has_not-from_Each, Has-from_has, has-from_Has}
-use Rattle.list_checker.proofs.Lists.{not_false, none_holds, none_first, equal-same_bytes, brought, over, under, distinct-snoc, distinct-split, unspoiled-snoc, unspoiled-split}
+use Rattle.list_checker.proofs.Lists.{not_false, none_holds, none_first, equal-same_bytes, wanted_bytes, over, under, Distinct-push, Distinct-split, InOrder-push, InOrder-split}
 use Rattle.list_checker.proofs.Kept.{Keeps, keeps_none, keeps_link, keeps_pair, link_keeps, pair_keeps}
 
 pub decoded : (w : ℕ) (i : Item) → decode w ≡ Some i → w ≡ code i
@@ -48,7 +48,7 @@ module _ (M : Mem) (W : Wants) (all : List ℕ) (control : ℕ) (swap : Option �
   fine_link : (ls : List ℕ) (qs : List (ℕ × ℕ)) (p : ℕ) → Fine M W control swap ls qs → has p ls ≡ false → (has p (destinations qs) || (is_kept swap && has p (sources qs))) ≡ false → eqb p control ≡ false → is_swap swap p ≡ false
       → Fine M W control swap (ls ++ p ∷ []) qs
   fine_link ls qs p f a b c d = let m = or_parts (has p (destinations qs)) ((is_kept swap && has p (sources qs))) b in record {
-    once = distinct-snoc ls p f.once (Each-from_has_not p ls a);
+    once = Distinct-push ls p f.once (Each-from_has_not p ls a);
     in_order = f.in_order;
     right_bytes = f.right_bytes;
     stays = Each-both qs (λ q s n. Each-append (λ l. q.0 ≢ l) ls (p ∷ []) s (n, tt)) f.stays (over (λ x. x ≢ p) qs (Each-from_has_not p (destinations qs) m.0));
@@ -65,8 +65,8 @@ module _ (M : Mem) (W : Wants) (all : List ℕ) (control : ℕ) (swap : Option �
       let u : Each (λ q. (q.0 ≢ t) × (q.0 ≢ p)) qs = Each-both qs (λ q x y. (x, y)) (over (λ x. x ≢ t) qs (Each-from_has_not t (destinations qs) a)) (over (λ x. x ≢ p) qs (Each-from_has_not p (destinations qs) b)) in
       record {
         once = f.once;
-        in_order = unspoiled-snoc qs (t, p) f.in_order u;
-        right_bytes = Each-append (λ q. W q.0 ≡ Some (M q.1)) qs ((t, p) ∷ []) f.right_bytes (brought (W t) (M p) e, tt);
+        in_order = InOrder-push qs (t, p) f.in_order u;
+        right_bytes = Each-append (λ q. W q.0 ≡ Some (M q.1)) qs ((t, p) ∷ []) f.right_bytes (wanted_bytes (W t) (M p) e, tt);
         stays = Each-append (λ q. Each (λ l. q.0 ≢ l) ls) qs ((t, p) ∷ []) f.stays (Each-map ls (λ l x y. x (sym y)) (Each-from_has_not t ls m.0), tt);
         links_apart = f.links_apart;
         pairs_apart = Each-append (λ q. (q.0 ≢ control) × (q.1 ≢ control)) qs ((t, p) ∷ []) f.pairs_apart ((eqb-false t control n.0, eqb-false p control n.1), tt);
@@ -229,12 +229,12 @@ module _ (M : Mem) (W : Wants) (all : List ℕ) (control : ℕ) (swap : Option �
   link_fits ls qs p ys rs l f place o z =
       let k = link_keeps swap ls qs p ys rs f.keeps in
       let first : has p (destinations qs) ≡ false = has_not-from_Each p (destinations qs) (under (λ x. x ≢ p) qs (Each-map qs (λ q s. (Each-right (λ l. q.0 ≢ l) ls (p ∷ ys) s).0) (Each-left (λ q. Each (λ l. q.0 ≢ l) (ls ++ p ∷ ys)) qs rs f.stays))) in
-      (in_limit p l, (has_not-from_Each p ls (distinct-split ls p ys f.once), (rw first k.0, (ne_eqb p control (Each-right (λ l. l ≢ control) ls (p ∷ ys) f.links_apart).0, (rw k.1 z, tt)))))
+      (in_limit p l, (has_not-from_Each p ls (Distinct-split ls p ys f.once), (rw first k.0, (ne_eqb p control (Each-right (λ l. l ≢ control) ls (p ∷ ys) f.links_apart).0, (rw k.1 z, tt)))))
 
   source_fits : (ls : List ℕ) (qs : List (ℕ × ℕ)) (u p : ℕ) (ys : List ℕ) (rs : List (ℕ × ℕ)) (a : ℕ) → p < 2 ^ 34 → a % 4096 < 4088 → Fine M W control swap (ls ++ ys) (qs ++ (u, p) ∷ rs) → Each (λ r. r.0 ≡ false) (reasons M W all control swap (Some a) (so_far ls qs (Some u)) (Source p))
   source_fits ls qs u p ys rs a l m f =
       let b : W u ≡ Some (M p) = (Each-right (λ q. W q.0 ≡ Some (M q.1)) qs ((u, p) ∷ rs) f.right_bytes).0 in
-      let s = unspoiled-split qs (u, p) rs f.in_order in
+      let s = InOrder-split qs (u, p) rs f.in_order in
       let stay : Each (λ l. u ≢ l) ls = Each-left (λ l. u ≢ l) ls ys (Each-right (λ q. Each (λ l. q.0 ≢ l) (ls ++ ys)) qs ((u, p) ∷ rs) f.stays).0 in
       let c : (u ≢ control) × (p ≢ control) = (Each-right (λ q. (q.0 ≢ control) × (q.1 ≢ control)) qs ((u, p) ∷ rs) f.pairs_apart).0 in
       let ne : (eqb u control || eqb p control) ≡ false = rw (ne_eqb u control c.0) (ne_eqb p control c.1) in

@@ -15,7 +15,7 @@ use Rattle.list_checker.specs.Faults.{first_of, are_wanted}
 use Rattle.list_checker.specs.Laws.{ListsWanted}
 use Rattle.list_checker.specs.Crash.{AcceptedCrash, crash_reason, crash_reasons, lacks}
 use Rattle.segments.specs.Elements.{Each-at, Each-from_Has}
-use Rattle.list_checker.proofs.Lists.{none_holds, none_first, not_false, brought, equal-same_bytes}
+use Rattle.list_checker.proofs.Lists.{none_holds, none_first, not_false, wanted_bytes, equal-same_bytes}
 use Rattle.segments.specs.Laws.{some_same}
 use Rattle.list_checker.proofs.Checking.{decoded}
 
@@ -53,7 +53,7 @@ module _ (M : Mem) (W : Wants) where
           let right = Each-right all (none_holds (crash_reasons M W all (Done p)) r) in
           record {
             done = done_word p head (decoded head (Done p) e);
-            there = λ q b w. some_same (M q) b (sym (brought (W q) (M q) (Each-at Right all q right (l.whole q b w))) ∙ w);
+            there = λ q b w. some_same (M q) b (sym (wanted_bytes (W q) (M q) (Each-at Right all q right (l.whole q b w))) ∙ w);
           }
 
   done_decoded : (w : ℕ) → w % 4096 ≡ 4 → (p : ℕ) × (decode w ≡ Some (Done p))

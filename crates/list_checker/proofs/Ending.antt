@@ -16,7 +16,7 @@ use Rattle.list_checker.specs.Faults.{Earlier, nothing_earlier, with_item, with_
 use Rattle.list_checker.specs.Laws.{CheckEnds}
 use Rattle.segments.specs.Elements.{Each-append, Each-from_has_not}
 use Rattle.segments.specs.Laws.{some_same}
-use Rattle.list_checker.proofs.Lists.{none_holds, distinct-snoc}
+use Rattle.list_checker.proofs.Lists.{none_holds, Distinct-push}
 use Rattle.list_checker.proofs.Checking.{check_exact}
 use Rattle.list_checker.proofs.OneWay.{not_both_by}
 
@@ -55,7 +55,7 @@ pub linked_none : Linked []
 linked_none = record { once = tt; below = tt }
 
 pub linked_more : (ls : List ℕ) (p : ℕ) → Linked ls → Each (λ x. x ≢ p) ls → p < 2 ^ 34 → Linked (ls ++ p ∷ [])
-linked_more ls p k n l = record { once = distinct-snoc ls p k.once n; below = Each-append (λ x. x < 2 ^ 34) ls (p ∷ []) k.below (l, tt) }
+linked_more ls p k n l = record { once = Distinct-push ls p k.once n; below = Each-append (λ x. x < 2 ^ 34) ls (p ∷ []) k.below (l, tt) }
 
 pub few_links : (ls : List ℕ) → Linked ls → length ls ≤ 2 ^ 34
 few_links ls k = room (2 ^ 34) ls k.once k.below

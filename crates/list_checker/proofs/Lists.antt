@@ -36,9 +36,9 @@ pub equal-same_bytes : (xs : List ℕ) → same_bytes xs xs ≡ true
 equal-same_bytes [] = refl
 equal-same_bytes (x ∷ xs) = rw (eq-eqb x x refl) (equal-same_bytes xs)
 
-pub brought : (o : Option (List ℕ)) (c : List ℕ) → are_wanted o c ≡ true → o ≡ Some c
-brought None c e = absurd (false≢true e)
-brought (Some b) c e = ap Some (same_bytes-equal b c e)
+pub wanted_bytes : (o : Option (List ℕ)) (c : List ℕ) → are_wanted o c ≡ true → o ≡ Some c
+wanted_bytes None c e = absurd (false≢true e)
+wanted_bytes (Some b) c e = ap Some (same_bytes-equal b c e)
 
 pub over : (P : ℕ → Type 0) (qs : List (ℕ × ℕ)) → Each P (destinations qs) → Each (λ q. P q.0) qs
 over P [] h = tt
@@ -56,18 +56,18 @@ pub under_sources : (P : ℕ → Type 0) (qs : List (ℕ × ℕ)) → Each (λ q
 under_sources P [] h = tt
 under_sources P (q ∷ qs) h = (h.0, under_sources P qs h.1)
 
-pub distinct-snoc : (xs : List ℕ) (p : ℕ) → Distinct xs → Each (λ x. x ≢ p) xs → Distinct (xs ++ p ∷ [])
-distinct-snoc [] p d h = (tt, tt)
-distinct-snoc (x ∷ xs) p d h = (Each-append (λ y. x ≢ y) xs (p ∷ []) d.0 (h.0, tt), distinct-snoc xs p d.1 h.1)
+pub Distinct-push : (xs : List ℕ) (p : ℕ) → Distinct xs → Each (λ x. x ≢ p) xs → Distinct (xs ++ p ∷ [])
+Distinct-push [] p d h = (tt, tt)
+Distinct-push (x ∷ xs) p d h = (Each-append (λ y. x ≢ y) xs (p ∷ []) d.0 (h.0, tt), Distinct-push xs p d.1 h.1)
 
-pub distinct-split : (xs : List ℕ) (p : ℕ) (ys : List ℕ) → Distinct (xs ++ p ∷ ys) → Each (λ x. x ≢ p) xs
-distinct-split [] p ys d = tt
-distinct-split (x ∷ xs) p ys d = ((Each-right (λ y. x ≢ y) xs (p ∷ ys) d.0).0, distinct-split xs p ys d.1)
+pub Distinct-split : (xs : List ℕ) (p : ℕ) (ys : List ℕ) → Distinct (xs ++ p ∷ ys) → Each (λ x. x ≢ p) xs
+Distinct-split [] p ys d = tt
+Distinct-split (x ∷ xs) p ys d = ((Each-right (λ y. x ≢ y) xs (p ∷ ys) d.0).0, Distinct-split xs p ys d.1)
 
-pub unspoiled-snoc : (qs : List (ℕ × ℕ)) (r : ℕ × ℕ) → InOrder qs → Each (λ q. (q.0 ≢ r.0) × (q.0 ≢ r.1)) qs → InOrder (qs ++ r ∷ [])
-unspoiled-snoc [] r d h = (tt, tt)
-unspoiled-snoc (q ∷ qs) r d h = (Each-append (λ s. (q.0 ≢ s.0) × (q.0 ≢ s.1)) qs (r ∷ []) d.0 (h.0, tt), unspoiled-snoc qs r d.1 h.1)
+pub InOrder-push : (qs : List (ℕ × ℕ)) (r : ℕ × ℕ) → InOrder qs → Each (λ q. (q.0 ≢ r.0) × (q.0 ≢ r.1)) qs → InOrder (qs ++ r ∷ [])
+InOrder-push [] r d h = (tt, tt)
+InOrder-push (q ∷ qs) r d h = (Each-append (λ s. (q.0 ≢ s.0) × (q.0 ≢ s.1)) qs (r ∷ []) d.0 (h.0, tt), InOrder-push qs r d.1 h.1)
 
-pub unspoiled-split : (qs : List (ℕ × ℕ)) (r : ℕ × ℕ) (rs : List (ℕ × ℕ)) → InOrder (qs ++ r ∷ rs) → Each (λ q. (q.0 ≢ r.0) × (q.0 ≢ r.1)) qs
-unspoiled-split [] r rs d = tt
-unspoiled-split (q ∷ qs) r rs d = ((Each-right (λ s. (q.0 ≢ s.0) × (q.0 ≢ s.1)) qs (r ∷ rs) d.0).0, unspoiled-split qs r rs d.1)
+pub InOrder-split : (qs : List (ℕ × ℕ)) (r : ℕ × ℕ) (rs : List (ℕ × ℕ)) → InOrder (qs ++ r ∷ rs) → Each (λ q. (q.0 ≢ r.0) × (q.0 ≢ r.1)) qs
+InOrder-split [] r rs d = tt
+InOrder-split (q ∷ qs) r rs d = ((Each-right (λ s. (q.0 ≢ s.0) × (q.0 ≢ s.1)) qs (r ∷ rs) d.0).0, InOrder-split qs r rs d.1)

@@ -11,7 +11,7 @@ use Rattle.list_checker.specs.Walk.{Reads, Walk, links}
 use Rattle.kx_pages.specs.Lists.{Distinct}
 use Rattle.list_checker.specs.Faults.{Reasons, Earlier, nothing_earlier, with_item, with_pair, following, why_by, walk_reasons, FaultyBy, FaultlessBy}
 use Rattle.segments.specs.Laws.{some_same}
-use Rattle.list_checker.proofs.Lists.{none_first, distinct-split}
+use Rattle.list_checker.proofs.Lists.{none_first, Distinct-split}
 use Rattle.segments.specs.Elements.{has_not-from_Each}
 use Rattle.list_checker.proofs.Checking.{decode-code}
 
@@ -42,7 +42,7 @@ module _ (M : Mem) where
   read_as a i e = ap decode e ∙ decode-code i
 
   link_clear : (place : Option ℕ) (s : Earlier) (p : ℕ) (js : List Item) → p < 2 ^ 34 → Distinct (s.links ++ p ∷ links js) → why_by walk_reasons place s (Some (Link p)) ≡ None
-  link_clear place s p js l d = none_first (walk_reasons place s (Link p)) (in_limit p l, (has_not-from_Each p s.links (distinct-split s.links p (links js) d), tt))
+  link_clear place s p js l d = none_first (walk_reasons place s (Link p)) (in_limit p l, (has_not-from_Each p s.links (Distinct-split s.links p (links js) d), tt))
 
   clear : (is : List Item) (a : ℕ) (s : Earlier) → Reads M a is → Distinct (s.links ++ links is) → Ends (Some a) s (word M a)
   clear [] a s r d = absurd r

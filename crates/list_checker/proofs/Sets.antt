@@ -20,9 +20,9 @@ or_right : (a b c : Bool) → (a || (b || c)) ≡ ((a || b) || c)
 or_right true b c = refl
 or_right false b c = refl
 
-pub has-snoc : (q k : ℕ) (xs : List ℕ) → has q (xs ++ k ∷ []) ≡ (has q xs || eqb k q)
-has-snoc q k [] = or_last false (eqb k q)
-has-snoc q k (x ∷ xs) = ap (λ b. eqb x q || b) (has-snoc q k xs) ∙ or_right (eqb x q) (has q xs) (eqb k q)
+pub has-push : (q k : ℕ) (xs : List ℕ) → has q (xs ++ k ∷ []) ≡ (has q xs || eqb k q)
+has-push q k [] = or_last false (eqb k q)
+has-push q k (x ∷ xs) = ap (λ b. eqb x q || b) (has-push q k xs) ∙ or_right (eqb x q) (has q xs) (eqb k q)
 
 or_true : (b : Bool) → true ≡ (b || true)
 or_true true = refl
@@ -40,9 +40,9 @@ not_equal Greater h = refl
 -- a key that was inserted is at the end of the list that the set shows
 pub inserted : (o n : BTreeSet ℕ) (k : ℕ) (xs : List ℕ) → Updates nat_cmp o n k true → ((q : ℕ) → contains nat_cmp o q ≡ has q xs) → (q : ℕ) → contains nat_cmp n q ≡ has q (xs ++ k ∷ [])
 inserted o n k xs u h q = ⊎_elim
-    (λ e. subst (λ p. contains nat_cmp n p ≡ (has p xs || eqb k p)) e (u.1 ∙ or_true (has k xs) ∙ ap (λ b. has k xs || b) (sym (eq-eqb k k refl))) ∙ sym (has-snoc q k xs))
-    (λ e. u.2 q (not_equal (nat_cmp k q) (λ z. e (nat_cmp-IsAntisymmetric k q z))) ∙ h q ∙ or_false (has q xs) ∙ ap (λ b. has q xs || b) (sym (ne_eqb k q e)) ∙ sym (has-snoc q k xs))
+    (λ e. subst (λ p. contains nat_cmp n p ≡ (has p xs || eqb k p)) e (u.1 ∙ or_true (has k xs) ∙ ap (λ b. has k xs || b) (sym (eq-eqb k k refl))) ∙ sym (has-push q k xs))
+    (λ e. u.2 q (not_equal (nat_cmp k q) (λ z. e (nat_cmp-IsAntisymmetric k q z))) ∙ h q ∙ or_false (has q xs) ∙ ap (λ b. has q xs || b) (sym (ne_eqb k q e)) ∙ sym (has-push q k xs))
     (cases_eq k q)
 
-pub map-snoc : {X Y : Type 0} (f : X → Y) (xs : List X) (x : X) → map f (xs ++ x ∷ []) ≡ map f xs ++ f x ∷ []
-map-snoc f xs x = map-append f xs (x ∷ [])
+pub map-push : {X Y : Type 0} (f : X → Y) (xs : List X) (x : X) → map f (xs ++ x ∷ []) ≡ map f xs ++ f x ∷ []
+map-push f xs x = map-append f xs (x ∷ [])

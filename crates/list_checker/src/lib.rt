@@ -1,7 +1,7 @@
 //! Which lists of page copies are accepted.
 //!
 //! A list is a head word and the words that follow it in memory, as the Linux kernel's kexec core writes them. The
-//! checker reads the list in the memory before the run, and answers that the list brings each page of the segments
+//! checker reads the list in the memory before the run, and answers that a run leaves each page of the segments
 //! what it is to have, or the first word that shows that it does not.
 #![tactic(auto)]
 
@@ -15,10 +15,10 @@ mod missing;
 mod reading;
 mod reasons;
 #[cfg(test)]
+mod refused;
+#[cfg(test)]
 mod tests;
 mod walked;
-#[cfg(test)]
-mod wild;
 
 pub use crash::check_crash;
 pub use earlier::{Accept, Pair};

@@ -13,7 +13,7 @@ use segments::Segments;
 use std::alloc::Global;
 
 /// Whether the list of the image is accepted for the segments in this memory, in the image's mode: what is told of it, or
-/// its first fault. A list that is accepted and run brings each page of the segments what it is to have. Each word is
+/// its first fault. A run of an accepted list leaves each page of the segments what it is to have. Each word is
 /// read once; look-ups are in ordered sets.
 pub fn check(
     alloc: Global,

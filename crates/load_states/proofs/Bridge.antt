@@ -295,3 +295,10 @@ plain_runs m W head control is a held =
     let K : ℕ → Type 0 = λ p. Has p (links is) in
     let ready : Each (Ready Plain m K) (pairs is) = Each-both (pairs is) (λ q x b. (b.0, b.1, λ p h. Each-at (λ l. q.0 ≢ l) (links is) p x h)) a.links_unwritten held in
     alike _ _ _ _ _ (λ p. lays_over (at m) W (pairs is) a.in_order a.whole a.right_bytes p) (finishes_from Plain (at m) m K head is (λ p h. refl) (λ p h. h) ready a.walk)
+
+-- the run of a list that is a done word alone
+pub done_runs : (mode : Mode) (m : Contents) (head : ℕ) → head % 4096 ≡ 4 → Comes 1 0 (begin_at mode head m) (at m)
+done_runs mode m head e =
+    let p = head / 4096 in
+    let w : head ≡ code (Done p) = omega (arith, e) in
+    last_one 0 (begin_at mode head m) (end_at mode 0 0 m) (begin-done mode p m head w) refl

@@ -1,23 +1,22 @@
 -- Steps of a load of segments.
-use Rattle.std.proofs.Common.{◌≡◌, ℕ, zero, suc, ◌+◌, ◌-◌, ◌*◌, ◌/◌, ◌<◌, ◌≤◌, ◌^◌, List, [], ◌∷◌, ◌++◌, length, Option, Some, None, refl, sym, ap, ◌∙◌, subst, ⊎_elim, inl, inr, arith, take, drop, append_assoc, append-nil, length-append, Bool, true, false, cond}
+use Rattle.std.proofs.Common.{◌≡◌, ℕ, zero, suc, ◌+◌, ◌-◌, ◌/◌, ◌<◌, ◌≤◌, List, [], ◌∷◌, ◌++◌, length, Some, None, refl, sym, ap, ◌∙◌, subst, ⊎_elim, inl, inr, arith, take, append_assoc, append-nil, Bool, true, false, cond}
 use Rattle.std.specs.Prelude.{◌≢◌, ◌⊎◌, ◌||◌, eqb}
 use Rattle.std.specs.List.{slice_get, range_with_len}
-use Rattle.std.proofs.lemmas.Bool.{false≢true}
 use Rattle.std.proofs.lemmas.Bool.Decides.{eqb_tells}
-use Rattle.std.proofs.lemmas.List.{take_more, take_all, length-take}
+use Rattle.std.proofs.lemmas.List.{take_more, length-take}
 use Rattle.std.proofs.lemmas.Option.{slice_get_within, get_or_from_slice_get, none-some}
-use Rattle.kx_pages.specs.Lists.{Each, Has, has, Distinct, count}
+use Rattle.kx_pages.specs.Lists.{Has, has, count}
 use Rattle.kx_pages.specs.Spans.{Run, AreApart, in_spans}
 use Rattle.kx_pages.specs.Spans as spans
 use Rattle.kx_pages.specs.declared.image.Wish.{Wish}
 use Rattle.kx_pages.specs.declared.image.Wish.TheVariants.{Plain, Kept}
 use Rattle.page_memory.specs.Contents.{Contents, at}
-use Rattle.page_memory.specs.Memory.{Mem, Wants}
+use Rattle.page_memory.specs.Memory.{Mem}
 use Rattle.segments.specs.Parts.{Part, is_destination, want, page_count, pages_of_part, pages, need}
-use Rattle.segments.specs.Laws.{AreSegments, IsPlaced, is_destination-from_Has, Has-from_is_destination, Has-from_want, Distinct-pages}
-use Rattle.segments.specs.Elements.{Each-from_Has, Has-either, Has-left, Has-right, Has-range, range-Has, has-from_Has}
+use Rattle.segments.specs.Laws.{AreSegments, is_destination-from_Has, Has-from_is_destination, Distinct-pages}
+use Rattle.segments.specs.Elements.{Each-from_Has, Has-either, Has-left, Has-right, Has-range, range-Has}
 use Rattle.kimage_list.specs.Load.{Entry, Start, Move, page_entries, pages_of, starts, need_of}
-use Rattle.kimage_list.specs.Writers.{Load, Writer, StandsAt, IsAwaited, is_wanted, with_destination, with_source, with_bytes, destination_after, pages_in}
+use Rattle.kimage_list.specs.Writers.{Writer, StandsAt, IsAwaited, with_destination, with_source, with_bytes, destination_after, pages_in}
 use Rattle.kimage_list.specs.Calls.{load_begun}
 use Rattle.kimage_list.proofs.Lists.{count-append, has_count, each_map, some_same}
 use Rattle.kimage_list.proofs.Counting.{no_longer}
@@ -26,7 +25,7 @@ use Rattle.kimage_list.proofs.Spanned.{length-pages_in, has-pages_in, each-pages
 use Rattle.kimage_list.proofs.Segmented.{starts-page_entries, after-page_entries, page_entries-more}
 use Rattle.kimage_list.proofs.Standings.{awaited_exactly, starts-append, after-append}
 use Rattle.load_states.specs.Loads.{entries_of}
-use Rattle.load_states.specs.Fillings.{Fill, Fills, FillsFrom}
+use Rattle.load_states.specs.Fillings.{Fills, FillsFrom}
 use Rattle.load_states.proofs.LaidPlan.{pages_of-entries_of, pages_of-append, pages_of-range, count-distinct}
 
 has-more : (q p : ℕ) (xs : List ℕ) → has q (xs ++ p ∷ []) ≡ (has q xs || (eqb p q || false))

@@ -1,5 +1,5 @@
 -- A segment while its pages are written.
-use Rattle.std.proofs.Common.{◌≡◌, ℕ, zero, suc, ◌+◌, ◌/◌, ◌<◌, ◌≤◌, List, [], ◌∷◌, ◌++◌, Some, None, refl, sym, ap, ◌∙◌, subst, take}
+use Rattle.std.proofs.Common.{◌≡◌, ℕ, zero, suc, ◌+◌, ◌≤◌, List, [], ◌∷◌, ◌++◌, Some, None, subst, take}
 use Rattle.std.specs.List.{slice_get}
 use Rattle.std.proofs.lemmas.Option.{none-some}
 use Rattle.kx_pages.specs.Lists.{Each}
@@ -8,7 +8,7 @@ use Rattle.page_memory.specs.Memory.{Mem}
 use Rattle.segments.specs.Parts.{Part}
 use Rattle.segments.specs.Laws.{IsPlaced}
 use Rattle.kimage_list.proofs.Lists.{some_same}
-use Rattle.kimage_list.specs.Load.{Entry, Start, Move}
+use Rattle.kimage_list.specs.Load.{Entry, Move}
 use Rattle.kimage_list.specs.Writers.{Load, Writer, StandsAt, with_destination, destination_after}
 use Rattle.load_states.specs.Loads.{entries_of}
 use Rattle.load_states.specs.Fillings.{Fills}

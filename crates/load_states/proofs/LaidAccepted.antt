@@ -1,18 +1,18 @@
 -- What a load lays is accepted.
-use Rattle.std.proofs.Common.{◌≡◌, ℕ, zero, suc, ◌+◌, ◌*◌, ◌^◌, ◌<◌, ◌≤◌, List, [], ◌∷◌, ◌++◌, length, Option, Some, None, refl, sym, ap, ◌∙◌, subst, ⊎_elim, inl, inr, arith, take, drop, Bool, true, false, cond}
-use Rattle.std.specs.Prelude.{◌≢◌, ◌⊎◌, ◌/◌, ◌%◌, map, unwrap_or, eqb, slice_index}
+use Rattle.std.proofs.Common.{◌≡◌, ℕ, zero, suc, ◌+◌, ◌*◌, ◌^◌, ◌<◌, ◌≤◌, List, [], ◌∷◌, ◌++◌, length, Some, None, refl, sym, ap, ◌∙◌, subst, ⊎_elim, inl, inr, arith, take, drop, Bool, true, false, cond}
+use Rattle.std.specs.Prelude.{◌≢◌, ◌⊎◌, ◌/◌, ◌%◌, unwrap_or, eqb, slice_index}
 use Rattle.std.proofs.lemmas.List.{length-drop}
 use Rattle.std.proofs.lemmas.Bool.{true≢false}
 use Rattle.std.proofs.lemmas.Bool.Decides.{eqb_tells}
 use Rattle.kx_pages.specs.Items.{code}
-use Rattle.kx_pages.specs.Lists.{Each, Has, Distinct, count, destinations, sources}
+use Rattle.kx_pages.specs.Lists.{Each, Has, count, destinations, sources}
 use Rattle.kx_pages.specs.declared.item.Item.{Item}
 use Rattle.kx_pages.specs.declared.item.Item.TheVariants.{Link, Destination, Source, Done}
 use Rattle.kx_pages.specs.declared.image.Wish.{Wish}
 use Rattle.kx_pages.specs.declared.image.Wish.TheVariants.{Plain, Kept}
 use Rattle.page_memory.specs.Memory.{Mem, Wants}
 use Rattle.list_checker.specs.Walk.{links, pairs_from, pairs, DestinationFirst, InOrder, PairsApart, Accepted, AcceptedKept}
-use Rattle.kimage_list.specs.Load.{Loading, Request, Entry, Start, Move, begun, pages_of, own_request, requests_from, requests, first_count, served, loaded}
+use Rattle.kimage_list.specs.Load.{Loading, Request, Entry, Start, Move, begun, pages_of, own_request, requests_from, requests, first_count, loaded}
 use Rattle.kimage_list.specs.Laying.{Holds, items, chained, link_pages, source_pages, put_all, laid, head_of, control_of, swap_of, list_of}
 use Rattle.kimage_list.specs.Drafts.{one, IsHome}
 use Rattle.kimage_list.proofs.Lists.{each_map, each_both, count-append, absent, distinct_from, keys, holds_all, keys-append, keys-link_pages, keys-source_pages, length-items, heads_same, nil_cons}

@@ -1,5 +1,5 @@
 -- The entries of segments.
-use Rattle.std.proofs.Common.{◌≡◌, ℕ, zero, suc, ◌+◌, ◌*◌, ◌/◌, ◌%◌, ◌^◌, ◌<◌, ◌≤◌, List, [], ◌∷◌, ◌++◌, length, Some, refl, sym, ap, ◌∙◌, subst, inl, inr, arith, true, false}
+use Rattle.std.proofs.Common.{◌≡◌, ℕ, zero, suc, ◌+◌, ◌/◌, ◌<◌, ◌≤◌, List, [], ◌∷◌, ◌++◌, length, Some, refl, sym, ap, ◌∙◌, subst, inl, inr, arith, true, false}
 use Rattle.std.specs.Prelude.{◌≢◌, ◌⊎◌, eqb}
 use Rattle.std.specs.List.{range_with_len}
 use Rattle.std.proofs.lemmas.Bool.Decides.{eqb_tells}
@@ -9,7 +9,6 @@ use Rattle.segments.specs.Parts.{Part, is_destination, want, page_count, pages_o
 use Rattle.segments.specs.Laws.{AreSegments, IsPlaced, is_destination-from_Has, want-from_Has, Has-from_want, Distinct-pages}
 use Rattle.segments.specs.Elements.{Each-from_Has}
 use Rattle.kimage_list.specs.Load.{Entry, Start, Move, page_entries, pages_of}
-use Rattle.kimage_list.proofs.Lists.{has_count}
 use Rattle.load_states.specs.Loads.{entries_of, LoadIsAccepted}
 use Rattle.load_states.proofs.LaidAccepted.{Follows, Begins, Plan, plain_accepted, kept_accepted}
 

@@ -9,3 +9,4 @@ pub mod LaidPlan
 pub mod FillSteps
 pub mod Sealing
 pub mod Going
+pub mod Laying

@@ -1,5 +1,5 @@
 -- Accepted lists whose pages are held, and their runs.
-use Rattle.std.proofs.Common.{◌≡◌, ℕ, ◌^◌, ◌<◌, List, [], ◌∷◌, Option, Some, None, refl, sym, ap, ◌∙◌, subst, inl, inr, ◌+◌, arith}
+use Rattle.std.proofs.Common.{◌≡◌, ℕ, ◌%◌, ◌^◌, ◌<◌, List, [], ◌∷◌, Option, Some, None, refl, sym, ap, ◌∙◌, subst, inl, inr, ◌+◌, arith}
 use Rattle.std.specs.Prelude.{◌≢◌, IsSome, map, unwrap_or}
 use Rattle.kx_pages.specs.declared.item.Item.{Item}
 use Rattle.kx_pages.specs.declared.image.Mode.TheVariants.{Plain, Kept}
@@ -19,7 +19,7 @@ use Rattle.load_states.specs.States.{Load, Checked, checked_of, swap_of}
 use Rattle.load_states.specs.Exchange.{exchange, partner}
 use Rattle.load_states.proofs.Exchange.{link_kept, link_unwanted, restores, no_source_wanted, sources_get}
 use Rattle.load_states.specs.Ready.{Told, HoldsPairs, IsReadyPlain, IsKept, IsReadyKept, IsToGoBack}
-use Rattle.load_states.proofs.Bridge.{Comes, begin_at, plain_runs, kept_runs}
+use Rattle.load_states.proofs.Bridge.{Comes, begin_at, plain_runs, kept_runs, done_runs}
 use Rattle.load_states.proofs.Holding.{Holds}
 use Rattle.kx_pages.specs.declared.image.Image.{Image}
 use Rattle.relocate_machine.specs.Run.{HeldFrom, run_of}
@@ -209,3 +209,9 @@ touched c d p bytes r h e words link_count same =
     apart q x same =
         let b = some_of (want c.load.segments p) h in
         none-some b.0 (sym (link_unwanted r.before (want c.load.segments) c.load.image.head c.load.image.control r.swap r.items r.kept.accepted q x) ∙ ap (want c.load.segments) same ∙ b.1)
+
+-- the run of a done word alone
+pub crash_ends : (m n : Contents) (head h : ℕ) → m ≡ n → head ≡ h → h % 4096 ≡ 4 → Ends m (record { head = head; mode = Plain; control = 0 }) 1 (at n)
+crash_ends m n head h e f done =
+    subst (λ x. Ends m (record { head = head; mode = Plain; control = 0 }) 1 (at x)) e
+    (ends_of m (record { head = head; mode = Plain; control = 0 }) 1 (at m) (done_runs Plain m head (ap (λ x. x % 4096) f ∙ done)))

@@ -1,19 +1,17 @@
 -- A load of segments that is written whole.
-use Rattle.std.proofs.Common.{◌≡◌, ℕ, zero, suc, ◌+◌, ◌-◌, ◌<◌, ◌≤◌, ◌^◌, List, [], ◌∷◌, ◌++◌, length, Option, Some, None, refl, sym, ap, ◌∙◌, subst, ⊎_elim, inl, inr, arith, take, drop, Bool, true, false, cond}
-use Rattle.std.specs.Prelude.{◌⊎◌, is_some}
-use Rattle.std.proofs.lemmas.Bool.{false≢true}
+use Rattle.std.proofs.Common.{◌≡◌, ℕ, ◌+◌, ◌≤◌, List, Option, Some, None, refl, sym, ap, ◌∙◌, subst, arith, take, drop, Bool, true, false, cond}
 use Rattle.std.proofs.lemmas.List.{take_all}
 use Rattle.kx_pages.specs.Lists.{Has, has, count, sources}
 use Rattle.kx_pages.specs.Spans.{in_spans}
 use Rattle.kx_pages.specs.declared.image.Wish.{Wish}
 use Rattle.kx_pages.specs.declared.image.Image.{Image}
 use Rattle.page_memory.specs.Contents.{at}
-use Rattle.page_memory.specs.Memory.{Mem, Wants}
-use Rattle.segments.specs.Parts.{Part, is_destination, want, pages, need}
-use Rattle.segments.specs.Laws.{AreSegments, Has-from_is_destination, Has-from_want}
+use Rattle.page_memory.specs.Memory.{Mem}
+use Rattle.segments.specs.Parts.{is_destination, want, pages, need}
+use Rattle.segments.specs.Laws.{Has-from_is_destination, Has-from_want}
 use Rattle.segments.specs.Elements.{has-from_Has}
-use Rattle.kimage_list.specs.Load.{Loading, Entry, pages_of, starts, loaded}
-use Rattle.kimage_list.specs.Laying.{image_of, list_of}
+use Rattle.kimage_list.specs.Load.{pages_of, starts, loaded}
+use Rattle.kimage_list.specs.Laying.{list_of}
 use Rattle.kimage_list.specs.Writers.{Load, StandsAt, IsAwaited}
 use Rattle.kimage_list.specs.Writers as writers
 use Rattle.kimage_list.specs.Calls.{IsWritten}
@@ -21,7 +19,7 @@ use Rattle.kimage_list.specs.declared.written.Written.{Written}
 use Rattle.kimage_list.proofs.Standings.{awaited_exactly}
 use Rattle.list_checker.specs.Walk.{IsAccepted, swap_page}
 use Rattle.load_states.specs.Loads.{entries_of, loading_of, memory_of}
-use Rattle.load_states.specs.Fillings.{Fill, Fills, FillsFrom, IsSealed, left}
+use Rattle.load_states.specs.Fillings.{Fill, FillsFrom, IsSealed, left}
 use Rattle.load_states.proofs.LaidPlan.{pages_of-entries_of, load_is_accepted}
 use Rattle.load_states.proofs.FillSteps.{span_pages, need_same, starts-entries_of}
 

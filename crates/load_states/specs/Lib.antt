@@ -4,3 +4,4 @@ pub mod Ready
 pub mod Answers
 pub mod Loads
 pub mod Fillings
+pub mod Laying

@@ -36,6 +36,12 @@ pub record Returned : Type 0 where
   pub load : Load
   pub steps : ℕ
 
+-- a memory with the head of a crash list, and the segments that it is for
+pub record CrashLoad : Type 0 where
+  pub memory : Contents
+  pub head : ℕ
+  pub segments : List Part
+
 abbrev pub mode_of : Option ℕ → Mode
 mode_of None = Plain
 mode_of (Some swap) = Kept swap
@@ -66,6 +72,9 @@ checked_code =
 
 abbrev pub ran_code : Coded Ran
 ran_code = code_by (Contents × ℕ) (coded× contents_code coded_ℕ) (λ s. (s.memory, s.steps)) (λ p. record { memory = p.0; steps = p.1 }) (λ _. refl)
+
+abbrev pub crash_code : Coded CrashLoad
+crash_code = code_by (Contents × (ℕ × List Part)) (coded× contents_code (coded× coded_ℕ (coded_list part_code))) (λ s. (s.memory, (s.head, s.segments))) (λ p. record { memory = p.0; head = p.1.0; segments = p.1.1 }) (λ _. refl)
 
 abbrev pub returned_code : Coded Returned
 returned_code = code_by (Load × ℕ) (coded× load_code coded_ℕ) (λ s. (s.load, s.steps)) (λ p. record { load = p.0; steps = p.1 }) (λ _. refl)

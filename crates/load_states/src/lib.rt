@@ -7,8 +7,12 @@
 #![tactic(auto)]
 
 mod accepted;
+mod crash;
+#[cfg(test)]
+mod fill_tests;
 mod filling;
 mod hold;
+mod lay;
 pub mod load_laws;
 mod loaded;
 mod ran;
@@ -17,6 +21,7 @@ mod run;
 mod tests;
 
 pub use accepted::{Accepted, AcceptedKept, AcceptedPlain};
+pub use crash::{AcceptedCrash, CrashLoaded, load_crash};
 pub use filling::{BeginBack, Filling};
 pub use loaded::{Loaded, NotAccepted};
 pub use ran::{Back, RanKept, RanPlain};

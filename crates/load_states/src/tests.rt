@@ -1,5 +1,6 @@
 use super::*;
 use kx_pages::{Image, Mode, Page};
+use list_checker::Why;
 use page_memory::Memory;
 use page_pool::Pool;
 use segments::{Segment, Segments};
@@ -130,6 +131,30 @@ fn a_refused_list_comes_back(rt: HostRuntime) -> Result<(), Fail> {
     let (_, pool, image, segments) = refused.loaded.parts();
     assert_eq!(rt; pool.left(), 0);
     assert_eq!(rt; image.head, 0x20002);
+    assert_eq!(rt; segments.count(), 1);
+    Ok(())
+}
+
+#[test]
+fn a_crash_kernel_lies_in_its_place(rt: HostRuntime) -> Result<(), Fail> {
+    let alloc = rt.alloc();
+    let segments = b_and_c(alloc, 0x2000)?;
+    let loaded = load_crash(Memory::empty(alloc), segments)
+        .ok()
+        .ok_or("memory")?;
+    assert_eq!(rt; loaded.memory().byte(0x3000), b'c');
+    let accepted = loaded.accept().ok().ok_or("accepted")?;
+    assert_eq!(rt; accepted.memory().byte(0x2000), b'b');
+    let ran = accepted.exec();
+    assert_eq!(rt; ran.steps(), 1);
+    let again = CrashLoaded::from_parts(ran.into_memory(), 0x20002, b_and_c(alloc, 0x2000)?);
+    let Err((given_back, fault)) = again.accept() else {
+        return Err("refused".into());
+    };
+    assert_eq!(rt; fault.why, Why::HeadKind);
+    let (memory, head, segments) = given_back.parts();
+    assert_eq!(rt; memory.byte(0x2000), b'b');
+    assert_eq!(rt; head, 0x20002);
     assert_eq!(rt; segments.count(), 1);
     Ok(())
 }

@@ -1,7 +1,5 @@
-use Rattle.std.proofs.Common.{◌≡◌, ℕ, ◌+◌, ◌/◌, [], ◌∷◌, ◌++◌, Some, ◌∙◌, sym, subst, ap, arith, take}
-use Rattle.std.specs.List.{slice_get}
-use Rattle.page_memory.specs.Memory.{Mem}
-use Rattle.segments.specs.Parts.{Part, is_destination, page_count}
+use Rattle.std.proofs.Common.{◌≡◌, ◌+◌, ◌/◌, [], ◌∷◌, ◌++◌, Some, ◌∙◌, sym, subst, ap, arith, take}
+use Rattle.segments.specs.Parts.{Part, is_destination}
 use Rattle.kimage_list.specs.Load.{Move, pages_of}
 use Rattle.kx_pages.specs.Lists.{Has}
 use Rattle.load_states.specs.Loads.{entries_of}

@@ -1,9 +1,6 @@
-use Rattle.std.proofs.Common.{◌≡◌, ℕ, length, ◌∙◌, sym, subst, ap, refl, arith}
+use Rattle.std.proofs.Common.{length, subst, arith}
 use Rattle.page_memory.specs.Contents.{at}
 use Rattle.kimage_list.specs.Calls.{Refuses}
-use Rattle.kx_pages.specs.Spans as spans
-use Rattle.kimage_list.specs.Load.{need_of}
-use Rattle.segments.specs.Parts.{need}
 use Rattle.segments.specs.Laws.{AreSegments-from_IsBare}
 use Rattle.load_states.proofs.FillSteps.{filling_begun, span_pages, need_same}
 use Rattle.load_states.proofs.filling.Filling.begin.Goals as goal

@@ -1,5 +1,4 @@
-use Rattle.std.proofs.Common.{◌≡◌, ℕ, List, ◌∙◌, sym, subst, ap, refl}
-use Rattle.page_memory.specs.Memory.{Mem}
+use Rattle.std.proofs.Common.{sym, subst}
 use Rattle.load_states.specs.Fillings.{Fill, FillsFrom, IsSealed}
 use Rattle.load_states.proofs.Sealing.{none_to_start, none_awaited, sealed}
 use Rattle.load_states.proofs.filling.Filling.seal.Goals as goal

@@ -1,4 +1,4 @@
-//! Lists that nobody wrote with care: page 0x30 is b, and page 2 is to be b.
+//! A list for each reason: page 0x30 is b, and page 2 is to be b.
 
 ghost use Rattle.std.specs.Prelude.{◌<◌};
 
@@ -67,7 +67,7 @@ fn says(
 }
 
 #[test]
-fn wild_lists(rt: HostRuntime) -> Result<(), Fail> {
+fn each_reason_has_its_word(rt: HostRuntime) -> Result<(), Fail> {
     let a = rt.alloc();
     let h = 0x20002;
     let good = [0x2001, 0x30008, 4];

@@ -1,0 +1,61 @@
+-- Putting pages in their place, one after another.
+use Rattle.std.proofs.Common.{◌≡◌, ℕ, ◌+◌, ◌<◌, ◌≤◌, List, Option, Some, None, true, refl, sym, ap, ◌∙◌, subst, inl, inr, ⊎_elim, arith, length}
+use Rattle.std.specs.Prelude.{◌⊎◌, IsTrue, IsSome, is_some, unwrap_or, slice_get}
+use Rattle.std.proofs.lemmas.Bool.Decides.{nat_tests, eqb_tells}
+use Rattle.std.proofs.lemmas.Option.{none-some, slice_get-get_or}
+use Rattle.std.proofs.lemmas.List.Folds.{Any-from_list_any}
+use Rattle.kx_pages.specs.Spans.{Run, in_span, in_spans, IsMaximal}
+use Rattle.page_memory.specs.Memory.{Mem}
+use Rattle.page_memory.specs.Contents.{Contents, at, after_set}
+use Rattle.page_memory.specs.Laws.{frame_at-insert_same, frame_at-insert_other}
+use Rattle.segments.specs.Parts.{Part, want, overlay}
+use Rattle.segments.specs.Laws.{some_same}
+use Rattle.load_states.specs.Laying.{Lays}
+
+pub lays_more : (S : List Part) (M N L : Mem) → Lays S M N → Lays S N L → Lays S M L
+lays_more S M N L h k q = ⊎_elim
+    (λ e. ⊎_elim (λ f. inl (e ∙ f)) (λ w. inr (w ∙ ap Some (sym e))) (h q))
+    (λ w. inr w)
+    (k q)
+
+pub right_stays : (S : List Part) (N L : Mem) (p : ℕ) → Lays S N L → want S p ≡ Some (N p) → want S p ≡ Some (L p)
+right_stays S N L p k w = ⊎_elim (λ e. w ∙ ap Some (sym e)) (λ v. v) (k p)
+
+-- one page was set to what it is to have
+pub lays_page : (S : List Part) (m : Contents) (p : ℕ) (bytes : List ℕ) → Some bytes ≡ want S p → Lays S (at m) (at (after_set m p bytes))
+lays_page S m p bytes w q = ⊎_elim
+    (λ t. inr (ap (want S) t.1 ∙ sym w ∙ ap Some (sym (ap (at (after_set m p bytes)) t.1 ∙ frame_at-insert_same m.pages p bytes))))
+    (λ t. inl (frame_at-insert_other m.pages p bytes q t.1))
+    (eqb_tells q p)
+
+pub right_page : (S : List Part) (m : Contents) (p : ℕ) (bytes : List ℕ) → Some bytes ≡ want S p → want S p ≡ Some (at (after_set m p bytes) p)
+right_page S m p bytes w = sym w ∙ ap Some (sym (frame_at-insert_same m.pages p bytes))
+
+-- a page of the set is in a span
+pub span_of : (rs : List Run) (p : ℕ) → IsTrue (in_spans rs p) → (k : ℕ) × (r : Run) × (k < length rs) × (slice_get rs k ≡ Some r) × (r.first ≤ p) × (p < r.first + r.count)
+span_of rs p t =
+    let w = Any-from_list_any (λ r. in_span r p) rs t in
+    let r : Run = w.1 in
+    let here : in_span r p ≡ true = w.4 in
+    (w.0, r, w.2, slice_get-get_or rs w.0 r w.2 ∙ ap Some w.3, grind (arith, nat_tests), grind (arith, nat_tests))
+
+pub in_set : (rs : List Run) (r : Run) (p : ℕ) → IsMaximal rs r → r.first ≤ p → p < r.first + r.count → IsTrue (in_spans rs p)
+in_set rs r p m a b = let here : in_span r p ≡ true = grind (arith, nat_tests) in m.inside p here
+
+-- for each of the spans so far, and the next one
+pub next_span : (P : Run → Type 0) (rs : List Run) (i : ℕ) (s : Run) → slice_get rs i ≡ Some s → P s → ((k : ℕ) → k < i → (r : Run) → slice_get rs k ≡ Some r → P r) → (k : ℕ) → k < i + 1 → (r : Run) → slice_get rs k ≡ Some r → P r
+next_span P rs i s at here before k l r e = ⊎_elim
+    (λ h. before k h r e)
+    (λ h. subst P (some_same s r (sym at ∙ ap (slice_get rs) (sym h) ∙ e)) here)
+    (last k i l)
+  where
+    last : (k i : ℕ) → k < i + 1 → (k < i) ⊎ (k ≡ i)
+    last k i h = grind arith
+
+-- all pages of the segments are in their place
+pub laid_overlay : (S : List Part) (M N : Mem) → Lays S M N → ((p : ℕ) → IsSome (want S p) → want S p ≡ Some (N p)) → (p : ℕ) → N p ≡ overlay M (want S) p
+laid_overlay S M N h right p = go (want S p) refl
+  where
+    go : (o : Option (List ℕ)) → want S p ≡ o → N p ≡ overlay M (want S) p
+    go (Some b) e = sym (ap (λ o. unwrap_or o (M p)) (right p (ap is_some e)))
+    go None e = ⊎_elim (λ s. s ∙ sym (ap (λ o. unwrap_or o (M p)) e)) (λ w. absurd (none-some (N p) (sym e ∙ w))) (h p)
