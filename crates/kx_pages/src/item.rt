@@ -45,3 +45,17 @@ impl Item {
         }
     }
 }
+
+#[cfg(test)]
+mod tests {
+    use super::*;
+    use std::test::Fail;
+
+    #[test]
+    fn words_are_read_and_made(rt: HostRuntime) -> Result<(), Fail> {
+        assert_eq!(rt; Item::of_word(0x2001), Some(Item::Destination(2)));
+        assert_eq!(rt; Item::of_word(0x2009), None);
+        assert_eq!(rt; Item::Link(0x11).word(), 0x11002);
+        Ok(())
+    }
+}

@@ -9,6 +9,7 @@ mod image;
 mod item;
 mod page;
 mod page_set;
+mod search;
 mod span;
 
 pub use image::{Image, Mode, Start, Wish};

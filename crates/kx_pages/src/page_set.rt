@@ -1,11 +1,12 @@
 //! Sets of pages.
 
-ghost use Rattle.std.specs.Prelude.{◌≡◌, ℕ, ◌-◌, ◌<◌, ◌≤◌, ◌^◌, ◌↔◌, ◌++◌, ◌∷◌, ◌&&◌, ◌||◌, [], not, List, length, IsTrue, IfOk, IfErr};
-ghost use Rattle.std.specs.List.{slice_get, list_any};
-ghost use Rattle.kx_pages.specs.Spans.{Run, in_span, in_spans, pages, AreApart, passing, IsMaximal};
+ghost use Rattle.std.specs.Prelude.{◌≡◌, ℕ, ◌-◌, ◌<◌, ◌≤◌, ◌^◌, ◌↔◌, ◌++◌, ◌∷◌, ◌&&◌, ◌||◌, [], not, nat_lt, List, length, IsTrue, IfOk, IfErr};
+ghost use Rattle.std.specs.List.{slice_get, All};
+ghost use Rattle.kx_pages.specs.Spans.{Run, end, in_span, in_spans, pages, AreApart, passing, IsMaximal};
 ghost use Rattle.kx_pages.specs.Edits.{joined, if_some, without, spans_meet, with_rest};
 
-use crate::page::Page;
+use crate::page::{PAGE_LIMIT, Page};
+use crate::search::{any_has, any_meets};
 use crate::span::Span;
 use std::alloc::{AllocError, Global};
 use std::marker::Model;
@@ -44,7 +45,7 @@ impl PageSet {
         ensures failed { IfErr result (λ _. self.new ≡ self.old) }
     {
         if span.count() > 0 {
-            self.spans = join(*self.spans.allocator(), &self.spans, span)?;
+            put_among(&mut self.spans, span)?;
         }
         Ok(())
     }
@@ -104,6 +105,26 @@ impl PageSet {
         self.spans[i]
     }
 
+    /// The pages of these spans, which may stand in any order, meet and be empty. They are sorted once.
+    pub fn from_spans(alloc: Global, mut spans: Vec<Span>) -> Result<PageSet, AllocError>
+        ensures { IfOk result (λ s. (q : ℕ) → in_spans s q ≡ in_spans spans.items q) }
+    {
+        spans.sort_unstable_by_key(|s| s.first());
+        gathered(alloc, &spans)
+    }
+
+    /// The pages of this set that are not in the other, found in one pass over both.
+    pub fn difference(&self, other: &PageSet) -> Result<PageSet, AllocError>
+        ensures { IfOk result (λ s. (q : ℕ) → in_spans s q ≡ (in_spans self.now q && not (in_spans other.now q))) }
+    {
+        let alloc = *self.spans.allocator();
+        let mut out = gaps(alloc, &self.spans)?;
+        out.extend_from_slice(&other.spans)?;
+        let out = PageSet::from_spans(alloc, out)?;
+        let spans = gaps(alloc, &out.spans)?;
+        Ok(PageSet { spans })
+    }
+
     /// A set of the same pages.
     pub fn try_copy(&self) -> Result<PageSet, AllocError>
         ensures { IfOk result (λ s. s ≡ self.now) }
@@ -122,16 +143,29 @@ pub fn have_one_form(a: &PageSet, b: &PageSet)
     let _ = b.spans();
 }
 
-fn any_meets(spans: &[Span], span: Span) -> bool
-    ensures { result ≡ list_any (λ r. spans_meet r span) spans.now }
+// Whether all spans end before the page `first`, and none touches it.
+fn all_before(spans: &[Span], first: u64) -> bool
+    requires { AreApart 0 spans.now }
+    ensures { IsTrue result → All (λ r. end r < first) spans.now }
 {
-    spans.iter().any(|s| s.meets(span))
+    match spans.last() {
+        Some(last) => last.end() < first,
+        None => true,
+    }
 }
 
-fn any_has(spans: &[Span], number: u64) -> bool
-    ensures { result ≡ in_spans spans.now number }
+// Puts a span among those that rise: at the end where it lies behind all of them.
+fn put_among(spans: &mut Vec<Span>, span: Span) -> Result<(), AllocError>
+    requires { AreApart 0 spans.old.items }
+    ensures ok { IfOk result (λ _. spans.new.items ≡ joined spans.old.items span) }
+    ensures err { IfErr result (λ _. spans.new.items ≡ spans.old.items) }
 {
-    spans.iter().any(|s| s.has(number))
+    if all_before(spans, span.first()) {
+        spans.push(span)?;
+    } else {
+        *spans = join(*spans.allocator(), spans, span)?;
+    }
+    Ok(())
 }
 
 /// Puts `s` behind the spans, after or into what is still to come in.
@@ -195,10 +229,55 @@ fn cut_out(alloc: Global, spans: &[Span], span: Span) -> Result<Vec<Span>, Alloc
     Ok(made)
 }
 
+// Takes in the span `s` after `last`: one over both where they meet or touch, else `last` goes to the set.
+fn take_in(set: &mut PageSet, last: Span, s: Span) -> Result<Span, AllocError>
+    ensures { IfOk result (λ r. (q : ℕ) → (in_spans set.new q || in_span r q) ≡ ((in_spans set.old q || in_span last q) || in_span s q)) }
+{
+    if s.first() <= last.end() && last.first() <= s.end() {
+        Ok(last.hull(s))
+    } else {
+        set.add(last)?;
+        Ok(s)
+    }
+}
+
+// The pages of these spans. It is fast where the spans rise.
+fn gathered(alloc: Global, spans: &[Span]) -> Result<PageSet, AllocError>
+    ensures { IfOk result (λ set. (q : ℕ) → in_spans set q ≡ in_spans spans.now q) }
+{
+    let mut set = PageSet::new(alloc);
+    let mut last = Span::between(0, 0);
+    for s in spans {
+        last = take_in(&mut set, last, *s)?;
+    }
+    set.add(last)?;
+    Ok(set)
+}
+
+// The runs of pages that are in none of the spans.
+fn gaps(alloc: Global, spans: &[Span]) -> Result<Vec<Span>, AllocError>
+    requires { AreApart 0 spans.now }
+    ensures pages { IfOk result (λ v. (q : ℕ) → in_spans v.items q ≡ (nat_lt q (2 ^ 34) && not (in_spans spans.now q))) }
+    ensures apart { IfOk result (λ v. AreApart 0 v.items) }
+{
+    let mut made = Vec::new(alloc);
+    let mut from = 0;
+    for s in spans {
+        push_some(&mut made, from, s.first())?;
+        from = s.end();
+    }
+    push_some(&mut made, from, PAGE_LIMIT)?;
+    Ok(made)
+}
+
 #[cfg(test)]
 mod tests {
     use super::*;
     use std::test::Fail;
+
+    fn page(number: u64) -> Result<Page, &'static str> {
+        Page::new(number).ok_or("a page")
+    }
 
     fn span(first: u64, count: u64) -> Result<Span, &'static str> {
         Span::new(first, count).ok_or("a span")
@@ -213,10 +292,44 @@ mod tests {
         assert_eq!(rt; set.total(), 5);
         set.cut(span(4, 1)?)?;
         assert_eq!(rt; set.spans(), 2);
-        assert!(rt; !set.holds(Page::new(4).ok_or("a page")?));
+        assert!(rt; !set.holds(page(4)?));
+        assert!(rt; set.holds(page(6)?));
         assert!(rt; !set.meets(span(4, 1)?));
+        assert!(rt; set.meets(span(4, 2)?));
         let copy = set.try_copy()?;
         assert_eq!(rt; copy.total(), 4);
+        Ok(())
+    }
+
+    #[test]
+    fn sets_are_made_of_spans_and_parted(rt: HostRuntime) -> Result<(), Fail> {
+        let alloc = rt.alloc();
+        let set = PageSet::from_spans(
+            alloc,
+            vec![in alloc; span(8, 2)?, span(0, 3)?, span(3, 0)?, span(2, 4)?]?,
+        )?;
+        assert_eq!(rt; set.spans(), 2);
+        assert_eq!(rt; set.total(), 8);
+        let other = PageSet::from_spans(alloc, vec![in alloc; span(9, 100)?, span(4, 1)?]?)?;
+        let rest = set.difference(&other)?;
+        assert_eq!(rt; rest.spans(), 3);
+        assert_eq!(rt; rest.total(), 6);
+        assert!(rt; rest.holds(page(8)?));
+        assert!(rt; !rest.holds(page(9)?));
+        Ok(())
+    }
+
+    #[test]
+    fn pages_end_at_the_limit(rt: HostRuntime) -> Result<(), Fail> {
+        assert!(rt; Page::new(PAGE_LIMIT).is_none());
+        assert!(rt; Span::new(PAGE_LIMIT - 1, 2).is_none());
+        assert_eq!(rt; page(PAGE_LIMIT - 1)?.address(), 0x3fff_ffff_f000);
+        let mut set = PageSet::new(rt.alloc());
+        set.add(span(PAGE_LIMIT, 0)?)?;
+        assert_eq!(rt; set.spans(), 0);
+        set.add(span(PAGE_LIMIT - 1, 1)?)?;
+        assert!(rt; set.holds(page(PAGE_LIMIT - 1)?));
+        assert_eq!(rt; set.span(0).first(), PAGE_LIMIT - 1);
         Ok(())
     }
 }

@@ -4,3 +4,9 @@ pub mod Bridge
 pub mod Holding
 pub mod Ready
 pub mod Laying
+pub mod LaidWords
+pub mod LaidAccepted
+pub mod LaidPlan
+pub mod FillSteps
+pub mod Sealing
+pub mod Going

@@ -3,3 +3,5 @@ pub mod States
 pub mod Ready
 pub mod Answers
 pub mod Laying
+pub mod Loads
+pub mod Fillings

@@ -8,8 +8,10 @@
 
 mod accepted;
 mod crash;
+mod filling;
 mod hold;
 mod lay;
+pub mod load_laws;
 mod loaded;
 mod ran;
 mod run;
@@ -18,5 +20,6 @@ mod tests;
 
 pub use accepted::{Accepted, AcceptedKept, AcceptedPlain};
 pub use crash::{AcceptedCrash, CrashLoaded, load_crash};
+pub use filling::{BeginBack, Filling};
 pub use loaded::{Loaded, NotAccepted};
 pub use ran::{Back, RanKept, RanPlain};

@@ -1,7 +1,6 @@
 -- A page that is added, and two pages whose frames change places.
-use Rattle.std.proofs.Common.{take, drop, zero, suc, ◌-◌, ◌≡◌, ◌≢◌, ℕ, ◌+◌, ◌*◌, ◌/◌, ◌<◌, ◌≤◌, ◌^◌, List, [], ◌∷◌, ◌++◌, length, Bool, true, false, cond, refl, sym, ap, ◌∙◌, subst, arith, Some, None, Option, ◌⊎◌, inl, inr}
-use Rattle.std.specs.Prelude.{is_some, IsSome, replicate, ◌&&◌, ◌==◌}
-use Rattle.std.proofs.lemmas.Bool.Decides.{nat_tests}
+use Rattle.std.proofs.Common.{take, drop, ◌-◌, ◌≡◌, ◌≢◌, ℕ, ◌+◌, ◌*◌, ◌/◌, ◌<◌, ◌≤◌, ◌^◌, List, [], ◌∷◌, ◌++◌, length, Bool, true, false, cond, refl, sym, ap, ◌∙◌, subst, arith, Some, None, Option, ◌⊎◌, inl, inr}
+use Rattle.std.specs.Prelude.{is_some, IsSome, replicate}
 use Rattle.std.proofs.lemmas.Grind.{common_steps}
 use Rattle.page_memory.specs.File.{is_all_zeros}
 use Rattle.std.specs.Option.{option_map, IfSome}
@@ -17,6 +16,7 @@ use Rattle.std.specs.FinMap.{FinMap, get, insert, same_map, empty, get-empty, na
 use Rattle.std.proofs.lemmas.List.{length-append, length-drop, take-append-drop}
 use Rattle.page_memory.specs.View.{pages_by, AreFrames}
 use Rattle.page_memory.specs.Laws.{frame_at-found, frame_at-insert_other, frame_at-insert_same, get-insert_other, page_of-fits}
+use Rattle.page_memory.specs.OneFile.{list_zeros, zeros_are}
 use Rattle.page_memory.specs.Contents.{IsPageOfBytes, frame_at, page_of}
 use Rattle.page_memory.specs.Frames.{frame_in, IsTable, pages_in, Differs}
 use Rattle.page_memory.proofs.Bytes.{IsBytes-append}
@@ -206,24 +206,6 @@ pub absent-empty : (xs : List ℕ) (m : BTreeMap ℕ ℕ) (q : ℕ) → m.entrie
 absent-empty xs m q h = ap (λ k. get k q) (pages-empty xs m h) ∙ get-empty nat_cmp q
 
 -- whether a page is some bytes, then zeros
-list_zeros : (xs : List ℕ) → is_all_zeros xs ≡ true → xs ≡ replicate (length xs) 0
-list_zeros [] h = refl
-list_zeros (x ∷ xs) h =
-    let both = and_parts (x == 0) (is_all_zeros xs) h in
-    let head : x ≡ 0 = is_zero_from x both.0 in
-    ap (λ y. y ∷ xs) head ∙ ap (λ t. 0 ∷ t) (list_zeros xs both.1)
-  where
-    and_parts : (a b : Bool) → (a && b) ≡ true → (a ≡ true) × (b ≡ true)
-    and_parts true b h = (refl, h)
-    and_parts false b h = cc
-
-    is_zero_from : (x : ℕ) → (x == 0) ≡ true → x ≡ 0
-    is_zero_from x h = grind (arith, nat_tests)
-
-zeros_are : (n : ℕ) → is_all_zeros (replicate n 0) ≡ true
-zeros_are zero = refl
-zeros_are (suc n) = zeros_are n
-
 drop_front : (xs rest : List ℕ) (n : ℕ) → length xs ≡ n → drop n (xs ++ rest) ≡ rest
 drop_front xs rest n whole = grind (arith, common_steps)
 

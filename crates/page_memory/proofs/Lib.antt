@@ -1,9 +1,11 @@
 pub mod Bytes
 pub mod Changes
 pub mod Frames
+pub mod Moves
 pub mod Numbers
 pub mod Reading
 pub mod Spelled
 pub mod Stored
 pub mod Tables
+pub mod Zeros
 pub mod RoundTrip

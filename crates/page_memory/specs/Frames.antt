@@ -4,7 +4,7 @@ use Rattle.std.specs.Ordering.{nat_cmp}
 use Rattle.std.specs.BTreeMap as tree
 use Rattle.std.specs.BTreeMap.{is_at}
 use Rattle.std.specs.FinMap as finite
-use Rattle.page_memory.specs.Contents.{IsBytes, Contents, with_page, at}
+use Rattle.page_memory.specs.Contents.{IsBytes}
 use Rattle.page_memory.specs.File.{is_stored}
 use Rattle.page_memory.specs.View.{pages_by}
 

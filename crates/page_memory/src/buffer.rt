@@ -4,7 +4,7 @@ ghost use Rattle.std.specs.Prelude.{◌≡◌, ℕ, ◌+◌, ◌*◌, ◌≤◌,
 ghost use Rattle.std.specs.FinMap as finite;
 ghost use Rattle.std.specs.Ordering.{nat_cmp};
 ghost use Rattle.std.specs.BTreeMap as tree;
-ghost use Rattle.page_memory.specs.Contents.{IsPageOfBytes, frame_at, zero_page, page_of, page_with_word};
+ghost use Rattle.page_memory.specs.Contents.{IsPageOfBytes, frame_at, page_of, page_with_word};
 ghost use Rattle.page_memory.specs.Frames.{frame_in, put_frame, pages_in, IsTable, Differs};
 
 use byteorder::{ByteOrder, LittleEndian};
@@ -93,32 +93,32 @@ pub fn write_word(frames: &mut Vec<u8>, table: &Table, p: Page, place: usize, v:
     }
 }
 
-// A copy of what a page reads as.
-pub fn frame_or_zeros(frames: &[u8], table: &Table, p: Page) -> [u8; 4096]
-    requires { IsTable frames.now table.now }
-    ensures value { result ≡ frame_at (pages_in frames.now table.now) p }
-    ensures whole { IsPageOfBytes result }
+// Frame `to` becomes what frame `from` is.
+fn move_frame(frames: &mut [u8], to: usize, from: usize)
+    requires to { 4096 * to + 4096 ≤ length frames.old }
+    requires from { 4096 * from + 4096 ≤ length frames.old }
+    ensures { frames.new ≡ put_frame frames.old to (frame_in frames.old from) }
 {
-    match table.get(&p) {
-        Some(i) => array_of(frame(frames, *i)),
-        None => zeros(),
+    if from < to {
+        let (low, high) = frames.split_at_mut(4096 * to);
+        fill(high, 0, frame(low, from));
+    } else if to < from {
+        let (low, high) = frames.split_at_mut(4096 * from);
+        fill(low, to, frame(high, 0));
     }
 }
 
-fn array_of(bytes: &[u8]) -> [u8; 4096]
-    requires { length bytes.now ≡ 4096 }
-    ensures { result ≡ bytes.now }
+// Page d, which has a frame, becomes what page s reads as.
+pub fn copy_frame(frames: &mut Vec<u8>, table: &Table, d: Page, s: Page)
+    requires old { IsTable frames.old.items table.now }
+    requires held { IsSome (finite.get (pages_in frames.old.items table.now) d) }
+    ensures value { pages_in frames.new.items table.now ≡ finite.insert (pages_in frames.old.items table.now) d (frame_at (pages_in frames.old.items table.now) s) }
+    ensures table { IsTable frames.new.items table.now }
 {
-    let mut copy = [0; 4096];
-    copy.copy_from_slice(bytes);
-    copy
-}
-
-#[tactic(auto, unfolding(crate::specs::Contents::zero_page))]
-fn zeros() -> [u8; 4096]
-    ensures { result ≡ zero_page }
-{
-    [0; 4096]
+    match table.get(&s) {
+        Some(from) => move_frame(frames, entry_of(table, d), *from),
+        None => write_frame(frames, table, d, &[]),
+    }
 }
 
 // Adds a page. Room is made first, so that a refusal leaves both as they were.

@@ -5,9 +5,10 @@ ghost use Rattle.page_memory.specs.declared.fault.MemFault.TheVariants.{PastLimi
 ghost use Rattle.std.specs.FinMap as finite;
 ghost use Rattle.page_memory.specs.Contents.{IsPageOfBytes};
 ghost use Rattle.std.specs.BTreeMap.{IsOrdered};
+ghost use Rattle.std.specs.List.{AllByRecursion};
 ghost use Rattle.std.specs.Ordering.{nat_cmp};
 ghost use Rattle.page_memory.specs.File.{text_of, page_text, Gives, le64, pages_read, entry_at, pages_onto, is_all_zeros};
-ghost use Rattle.page_memory.specs.Frames.{pages_in, IsTable, stored_in};
+ghost use Rattle.page_memory.specs.Frames.{pages_in, IsTable, stored_in, frame_entries};
 
 use crate::buffer::{Table, add_frame, frame};
 use crate::fault::{HeavyFault, MemFault};
@@ -16,10 +17,15 @@ use kx_pages::Page;
 use std::alloc::{AllocError, Global};
 use std::collections::BTreeMap;
 
+// Whether all bytes are zero: all are looked at, which is faster than to stop at the first that is not.
 pub fn is_zero(bytes: &[u8]) -> bool
     ensures { result ≡ is_all_zeros bytes.now }
 {
-    bytes.iter().all(|b| *b == 0)
+    let mut bits = 0;
+    for b in bytes {
+        bits |= *b;
+    }
+    bits == 0
 }
 
 #[tactic(auto, unfolding(crate::specs::File::le64))]
@@ -143,43 +149,62 @@ fn put_page(out: &mut Vec<u8>, p: Page, frame: &[u8]) -> Result<(), AllocError>
     Ok(())
 }
 
-// How many pages are not all zeros.
-fn stored_count(frames: &[u8], table: &Table) -> u64
+// The pages that are not all zeros, each with its frame.
+fn stored_frames(
+    alloc: Global,
+    frames: &[u8],
+    table: &Table,
+) -> Result<Vec<(Page, usize)>, AllocError>
     requires { IsTable frames.now table.now }
-    ensures count { result ≡ length (stored_in frames.now table.now) }
+    ensures stored { IfOk result (λ v. frame_entries frames.now v.items ≡ stored_in frames.now table.now) }
+    ensures inside { IfOk result (λ v. AllByRecursion (λ e. 4096 * e.1 + 4096 ≤ length frames.now) v.items) }
     ensures ordered { IsOrdered nat_cmp table.now }
 {
-    let mut count = 0;
-    for (_, i) in table {
+    let entries = table.iter();
+    let mut stored = Vec::new(alloc);
+    stored.reserve_exact(table.len())?;
+    for (p, i) in entries {
         if !is_zero(frame(frames, *i)) {
-            count += 1;
+            stored.push((*p, *i))?;
         }
     }
-    count
+    Ok(stored)
 }
 
-// The file of the pages, its room made at once.
+// The file of these pages, its room made at once.
+fn text_of_pages(
+    alloc: Global,
+    frames: &[u8],
+    pages: &[(Page, usize)],
+) -> Result<Vec<u8>, AllocError>
+    requires inside { AllByRecursion (λ e. 4096 * e.1 + 4096 ≤ length frames.now) pages.now }
+    requires few { length pages.now ≤ 131072 }
+    ensures { IfOk result (λ v. v.items ≡ text_of (frame_entries frames.now pages.now)) }
+{
+    let mut out = Vec::new(alloc);
+    out.reserve_exact(16 + 4104 * pages.len())?;
+    out.extend_from_slice(b"KXMEM001")?;
+    let mut number = [0; 8];
+    LittleEndian::write_u64(&mut number, pages.len() as u64);
+    out.extend_from_slice(&number)?;
+    for (p, i) in pages {
+        put_page(&mut out, *p, frame(frames, *i))?;
+    }
+    Ok(out)
+}
+
+// The file of the pages that are not all zeros.
 pub fn file_of(alloc: Global, frames: &[u8], table: &Table) -> Result<Vec<u8>, HeavyFault>
     requires { IsTable frames.now table.now }
     ensures file { IfOk result (λ v. (length (stored_in frames.now table.now) ≤ 131072) × (v.items ≡ text_of (stored_in frames.now table.now))) }
     ensures ordered { IsOrdered nat_cmp table.now }
     ensures heavy { IfErr result (λ e. e ≢ HeavyFault.Memory → (131072 < length (stored_in frames.now table.now)) × (e ≡ HeavyFault.TooMany (length (stored_in frames.now table.now)))) }
 {
-    let count = stored_count(frames, table);
-    if count > 131072 {
-        return Err(HeavyFault::TooMany { count });
+    let pages = stored_frames(alloc, frames, table)?;
+    if pages.len() > 131072 {
+        return Err(HeavyFault::TooMany {
+            count: pages.len() as u64,
+        });
     }
-    let mut out = Vec::new(alloc);
-    out.reserve_exact(16 + 4104 * count as usize)?;
-    out.extend_from_slice(b"KXMEM001")?;
-    let mut number = [0; 8];
-    LittleEndian::write_u64(&mut number, count);
-    out.extend_from_slice(&number)?;
-    for (p, i) in table {
-        let bytes = frame(frames, *i);
-        if !is_zero(bytes) {
-            put_page(&mut out, *p, bytes)?;
-        }
-    }
-    Ok(out)
+    Ok(text_of_pages(alloc, frames, &pages)?)
 }

@@ -10,7 +10,7 @@ ghost use Rattle.std.specs.FinMap as finite;
 ghost use Rattle.std.specs.Option.{option_map};
 ghost use Rattle.page_memory.specs.File.{Gives, IsReadAgain, reading, stored, file};
 ghost use Rattle.page_memory.specs.Contents.{IsMemory, Contents, IsPageOfBytes, at, IsHeld, page_of, with_page, with_word, after_set, swapped};
-ghost use Rattle.page_memory.specs.Memory.{word};
+ghost use Rattle.page_memory.specs.Memory.{word, Agree};
 ghost use Rattle.page_memory.specs.Frames.{frame_in, put_frame, pages_in, IsTable};
 
 mod buffer;
@@ -19,7 +19,7 @@ mod file;
 #[cfg(test)]
 mod tests;
 
-use crate::buffer::{Table, add_frame, exchange, frame, frame_or_zeros, write_frame, write_word};
+use crate::buffer::{Table, add_frame, copy_frame, exchange, frame, write_frame, write_word};
 use crate::file::{Parts, file_of, parts_of};
 use byteorder::{ByteOrder, LittleEndian};
 pub use fault::{HeavyFault, MemFault};
@@ -28,6 +28,7 @@ use std::alloc::{AllocError, Global};
 use std::collections::BTreeMap;
 use std::marker::Model;
 
+// What a page that is not held reads as.
 static ZEROS: [u8; 4096] = [0; 4096];
 
 /// A memory image. A page that is held stays held in every call, after a refusal too.
@@ -81,8 +82,10 @@ impl Memory {
         self.table.contains_key(&p)
     }
 
-    /// The 4,096 bytes of a page. None exactly where it is not held.
+    /// The 4,096 bytes of a held page, lent and not copied. None exactly where the page is not held. It takes no
+    /// memory.
     pub fn page(&self, p: Page) -> Option<&[u8]>
+        ensures held { IsSome result ↔ IsHeld self.now p }
         ensures value { option_map (λ s. s.now) result ≡ finite.get self.now.pages p }
         ensures bytes { IfSome result (λ s. IsPageOfBytes s.now) }
     {
@@ -103,6 +106,14 @@ impl Memory {
             add_frame(&mut self.frames, &mut self.table, p, &ZEROS)?;
         }
         Ok(())
+    }
+
+    /// Makes room at once for so many pages more to be held. Nothing that can be seen changes, after want of memory
+    /// too. This project's own.
+    pub fn reserve(&mut self, pages: usize) -> Result<(), AllocError>
+        ensures same { self.new ≡ self.old }
+    {
+        self.frames.reserve_exact(pages.saturating_mul(4096))
     }
 
     /// The page, which is held, becomes these at most 4,096 bytes, then zeros.
@@ -140,8 +151,7 @@ impl Memory {
         ensures value { self.new ≡ with_page self.old d (at self.old s) }
         ensures stay { (q : ℕ) → IsHeld self.old q → IsHeld self.new q }
     {
-        let bytes = frame_or_zeros(&self.frames, &self.table, s);
-        write_frame(&mut self.frames, &self.table, d, &bytes);
+        copy_frame(&mut self.frames, &self.table, d, s);
     }
 
     /// The copies `s` to `w`, `d` to `s`, `w` to `d`, in this order. All three pages are held; they may be equal.
@@ -169,8 +179,7 @@ impl Memory {
         ensures value { self.new ≡ swapped self.old d s w }
         ensures stay { (q : ℕ) → IsHeld self.old q → IsHeld self.new q }
     {
-        let bytes = frame_or_zeros(&self.frames, &self.table, s);
-        write_frame(&mut self.frames, &self.table, w, &bytes);
+        copy_frame(&mut self.frames, &self.table, w, s);
         exchange(&mut self.table, d, s);
     }
 
@@ -182,8 +191,8 @@ impl Memory {
         self.bytes(page_of_address(a))[place_of_address(a)]
     }
 
-    #[tactic(auto, unfolding(crate::specs::Memory::word))]
     /// The little-endian number in the eight bytes at address `a`, a multiple of 8 below 2^46.
+    #[tactic(auto, unfolding(crate::specs::Memory::word))]
     pub fn word(&self, a: u64) -> u64
         requires inside { a < 2 ^ 46 }
         requires aligned { a % 8 ≡ 0 }
@@ -281,4 +290,10 @@ fn memory_of(alloc: Global, bytes: &[u8]) -> Result<Memory, MemFault>
 /// every page.
 pub fn reads_back()
     ensures { (m : Contents) → IsMemory m → length (stored m) ≤ 131072 → IsReadAgain m }
+{}
+
+/// Each memory has one file: memories that agree at every page store the same pages, and have the same file.
+pub fn agreeing_have_one_file()
+    ensures stored { (m n : Contents) → Agree (at m) (at n) → stored m ≡ stored n }
+    ensures file { (m n : Contents) → Agree (at m) (at n) → file m ≡ file n }
 {}

@@ -1,6 +1,6 @@
 -- A table of marks, page by page.
-use Rattle.std.proofs.Common.{◌≡◌, ℕ, ◌+◌, ◌<◌, ◌≤◌, List, [], ◌∷◌, ◌++◌, Bool, true, false, cond, refl, sym, ap, ◌∙◌, subst, Some, None, Option, arith, take, drop, length, ⊎_elim, inl, inr}
-use Rattle.std.specs.Prelude.{◌≢◌, ◌⊎◌, ◌||◌, IsSome, is_some, eqb, nat_eq, unwrap_or}
+use Rattle.std.proofs.Common.{◌≡◌, ℕ, ◌+◌, ◌≤◌, List, [], ◌∷◌, ◌++◌, Bool, true, false, cond, refl, sym, ap, ◌∙◌, subst, Some, None, arith, length, ⊎_elim, inl, inr}
+use Rattle.std.specs.Prelude.{◌≢◌, ◌⊎◌, ◌||◌, is_some, eqb, nat_eq, unwrap_or}
 use Rattle.std.specs.List.{list_any}
 use Rattle.std.specs.Ordering.{nat_cmp, is_eq}
 use Rattle.std.specs.declared.cmp.Ordering.{Ordering}
@@ -13,7 +13,7 @@ use Rattle.std.proofs.lemmas.List.Folds.{list_any-append}
 use Rattle.std.proofs.lemmas.Bool.Decides.{eqb_tells}
 use Rattle.kx_pages.specs.Lists.{count}
 use Rattle.page_pool.specs.Counts.{IsOnce}
-use Rattle.page_pool.specs.Marks.{marks_of, HaveMarks, AreMarks, IsPool}
+use Rattle.page_pool.specs.Marks.{marks_of, AreMarks, IsPool}
 use Rattle.page_pool.proofs.Tables.{count-append}
 
 is_eq-false : (r : Ordering) → (r ≡ Equal → ⊥) → is_eq r ≡ false
@@ -32,7 +32,7 @@ or_false : (b : Bool) → (b || false) ≡ b
 or_false true = refl
 or_false false = refl
 
-count-any : (x : ℕ) (xs : List ℕ) → ((list_any (nat_eq x) xs ≡ true) × (1 ≤ count x xs)) ⊎ ((list_any (nat_eq x) xs ≡ false) × (count x xs ≡ 0))
+pub count-any : (x : ℕ) (xs : List ℕ) → ((list_any (nat_eq x) xs ≡ true) × (1 ≤ count x xs)) ⊎ ((list_any (nat_eq x) xs ≡ false) × (count x xs ≡ 0))
 count-any x [] = inr (refl, refl)
 count-any x (y ∷ xs) = go (eqb_tells x y) (eqb_tells y x) (count-any x xs)
   where
@@ -47,7 +47,7 @@ count-any x (y ∷ xs) = go (eqb_tells x y) (eqb_tells y x) (count-any x xs)
         let m : count x (y ∷ xs) ≡ 0 + count x xs = ap (λ b. cond b 1 0 + count x xs) v.0 in
         ⊎_elim (λ h. inl (ap (λ b. b || list_any (nat_eq x) xs) u.0 ∙ h.0, omega (arith, m, h.1))) (λ h. inr (ap (λ b. b || list_any (nat_eq x) xs) u.0 ∙ h.0, omega (arith, m, h.1))) ih
 
-some-fresh : (b : Bool) → is_some (cond b (Some false) None) ≡ b
+pub some-fresh : (b : Bool) → is_some (cond b (Some false) None) ≡ b
 some-fresh true = refl
 some-fresh false = refl
 
@@ -93,13 +93,19 @@ marks_more xs ys k m n b e h f g u =
 pub marks_none : (m : tree.BTreeMap ℕ Bool) → ((q : ℕ) → tree.get nat_cmp m q ≡ None) → AreMarks [] m
 marks_none m h = record { each = h; once = record { each = λ x. omega arith } }
 
+pub unmarked : (xs : List ℕ) (m : tree.BTreeMap ℕ Bool) → AreMarks xs m → (q : ℕ) → unwrap_or (finite.get (marks_of m) q) false ≡ false
+unmarked xs m h q = ap (λ o. unwrap_or o false) (get-from_entries nat_cmp_total m.entries q ∙ h.each q) ∙ value-fresh (list_any (nat_eq q) xs)
+
 -- a pool of these pages
-pub pool_made : (xs : List ℕ) (m : tree.BTreeMap ℕ Bool) → AreMarks xs m → IsPool xs 0 m
-pool_made xs m h = record {
+pub pool_made : (xs : List ℕ) (m : tree.BTreeMap ℕ Bool) → length xs ≤ 262144 → AreMarks xs m → IsPool xs 0 m
+pool_made xs m few h = record {
   within = omega arith;
   once = h.once;
   have = record { each = λ x c. ap is_some (h.each x) ∙ some-fresh (list_any (nat_eq x) xs) ∙ ⊎_elim (λ t. t.0) (λ t. absurd (omega (arith, t.1, c))) (count-any x xs) };
+  few = few;
+  filed = record { each = λ x f. absurd (clash _ f (unmarked xs m h x)) };
 }
-
-pub unmarked : (xs : List ℕ) (m : tree.BTreeMap ℕ Bool) → AreMarks xs m → (q : ℕ) → unwrap_or (finite.get (marks_of m) q) false ≡ false
-unmarked xs m h q = ap (λ o. unwrap_or o false) (get-from_entries nat_cmp_total m.entries q ∙ h.each q) ∙ value-fresh (list_any (nat_eq q) xs)
+  where
+    clash : (b : Bool) → b ≡ true → b ≡ false → ⊥
+    clash true p q = cc
+    clash false p q = cc

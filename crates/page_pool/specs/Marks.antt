@@ -1,5 +1,5 @@
 -- The table of marks.
-use Rattle.std.specs.Prelude.{◌≡◌, ℕ, ◌≤◌, List, Bool, false, IsSome, length, cond, nat_eq, Some, None}
+use Rattle.std.specs.Prelude.{◌≡◌, ℕ, ◌≤◌, List, Bool, true, false, IsSome, length, take, cond, nat_eq, unwrap_or, Some, None}
 use Rattle.std.specs.List.{list_any}
 use Rattle.std.specs.Ordering.{nat_cmp}
 use Rattle.std.specs.FinMap as finite
@@ -14,11 +14,17 @@ marks_of m = finite.from_entries m.entries
 pub record HaveMarks (xs : List ℕ) (m : tree.BTreeMap ℕ Bool) : Type 0 where
   pub each : (x : ℕ) → 1 ≤ count x xs → IsSome (tree.get nat_cmp m x)
 
+-- each page that is marked as filed is one of these
+pub record FiledAreAmong (xs : List ℕ) (m : tree.BTreeMap ℕ Bool) : Type 0 where
+  pub each : (x : ℕ) → unwrap_or (finite.get (marks_of m) x) false ≡ true → 1 ≤ count x xs
+
 -- what each pool is: its pages, how many are drawn, and its marks
 pub record IsPool (xs : List ℕ) (next : ℕ) (m : tree.BTreeMap ℕ Bool) : Type 0 where
   pub within : next ≤ length xs
   pub once : IsOnce xs
   pub have : HaveMarks xs m
+  pub few : length xs ≤ 262144
+  pub filed : FiledAreAmong (take next xs) m
 
 -- a table of these pages, none of them filed
 pub record AreMarks (xs : List ℕ) (m : tree.BTreeMap ℕ Bool) : Type 0 where

@@ -1,28 +1,38 @@
-//! The pool of free pages, drawn in order, and the drawn pages that are filed.
+//! The pool of free pages that a load draws from, and the drawn pages that are filed.
+//!
+//! A load draws its pages in the pool's order, as the kernel's kexec core takes free pages from its page allocator. A
+//! drawn page that is some segment's destination is filed until its own request comes. The pages of a pool differ, and
+//! those left and those drawn are together at most 262,144 (this project's own limit). A pool has one mark a page from
+//! the start, so that only the calls that make a pool take memory.
 #![tactic(auto)]
 
-ghost use Rattle.std.specs.Prelude.{◌≡◌, ℕ, ◌<◌, ◌≤◌, ◌++◌, ◌∷◌, [], true, false, length, slice_index, unwrap_or, IfSome, IfNone, IsSome, IfOk, IfErr, OnOk};
+ghost use Rattle.std.specs.Prelude.{◌≡◌, ℕ, ◌+◌, ◌<◌, ◌≤◌, ◌++◌, ◌∷◌, [], true, false, length, slice_index, unwrap_or, IfSome, IfNone, IsSome, IfOk, IfErr};
 ghost use Rattle.std.specs.Ordering.{nat_cmp};
 ghost use Rattle.std.specs.FinMap as finite;
 ghost use Rattle.std.specs.BTreeMap as tree;
 ghost use Rattle.kx_pages.specs.Lists.{count};
 ghost use Rattle.page_pool.specs.Counts.{IsOnce};
 ghost use Rattle.page_pool.specs.Pages.{is_filed, marked};
-ghost use Rattle.page_pool.specs.Marks.{marks_of, HaveMarks, AreMarks};
+ghost use Rattle.page_pool.specs.Marks.{marks_of};
+ghost use Rattle.page_pool.specs.File.{pool_reading, each_once, Gives, MarksOrRepeat, RepeatIsFirst};
 
+mod fault;
+mod file;
+#[cfg(test)]
+mod tests;
+
+pub use fault::PoolFault;
+use file::pages_of;
 use kx_pages::Page;
 use std::alloc::Global;
 use std::collections::BTreeMap;
 use std::marker::Model;
 
-/// Why pages are no pool.
-#[derive(Clone, Copy, Debug, PartialEq, Eq)]
-pub enum PoolFault {
-    Repeats { page: Page },
-    Memory,
-}
+/// The most pages of a pool, 1 GiB in all (this project's own limit).
+pub const MOST_PAGES: u64 = 262144;
 
-/// Pages to draw, in order, and which of the drawn pages are filed.
+/// Pages to draw, in order, and which of the drawn pages are filed. Contracts see the pages left and the pages drawn
+/// since the pool was made, both in order, and a mark for each page.
 #[derive(Drop)]
 pub struct Pool {
     pages: Vec<Page>,
@@ -45,8 +55,31 @@ impl Model for Pool {
 }
 
 impl Pool {
-    /// A pool of these pages.
+    /// The pool of a pool file (this project's own format): a text of lines, each a page number, or `first-last` with
+    /// both included, in hexadecimal. The pages are drawn in the order of the text.
+    ///
+    /// The first fault is answered. Line after line it is BadLine where the line has not this form, Backwards where
+    /// its last page is below its first, PastLimit where its last page is 2^34 or more, TooMany where the pages up to
+    /// this line are more than 262,144; after all lines Repeats with the first page that stands earlier too. Memory
+    /// comes only where memory ran out.
+    #[tactic(auto, unfolding(crate::specs::File::pool_reading))]
+    pub fn read(alloc: Global, text: &[u8]) -> Result<Pool, PoolFault>
+        ensures exact { Gives (λ p. p.left) result (pool_reading text.now) }
+        ensures undrawn { IfOk result (λ p. p.drawn ≡ []) }
+        ensures unfiled { IfOk result (λ p. (q : ℕ) → is_filed p q ≡ false) }
+    {
+        match pages_of(alloc, text) {
+            Ok(pages) => Pool::new(alloc, pages),
+            Err(fault) => Err(fault),
+        }
+    }
+
+    /// A pool of these pages, at most 262,144, to be drawn in this order. Repeats with the first page of the list that
+    /// stands earlier too, exactly where one does; Memory only where memory ran out.
     pub fn new(alloc: Global, pages: Vec<Page>) -> Result<Pool, PoolFault>
+        requires { length pages.items ≤ 262144 }
+        ensures exact { Gives (λ p. p.left) result (each_once pages.items) }
+        ensures first { IfErr result (λ e. RepeatIsFirst pages.items e) }
         ensures pages { IfOk result (λ p. (p.left ≡ pages.items) × (p.drawn ≡ [])) }
         ensures unfiled { IfOk result (λ p. (q : ℕ) → is_filed p q ≡ false) }
     {
@@ -60,10 +93,23 @@ impl Pool {
         }
     }
 
-    /// How many pages can be drawn.
+    /// A pool with no page.
+    pub fn empty(alloc: Global) -> Pool
+        ensures { result ≡ record { left = []; drawn = []; marks = finite.empty } }
+    {
+        Pool {
+            pages: Vec::new(alloc),
+            next: 0,
+            marks: BTreeMap::new(alloc),
+        }
+    }
+
+    /// How many pages can be drawn. The other clauses tell what holds of every pool.
     pub fn left(&self) -> u64
         ensures value { result ≡ length self.now.left }
         ensures once { IsOnce (self.now.drawn ++ self.now.left) }
+        ensures few { length self.now.drawn + length self.now.left ≤ 262144 }
+        ensures filed_were_drawn { (q : ℕ) → is_filed self.now q ≡ true → 1 ≤ count q self.now.drawn }
     {
         (self.pages.len() - self.next) as u64
     }
@@ -76,7 +122,7 @@ impl Pool {
         self.pages[self.next + i as usize]
     }
 
-    /// The next page.
+    /// The next page. None exactly where none is left.
     pub fn draw(&mut self) -> Option<Page>
         ensures some { IfSome result (λ q. (self.old.left ≡ q ∷ self.new.left) × (self.new.drawn ≡ self.old.drawn ++ q ∷ []) × (self.new.marks ≡ self.old.marks)) }
         ensures none { IfNone result ((self.old.left ≡ []) × (self.new ≡ self.old)) }
@@ -90,7 +136,7 @@ impl Pool {
         }
     }
 
-    /// A drawn page is kept for its own request.
+    /// Files a drawn page: it is kept for its own request. A page that is filed already stays so.
     pub fn file(&mut self, p: Page)
         requires { 1 ≤ count p self.old.drawn }
         ensures { self.new ≡ marked self.old p true }
@@ -98,8 +144,9 @@ impl Pool {
         mark(&mut self.marks, p, true);
     }
 
-    /// The page `d`, where it is filed.
+    /// The page `d`, which is no longer filed then. None exactly where it is not filed.
     pub fn take_filed(&mut self, d: Page) -> Option<Page>
+        ensures drawn { IfSome result (λ p. 1 ≤ count p self.old.drawn) }
         ensures some { IfSome result (λ p. (p ≡ d) × (is_filed self.old d ≡ true) × (self.new ≡ marked self.old d false)) }
         ensures none { IfNone result ((is_filed self.old d ≡ false) × (self.new ≡ self.old)) }
     {
@@ -112,6 +159,7 @@ impl Pool {
     }
 }
 
+/// Whether the page has a mark that says filed.
 fn is_marked(marks: &BTreeMap<Page, bool>, p: Page) -> bool
     ensures value { result ≡ unwrap_or (finite.get (marks_of marks.now) p) false }
     ensures has { result ≡ true → IsSome (tree.get nat_cmp marks.now p) }
@@ -122,6 +170,7 @@ fn is_marked(marks: &BTreeMap<Page, bool>, p: Page) -> bool
     }
 }
 
+/// Changes the mark of a page that has one.
 fn mark(marks: &mut BTreeMap<Page, bool>, p: Page, is_filed: bool)
     requires { IsSome (tree.get nat_cmp marks.old p) }
     ensures value { marks_of marks.new ≡ finite.insert (marks_of marks.old) p is_filed }
@@ -133,8 +182,9 @@ fn mark(marks: &mut BTreeMap<Page, bool>, p: Page, is_filed: bool)
     }
 }
 
+/// A mark for each page, none of them filed. Repeats with the first page that stands earlier too.
 fn marks_for(alloc: Global, pages: &[Page]) -> Result<BTreeMap<Page, bool>, PoolFault>
-    ensures { IfOk result (λ m. AreMarks pages.now m) }
+    ensures { MarksOrRepeat result pages.now }
 {
     let mut marks = BTreeMap::new(alloc);
     for p in pages {

@@ -1,5 +1,5 @@
 -- One step of the machine that runs a list.
-use Rattle.std.specs.Prelude.{ℕ, ◌+◌, ◌-◌, ◌/◌, ◌%◌, ◌^◌, Bool, true, false, Option, Some, None, IfSome, Result, Ok, Err, nat_le, ◌==◌, if◌then◌else◌, bit_and}
+use Rattle.std.specs.Prelude.{◌≡◌, ℕ, ◌+◌, ◌-◌, ◌/◌, ◌%◌, ◌^◌, Bool, true, false, Option, Some, None, IfSome, Result, Ok, Err, nat_le, ◌==◌, if◌then◌else◌, bit_and}
 use Rattle.kx_pages.specs.declared.image.Mode.{Mode}
 use Rattle.kx_pages.specs.declared.image.Mode.TheVariants.{Plain, Kept}
 use Rattle.page_memory.specs.Contents.{Contents, at, with_page, IsHeld}
@@ -49,7 +49,7 @@ advanced None r = record r { cursor = r.cursor + 8 }
 abbrev pub copied : Contents → ℕ → ℕ → Contents
 copied m d s = with_page m d (at m s)
 
--- a move of page s to page d
+-- a move of page s to page d: plain a copy, kept three copies by way of the swap page w
 abbrev pub moved : Mode → Contents → ℕ → ℕ → Contents
 moved Plain m d s = copied m d s
 moved (Kept w) m d s = copied (copied (copied m w s) s d) d w
@@ -69,7 +69,7 @@ abbrev pub taken : State → Result ℕ ℕ → State × Step
 taken s (Err a) = (s, steps.Off a)
 taken s (Ok w) = handled s (advanced s.machine.first s.machine) (kind_of w) (masked w)
 
--- one step
+-- one step of the machine, as `relocate_kernel` of the Linux kernel takes it; the moves and the limit are this project's own
 unfoldable pub step_of : State → State × Step
 step_of s = taken s (fetched s.machine.first s.machine.cursor s.memory)
 
@@ -110,3 +110,8 @@ AreHeld m w = IfSome w.destination (λ p. IsHeld m p) × IfSome w.source (λ p. 
 -- the pages that the next step writes are held
 abbrev pub HoldsWrites : State → Type 0
 HoldsWrites s = AreHeld s.memory (writes_of s)
+
+-- a memory with the same number of sets that holds at least the same pages
+pub record Stays (m n : Contents) : Type 0 where
+  pub sets : n.sets ≡ m.sets
+  pub held : (q : ℕ) → IsHeld m q → IsHeld n q

@@ -2,39 +2,50 @@
 
 ghost use Rattle.std.specs.Prelude.{◌≡◌, ℕ, ◌+◌, ◌*◌, ◌/◌, ◌%◌, ◌<◌, ◌≤◌, ◌^◌, IsTrue, false, IsNone, IfSome, IfOk, OnOk, OnErr};
 ghost use Rattle.page_memory.specs.Contents.{IsHeld};
-ghost use Rattle.relocate_machine.specs.Machine.{State, start_of, fetched, advanced, moved, step_of, AreHeld, move_writes, word_writes, writes_of, HoldsWrites};
+ghost use Rattle.relocate_machine.specs.Machine.{State, Stays, start_of, fetched, advanced, moved, step_of, AreHeld, move_writes, word_writes, writes_of, HoldsWrites};
 ghost use Rattle.relocate_machine.specs.Run.{HeldFrom, Agree, run_of};
 
 use crate::word::{Kind, address, first_bit};
-use kx_pages::{Mode, Page};
+use kx_pages::{Mode, PAGE_SIZE, Page};
 use page_memory::Memory;
 use std::alloc::AllocError;
 use std::marker::Model;
 
-/// Addresses lie below this.
+/// Addresses lie below this, 2^46 (this project's own).
 const ADDRESS_LIMIT: u64 = 0x4000_0000_0000;
 
-/// What a step did.
+/// What a step did. This project's own.
 #[derive(Clone, Copy, Debug, PartialEq, Eq)]
 pub enum Step {
+    /// A word was handled, and the run goes on.
     Went,
+    /// The done word was handled.
     Ended,
+    /// The cursor to read at, the source to move from or the destination to move to is `address`, which is 2^46 or
+    /// more; they are looked at in this order. Nothing has changed.
     Off { address: u64 },
 }
 
-/// How a run came out.
+/// How a run came out. This project's own.
 #[derive(Clone, Copy, Debug, PartialEq, Eq)]
 pub enum Outcome {
+    /// It ended after so many steps, that of the done word included.
     Done { steps: u64 },
+    /// It goes on after `limit` steps.
     Running { limit: u64 },
+    /// It was off at this address after so many steps.
     Off { address: u64, steps: u64 },
 }
 
-/// The pages that a step writes.
+/// The pages that a step writes: in plain mode a destination, in kept mode also the source and the swap page. This
+/// project's own.
 #[derive(Clone, Copy, Debug, PartialEq, Eq)]
 pub struct Writes {
+    /// The page that the destination is.
     pub destination: Option<Page>,
+    /// The page that is moved, where it is written too.
     pub source: Option<Page>,
+    /// The swap page.
     pub swap: Option<Page>,
 }
 
@@ -66,6 +77,7 @@ impl Model for Machine {
 }
 
 impl Machine {
+    /// The machine before its first step: the head word is the word to handle, cursor and destination are 0.
     pub fn start(head: u64, mode: Mode) -> Machine
         ensures { result ≡ start_of head mode }
     {
@@ -78,7 +90,7 @@ impl Machine {
         }
     }
 
-    /// The pages that the next step writes.
+    /// The pages that the next step writes. None where it moves nothing or is off.
     #[tactic(auto, unfolding(crate::specs::Machine::writes_of))]
     pub fn writes(&self, memory: &Memory) -> Writes
         ensures { result ≡ writes_of record { machine = self.now; memory = memory.now } }
@@ -113,7 +125,9 @@ impl Machine {
         }
     }
 
-    /// One step. After `Off` nothing has changed.
+    /// One step: the word to handle is the head word at first, later the one that memory now has at the cursor, which
+    /// then goes on by 8. The machine has not ended, and the pages that the step writes are held. After `Off` nothing
+    /// has changed.
     #[tactic(auto, unfolding(crate::specs::Machine::step_of))]
     pub fn step(&mut self, memory: &mut Memory) -> Step
         requires running { self.old.ended ≡ false }
@@ -152,7 +166,7 @@ impl Machine {
                 }
                 move_page(memory, self.mode, page_of(self.destination), page_of(to));
                 self.advance();
-                self.destination += 4096;
+                self.destination += PAGE_SIZE;
                 Step::Went
             }
             Kind::Nothing => {
@@ -186,11 +200,12 @@ fn fetch(first: Option<u64>, cursor: u64, memory: &Memory) -> Result<u64, u64>
     }
 }
 
+// The page of an address.
 fn page_of(address: u64) -> Page
     requires { address < 2 ^ 46 }
     ensures { result ≡ address / 4096 }
 {
-    Page::new(address / 4096).unwrap()
+    Page::new(address / PAGE_SIZE).unwrap()
 }
 
 // Moves page s to page d.
@@ -204,11 +219,15 @@ fn move_page(memory: &mut Memory, mode: Mode, d: Page, s: Page)
     }
 }
 
-/// Runs a list by at most `limit` steps, whose pages are held.
+/// Runs a list by at most `limit` steps. The pages that these steps write are held. It takes no memory.
+///
+/// Done exactly where the run ends within `limit` steps; otherwise off exactly where it is off before `limit` steps
+/// were taken; otherwise running.
 pub fn run_held(memory: &mut Memory, head: u64, mode: Mode, limit: u64) -> Outcome
     requires { HeldFrom limit record { machine = start_of head mode; memory = memory.old } }
     ensures memory { let run = run_of memory.old head mode limit in memory.new ≡ run.0.memory }
     ensures outcome { let run = run_of memory.old head mode limit in result ≡ run.1 }
+    ensures stays { Stays memory.old memory.new }
 {
     let mut machine = Machine::start(head, mode);
     for k in 0..limit {
@@ -221,10 +240,12 @@ pub fn run_held(memory: &mut Memory, head: u64, mode: Mode, limit: u64) -> Outco
     Outcome::Running { limit }
 }
 
-/// Runs a list by at most `limit` steps, and holds each page before it is written.
+/// Runs a list by at most `limit` steps as `run_held` does, and holds each page before it is written. After want of
+/// memory the memory is as some number of steps below `limit` left it.
 pub fn run(memory: &mut Memory, head: u64, mode: Mode, limit: u64) -> Result<Outcome, AllocError>
     ensures ok { IfOk result (λ outcome. let run = run_of memory.old head mode limit in (outcome ≡ run.1) × Agree run.0.memory memory.new) }
     ensures err { OnErr result ((n : ℕ) × (n < limit) × Agree (run_of memory.old head mode n).0.memory memory.new) }
+    ensures stays { Stays memory.old memory.new }
 {
     let mut machine = Machine::start(head, mode);
     for k in 0..limit {
@@ -239,20 +260,22 @@ pub fn run(memory: &mut Memory, head: u64, mode: Mode, limit: u64) -> Result<Out
     Ok(Outcome::Running { limit })
 }
 
+// Holds these pages.
 fn hold_all(memory: &mut Memory, writes: Writes) -> Result<(), AllocError>
     ensures held { OnOk result (AreHeld memory.new writes) }
     ensures same { Agree memory.old memory.new }
-    ensures stay { (q : ℕ) → IsHeld memory.old q → IsHeld memory.new q }
+    ensures stays { Stays memory.old memory.new }
 {
     hold_one(memory, writes.destination)?;
     hold_one(memory, writes.source)?;
     hold_one(memory, writes.swap)
 }
 
+// Holds the page, where there is one.
 fn hold_one(memory: &mut Memory, page: Option<Page>) -> Result<(), AllocError>
     ensures held { OnOk result (IfSome page (λ p. IsHeld memory.new p)) }
     ensures same { Agree memory.old memory.new }
-    ensures stay { (q : ℕ) → IsHeld memory.old q → IsHeld memory.new q }
+    ensures stays { Stays memory.old memory.new }
 {
     match page {
         Some(p) => memory.hold(p),

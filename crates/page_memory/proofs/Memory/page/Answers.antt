@@ -1,4 +1,6 @@
-use Rattle.std.proofs.Common.{ap, sym, ◌∙◌}
+use Rattle.std.proofs.Common.{ap, sym, ◌∙◌, refl}
+use Rattle.std.specs.Prelude.{is_some}
+use Rattle.std.proofs.lemmas.Bool.{both_ways}
 use Rattle.std.specs.Option.{option_map}
 use Rattle.page_memory.specs.Frames.{frame_in}
 use Rattle.page_memory.proofs.Tables.{get-shown}
@@ -22,3 +24,9 @@ pub returns-in-None-clause-value : goal.returns-in-None-clause-value
 returns-in-None-clause-value c =
     let shown = get-shown (frame_in c.self.inside.frames.items) c.self.inside.table.entries c.args.self.now.pages c.args.p (ap (λ m. m.pages) c.self.view_is) in
     ap (option_map (frame_in c.self.inside.frames.items)) c.in-None.ensures.value ∙ sym shown
+
+pub returns-in-Some-clause-held : goal.returns-in-Some-clause-held
+returns-in-Some-clause-held c = (λ _. sym (ap is_some (returns-in-Some-clause-value c)), λ _. refl)
+
+pub returns-in-None-clause-held : goal.returns-in-None-clause-held
+returns-in-None-clause-held c = (λ h. absurd (both_ways _ refl h), λ h. ap is_some (returns-in-None-clause-value c) ∙ h)

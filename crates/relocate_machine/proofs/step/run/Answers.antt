@@ -6,11 +6,12 @@ use Rattle.relocate_machine.specs.declared.step.Step.TheVariants as steps
 use Rattle.relocate_machine.specs.declared.step.Outcome.TheVariants.{Running}
 use Rattle.relocate_machine.proofs.Runs.{step_of-runs}
 use Rattle.relocate_machine.proofs.More.{ends_after, goes_after, next_alike, writes_of-agree}
+use Rattle.relocate_machine.specs.Stays.{stays_same, stays_then, stays_step}
 use Rattle.relocate_machine.proofs.step.run.Goals as goal
 
 pub loop-k-init : goal.loop-k-init
 unfolding run_from
-loop-k-init c = rw c.start-machine.ensures (refl, (c.args.memory.now, (λ q. refl), refl))
+loop-k-init c = rw c.start-machine.ensures (refl, (c.args.memory.now, (λ q. refl), refl), stays_same c.args.memory.now)
 
 pub step-requires-clause-held : goal.step-requires-clause-held
 step-requires-clause-held c =
@@ -39,4 +40,14 @@ loop-k-preserved c =
     let run = goes_after c.loop-k.k s0 _ u.0 c.loop-k.invariant.1.2 u.1 in (
       step_of-runs _ _ c.in-Went.ensures ∙ c.loop-k.invariant.0,
       (u.0.memory, u.3, run ∙ ap (λ r. (record { machine = r; memory = u.0.memory }, Running (c.loop-k.k + 1))) u.2),
+      stays_then _ _ _ (stays_then _ _ _ c.loop-k.invariant.2 c.hold_all.ensures.stays) (stays_step _ _ _ c.in-Went.ensures),
     )
+
+pub returns-in-Ended-clause-stays : goal.returns-in-Ended-clause-stays
+returns-in-Ended-clause-stays c = stays_then _ _ _ (stays_then _ _ _ c.loop-k.invariant.2 c.hold_all.ensures.stays) (stays_step _ _ _ c.in-Ended.ensures)
+
+pub returns-in-Off-clause-stays : goal.returns-in-Off-clause-stays
+returns-in-Off-clause-stays c = stays_then _ _ _ (stays_then _ _ _ c.loop-k.invariant.2 c.hold_all.ensures.stays) (stays_step _ _ _ c.in-Off.ensures)
+
+pub returns-in_err-hold_all-clause-stays : goal.returns-in_err-hold_all-clause-stays
+returns-in_err-hold_all-clause-stays c = stays_then _ _ _ c.loop-k.invariant.2 c.hold_all.ensures.stays

@@ -5,8 +5,8 @@ use Rattle.kx_pages.proofs.page_set.PageSet.add.Goals as goal
 
 pub invariant_of-self : goal.invariant_of-self
 invariant_of-self c =
-    apart_as _ _ (sym c.in_ok-self-inside.ensures) (apart_joined 0 _ c.args.span (apart_as _ _ (sym c.deref.ensures.value) c.self.invariant) (omega arith) (omega arith) (omega arith))
+    apart_as _ _ (sym c.in_ok-put_among.ensures.ok) (apart_joined 0 _ c.args.span c.self.invariant (omega arith) (omega arith) (omega arith))
 
-pub returns-in_ok-self-inside-clause-pages : goal.returns-in_ok-self-inside-clause-pages
-returns-in_ok-self-inside-clause-pages c = λ q.
-    ap (λ xs. in_spans xs q) c.in_ok-self-inside.ensures ∙ has_joined _ c.args.span q ∙ ap (λ xs. in_spans xs q || in_span c.args.span q) (c.deref.ensures.value ∙ c.self.view_is)
+pub returns-in_ok-put_among-clause-pages : goal.returns-in_ok-put_among-clause-pages
+returns-in_ok-put_among-clause-pages c = λ q.
+    ap (λ xs. in_spans xs q) c.in_ok-put_among.ensures.ok ∙ has_joined _ c.args.span q ∙ ap (λ xs. in_spans xs q || in_span c.args.span q) c.self.view_is

@@ -1,0 +1,5 @@
+pub mod Puts
+pub mod Taking
+pub mod Turns
+pub mod Meeting
+pub mod Outputs

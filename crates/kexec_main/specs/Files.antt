@@ -1,0 +1,93 @@
+-- What a command reads of the files, one after the other: each is measured and read in its turn.
+use Rattle.std.specs.Prelude.{◌≡◌, ℕ, ◌-◌, Some, None, List, [], ◌∷◌, length, Option, IfSome, unwrap_or, Result, Ok, Err, nat_lt, if◌then◌else◌}
+use Rattle.std.specs.FinMap.{get}
+use Rattle.kx_edge.specs.Edge.{Files, Rose}
+use Rattle.page_memory.specs.Contents.{Contents}
+use Rattle.page_memory.specs.File.{reading}
+use Rattle.page_pool.specs.File.{pool_reading}
+use Rattle.kexec_words.specs.Values.{InputsValue}
+use Rattle.kexec_main.specs.declared.status.InputFault.TheVariants as inputs
+use Rattle.kexec_main.specs.declared.status.Status.{Status}
+use Rattle.kexec_main.specs.Answers.{IsAmong, Answer, done, not_accepted, unwritten, unsaid, unread, too_long, input, memory, answer_of}
+
+-- the bytes of a file; one that is not held reads as the empty file
+abbrev pub file_at : Files → List ℕ → List ℕ
+file_at held name = unwrap_or (get held name) []
+
+-- what is read, or the answer that refuses it
+infixl 10 ◌>>=◌
+abbrev pub ◌>>=◌ : {A B : Type 0} → Result A Answer → (A → Result B Answer) → Result B Answer
+(Ok x) >>= f = f x
+(Err a) >>= f = Err a
+
+-- a file's bytes, which are at most so many
+abbrev pub measured : ℕ → List ℕ → Files → Result (List ℕ) Answer
+measured limit name held = if nat_lt limit (length (file_at held name)) then Err (too_long name limit) else Ok (file_at held name)
+
+-- a reader's refusal as the answer
+abbrev pub or_input : {A F : Type 0} → (F → Answer) → Result A F → Result A Answer
+or_input fault (Ok x) = Ok x
+or_input fault (Err e) = Err (fault e)
+
+-- the limits of single files, in bytes
+abbrev pub memory_limit : ℕ
+memory_limit = 537919504
+
+abbrev pub text_limit : ℕ
+text_limit = 1048576
+
+-- the kernel, the initrd and the modules of one command together
+abbrev pub kernel_limit : ℕ
+kernel_limit = 268435456
+
+abbrev pub memory_file : List ℕ → Files → Result Contents Answer
+memory_file name held = do
+  bytes ← measured memory_limit name held
+  or_input (λ e. input (inputs.Mem e)) (reading bytes)
+
+-- the pages of a pool file, in the order in which they are drawn
+abbrev pub pool_file : List ℕ → Files → Result (List ℕ) Answer
+pool_file name held = do
+  bytes ← measured text_limit name held
+  or_input (λ e. input (inputs.Pool e)) (pool_reading bytes)
+
+-- how many bytes are left for further files of the kernel after these, which fit one after the other
+abbrev pub left_after : ℕ → List (List ℕ) → Files → Result ℕ Answer
+left_after left [] held = Ok left
+left_after left (name ∷ names) held = do
+  bytes ← measured left name held
+  left_after (left - length bytes) names held
+
+-- the files of `boot` and `load`, in the order in which they are taken. The initrd and the modules are measured.
+pub record Inputs : Type 0 where
+  pub memory : Contents
+  pub pool : List ℕ
+  pub kernel : List ℕ
+
+abbrev pub as_list : Option (List ℕ) → List (List ℕ)
+as_list None = []
+as_list (Some name) = name ∷ []
+
+abbrev pub input_files : InputsValue → Files → Result Inputs Answer
+input_files i held = do
+  m ← memory_file i.memory held
+  p ← pool_file i.pool held
+  k ← measured kernel_limit i.kernel held
+  left ← left_after (kernel_limit - length k) (as_list i.initrd) held
+  none ← left_after left i.modules held
+  Ok (record { memory = m; pool = p; kernel = k })
+
+-- What a call that takes files gives: `what` is what it reads of them, and the files that it may fail to read have these
+-- names. It changes no file, and the count of faults rises only where it fails to read one.
+abbrev pub TakesNot : {Y : Type 0} → List (List ℕ) → (Files → Result Y Answer) → Option Files → ℕ → ℕ → Answer → Type 0
+TakesNot names what old before after (unread which) = Rose before after × IsAmong names which
+TakesNot names what old before after memory = after ≡ before
+TakesNot names what old before after done = ⊥
+TakesNot names what old before after (not_accepted fault) = ⊥
+TakesNot names what old before after (unwritten name) = ⊥
+TakesNot names what old before after unsaid = ⊥
+TakesNot names what old before after other = (after ≡ before) × IfSome old (λ held. what held ≡ Err other)
+
+abbrev pub Takes : {X Y : Type 0} → (X → Y) → List (List ℕ) → (Files → Result Y Answer) → Option Files → Option Files → ℕ → ℕ → Result X Status → Type 0
+Takes view names what old now before after (Ok x) = (now ≡ old) × (after ≡ before) × IfSome old (λ held. what held ≡ Ok (view x))
+Takes view names what old now before after (Err status) = (now ≡ old) × TakesNot names what old before after (answer_of status)

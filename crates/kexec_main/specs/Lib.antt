@@ -1,0 +1,6 @@
+pub mod Answers
+pub mod Values
+pub mod Files
+pub mod Texts
+pub mod Makes
+pub mod Trace

@@ -1,0 +1,38 @@
+-- The texts that commands say (this project's own). Addresses and words are in lower-case hexadecimal without leading
+-- zeros, counts in decimal, and each line ends with a newline.
+use Rattle.std.specs.Prelude.{ℕ, ◌*◌, List, ◌++◌, codes, decimal, false}
+use Rattle.std.specs.Fmt.{digits}
+use Rattle.kx_pages.specs.declared.image.Start.{Start}
+use Rattle.kx_pages.specs.declared.image.Image.{Image}
+use Rattle.kx_pages.specs.declared.image.Mode.{Mode}
+use Rattle.kx_pages.specs.declared.image.Mode.TheVariants.{Plain, Kept}
+
+abbrev pub hexadecimal : ℕ → List ℕ
+hexadecimal n = digits 16 false n
+
+-- an accepted list: how many words its walk has, how many link pages, how many pairs of destination and source
+abbrev pub accepted_line : ℕ → ℕ → ℕ → List ℕ
+accepted_line words links pairs =
+    codes "accepted words " ++ (decimal words ++ (codes " links " ++ (decimal links ++ (codes " pairs " ++ (decimal pairs ++ codes "\n")))))
+
+-- the head word, the control page's address, and with context preserved the swap page's
+abbrev pub head_line : Image → List ℕ
+head_line image =
+    codes "head " ++ (hexadecimal image.head ++ (codes " control " ++ (hexadecimal (4096 * image.control) ++ swap_end image.mode)))
+  where
+    swap_end : Mode → List ℕ
+    swap_end Plain = codes "\n"
+    swap_end (Kept swap) = codes " swap " ++ (hexadecimal (4096 * swap) ++ codes "\n")
+
+-- where the new kernel starts, and with which registers
+abbrev pub start_line : Start → List ℕ
+start_line s =
+    codes "start entry " ++ (hexadecimal s.entry ++ (codes " rax " ++ (hexadecimal s.rax ++ (codes " rbx " ++ (hexadecimal s.rbx ++ (codes " rsi " ++ (hexadecimal s.rsi ++ codes "\n")))))))
+
+-- a run, and how many steps it took
+abbrev pub ran_line : ℕ → List ℕ
+ran_line steps = codes "ran " ++ (decimal steps ++ codes "\n")
+
+-- what a load says
+abbrev pub load_lines : ℕ → ℕ → ℕ → Image → Start → List ℕ
+load_lines words links pairs image start = accepted_line words links pairs ++ (head_line image ++ start_line start)

@@ -1,0 +1,11 @@
+//! The top call: a command's words, over files and a text output.
+#![tactic(auto)]
+
+mod deliver;
+mod output;
+mod status;
+mod take;
+mod text;
+mod trace;
+
+pub use status::{InputFault, NotBuilt, Part, PlanFault, Status};

@@ -1,0 +1,150 @@
+//! Files are taken in their turn, measured, and read.
+
+ghost use Rattle.std.specs.Prelude.{◌≡◌, ◌<◌, ◌≤◌, ◌∷◌, [], ℕ, length, false, map, option_map, string_bytes, IfOk};
+ghost use Rattle.kexec_main.specs.Files.{Takes, measured, memory_file, pool_file, left_after, input_files, as_list};
+ghost use Rattle.kexec_main.specs.Values.{inputs_of};
+ghost use Rattle.kexec_words.specs.Values.{inputs_value};
+ghost use Rattle.kexec_words.specs.Meaning.{files_of};
+ghost use Rattle.page_pool.specs.Pages.{is_filed};
+
+use crate::status::{InputFault, Status};
+use kx_edge::{Shelf, ShelfFault};
+use kexec_words::Inputs;
+use page_memory::{MemFault, Memory};
+use page_pool::{Pool, PoolFault};
+use std::alloc::{AllocError, Global};
+
+/// The most bytes of a pool file, a memory map and a note file.
+const TEXT_LIMIT: usize = 1_048_576;
+
+/// The most bytes of the kernel, the initrd and the modules of one command together.
+const KERNEL_LIMIT: usize = 268_435_456;
+
+/// The most bytes of a memory file: 16 and 4,104 for each of 131,072 pages.
+const MEMORY_LIMIT: usize = 537_919_504;
+
+/// Takes a file and measures it: it has at most `limit` bytes.
+pub(crate) fn take_file<S: Shelf>(
+    alloc: Global,
+    name: String,
+    limit: usize,
+    shelf: &mut S,
+) -> Result<Vec<u8>, Status>
+    requires { limit < 4294967296 }
+    ensures takes { Takes (λ bytes. bytes.items) (string_bytes name ∷ []) (measured limit (string_bytes name)) (S.files shelf.old) (S.files shelf.new) (S.faults shelf.old) (S.faults shelf.new) result }
+    ensures within { IfOk result (λ bytes. length bytes.items ≤ limit) }
+{
+    match shelf.take(alloc, &name, limit + 1) {
+        Ok(bytes) if bytes.len() <= limit => Ok(bytes),
+        Ok(_) => Err(Status::TooLong {
+            name,
+            limit: limit as u64,
+        }),
+        Err(ShelfFault::Memory) => Err(Status::Memory),
+        Err(ShelfFault::Failed) => Err(Status::Unread { name }),
+    }
+}
+
+/// Takes a memory file and reads it.
+pub(crate) fn take_memory<S: Shelf>(
+    alloc: Global,
+    name: String,
+    shelf: &mut S,
+) -> Result<Memory, Status>
+    ensures { Takes (λ m. m) (string_bytes name ∷ []) (memory_file (string_bytes name)) (S.files shelf.old) (S.files shelf.new) (S.faults shelf.old) (S.faults shelf.new) result }
+{
+    let bytes = take_file(alloc, name, MEMORY_LIMIT, shelf)?;
+    match Memory::read(alloc, &bytes) {
+        Ok(memory) => Ok(memory),
+        Err(MemFault::Memory) => Err(Status::Memory),
+        Err(fault) => Err(Status::Input {
+            fault: InputFault::Mem { fault },
+        }),
+    }
+}
+
+/// Takes a pool file and reads it.
+pub(crate) fn take_pool<S: Shelf>(
+    alloc: Global,
+    name: String,
+    shelf: &mut S,
+) -> Result<Pool, Status>
+    ensures takes { Takes (λ p. p.left) (string_bytes name ∷ []) (pool_file (string_bytes name)) (S.files shelf.old) (S.files shelf.new) (S.faults shelf.old) (S.faults shelf.new) result }
+    ensures unfiled { IfOk result (λ p. (q : ℕ) → is_filed p q ≡ false) }
+{
+    let bytes = take_file(alloc, name, TEXT_LIMIT, shelf)?;
+    match Pool::read(alloc, &bytes) {
+        Ok(pool) => Ok(pool),
+        Err(PoolFault::Memory) => Err(Status::Memory),
+        Err(fault) => Err(Status::Input {
+            fault: InputFault::Pool { fault },
+        }),
+    }
+}
+
+/// Takes files that may have so many bytes together, and answers how many are left.
+pub(crate) fn measure_all<S: Shelf>(
+    alloc: Global,
+    names: Vec<String>,
+    budget: usize,
+    shelf: &mut S,
+) -> Result<usize, Status>
+    requires { budget < 4294967296 }
+    ensures takes { Takes (λ left. left) (map string_bytes names.items) (left_after budget (map string_bytes names.items)) (S.files shelf.old) (S.files shelf.new) (S.faults shelf.old) (S.faults shelf.new) result }
+    ensures fewer { IfOk result (λ left. left ≤ budget) }
+{
+    let mut left = budget;
+    for name in names {
+        left -= take_file(alloc, name, left, shelf)?.len();
+    }
+    Ok(left)
+}
+
+/// The files of `boot` and `load`, as they were taken.
+#[derive(Drop)]
+pub(crate) struct Taken {
+    pub(crate) memory: Memory,
+    pub(crate) pool: Pool,
+    pub(crate) kernel: Vec<u8>,
+}
+
+// The initrd, where it is given, as a list.
+fn as_list(alloc: Global, name: Option<String>) -> Result<Vec<String>, AllocError>
+    ensures { IfOk result (λ v. map string_bytes v.items ≡ as_list (option_map string_bytes name)) }
+{
+    let mut names = Vec::new(alloc);
+    if let Some(name) = name {
+        names.push(name)?;
+    }
+    Ok(names)
+}
+
+/// Takes the files of `boot` and `load` in their order. The initrd and the modules are only measured.
+pub(crate) fn take_inputs<S: Shelf>(
+    alloc: Global,
+    inputs: Inputs,
+    shelf: &mut S,
+) -> Result<Taken, Status>
+    ensures takes { Takes inputs_of (files_of (inputs_value inputs)) (input_files (inputs_value inputs)) (S.files shelf.old) (S.files shelf.new) (S.faults shelf.old) (S.faults shelf.new) result }
+    ensures unfiled { IfOk result (λ t. (q : ℕ) → is_filed t.pool q ≡ false) }
+{
+    let Inputs {
+        memory,
+        pool,
+        kernel,
+        initrd,
+        modules,
+        ..
+    } = inputs;
+    let memory = take_memory(alloc, memory, shelf)?;
+    let pool = take_pool(alloc, pool, shelf)?;
+    let kernel = take_file(alloc, kernel, KERNEL_LIMIT, shelf)?;
+    let initrd = as_list(alloc, initrd)?;
+    let left = measure_all(alloc, initrd, KERNEL_LIMIT - kernel.len(), shelf)?;
+    measure_all(alloc, modules, left, shelf)?;
+    Ok(Taken {
+        memory,
+        pool,
+        kernel,
+    })
+}

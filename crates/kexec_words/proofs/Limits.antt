@@ -1,0 +1,209 @@
+-- What the words say keeps the limits.
+use Rattle.std.proofs.Common.{◌≡◌, ◌∙◌, ◌<◌, ◌≤◌, ◌^◌, ◌%◌, ◌&&◌, ◌==◌, ℕ, Bool, true, false, not, List, [], ◌∷◌, length, arith, rules, sym, subst, refl, is_some, Option, Some, None, IfSome, IfOk, Result, Ok, Err, nat_lt, nat_le, if◌then◌else◌, codes}
+use Rattle.std.proofs.lemmas.Bool.{false≢true}
+use Rattle.clap.specs.Words.{App, Row, Text, first_of, fault_of, matches_of}
+use Rattle.clap.specs.Kinds.{Kinds}
+use Rattle.clap.proofs.WalkLemmas.{both}
+use Rattle.kexec_words.specs.Found.{word_of, flag_of}
+use Rattle.kexec_words.specs.Numbers.{number_of, passing, is_page_address, in_form, some_in_form, hex_of, page_address_of, steps_of, swap_of, head_of, limit_of, trace_numbers_from}
+use Rattle.kexec_words.specs.Values.{InputsValue, CrashInputsValue, ExecValue, CommandValue}
+use Rattle.kexec_words.specs.Values.{boot, load, load_panic, check, dump, exec, trace, sample}
+use Rattle.kexec_words.specs.Meaning.{has_same_name, files_of, crash_files_of, with_numbers, mapped, image_from, needs_map, typed, image_where, inputs_of, boot_by, boot_with, boot_in, load_by, load_with, load_in, with_map, load_panic_with, load_panic_in, crash_inputs_of, exec_of, exec_with, exec_in, trace_with, trace_in, trace_numbers_by, sample_by, sample_in, taken_where, taken_by, command_named, plan_numbers_by}
+use Rattle.kexec_words.specs.Meaning.{Answers, loaded_in}
+use Rattle.kexec_words.specs.Values.{command_value}
+use Rattle.kexec_words.specs.Apps.{boot_app, load_app, load_panic_app, check_app, dump_app, exec_app, trace_app, sample_app}
+use Rattle.kexec_words.specs.declared.commands.Command.{Command}
+use Rattle.kexec_words.specs.declared.faults.WordsFault.{WordsFault}
+use Rattle.kexec_words.specs.Limits.{HasParts, IsWithinLimits, HasOutputsApart}
+use Rattle.kexec_words.specs.declared.commands.ImageType.{ImageType}
+use Rattle.kexec_words.specs.declared.numbers.PlanNumbers.{PlanNumbers}
+use Rattle.kexec_words.specs.declared.numbers.TraceNumbers.{TraceNumbers}
+use Rattle.kexec_words.specs.declared.faults.Which.{Which}
+use Rattle.kexec_words.specs.declared.faults.Which.TheVariants as which
+use Rattle.kexec_words.specs.declared.faults.UsageWhy.{UsageWhy}
+use Rattle.kexec_words.specs.declared.faults.UsageWhy.TheVariants as why
+use Rattle.kexec_words.specs.declared.naming.Name.{Name}
+use Rattle.kexec_words.specs.declared.naming.Name.TheVariants as name
+use Rattle.kexec_words.proofs.Digits.{number_has}
+
+abbrev Keeps : CommandValue → Type 0
+Keeps v = IsWithinLimits v × HasOutputsApart v
+
+mapped_has : {A B : Type 0} (f : A → B) (r : Result A UsageWhy) (P : A → Type 0) (Q : B → Type 0) → ((a : A) → P a → Q (f a)) → IfOk r P → IfOk (mapped f r) Q
+mapped_has f (Ok a) P Q to h = to a h
+mapped_has f (Err w) P Q to h = tt
+
+taken_has : {A : Type 0} (kinds : Kinds) (r : Result A UsageWhy) (P : A → Type 0) → IfOk r P → IfOk (taken_where kinds r) P
+taken_has [] r P h = h
+taken_has (k ∷ ks) r P h = tt
+
+numbers_has : {A B : Type 0} (r : Result A Which) (go : A → Result B UsageWhy) (P : A → Type 0) (Q : B → Type 0)
+    → IfOk r P → ((n : A) → P n → IfOk (go n) Q) → IfOk (with_numbers r go) Q
+numbers_has (Ok n) go P Q h to = to n h
+numbers_has (Err w) go P Q h to = tt
+
+anything : {A E : Type 0} (r : Result A E) → IfOk r (λ _. Unit {0})
+anything (Ok a) = tt
+anything (Err e) = tt
+
+-- ---- boot and load
+
+typed_has : (i : InputsValue) (o : Option ImageType) → IfOk (typed i o) (λ image. needs_map image i ≡ true → is_some i.map ≡ true)
+typed_has i None = tt
+typed_has i (Some image) = go (needs_map image i) refl (is_some i.map) refl
+  where
+    go : (x : Bool) → needs_map image i ≡ x → (y : Bool) → is_some i.map ≡ y
+        → IfOk (if x && not y then Err why.NeedsMap else Ok image) (λ image. needs_map image i ≡ true → is_some i.map ≡ true)
+    go true e true f = λ _. f
+    go true e false f = tt
+    go false e y f = λ t. absurd (false≢true (sym e ∙ t))
+
+image_has : (i : InputsValue) (b : Bool) (n : PlanNumbers) → IfOk (image_where i b n) (λ image. HasParts i image × (b ≡ false))
+image_has i b n = go (nat_lt 12 (length i.modules)) refl b (image_from n.kind n.at n.entry)
+  where
+    last : (o : Result ImageType UsageWhy) → length i.modules ≤ 12 → IfOk o (λ image. needs_map image i ≡ true → is_some i.map ≡ true)
+        → IfOk o (λ image. HasParts i image × (false ≡ false))
+    last (Ok image) few h = ((few, h), refl)
+    last (Err w) few h = tt
+
+    go : (x : Bool) → nat_lt 12 (length i.modules) ≡ x → (y : Bool) → (o : Option ImageType)
+        → IfOk (if x then Err why.TooManyModules else (if y then Err why.SameName else typed i o)) (λ image. HasParts i image × (y ≡ false))
+    go true e y o = tt
+    go false e true o = tt
+    go false e false o = let few : length i.modules ≤ 12 = search (rules, e) in last (typed i o) few (typed_has i o)
+
+boot_has : (i : InputsValue) (o : Text) (n : PlanNumbers) → IfOk (boot_with i o n) (λ b. Keeps (boot b))
+boot_has i o n = mapped_has (boot_by i o n) (image_where i (has_same_name (o ∷ []) (files_of i)) n) _ _ (λ image h. h)
+    (image_has i (has_same_name (o ∷ []) (files_of i)) n)
+
+load_has : (i : InputsValue) (o q : Text) (k : Bool) (n : PlanNumbers) → IfOk (load_with i o q k n) (λ l. Keeps (load l))
+load_has i o q k n = mapped_has (load_by i o q k) (image_where i (has_same_name (o ∷ q ∷ []) (files_of i)) n) _ _ (λ image h. h)
+    (image_has i (has_same_name (o ∷ q ∷ []) (files_of i)) n)
+
+boot_keeps : (rows : List Row) → IfOk (boot_in rows) (λ b. Keeps (boot b))
+boot_keeps rows = numbers_has (plan_numbers_by (first_of (codes "kept") rows) rows) (boot_with (inputs_of rows) (word_of (codes "OUT") rows)) (λ _. Unit {0}) _
+    (anything (plan_numbers_by (first_of (codes "kept") rows) rows)) (λ n _. boot_has (inputs_of rows) (word_of (codes "OUT") rows) n)
+
+load_keeps : (rows : List Row) → IfOk (load_in rows) (λ l. Keeps (load l))
+load_keeps rows = numbers_has (plan_numbers_by None rows)
+    (load_with (inputs_of rows) (word_of (codes "OUT") rows) (word_of (codes "RECORD") rows) (flag_of (codes "kept") rows)) (λ _. Unit {0}) _
+    (anything (plan_numbers_by None rows))
+    (λ n _. load_has (inputs_of rows) (word_of (codes "OUT") rows) (word_of (codes "RECORD") rows) (flag_of (codes "kept") rows) n)
+
+-- ---- load-panic and exec
+
+panic_has : (i : CrashInputsValue) (m : Option Text) (o q : Text) → IfOk (load_panic_with i m o q) (λ l. Keeps (load_panic l))
+panic_has i None o q = go (has_same_name (o ∷ q ∷ []) (crash_files_of i None))
+  where
+    go : (x : Bool) → IfOk (if x then Err why.SameName else with_map i o q None) (λ l. Keeps (load_panic l))
+    go true = tt
+    go false = tt
+panic_has i (Some m) o q = go (has_same_name (o ∷ q ∷ []) (crash_files_of i (Some m))) refl
+  where
+    go : (x : Bool) → has_same_name (o ∷ q ∷ []) (crash_files_of i (Some m)) ≡ x
+        → IfOk (if x then Err why.SameName else with_map i o q (Some m)) (λ l. Keeps (load_panic l))
+    go true e = tt
+    go false e = (tt, e)
+
+panic_keeps : (rows : List Row) → IfOk (load_panic_in rows) (λ l. Keeps (load_panic l))
+panic_keeps rows = panic_has (crash_inputs_of rows) (first_of (codes "map") rows) (word_of (codes "OUT") rows) (word_of (codes "RECORD") rows)
+
+exec_has : (v : ExecValue) → IfOk (exec_with v) (λ e. Keeps (exec e))
+exec_has v = go (has_same_name (v.out ∷ []) (v.memory ∷ v.load_record ∷ [])) refl
+  where
+    go : (x : Bool) → has_same_name (v.out ∷ []) (v.memory ∷ v.load_record ∷ []) ≡ x → IfOk (if x then Err why.SameName else Ok v) (λ e. Keeps (exec e))
+    go true e = tt
+    go false e = (tt, e)
+
+-- ---- trace and sample
+
+passing_has : (test : ℕ → Bool) (o : Option ℕ) → IfSome (passing test o) (λ n. test n ≡ true)
+passing_has test None = tt
+passing_has test (Some n) = go (test n) refl
+  where
+    go : (x : Bool) → test n ≡ x → IfSome (if x then Some n else None) (λ n. test n ≡ true)
+    go true e = e
+    go false e = tt
+
+in_form_has : {A : Type 0} (w : Which) (o : Option A) (P : A → Type 0) → IfSome o P → IfOk (in_form w o) P
+in_form_has w (Some a) P h = h
+in_form_has w None P h = tt
+
+limit_has : (t : Text) → IfOk (limit_of t) (λ n. nat_le n 100000000 ≡ true)
+limit_has t = in_form_has which.Limit (steps_of t) _ (passing_has (λ n. nat_le n 100000000) (number_of 10 9 t))
+
+some_has : (w : Which) (o : Option ℕ) (P : ℕ → Type 0) → IfSome o P → IfOk (some_in_form w o) (λ s. IfSome s P)
+some_has w (Some a) P h = h
+some_has w None P h = tt
+
+swap_has : (o : Option Text) → IfOk (swap_of o) (λ s. IfSome s (λ a. is_page_address a ≡ true))
+swap_has None = tt
+swap_has (Some t) = some_has which.Swap (page_address_of t) _ (passing_has is_page_address (hex_of t))
+
+abbrev InRange : TraceNumbers → Type 0
+InRange n = (nat_le n.limit 100000000 ≡ true) × IfSome n.swap (λ a. is_page_address a ≡ true)
+
+trace_numbers_has : (s : Result (Option ℕ) Which) (h l : Result ℕ Which) → IfOk s (λ s. IfSome s (λ a. is_page_address a ≡ true))
+    → IfOk l (λ n. nat_le n 100000000 ≡ true) → IfOk (trace_numbers_from s h l) InRange
+trace_numbers_has (Err w) h l p q = tt
+trace_numbers_has (Ok s) (Err w) l p q = tt
+trace_numbers_has (Ok s) (Ok h) (Err w) p q = tt
+trace_numbers_has (Ok s) (Ok h) (Ok l) p q = (q, p)
+
+page_has : (s : Option ℕ) → IfSome s (λ a. is_page_address a ≡ true) → IfSome s (λ a. (a < 2 ^ 46) × (a % 4096 ≡ 0))
+page_has None h = tt
+page_has (Some a) h =
+    let p = both (nat_lt a (2 ^ 46)) (a % 4096 == 0) h in
+    let low : a < 2 ^ 46 = search (rules, p.0) in
+    let whole : a % 4096 ≡ 0 = search (rules, p.1) in
+    (low, whole)
+
+trace_has : (m o : Text) (n : TraceNumbers) → InRange n → IfOk (trace_with m o n) (λ t. Keeps (trace t))
+trace_has m o n h = go (has_same_name (o ∷ []) (m ∷ [])) refl
+  where
+    go : (x : Bool) → has_same_name (o ∷ []) (m ∷ []) ≡ x
+        → IfOk (if x then Err why.SameName else Ok (record { memory = m; out = o; head = n.head; limit = n.limit; swap = n.swap })) (λ t. Keeps (trace t))
+    go true e = tt
+    go false e = let few : n.limit ≤ 100000000 = search (rules, h.0) in ((few, page_has n.swap h.1), e)
+
+trace_keeps : (rows : List Row) → IfOk (trace_in rows) (λ t. Keeps (trace t))
+trace_keeps rows = numbers_has (trace_numbers_by rows) (trace_with (word_of (codes "MEMORY") rows) (word_of (codes "OUT") rows)) InRange _
+    (trace_numbers_has (swap_of (first_of (codes "swap") rows)) (head_of (word_of (codes "HEAD") rows)) (limit_of (word_of (codes "LIMIT") rows))
+    (swap_has (first_of (codes "swap") rows)) (limit_has (word_of (codes "LIMIT") rows)))
+    (trace_has (word_of (codes "MEMORY") rows) (word_of (codes "OUT") rows))
+
+sample_keeps : (rows : List Row) → IfOk (sample_in rows) (λ n. Keeps (sample n))
+sample_keeps rows =
+    let two : 2 ≤ 10 = omega arith in
+    numbers_has (sample_by rows) (λ n. Ok n) (λ n. n < 10 ^ 18) (λ n. Keeps (sample n))
+    (in_form_has which.Number (number_of 10 18 (word_of (codes "NUMBER") rows)) _ (number_has 10 18 (word_of (codes "NUMBER") rows) two)) (λ n h. (h, tt))
+
+-- ---- all commands
+
+said : {A : Type 0} (as_command : A → CommandValue) (app : App) (read : List Row → Result A UsageWhy) (words : List Text)
+    → ((rows : List Row) → IfOk (read rows) (λ a. Keeps (as_command a))) → IfOk (mapped as_command (taken_by app read words)) Keeps
+said as_command app read words keeps = mapped_has as_command (taken_by app read words) (λ a. Keeps (as_command a)) Keeps (λ a h. h)
+    (taken_has (fault_of app words) (read (matches_of app words)) (λ a. Keeps (as_command a)) (keeps (matches_of app words)))
+
+named_keeps : (o : Option Name) (words : List Text) → IfOk (command_named o words) Keeps
+named_keeps None words = tt
+named_keeps (Some name.Boot) words = said boot boot_app boot_in words boot_keeps
+named_keeps (Some name.Load) words = said load load_app load_in words load_keeps
+named_keeps (Some name.LoadPanic) words = said load_panic load_panic_app load_panic_in words panic_keeps
+named_keeps (Some name.Check) words = said check check_app loaded_in words (λ rows. (tt, tt))
+named_keeps (Some name.Dump) words = said dump dump_app loaded_in words (λ rows. (tt, tt))
+named_keeps (Some name.Exec) words = said exec exec_app exec_in words (λ rows. exec_has (exec_of rows))
+named_keeps (Some name.Trace) words = said trace trace_app trace_in words trace_keeps
+named_keeps (Some name.Sample) words = said sample sample_app sample_in words sample_keeps
+
+-- a command that is answered keeps the limits
+pub within_limits : (o : Option Name) (words : List Text) (r : Result Command WordsFault) → Answers command_value (command_named o words) r
+    → IfOk r (λ c. IsWithinLimits (command_value c))
+within_limits o words (Ok c) h = let keeps : Keeps (command_value c) = subst (λ x. IfOk x Keeps) h (named_keeps o words) in keeps.0
+within_limits o words (Err e) h = tt
+
+-- and its outputs are apart
+pub outputs_apart : (o : Option Name) (words : List Text) (r : Result Command WordsFault) → Answers command_value (command_named o words) r
+    → IfOk r (λ c. HasOutputsApart (command_value c))
+outputs_apart o words (Ok c) h = let keeps : Keeps (command_value c) = subst (λ x. IfOk x Keeps) h (named_keeps o words) in keeps.1
+outputs_apart o words (Err e) h = tt

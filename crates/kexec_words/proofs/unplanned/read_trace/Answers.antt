@@ -1,0 +1,14 @@
+use Rattle.std.proofs.Common.{map, string_bytes}
+use Rattle.kexec_words.specs.Apps.{trace_app}
+use Rattle.kexec_words.specs.Meaning.{trace_in}
+use Rattle.kexec_words.specs.Values.{trace_value}
+use Rattle.kexec_words.proofs.Taken.{answers_taken, answers_refused, exits}
+use Rattle.kexec_words.proofs.unplanned.read_trace.Goals as goal
+
+pub returns-in_err-matches : goal.returns-in_err-matches
+returns-in_err-matches c = exits trace_value _ _ _ c.from_residual.ensures.1
+    (answers_refused trace_value trace_app trace_in (map string_bytes c.args.words.now) _ c.in_err-matches.ensures)
+
+pub returns : goal.returns
+returns c = answers_taken trace_value trace_app trace_in (map string_bytes c.args.words.now) c.in_ok-matches.matches c.trace_found.result
+    c.in_ok-matches.ensures c.trace_found.ensures

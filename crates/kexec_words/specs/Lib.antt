@@ -1,0 +1,6 @@
+pub mod Apps
+pub mod Found
+pub mod Numbers
+pub mod Values
+pub mod Meaning
+pub mod Limits

@@ -1,0 +1,223 @@
+-- What the words after the program's name say, and the first reason to refuse them (this project's own).
+use Rattle.std.specs.Prelude.{◌≡◌, ℕ, ◌&&◌, ◌||◌, not, Bool, true, false, Option, Some, None, Result, Ok, Err, List, [], ◌∷◌, ◌++◌, length, nat_lt, codes, if◌then◌else◌, is_some, unwrap_or}
+use Rattle.std.specs.List.{list_any}
+use Rattle.std.specs.Str.{bytes_eq}
+use Rattle.clap.specs.Words.{App, Text, Row, first_of, fault_of, matches_of}
+use Rattle.clap.specs.Kinds.{Kinds}
+use Rattle.kexec_words.specs.Apps.{boot_app, load_app, load_panic_app, check_app, dump_app, exec_app, trace_app, sample_app}
+use Rattle.kexec_words.specs.Found.{word_of, words_of, flag_of}
+use Rattle.kexec_words.specs.Numbers.{plan_numbers_of, trace_numbers_of, sample_of}
+use Rattle.kexec_words.specs.Values.{InputsValue, BootValue, LoadValue, CrashInputsValue, LoadPanicValue, LoadedValue, ExecValue, TraceValue, CommandValue}
+use Rattle.kexec_words.specs.Values.{boot, load, load_panic, check, dump, exec, trace, sample}
+use Rattle.kexec_words.specs.declared.commands.ImageType.{ImageType}
+use Rattle.kexec_words.specs.declared.commands.ImageType.TheVariants as image
+use Rattle.kexec_words.specs.declared.numbers.TypeWord.{TypeWord}
+use Rattle.kexec_words.specs.declared.numbers.TypeWord.TheVariants as kind
+use Rattle.kexec_words.specs.declared.numbers.PlanNumbers.{PlanNumbers}
+use Rattle.kexec_words.specs.declared.numbers.TraceNumbers.{TraceNumbers}
+use Rattle.kexec_words.specs.declared.faults.Which.{Which}
+use Rattle.kexec_words.specs.declared.faults.UsageWhy.{UsageWhy}
+use Rattle.kexec_words.specs.declared.faults.UsageWhy.TheVariants as why
+use Rattle.kexec_words.specs.declared.faults.WordsFault.{WordsFault}
+use Rattle.kexec_words.specs.declared.faults.WordsFault.TheVariants as fault
+use Rattle.kexec_words.specs.declared.naming.Name.{Name}
+use Rattle.kexec_words.specs.declared.naming.Name.TheVariants as name
+
+-- ---- names of files
+
+abbrev pub is_among : Text → List Text → Bool
+is_among t names = list_any (λ n. bytes_eq n t) names
+
+-- an output has the name of an input or of another output
+abbrev pub has_same_name : List Text → List Text → Bool
+has_same_name [] inputs = false
+has_same_name (out ∷ outs) inputs = is_among out (outs ++ inputs) || has_same_name outs inputs
+
+-- a name that is given, before others
+abbrev pub given : Option Text → List Text → List Text
+given None names = names
+given (Some t) names = t ∷ names
+
+-- the files that are read, in the order in which they are taken
+abbrev pub files_of : InputsValue → List Text
+files_of i = i.memory ∷ i.pool ∷ given i.map (i.kernel ∷ given i.initrd (given i.purgatory i.modules))
+
+abbrev pub crash_files_of : CrashInputsValue → Option Text → List Text
+crash_files_of i map = i.memory ∷ given map (given i.notes (i.kernel ∷ given i.initrd (given i.purgatory [])))
+
+-- ---- answers
+
+-- what the words say, where their numbers have their forms
+abbrev pub with_numbers : {A B : Type 0} → Result A Which → (A → Result B UsageWhy) → Result B UsageWhy
+with_numbers (Ok n) go = go n
+with_numbers (Err which) go = Err (why.Number which)
+
+abbrev pub mapped : {A B : Type 0} → (A → B) → Result A UsageWhy → Result B UsageWhy
+mapped f (Ok a) = Ok (f a)
+mapped f (Err w) = Err w
+
+-- ---- boot and load
+
+-- the type with its addresses, or none where the type is raw and --at is not given
+abbrev pub image_from : TypeWord → Option ℕ → Option ℕ → Option ImageType
+image_from kind.Auto at entry = Some image.Auto
+image_from kind.Raw None entry = None
+image_from kind.Raw (Some at) entry = Some (image.Raw at (unwrap_or entry at))
+image_from kind.Elf at entry = Some image.Elf
+image_from kind.Bzimage at entry = Some image.Bzimage
+image_from kind.Multiboot at entry = Some image.Multiboot
+
+-- a map has to be given: for each type but raw, and for a purgatory
+abbrev pub needs_map : ImageType → InputsValue → Bool
+needs_map (image.Raw at entry) i = is_some i.purgatory
+needs_map other i = true
+
+abbrev pub typed : InputsValue → Option ImageType → Result ImageType UsageWhy
+typed i None = Err why.NeedsAt
+typed i (Some image) = if needs_map image i && not (is_some i.map) then Err why.NeedsMap else Ok image
+
+-- the image's type, or the first reason after the numbers' forms: too many modules, a name used twice, no --at, no --map
+abbrev pub image_where : InputsValue → Bool → PlanNumbers → Result ImageType UsageWhy
+image_where i is_same n = if nat_lt 12 (length i.modules) then Err why.TooManyModules
+    else (if is_same then Err why.SameName else typed i (image_from n.kind n.at n.entry))
+
+-- the type and the addresses, --kept RUNS among them where the command has it
+abbrev pub plan_numbers_by : Option Text → List Row → Result PlanNumbers Which
+plan_numbers_by kept rows =
+    plan_numbers_of (first_of (codes "type") rows) kept (first_of (codes "at") rows) (first_of (codes "entry") rows)
+
+abbrev pub inputs_of : List Row → InputsValue
+inputs_of rows = record {
+  memory = word_of (codes "MEMORY") rows;
+  pool = word_of (codes "POOL") rows;
+  map = first_of (codes "map") rows;
+  kernel = word_of (codes "KERNEL") rows;
+  initrd = first_of (codes "initrd") rows;
+  purgatory = first_of (codes "purgatory") rows;
+  modules = words_of (codes "MODULES") rows;
+  command = first_of (codes "command") rows;
+}
+
+abbrev pub boot_by : InputsValue → Text → PlanNumbers → ImageType → BootValue
+boot_by i out n image = record { inputs = i; out = out; kept = n.kept; image = image }
+
+abbrev pub boot_with : InputsValue → Text → PlanNumbers → Result BootValue UsageWhy
+boot_with i out n = mapped (boot_by i out n) (image_where i (has_same_name (out ∷ []) (files_of i)) n)
+
+abbrev pub boot_in : List Row → Result BootValue UsageWhy
+boot_in rows = with_numbers (plan_numbers_by (first_of (codes "kept") rows) rows)
+    (boot_with (inputs_of rows) (word_of (codes "OUT") rows))
+
+abbrev pub load_by : InputsValue → Text → Text → Bool → ImageType → LoadValue
+load_by i out load_record kept image = record { inputs = i; out = out; load_record = load_record; kept = kept; image = image }
+
+abbrev pub load_with : InputsValue → Text → Text → Bool → PlanNumbers → Result LoadValue UsageWhy
+load_with i out load_record kept n = mapped (load_by i out load_record kept) (image_where i (has_same_name (out ∷ load_record ∷ []) (files_of i)) n)
+
+abbrev pub load_in : List Row → Result LoadValue UsageWhy
+load_in rows = with_numbers (plan_numbers_by None rows)
+    (load_with (inputs_of rows) (word_of (codes "OUT") rows) (word_of (codes "RECORD") rows) (flag_of (codes "kept") rows))
+
+-- ---- load-panic
+
+abbrev pub crash_inputs_of : List Row → CrashInputsValue
+crash_inputs_of rows = record {
+  memory = word_of (codes "MEMORY") rows;
+  notes = first_of (codes "notes") rows;
+  kernel = word_of (codes "KERNEL") rows;
+  initrd = first_of (codes "initrd") rows;
+  purgatory = first_of (codes "purgatory") rows;
+  command = first_of (codes "command") rows;
+}
+
+abbrev pub with_map : CrashInputsValue → Text → Text → Option Text → Result LoadPanicValue UsageWhy
+with_map i out load_record None = Err why.NeedsMap
+with_map i out load_record (Some map) = Ok (record { inputs = i; map = map; out = out; load_record = load_record })
+
+abbrev pub load_panic_with : CrashInputsValue → Option Text → Text → Text → Result LoadPanicValue UsageWhy
+load_panic_with i map out load_record = if has_same_name (out ∷ load_record ∷ []) (crash_files_of i map) then Err why.SameName
+    else with_map i out load_record map
+
+abbrev pub load_panic_in : List Row → Result LoadPanicValue UsageWhy
+load_panic_in rows = load_panic_with (crash_inputs_of rows) (first_of (codes "map") rows) (word_of (codes "OUT") rows) (word_of (codes "RECORD") rows)
+
+-- ---- check, dump, exec, trace, sample
+
+abbrev pub loaded_of : List Row → LoadedValue
+loaded_of rows = record { memory = word_of (codes "MEMORY") rows; load_record = word_of (codes "RECORD") rows }
+
+abbrev pub loaded_in : List Row → Result LoadedValue UsageWhy
+loaded_in rows = Ok (loaded_of rows)
+
+abbrev pub exec_of : List Row → ExecValue
+exec_of rows = record {
+  memory = word_of (codes "MEMORY") rows;
+  load_record = word_of (codes "RECORD") rows;
+  out = word_of (codes "OUT") rows;
+  twice = flag_of (codes "twice") rows;
+}
+
+abbrev pub exec_with : ExecValue → Result ExecValue UsageWhy
+exec_with e = if has_same_name (e.out ∷ []) (e.memory ∷ e.load_record ∷ []) then Err why.SameName else Ok e
+
+abbrev pub exec_in : List Row → Result ExecValue UsageWhy
+exec_in rows = exec_with (exec_of rows)
+
+abbrev pub trace_with : Text → Text → TraceNumbers → Result TraceValue UsageWhy
+trace_with memory out n = if has_same_name (out ∷ []) (memory ∷ []) then Err why.SameName
+    else Ok (record { memory = memory; out = out; head = n.head; limit = n.limit; swap = n.swap })
+
+abbrev pub trace_numbers_by : List Row → Result TraceNumbers Which
+trace_numbers_by rows = trace_numbers_of (first_of (codes "swap") rows) (word_of (codes "HEAD") rows) (word_of (codes "LIMIT") rows)
+
+abbrev pub trace_in : List Row → Result TraceValue UsageWhy
+trace_in rows = with_numbers (trace_numbers_by rows) (trace_with (word_of (codes "MEMORY") rows) (word_of (codes "OUT") rows))
+
+abbrev pub sample_by : List Row → Result ℕ Which
+sample_by rows = sample_of (word_of (codes "NUMBER") rows)
+
+abbrev pub sample_in : List Row → Result ℕ UsageWhy
+sample_in rows = with_numbers (sample_by rows) (λ n. Ok n)
+
+-- ---- all commands
+
+abbrev pub taken_where : {A : Type 0} → Kinds → Result A UsageWhy → Result A UsageWhy
+taken_where [] answer = answer
+taken_where (k ∷ ks) answer = Err why.Parse
+
+-- the words have to be taken by the command; then they say what their values say
+abbrev pub taken_by : {A : Type 0} → App → (List Row → Result A UsageWhy) → List Text → Result A UsageWhy
+taken_by app read words = taken_where (fault_of app words) (read (matches_of app words))
+
+-- the command of this name
+abbrev pub named : Text → Option Name
+named t = if bytes_eq t (codes "boot") then Some name.Boot
+    else (if bytes_eq t (codes "load") then Some name.Load
+    else (if bytes_eq t (codes "load-panic") then Some name.LoadPanic
+    else (if bytes_eq t (codes "check") then Some name.Check
+    else (if bytes_eq t (codes "dump") then Some name.Dump
+    else (if bytes_eq t (codes "exec") then Some name.Exec
+    else (if bytes_eq t (codes "trace") then Some name.Trace
+    else (if bytes_eq t (codes "sample") then Some name.Sample else None)))))))
+
+abbrev pub command_named : Option Name → List Text → Result CommandValue UsageWhy
+command_named None words = Err why.Command
+command_named (Some name.Boot) words = mapped boot (taken_by boot_app boot_in words)
+command_named (Some name.Load) words = mapped load (taken_by load_app load_in words)
+command_named (Some name.LoadPanic) words = mapped load_panic (taken_by load_panic_app load_panic_in words)
+command_named (Some name.Check) words = mapped check (taken_by check_app loaded_in words)
+command_named (Some name.Dump) words = mapped dump (taken_by dump_app loaded_in words)
+command_named (Some name.Exec) words = mapped exec (taken_by exec_app exec_in words)
+command_named (Some name.Trace) words = mapped trace (taken_by trace_app trace_in words)
+command_named (Some name.Sample) words = mapped sample (taken_by sample_app sample_in words)
+
+-- what the words after the program's name say, or the first reason to refuse them
+abbrev pub command_of : List Text → Result CommandValue UsageWhy
+command_of [] = Err why.Command
+command_of (first ∷ words) = command_named (named first) words
+
+-- an answer to words that say this: its value, its reason, or want of memory
+abbrev pub Answers : {A B : Type 0} → (B → A) → Result A UsageWhy → Result B WordsFault → Type 0
+Answers value said (Ok b) = said ≡ Ok (value b)
+Answers value said (Err (fault.Usage w)) = said ≡ Err w
+Answers value said (Err fault.Memory) = Unit {0}

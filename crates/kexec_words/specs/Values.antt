@@ -1,0 +1,159 @@
+-- The commands as values: the names of files and the kernel's command line as bytes (this project's own).
+use Rattle.std.specs.Prelude.{ℕ, Bool, Option, List, map, option_map, string_bytes}
+use Rattle.clap.specs.Words.{Text}
+use Rattle.kexec_words.specs.declared.commands.Runs.{Runs}
+use Rattle.kexec_words.specs.declared.commands.ImageType.{ImageType}
+use Rattle.kexec_words.specs.declared.commands.Inputs.{Inputs}
+use Rattle.kexec_words.specs.declared.commands.CrashInputs.{CrashInputs}
+use Rattle.kexec_words.specs.declared.commands.Boot.{Boot}
+use Rattle.kexec_words.specs.declared.commands.Load.{Load}
+use Rattle.kexec_words.specs.declared.commands.LoadPanic.{LoadPanic}
+use Rattle.kexec_words.specs.declared.commands.Loaded.{Loaded}
+use Rattle.kexec_words.specs.declared.commands.Exec.{Exec}
+use Rattle.kexec_words.specs.declared.commands.Trace.{Trace}
+use Rattle.kexec_words.specs.declared.commands.Command.{Command}
+use Rattle.kexec_words.specs.declared.commands.Command.TheVariants as code
+
+-- what `boot` and `load` read
+pub record InputsValue : Type 0 where
+  pub memory : Text
+  pub pool : Text
+  pub map : Option Text
+  pub kernel : Text
+  pub initrd : Option Text
+  pub purgatory : Option Text
+  pub modules : List Text
+  pub command : Option Text
+
+pub record BootValue : Type 0 where
+  pub inputs : InputsValue
+  pub out : Text
+  pub kept : Option Runs
+  pub image : ImageType
+
+pub record LoadValue : Type 0 where
+  pub inputs : InputsValue
+  pub out : Text
+  pub load_record : Text
+  pub kept : Bool
+  pub image : ImageType
+
+-- what `load-panic` reads beside the memory map
+pub record CrashInputsValue : Type 0 where
+  pub memory : Text
+  pub notes : Option Text
+  pub kernel : Text
+  pub initrd : Option Text
+  pub purgatory : Option Text
+  pub command : Option Text
+
+pub record LoadPanicValue : Type 0 where
+  pub inputs : CrashInputsValue
+  pub map : Text
+  pub out : Text
+  pub load_record : Text
+
+pub record LoadedValue : Type 0 where
+  pub memory : Text
+  pub load_record : Text
+
+pub record ExecValue : Type 0 where
+  pub memory : Text
+  pub load_record : Text
+  pub out : Text
+  pub twice : Bool
+
+pub record TraceValue : Type 0 where
+  pub memory : Text
+  pub out : Text
+  pub head : ℕ
+  pub limit : ℕ
+  pub swap : Option ℕ
+
+pub data CommandValue : Type 0 where
+  boot : BootValue → CommandValue
+  load : LoadValue → CommandValue
+  load_panic : LoadPanicValue → CommandValue
+  check : LoadedValue → CommandValue
+  dump : LoadedValue → CommandValue
+  exec : ExecValue → CommandValue
+  trace : TraceValue → CommandValue
+  sample : ℕ → CommandValue
+
+-- ---- the values of the program's types
+
+abbrev pub inputs_value : Inputs → InputsValue
+inputs_value i = record {
+  memory = string_bytes i.memory;
+  pool = string_bytes i.pool;
+  map = option_map string_bytes i.map;
+  kernel = string_bytes i.kernel;
+  initrd = option_map string_bytes i.initrd;
+  purgatory = option_map string_bytes i.purgatory;
+  modules = map string_bytes i.modules.items;
+  command = option_map string_bytes i.command;
+}
+
+abbrev pub boot_value : Boot → BootValue
+boot_value b = record { inputs = inputs_value b.inputs; out = string_bytes b.out; kept = b.kept; image = b.image }
+
+abbrev pub load_value : Load → LoadValue
+load_value l = record {
+  inputs = inputs_value l.inputs;
+  out = string_bytes l.out;
+  load_record = string_bytes l.load_record;
+  kept = l.kept;
+  image = l.image;
+}
+
+abbrev pub crash_inputs_value : CrashInputs → CrashInputsValue
+crash_inputs_value i = record {
+  memory = string_bytes i.memory;
+  notes = option_map string_bytes i.notes;
+  kernel = string_bytes i.kernel;
+  initrd = option_map string_bytes i.initrd;
+  purgatory = option_map string_bytes i.purgatory;
+  command = option_map string_bytes i.command;
+}
+
+abbrev pub load_panic_value : LoadPanic → LoadPanicValue
+load_panic_value l = record {
+  inputs = crash_inputs_value l.inputs;
+  map = string_bytes l.map;
+  out = string_bytes l.out;
+  load_record = string_bytes l.load_record;
+}
+
+abbrev pub loaded_value : Loaded → LoadedValue
+loaded_value l = record { memory = string_bytes l.memory; load_record = string_bytes l.load_record }
+
+abbrev pub exec_value : Exec → ExecValue
+exec_value e = record {
+  memory = string_bytes e.memory;
+  load_record = string_bytes e.load_record;
+  out = string_bytes e.out;
+  twice = e.twice;
+}
+
+abbrev pub trace_value : Trace → TraceValue
+trace_value t = record {
+  memory = string_bytes t.memory;
+  out = string_bytes t.out;
+  head = t.head;
+  limit = t.limit;
+  swap = t.swap;
+}
+
+-- a number is its own value
+abbrev pub number_value : ℕ → ℕ
+number_value n = n
+
+abbrev pub command_value : Command → CommandValue
+command_value (code.Boot b) = boot (boot_value b)
+command_value (code.Load l) = load (load_value l)
+command_value (code.LoadPanic l) = load_panic (load_panic_value l)
+command_value (code.Check l) = check (loaded_value l)
+command_value (code.Dump l) = dump (loaded_value l)
+command_value (code.Exec e) = exec (exec_value e)
+command_value (code.Trace t) = trace (trace_value t)
+command_value (code.Sample n) = sample n

@@ -1,0 +1,122 @@
+// Why words are refused.
+ghost use Rattle.std.specs.Prelude.{◌≡◌};
+ghost use Rattle.kexec_words.specs.declared.faults.WordsFault.TheVariants.{Memory, Usage};
+ghost use Rattle.kexec_words.specs.declared.faults.UsageWhy.TheVariants.{Number};
+
+use std::alloc::AllocError;
+use std::fmt::{self, Display, Formatter, Write};
+use thiserror::Error;
+
+/// The option or the word whose text has not its form, in the order in which they are tried.
+#[derive(Clone, Copy, Debug, PartialEq, Eq)]
+pub enum Which {
+    /// `--type`: raw, elf, bzimage or multiboot.
+    Type,
+    /// `--kept` of `boot`: 1 or 2.
+    Kept,
+    /// `--at`: 1 to 16 hexadecimal digits.
+    At,
+    /// `--entry`: 1 to 16 hexadecimal digits.
+    Entry,
+    /// `--swap`: 1 to 16 hexadecimal digits, a multiple of 4,096 below 2^46.
+    Swap,
+    /// HEAD: 1 to 16 hexadecimal digits.
+    Head,
+    /// LIMIT: 1 to 9 decimal digits, at most 100,000,000.
+    Limit,
+    /// NUMBER: 1 to 18 decimal digits.
+    Number,
+}
+
+/// Why words are refused, in the order in which the reasons are tried. This project's own.
+#[derive(Clone, Copy, Debug, PartialEq, Eq, Error)]
+pub enum UsageWhy {
+    /// There is no word, or the first one names no command.
+    #[error("the first word has to be a command: boot, load, load-panic, check, dump, exec, trace or sample")]
+    Command,
+    /// The words after the first are not those that the command takes; asking for help is such a refusal.
+    #[error("the words after the command are not the words and options that it takes")]
+    Parse,
+    /// A number or a type has not its form.
+    #[error("{which} is not {form}", form = .which.form())]
+    Number { which: Which },
+    /// There are more than 12 modules.
+    #[error("more than 12 modules are given")]
+    TooManyModules,
+    /// The name of an output is the name of an input or of another output.
+    #[error("an output file has the name of an input file or of the other output file")]
+    SameName,
+    /// The type is raw, and `--at` is not given.
+    #[error("--type raw needs --at ADDRESS, the address of the kernel")]
+    NeedsAt,
+    /// `--map` is not given, and the command is `load-panic`, the type is not raw, or there is a purgatory.
+    #[error("--map FILE is needed: only a raw kernel without a purgatory is loaded without a memory map")]
+    NeedsMap,
+}
+
+/// The answer to words that are not read.
+#[derive(Clone, Copy, Debug, PartialEq, Eq, Error)]
+pub enum WordsFault {
+    /// Memory is wanting.
+    #[error("memory is wanting")]
+    Memory,
+    /// The words are refused.
+    #[error("{why}")]
+    Usage { why: UsageWhy },
+}
+
+impl Which {
+    // The form that is wanted.
+    fn form(self) -> &'static str {
+        match self {
+            Which::Type => "raw, elf, bzimage or multiboot",
+            Which::Kept => "1 or 2",
+            Which::At | Which::Entry | Which::Head => "a hexadecimal number of 1 to 16 digits",
+            Which::Swap =>
+                "the address of a page: 1 to 16 hexadecimal digits, a multiple of 0x1000 below 0x400000000000",
+            Which::Limit => "a decimal number of 1 to 9 digits, at most 100000000",
+            Which::Number => "a decimal number of 1 to 18 digits",
+        }
+    }
+}
+
+impl From<AllocError> for WordsFault {
+    ghost from_gives = { λ _ e. e ≡ Memory };
+
+    fn from(_: AllocError) -> Self {
+        WordsFault::Memory
+    }
+}
+
+impl From<UsageWhy> for WordsFault {
+    ghost from_gives = { λ why e. e ≡ Usage why };
+
+    fn from(why: UsageWhy) -> Self {
+        WordsFault::Usage { why }
+    }
+}
+
+impl From<Which> for WordsFault {
+    ghost from_gives = { λ which e. e ≡ Usage (Number which) };
+
+    fn from(which: Which) -> Self {
+        WordsFault::Usage {
+            why: UsageWhy::Number { which },
+        }
+    }
+}
+
+impl Display for Which {
+    fn fmt<W: Write>(&self, f: &mut Formatter<W>) -> fmt::Result {
+        f.write_str(match self {
+            Which::Type => "--type",
+            Which::Kept => "--kept",
+            Which::At => "--at",
+            Which::Entry => "--entry",
+            Which::Swap => "--swap",
+            Which::Head => "HEAD",
+            Which::Limit => "LIMIT",
+            Which::Number => "NUMBER",
+        })
+    }
+}

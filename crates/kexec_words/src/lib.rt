@@ -1,0 +1,23 @@
+//! Reads the words of a `kexec` command line: which command, which files, which numbers, or the first reason to refuse them.
+#![tactic(auto)]
+
+mod arguments;
+mod commands;
+mod faults;
+mod help;
+mod naming;
+mod numbers;
+mod parsing;
+mod planned;
+mod reading;
+mod unplanned;
+
+pub use commands::{
+    Boot, Command, CrashInputs, Exec, ImageType, Inputs, Load, LoadPanic, Loaded, Runs, Trace,
+};
+pub use faults::{UsageWhy, Which, WordsFault};
+pub use help::help_of;
+pub use reading::read;
+
+#[cfg(test)]
+mod tests;

@@ -1,0 +1,110 @@
+// The names of the commands, and names of files.
+ghost use Rattle.std.specs.Prelude.{◌≡◌, option_map, string_bytes, map, [], ◌∷◌};
+ghost use Rattle.kexec_words.specs.Meaning.{named, is_among, given, files_of, crash_files_of, has_same_name};
+ghost use Rattle.kexec_words.specs.Values.{inputs_value, crash_inputs_value};
+
+use crate::commands::{CrashInputs, Inputs};
+
+#[derive(Clone, Copy)]
+pub(crate) enum Name {
+    Boot,
+    Load,
+    LoadPanic,
+    Check,
+    Dump,
+    Exec,
+    Trace,
+    Sample,
+}
+
+pub(crate) fn name_of(word: &str) -> Option<Name>
+    ensures { result ≡ named word.now }
+{
+    if word == "boot" {
+        Some(Name::Boot)
+    } else if word == "load" {
+        Some(Name::Load)
+    } else if word == "load-panic" {
+        Some(Name::LoadPanic)
+    } else if word == "check" {
+        Some(Name::Check)
+    } else if word == "dump" {
+        Some(Name::Dump)
+    } else if word == "exec" {
+        Some(Name::Exec)
+    } else if word == "trace" {
+        Some(Name::Trace)
+    } else if word == "sample" {
+        Some(Name::Sample)
+    } else {
+        None
+    }
+}
+
+fn is_given(name: &Option<String>, text: &str) -> bool
+    ensures { result ≡ is_among text.now (given (option_map string_bytes name.now) []) }
+{
+    match name {
+        Some(name) => name.as_str() == text,
+        None => false,
+    }
+}
+
+fn is_listed(names: &[String], text: &str) -> bool
+    ensures { result ≡ is_among text.now (map string_bytes names.now) }
+{
+    names.iter().any(|name| name.as_str() == text)
+}
+
+// Whether a file of this name is read.
+fn is_read(inputs: &Inputs, text: &str) -> bool
+    ensures { result ≡ is_among text.now (files_of (inputs_value inputs.now)) }
+{
+    inputs.memory.as_str() == text
+        || inputs.pool.as_str() == text
+        || is_given(&inputs.map, text)
+        || inputs.kernel.as_str() == text
+        || is_given(&inputs.initrd, text)
+        || is_given(&inputs.purgatory, text)
+        || is_listed(&inputs.modules, text)
+}
+
+// Whether an output has the name of an input.
+pub(crate) fn is_input(inputs: &Inputs, out: &str) -> bool
+    ensures { result ≡ has_same_name (out.now ∷ []) (files_of (inputs_value inputs.now)) }
+{
+    is_read(inputs, out)
+}
+
+// Whether one of two outputs has the name of an input or of the other one.
+pub(crate) fn is_repeated(inputs: &Inputs, out: &str, load_record: &str) -> bool
+    ensures { result ≡ has_same_name (out.now ∷ load_record.now ∷ []) (files_of (inputs_value inputs.now)) }
+{
+    load_record == out || is_read(inputs, out) || is_read(inputs, load_record)
+}
+
+// Whether `load-panic` reads a file of this name.
+fn is_read_for_crash(inputs: &CrashInputs, map: &Option<String>, text: &str) -> bool
+    ensures { result ≡ is_among text.now (crash_files_of (crash_inputs_value inputs.now) (option_map string_bytes map.now)) }
+{
+    inputs.memory.as_str() == text
+        || is_given(map, text)
+        || is_given(&inputs.notes, text)
+        || inputs.kernel.as_str() == text
+        || is_given(&inputs.initrd, text)
+        || is_given(&inputs.purgatory, text)
+}
+
+// Whether one of two outputs of `load-panic` has the name of an input or of the other one.
+pub(crate) fn is_repeated_for_crash(
+    inputs: &CrashInputs,
+    map: &Option<String>,
+    out: &str,
+    load_record: &str,
+) -> bool
+    ensures { result ≡ has_same_name (out.now ∷ load_record.now ∷ []) (crash_files_of (crash_inputs_value inputs.now) (option_map string_bytes map.now)) }
+{
+    load_record == out
+        || is_read_for_crash(inputs, map, out)
+        || is_read_for_crash(inputs, map, load_record)
+}

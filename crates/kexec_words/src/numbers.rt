@@ -1,0 +1,197 @@
+// Numbers and types in words.
+ghost use Rattle.std.specs.Prelude.{◌≡◌, ◌≤◌, ◌<◌, ◌^◌};
+ghost use Rattle.kexec_words.specs.Found.{text_in};
+ghost use Rattle.kexec_words.specs.Numbers.{number_of, hex_of, type_of, kept_of, address_of, page_address_of, swap_of, head_of, limit_of, sample_of, plan_numbers_of, trace_numbers_of};
+
+use crate::commands::Runs;
+use crate::faults::Which;
+
+const HEX_DIGITS: usize = 16;
+
+const LIMIT_DIGITS: usize = 9;
+
+const NUMBER_DIGITS: usize = 18;
+
+const MOST_STEPS: u64 = 100_000_000;
+
+const PAGE_SIZE: u64 = 4096;
+
+const ADDRESS_LIMIT: u64 = 1 << 46;
+
+// What `--type` says.
+#[derive(Clone, Copy)]
+pub(crate) enum TypeWord {
+    Auto,
+    Raw,
+    Elf,
+    Bzimage,
+    Multiboot,
+}
+
+// The type and the numbers among the options of `boot` and `load`.
+#[derive(Clone, Copy)]
+pub(crate) struct PlanNumbers {
+    pub(crate) kind: TypeWord,
+    pub(crate) kept: Option<Runs>,
+    pub(crate) at: Option<u64>,
+    pub(crate) entry: Option<u64>,
+}
+
+// The numbers of `trace`.
+#[derive(Clone, Copy)]
+pub(crate) struct TraceNumbers {
+    pub(crate) swap: Option<u64>,
+    pub(crate) head: u64,
+    pub(crate) limit: u64,
+}
+
+// The number, where the text is 1 to `most` digits in this base.
+fn number_in(text: &str, radix: u32, most: usize) -> Option<u64>
+    requires radix { (2 ≤ radix) × (radix ≤ 36) }
+    requires fits { radix ^ most ≤ 2 ^ 64 }
+    ensures { result ≡ number_of radix most text.now }
+{
+    if text.is_empty() || text.len() > most || text.as_bytes()[0] == b'+' {
+        return None;
+    }
+    match u64::from_str_radix(text, radix) {
+        Ok(number) => Some(number),
+        Err(_) => None,
+    }
+}
+
+fn hex_in(text: &str) -> Option<u64>
+    ensures { result ≡ hex_of text.now }
+{
+    number_in(text, 16, HEX_DIGITS)
+}
+
+fn type_in(text: Option<&str>) -> Result<TypeWord, Which>
+    ensures { result ≡ type_of (text_in text.entry) }
+{
+    let Some(text) = text else {
+        return Ok(TypeWord::Auto);
+    };
+    if text == "raw" {
+        Ok(TypeWord::Raw)
+    } else if text == "elf" {
+        Ok(TypeWord::Elf)
+    } else if text == "bzimage" {
+        Ok(TypeWord::Bzimage)
+    } else if text == "multiboot" {
+        Ok(TypeWord::Multiboot)
+    } else {
+        Err(Which::Type)
+    }
+}
+
+fn kept_in(text: Option<&str>) -> Result<Option<Runs>, Which>
+    ensures { result ≡ kept_of (text_in text.entry) }
+{
+    let Some(text) = text else {
+        return Ok(None);
+    };
+    if text == "1" {
+        Ok(Some(Runs::Once))
+    } else if text == "2" {
+        Ok(Some(Runs::Twice))
+    } else {
+        Err(Which::Kept)
+    }
+}
+
+fn address_in(text: Option<&str>, which: Which) -> Result<Option<u64>, Which>
+    ensures { result ≡ address_of which (text_in text.entry) }
+{
+    let Some(text) = text else {
+        return Ok(None);
+    };
+    match hex_in(text) {
+        Some(address) => Ok(Some(address)),
+        None => Err(which),
+    }
+}
+
+fn page_address_in(text: &str) -> Option<u64>
+    ensures { result ≡ page_address_of text.now }
+{
+    match hex_in(text) {
+        Some(address) if address < ADDRESS_LIMIT && address % PAGE_SIZE == 0 => Some(address),
+        _ => None,
+    }
+}
+
+fn swap_in(text: Option<&str>) -> Result<Option<u64>, Which>
+    ensures { result ≡ swap_of (text_in text.entry) }
+{
+    let Some(text) = text else {
+        return Ok(None);
+    };
+    match page_address_in(text) {
+        Some(address) => Ok(Some(address)),
+        None => Err(Which::Swap),
+    }
+}
+
+fn head_in(text: &str) -> Result<u64, Which>
+    ensures { result ≡ head_of text.now }
+{
+    match hex_in(text) {
+        Some(head) => Ok(head),
+        None => Err(Which::Head),
+    }
+}
+
+fn limit_in(text: &str) -> Result<u64, Which>
+    ensures { result ≡ limit_of text.now }
+{
+    match number_in(text, 10, LIMIT_DIGITS) {
+        Some(limit) if limit <= MOST_STEPS => Ok(limit),
+        _ => Err(Which::Limit),
+    }
+}
+
+// The number of `sample`.
+pub(crate) fn sample_number(text: &str) -> Result<u64, Which>
+    ensures { result ≡ sample_of text.now }
+{
+    match number_in(text, 10, NUMBER_DIGITS) {
+        Some(number) => Ok(number),
+        None => Err(Which::Number),
+    }
+}
+
+// The type and the numbers, or the first that has not its form.
+pub(crate) fn plan_numbers(
+    kind: Option<&str>,
+    kept: Option<&str>,
+    at: Option<&str>,
+    entry: Option<&str>,
+) -> Result<PlanNumbers, Which>
+    ensures { result ≡ plan_numbers_of (text_in kind.entry) (text_in kept.entry) (text_in at.entry) (text_in entry.entry) }
+{
+    let kind = type_in(kind)?;
+    let kept = kept_in(kept)?;
+    let at = address_in(at, Which::At)?;
+    let entry = address_in(entry, Which::Entry)?;
+    Ok(PlanNumbers {
+        kind,
+        kept,
+        at,
+        entry,
+    })
+}
+
+// The numbers of `trace`, or the first that has not its form.
+pub(crate) fn trace_numbers(
+    swap: Option<&str>,
+    head: &str,
+    limit: &str,
+) -> Result<TraceNumbers, Which>
+    ensures { result ≡ trace_numbers_of (text_in swap.entry) head.now limit.now }
+{
+    let swap = swap_in(swap)?;
+    let head = head_in(head)?;
+    let limit = limit_in(limit)?;
+    Ok(TraceNumbers { swap, head, limit })
+}

@@ -1,0 +1,149 @@
+// What no clause says: the meaning of the table, on words as people write them.
+
+use crate::{Command, ImageType, Runs, UsageWhy, Which, WordsFault, help_of, read};
+use std::alloc::Global;
+use std::test::Fail;
+
+fn split(alloc: Global, line: &str) -> Result<Vec<String>, Fail> {
+    let mut words: Vec<String> = Vec::new(alloc);
+    for word in line.split(' ') {
+        words.push(String::from_str(alloc, word)?)?;
+    }
+    Ok(words)
+}
+
+fn why(alloc: Global, line: &str) -> Result<Option<UsageWhy>, Fail> {
+    match read(alloc, &split(alloc, line)?) {
+        Ok(_) => Ok(None),
+        Err(WordsFault::Usage { why }) => Ok(Some(why)),
+        Err(WordsFault::Memory) => Err(Fail::from("memory")),
+    }
+}
+
+fn number(which: Which) -> Option<UsageWhy> {
+    Some(UsageWhy::Number { which })
+}
+
+#[test]
+fn refuses_in_the_order_of_the_reasons(rt: HostRuntime) -> Result<(), Fail> {
+    let alloc = rt.alloc();
+    for (line, want) in [
+        ("restart", Some(UsageWhy::Command)),
+        ("--help", Some(UsageWhy::Command)),
+        ("boot m p", Some(UsageWhy::Parse)),
+        ("boot m p o k --help", Some(UsageWhy::Parse)),
+        ("boot m p o k --type=raw --type raw", Some(UsageWhy::Parse)),
+        ("boot m p m k --kept 3 --type x", number(Which::Type)),
+        ("boot m p m k --at= --kept 3", number(Which::Kept)),
+        ("boot m p m k --entry x --at=", number(Which::At)),
+        (
+            "boot m p m k --entry 10000000000000000",
+            number(Which::Entry),
+        ),
+        (
+            "boot m p m k 1 2 3 4 5 6 7 8 9 10 11 12 13",
+            Some(UsageWhy::TooManyModules),
+        ),
+        (
+            "boot --type raw --at 2000 m p m k",
+            Some(UsageWhy::SameName),
+        ),
+        ("boot m p o k --type raw", Some(UsageWhy::NeedsAt)),
+        ("boot m p o k", Some(UsageWhy::NeedsMap)),
+        (
+            "boot m p o k --type raw --at 0 --purgatory u",
+            Some(UsageWhy::NeedsMap),
+        ),
+    ] {
+        assert!(rt; why(alloc, line)? == want, "{line}");
+    }
+    Ok(())
+}
+
+#[test]
+fn refuses_words_of_each_command(rt: HostRuntime) -> Result<(), Fail> {
+    let alloc = rt.alloc();
+    for (line, want) in [
+        ("load m p o r k --kept=1 --map f", Some(UsageWhy::Parse)),
+        ("load m p o o k --map f", Some(UsageWhy::SameName)),
+        ("load-panic m o r k --notes r", Some(UsageWhy::SameName)),
+        ("load-panic m o r k", Some(UsageWhy::NeedsMap)),
+        (
+            "load-panic m o r k --map f --at 2000",
+            Some(UsageWhy::Parse),
+        ),
+        ("check m r o", Some(UsageWhy::Parse)),
+        ("exec m r r", Some(UsageWhy::SameName)),
+        ("exec m r o --twice --twice", Some(UsageWhy::Parse)),
+        ("trace m m x 100000001 --swap 1000", number(Which::Head)),
+        (
+            "trace m m 2 100000001 --swap 400000000000",
+            number(Which::Swap),
+        ),
+        (
+            "trace m m 2 100000001 --swap 3ffffffff000",
+            number(Which::Limit),
+        ),
+        ("trace m m 2 100000000", Some(UsageWhy::SameName)),
+        ("sample 1234567890123456789", number(Which::Number)),
+    ] {
+        assert!(rt; why(alloc, line)? == want, "{line}");
+    }
+    Ok(())
+}
+
+#[test]
+fn reads_boot(rt: HostRuntime) -> Result<(), Fail> {
+    let alloc = rt.alloc();
+    let words = split(
+        alloc,
+        "boot --map f m p --at=1F00 o k a --type raw b --kept 2 -- --at",
+    )?;
+    let Ok(Command::Boot(boot)) = read(alloc, &words) else {
+        return Err(Fail::from("refused"));
+    };
+    assert!(rt; boot.inputs.memory.as_str() == "m");
+    assert!(rt; boot.inputs.pool.as_str() == "p");
+    assert!(rt; boot.inputs.kernel.as_str() == "k");
+    assert!(rt; boot.out.as_str() == "o");
+    assert!(rt; boot.kept == Some(Runs::Twice));
+    assert!(rt;
+        boot.image
+            == ImageType::Raw {
+                at: 0x1f00,
+                entry: 0x1f00
+            }
+    );
+    assert!(rt; boot.inputs.modules.len() == 3);
+    Ok(())
+}
+
+#[test]
+fn reads_each_command(rt: HostRuntime) -> Result<(), Fail> {
+    let alloc = rt.alloc();
+    for line in [
+        "load m p o r k --kept --type raw --at 2000 --entry 2004",
+        "load-panic m o r k --map f --command=-x --initrd i --purgatory u --notes n",
+        "check m r",
+        "dump m r",
+        "exec --twice m r o",
+        "trace m o 20002 007",
+        "sample 1",
+    ] {
+        assert!(rt; why(alloc, line)? == None, "{line}");
+    }
+    Ok(())
+}
+
+#[test]
+fn says_what_is_wrong_and_what_is_wanted(rt: HostRuntime) -> Result<(), Fail> {
+    let alloc = rt.alloc();
+    let why = UsageWhy::Number { which: Which::At };
+    let text = format!(in alloc; "{}", WordsFault::Usage { why })?;
+    assert!(rt; text.as_str() == "--at is not a hexadecimal number of 1 to 16 digits");
+    let general = help_of(&split(alloc, "restart")?);
+    assert!(rt; general.starts_with("Usage: kexec COMMAND"));
+    let trace = help_of(&split(alloc, "trace m")?);
+    assert!(rt; trace.starts_with("Usage: kexec trace"));
+    Ok(())
+}

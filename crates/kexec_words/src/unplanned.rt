@@ -1,0 +1,204 @@
+// The words of `load-panic`, `check`, `dump`, `exec`, `trace` and `sample`.
+ghost use Rattle.std.specs.Prelude.{◌≡◌, IfOk, map, option_map, string_bytes, codes};
+ghost use Rattle.clap.specs.Words.{rows_of, found_of};
+ghost use Rattle.kexec_words.specs.Apps.{load_panic_app, check_app, dump_app, exec_app, trace_app, sample_app};
+ghost use Rattle.kexec_words.specs.Meaning.{Answers, taken_by, crash_inputs_of, load_panic_with, load_panic_in, loaded_of, loaded_in, exec_of, exec_with, exec_in, trace_numbers_by, trace_with, trace_in, sample_by, sample_in};
+ghost use Rattle.kexec_words.specs.Values.{crash_inputs_value, load_panic_value, loaded_value, exec_value, trace_value, number_value};
+
+use crate::arguments::{EXEC, LOAD_PANIC, LOADED, SAMPLE, TRACE};
+use crate::commands::{CrashInputs, Exec, LoadPanic, Loaded, Trace};
+use crate::faults::{UsageWhy, Which, WordsFault};
+use crate::naming::is_repeated_for_crash;
+use crate::numbers::{TraceNumbers, sample_number, trace_numbers};
+use crate::parsing::{flag_in, matches_for, name_in, option_in, some_name_in, word_in};
+use clap::ArgMatches;
+use std::alloc::{AllocError, Global};
+
+fn crash_inputs_in(alloc: Global, matches: &ArgMatches<'_>) -> Result<CrashInputs, AllocError>
+    ensures { IfOk result (λ i. crash_inputs_value i ≡ crash_inputs_of (rows_of (found_of matches.now))) }
+{
+    Ok(CrashInputs {
+        memory: name_in(alloc, matches, "MEMORY")?,
+        notes: some_name_in(alloc, matches, "notes")?,
+        kernel: name_in(alloc, matches, "KERNEL")?,
+        initrd: some_name_in(alloc, matches, "initrd")?,
+        purgatory: some_name_in(alloc, matches, "purgatory")?,
+        command: some_name_in(alloc, matches, "command")?,
+    })
+}
+
+fn load_panic_from(
+    inputs: CrashInputs,
+    map: Option<String>,
+    out: String,
+    load_record: String,
+) -> Result<LoadPanic, WordsFault>
+    ensures { Answers load_panic_value (load_panic_with (crash_inputs_value inputs) (option_map string_bytes map) (string_bytes out) (string_bytes load_record)) result }
+{
+    if is_repeated_for_crash(&inputs, &map, &out, &load_record) {
+        return Err(WordsFault::Usage {
+            why: UsageWhy::SameName,
+        });
+    }
+    match map {
+        Some(map) => Ok(LoadPanic {
+            inputs,
+            map,
+            out,
+            load_record,
+        }),
+        None => Err(WordsFault::Usage {
+            why: UsageWhy::NeedsMap,
+        }),
+    }
+}
+
+fn load_panic_found(alloc: Global, matches: &ArgMatches<'_>) -> Result<LoadPanic, WordsFault>
+    ensures { Answers load_panic_value (load_panic_in (rows_of (found_of matches.now))) result }
+{
+    let inputs = crash_inputs_in(alloc, matches)?;
+    let map = some_name_in(alloc, matches, "map")?;
+    let out = name_in(alloc, matches, "OUT")?;
+    let load_record = name_in(alloc, matches, "RECORD")?;
+    load_panic_from(inputs, map, out, load_record)
+}
+
+// The words after `load-panic`.
+pub(crate) fn read_load_panic(alloc: Global, words: &[String]) -> Result<LoadPanic, WordsFault>
+    ensures { Answers load_panic_value (taken_by load_panic_app load_panic_in (map string_bytes words.now)) result }
+{
+    let matches = matches_for(alloc, "load-panic", &LOAD_PANIC, words)?;
+    load_panic_found(alloc, &matches)
+}
+
+fn loaded_names(alloc: Global, matches: &ArgMatches<'_>) -> Result<Loaded, AllocError>
+    ensures { IfOk result (λ l. loaded_value l ≡ loaded_of (rows_of (found_of matches.now))) }
+{
+    Ok(Loaded {
+        memory: name_in(alloc, matches, "MEMORY")?,
+        load_record: name_in(alloc, matches, "RECORD")?,
+    })
+}
+
+fn loaded_found(alloc: Global, matches: &ArgMatches<'_>) -> Result<Loaded, WordsFault>
+    ensures { Answers loaded_value (loaded_in (rows_of (found_of matches.now))) result }
+{
+    Ok(loaded_names(alloc, matches)?)
+}
+
+// The words after `check`.
+pub(crate) fn read_check(alloc: Global, words: &[String]) -> Result<Loaded, WordsFault>
+    ensures { Answers loaded_value (taken_by check_app loaded_in (map string_bytes words.now)) result }
+{
+    let matches = matches_for(alloc, "check", &LOADED, words)?;
+    loaded_found(alloc, &matches)
+}
+
+// The words after `dump`.
+pub(crate) fn read_dump(alloc: Global, words: &[String]) -> Result<Loaded, WordsFault>
+    ensures { Answers loaded_value (taken_by dump_app loaded_in (map string_bytes words.now)) result }
+{
+    let matches = matches_for(alloc, "dump", &LOADED, words)?;
+    loaded_found(alloc, &matches)
+}
+
+fn exec_names(alloc: Global, matches: &ArgMatches<'_>) -> Result<Exec, AllocError>
+    ensures { IfOk result (λ e. exec_value e ≡ exec_of (rows_of (found_of matches.now))) }
+{
+    Ok(Exec {
+        memory: name_in(alloc, matches, "MEMORY")?,
+        load_record: name_in(alloc, matches, "RECORD")?,
+        out: name_in(alloc, matches, "OUT")?,
+        twice: flag_in(matches, "twice"),
+    })
+}
+
+fn exec_from(exec: Exec) -> Result<Exec, WordsFault>
+    ensures { Answers exec_value (exec_with (exec_value exec)) result }
+{
+    if exec.memory == exec.out || exec.load_record == exec.out {
+        return Err(WordsFault::Usage {
+            why: UsageWhy::SameName,
+        });
+    }
+    Ok(exec)
+}
+
+fn exec_found(alloc: Global, matches: &ArgMatches<'_>) -> Result<Exec, WordsFault>
+    ensures { Answers exec_value (exec_in (rows_of (found_of matches.now))) result }
+{
+    let exec = exec_names(alloc, matches)?;
+    exec_from(exec)
+}
+
+// The words after `exec`.
+pub(crate) fn read_exec(alloc: Global, words: &[String]) -> Result<Exec, WordsFault>
+    ensures { Answers exec_value (taken_by exec_app exec_in (map string_bytes words.now)) result }
+{
+    let matches = matches_for(alloc, "exec", &EXEC, words)?;
+    exec_found(alloc, &matches)
+}
+
+fn trace_numbers_in(matches: &ArgMatches<'_>) -> Result<TraceNumbers, Which>
+    ensures { result ≡ trace_numbers_by (rows_of (found_of matches.now)) }
+{
+    trace_numbers(
+        option_in(matches, "swap"),
+        word_in(matches, "HEAD"),
+        word_in(matches, "LIMIT"),
+    )
+}
+
+fn trace_from(memory: String, out: String, numbers: TraceNumbers) -> Result<Trace, WordsFault>
+    ensures { Answers trace_value (trace_with (string_bytes memory) (string_bytes out) numbers) result }
+{
+    if memory == out {
+        return Err(WordsFault::Usage {
+            why: UsageWhy::SameName,
+        });
+    }
+    Ok(Trace {
+        memory,
+        out,
+        head: numbers.head,
+        limit: numbers.limit,
+        swap: numbers.swap,
+    })
+}
+
+fn trace_found(alloc: Global, matches: &ArgMatches<'_>) -> Result<Trace, WordsFault>
+    ensures { Answers trace_value (trace_in (rows_of (found_of matches.now))) result }
+{
+    let numbers = trace_numbers_in(matches)?;
+    let memory = name_in(alloc, matches, "MEMORY")?;
+    let out = name_in(alloc, matches, "OUT")?;
+    trace_from(memory, out, numbers)
+}
+
+// The words after `trace`.
+pub(crate) fn read_trace(alloc: Global, words: &[String]) -> Result<Trace, WordsFault>
+    ensures { Answers trace_value (taken_by trace_app trace_in (map string_bytes words.now)) result }
+{
+    let matches = matches_for(alloc, "trace", &TRACE, words)?;
+    trace_found(alloc, &matches)
+}
+
+fn sample_number_in(matches: &ArgMatches<'_>) -> Result<u64, Which>
+    ensures { result ≡ sample_by (rows_of (found_of matches.now)) }
+{
+    sample_number(word_in(matches, "NUMBER"))
+}
+
+fn sample_found(matches: &ArgMatches<'_>) -> Result<u64, WordsFault>
+    ensures { Answers number_value (sample_in (rows_of (found_of matches.now))) result }
+{
+    Ok(sample_number_in(matches)?)
+}
+
+// The words after `sample`.
+pub(crate) fn read_sample(alloc: Global, words: &[String]) -> Result<u64, WordsFault>
+    ensures { Answers number_value (taken_by sample_app sample_in (map string_bytes words.now)) result }
+{
+    let matches = matches_for(alloc, "sample", &SAMPLE, words)?;
+    sample_found(&matches)
+}

@@ -1,0 +1,114 @@
+-- A list before its first entry.
+use Rattle.std.proofs.Common.{◌≡◌, ℕ, zero, suc, ◌+◌, ◌<◌, ◌≤◌, List, [], ◌∷◌, ◌++◌, length, Some, None, refl, sym, ap, ◌∙◌, subst, inl, inr, arith, take, Bool, true, false, cond, append-nil}
+use Rattle.std.specs.Prelude.{◌≢◌, ◌⊎◌, eqb, slice_index, is_some}
+use Rattle.std.proofs.lemmas.Option.{none-some}
+use Rattle.std.proofs.lemmas.Bool.Decides.{eqb_tells}
+use Rattle.page_memory.specs.Contents.{Contents, at, IsHeld}
+use Rattle.page_pool.specs.Pages.{Pages, is_filed}
+use Rattle.page_pool.specs.Counts.{IsOnce}
+use Rattle.kimage_list.proofs.Lists.{count-append}
+use Rattle.std.specs.List.{slice_get}
+use Rattle.std.specs.Prelude.{◌||◌}
+use Rattle.std.proofs.lemmas.List.{take_more}
+use Rattle.std.proofs.lemmas.List.Folds.{list_any-append}
+use Rattle.std.proofs.lemmas.Option.{slice_get_within, get_or_from_slice_get}
+use Rattle.kx_pages.specs.Spans.{Run, in_span, in_spans}
+use Rattle.kimage_list.specs.Beginning.{AreHeld, IsFresh}
+use Rattle.kimage_list.specs.Drafts.{initial, first_taken, Draft, Writes}
+use Rattle.kimage_list.specs.Load.{Loading}
+use Rattle.kimage_list.specs.Tables.{Slots, slot, source_in, place_in, fresh_slot}
+use Rattle.kx_pages.specs.Lists.{count}
+use Rattle.page_memory.specs.Memory.{Mem, Wants}
+
+-- one of the first n has its place
+at_first : (n : ℕ) (xs : List ℕ) (x : ℕ) → 1 ≤ count x (take n xs) → (k : ℕ) × (k < n) × (slice_index xs k ≡ x)
+at_first zero xs x c = absurd (omega (arith, c))
+at_first (suc n) [] x c = absurd (omega (arith, c))
+at_first (suc n) (y ∷ xs) x c = go (eqb_tells y x) (at_first n xs x)
+  where
+    go : ((eqb y x ≡ true) × (y ≡ x)) ⊎ ((eqb y x ≡ false) × (y ≢ x)) → (1 ≤ count x (take n xs) → (k : ℕ) × (k < n) × (slice_index xs k ≡ x)) → (k : ℕ) × (k < suc n) × (slice_index (y ∷ xs) k ≡ x)
+    go (inl u) ih = (0, omega arith, u.1)
+    go (inr u) ih =
+        let m : count x (y ∷ take n xs) ≡ 0 + count x (take n xs) = ap (λ b. cond b 1 0 + count x (take n xs)) u.0 in
+        let k = ih (omega (arith, m, c)) in
+        (suc k.0, omega (arith, k.1), k.2)
+
+pub opened : (M : Mem) (D : ℕ → Bool) (W : Wants) (need : ℕ) (memory : Contents) (pool : Pages) (table : Slots)
+    → need ≤ length pool.left → ((q : ℕ) → at memory q ≡ M q) → IsOnce (pool.drawn ++ pool.left) → ((p : ℕ) → is_filed pool p ≡ false) → ((p : ℕ) → slot table p ≡ fresh_slot (D p)) → AreHeld need pool.left memory
+    → Writes (initial M D W need pool.left) [] memory pool table 0 0
+opened M D W need memory pool table enough same once unfiled fresh held = record {
+  tracks = record {
+    left = refl;
+    filed = unfiled;
+    wanted = λ p. is_fresh (D p) ∙ sym (ap is_some (fresh p));
+    loaded = λ p. ap source_in (fresh p) ∙ unsourced (D p);
+    once = λ p. omega (arith, single p);
+  };
+  order = refl;
+  spare = refl;
+  tight = (omega arith, omega arith);
+  homes = tt;
+  once = λ x. omega (arith, single x);
+  within = λ x. omega arith;
+  held = λ x c. let k = at_first need pool.left x c in subst (IsHeld memory) k.2 (held.held k.0 k.1);
+  below = λ x c. let k = at_first need pool.left x c in let h = held.below k.0 k.1 in omega (arith, h, k.2);
+  list = tt;
+  loaded = tt;
+  others = λ x z. same x;
+  places = λ x a e. absurd (unplaced (D x) a (sym (ap place_in (fresh x)) ∙ e));
+  place = refl;
+  many = refl;
+}
+  where
+    single : (x : ℕ) → count x pool.left ≤ 1
+    single x = omega (arith, once.each x, count-append x pool.drawn pool.left)
+
+    is_fresh : (b : Bool) → b ≡ is_some (fresh_slot b)
+    is_fresh true = refl
+    is_fresh false = refl
+
+    unsourced : (b : Bool) → source_in (fresh_slot b) ≡ None
+    unsourced true = refl
+    unsourced false = refl
+
+    unplaced : (b : Bool) (a : ℕ) → place_in (fresh_slot b) ≡ Some a → ⊥
+    unplaced true a e = none-some a e
+    unplaced false a e = none-some a e
+
+-- the page in hand is one of those before the link pages
+pub first_given : (d : Draft) (t : ℕ × Loading) (memory : Contents) (pool : Pages) (table : Slots) (next entries : ℕ) → Writes (record d { loading = t.1 }) (t.0 ∷ []) memory pool table next entries → d.links ≡ []
+    → ((y : ℕ) → at memory y ≡ d.before y) → Writes (first_taken d t) [] memory pool table next entries
+first_given d t memory pool table next entries w none same = record {
+  tracks = record { left = w.tracks.left; filed = w.tracks.filed; wanted = w.tracks.wanted; loaded = w.tracks.loaded; once = w.tracks.once };
+  order = w.order;
+  spare = ap (λ ys. ys ++ t.0 ∷ []) (w.spare ∙ ap (λ ls. d.first ++ ls) none ∙ append-nil d.first) ∙ sym (ap (λ ls. (d.first ++ t.0 ∷ []) ++ ls) none ∙ append-nil (d.first ++ t.0 ∷ []));
+  tight = w.tight;
+  homes = w.homes;
+  once = λ x. omega (arith, w.once x, count-append x t.1.spare (t.0 ∷ []));
+  within = λ x. omega (arith, w.within x, count-append x t.1.spare (t.0 ∷ []));
+  held = w.held;
+  below = w.below;
+  list = w.list;
+  loaded = w.loaded;
+  others = λ y z. same y;
+  places = w.places;
+  place = w.place;
+  many = w.many;
+}
+
+-- one more span in the table
+pub fresh_more : (wanted : List Run) (i : ℕ) (r : Run) (m n : Slots) → slice_get wanted i ≡ Some r → IsFresh (take i wanted) m
+    → ((q : ℕ) → slot n q ≡ cond (in_span r q) (Some None) (slot m q)) → IsFresh (take (i + 1) wanted) n
+fresh_more wanted i r m n e f h = record { each = λ q. h q ∙ ap (cond (in_span r q) (Some None)) (f.each q) ∙ either (in_span r q) (in_spans (take i wanted) q) ∙ ap fresh_slot (sym (more q)) }
+  where
+    next : take (i + 1) wanted ≡ take i wanted ++ r ∷ []
+    next = take_more wanted i r (slice_get_within wanted i r e) ∙ ap (λ x. take i wanted ++ x ∷ []) (get_or_from_slice_get wanted i r r e)
+
+    more : (q : ℕ) → in_spans (take (i + 1) wanted) q ≡ (in_spans (take i wanted) q || (in_span r q || false))
+    more q = ap (λ rs. in_spans rs q) next ∙ list_any-append (λ s. in_span s q) (take i wanted) (r ∷ [])
+
+    either : (b c : Bool) → cond b (Some None) (fresh_slot c) ≡ fresh_slot (c || (b || false))
+    either true true = refl
+    either true false = refl
+    either false true = refl
+    either false false = refl

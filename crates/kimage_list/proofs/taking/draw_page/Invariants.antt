@@ -1,0 +1,9 @@
+use Rattle.std.proofs.Common.{length}
+use Rattle.kimage_list.proofs.taking.draw_page.Given as goal
+use Rattle.kimage_list.specs.Tracking.{Draws}
+
+abbrev pub invariant-loop-q : goal.invariant-loop-q
+invariant-loop-q l = Draws l.wanted l.initial.pool l.initial.table l.pool l.table
+
+abbrev pub decreases-loop-q : goal.decreases-loop-q
+decreases-loop-q l = length l.pool.left

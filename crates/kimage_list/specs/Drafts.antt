@@ -1,0 +1,130 @@
+-- A list under way: what was asked for so far, and what stands in memory, pool and table.
+use Rattle.std.specs.Prelude.{◌≡◌, ℕ, ◌+◌, ◌*◌, ◌/◌, ◌%◌, ◌<◌, ◌≤◌, ◌^◌, ◌⊎◌, List, [], ◌∷◌, ◌++◌, length, take, Bool, true, false, cond, eqb, Option, Some, None}
+use Rattle.page_memory.specs.Contents.{Contents, at, IsHeld, page_of}
+use Rattle.page_memory.specs.Memory.{Mem, Wants, put, set_word}
+use Rattle.page_pool.specs.Pages.{Pages}
+use Rattle.kx_pages.specs.Items.{code}
+use Rattle.kx_pages.specs.Lists.{Each, count, destinations, sources}
+use Rattle.kx_pages.specs.declared.item.Item.TheVariants.{Source, Link}
+use Rattle.kimage_list.specs.declared.taking.Moved.{Moved}
+use Rattle.kimage_list.specs.Load.{Loading, Request, Entry, Start, Move, pages_of, begun, taken, given}
+use Rattle.kimage_list.specs.Laying.{Holds, items, source_pages, link_pages, put_all}
+use Rattle.kimage_list.specs.Opening.{open_pages, entry_place, next_place, Tight, number}
+use Rattle.kimage_list.specs.Tables.{Slots, slot, place_in}
+use Rattle.kimage_list.specs.Tracking.{Tracks}
+
+abbrev pub one : ℕ → ℕ → ℕ
+one x y = cond (eqb y x) 1 0
+
+-- how often x is filed or in use
+abbrev pub used : ℕ → Loading → ℕ
+used x l = count x l.filed + count x l.spare + count x (sources l.pairs)
+
+-- how often x is left, filed or in use
+abbrev pub amount : ℕ → Loading → ℕ
+amount x l = count x l.left + count x l.filed + count x l.spare + count x (sources l.pairs)
+
+-- each source is its own destination or no destination
+abbrev pub IsHome : (ℕ → Bool) → ℕ × ℕ → Type 0
+IsHome D q = (q.1 ≡ q.0) ⊎ (D q.1 ≡ false)
+
+pub record Draft : Type 0 where
+  pub before : Mem  -- memory before the load
+  pub wanted : ℕ → Bool
+  pub bytes : Wants
+  pub room : List ℕ  -- the pages that the load may draw
+  pub first : List ℕ  -- the control page, and the swap page
+  pub links : List ℕ
+  pub entries : List Entry
+  pub loading : Loading
+
+-- memory, pool, table and the next place are those of a draft, where the pages in hand are not yet written
+pub record Writes (d : Draft) (hand : List ℕ) (memory : Contents) (pool : Pages) (table : Slots) (next entries : ℕ) : Type 0 where
+  pub tracks : Tracks d.wanted d.loading pool table
+  pub order : destinations d.loading.pairs ≡ pages_of d.entries
+  pub spare : d.loading.spare ≡ d.first ++ d.links
+  pub tight : Tight d.links (length d.entries)
+  pub homes : Each (IsHome d.wanted) d.loading.pairs
+  pub once : (x : ℕ) → amount x d.loading + count x hand ≤ 1
+  pub within : (x : ℕ) → used x d.loading + count x hand ≤ count x d.room
+  pub held : (x : ℕ) → 1 ≤ count x d.room → IsHeld memory x
+  pub below : (x : ℕ) → 1 ≤ count x d.room → x < 2 ^ 34
+  pub list : Holds (at memory) (open_pages d.links (items d.entries d.loading.pairs))
+  pub loaded : Holds (at memory) (source_pages d.bytes d.loading.pairs)
+  pub others : (x : ℕ) → count x d.links + count x (sources d.loading.pairs) + count x hand ≡ 0 → at memory x ≡ d.before x
+  pub places : (x a : ℕ) → place_in (slot table x) ≡ Some a → a ≡ entry_place d.links (number x d.entries)
+  pub place : next ≡ next_place d.links (length d.entries)
+  pub many : entries ≡ length d.entries
+
+-- taking gives t, and draws no page past the room
+pub record CanTake (d : Draft) (r : Request) (t : ℕ × Loading) : Type 0 where
+  pub gives : taken d.wanted r d.loading ≡ Some t
+  pub within : (x : ℕ) → used x t.1 + one x t.0 ≤ count x d.room
+
+-- an exchange can be made in this memory
+abbrev pub CanMove : Option Moved → Contents → Type 0
+CanMove None m = Unit {0}
+CanMove (Some v) m = (v.place < 2 ^ 46) × (v.place % 8 ≡ 0) × IsHeld m v.page × IsHeld m (v.place / 4096)
+
+-- memory after the exchange that freed page s
+abbrev pub moved : Mem → Option Moved → ℕ → Mem
+moved N None s = N
+moved N (Some v) s = set_word (put N v.page (N s)) v.place (code (Source v.page))
+
+-- the draft with page t.0 as its next link page
+abbrev pub linked : Draft → ℕ × Loading → Draft
+linked d t = record d { loading = given None t; links = d.links ++ t.0 ∷ [] }
+
+-- a link page is wanted before the next entry
+abbrev pub IsFull : Draft → Type 0
+IsFull d = length d.entries ≡ 511 * length d.links
+
+-- no link page is taken ahead of its entries
+abbrev pub IsSteady : Draft → Type 0
+IsSteady d = 511 * length d.links < length d.entries + 511
+
+-- the last link page has room
+abbrev pub HasRoom : Draft → Type 0
+HasRoom d = length d.entries < 511 * length d.links
+
+-- e is d with room for one more entry
+abbrev pub RoomBy : Bool → Draft → Draft → Type 0
+RoomBy true d e = (t : ℕ × Loading) × CanTake d None t × (e ≡ linked d t)
+RoomBy false d e = e ≡ d
+
+abbrev pub Room : Draft → Draft → Type 0
+Room d e = IsSteady d × RoomBy (eqb (length d.entries % 511) 0) d e
+
+-- with the entry of a segment's start
+abbrev pub started : Draft → ℕ → Draft
+started d p = record d { entries = d.entries ++ Start p ∷ [] }
+
+-- with page p loaded from the page that was taken
+abbrev pub loaded_from : Draft → ℕ → ℕ × Loading → Draft
+loaded_from d p t = record d { loading = given (Some p) t; entries = d.entries ++ Move p ∷ [] }
+
+-- page p is wanted, not yet loaded, and to have these bytes
+pub record IsNext (d : Draft) (p : ℕ) (bytes : List ℕ) : Type 0 where
+  pub wanted : d.wanted p ≡ true
+  pub new : count p (pages_of d.entries) ≡ 0
+  pub same : d.bytes p ≡ Some (page_of bytes)
+
+abbrev pub HasLink : Draft → Type 0
+HasLink d = 1 ≤ length d.links
+
+-- the memory that this draft lays
+abbrev pub laid_by : Draft → Mem
+laid_by d = put_all d.before (link_pages d.links (items d.entries d.loading.pairs) ++ source_pages d.bytes d.loading.pairs)
+
+-- the head is the first link page's address and flag
+abbrev pub HeadIs : List ℕ → ℕ → Type 0
+HeadIs [] h = Unit {0}
+HeadIs (l ∷ ls) h = h ≡ code (Link l)
+
+-- with one more page before the link pages
+abbrev pub first_taken : Draft → ℕ × Loading → Draft
+first_taken d t = record d { loading = given None t; first = d.first ++ t.0 ∷ [] }
+
+-- nothing is written yet
+abbrev pub initial : Mem → (ℕ → Bool) → Wants → ℕ → List ℕ → Draft
+initial M D W need pool = record { before = M; wanted = D; bytes = W; room = take need pool; first = []; links = []; entries = []; loading = begun pool }

@@ -1,0 +1,10 @@
+pub mod Load
+pub mod Laying
+pub mod Opening
+pub mod Tables
+pub mod Tracking
+pub mod Drafts
+pub mod Counted
+pub mod Writers
+pub mod Beginning
+pub mod Calls

@@ -1,0 +1,122 @@
+-- Which pages a load takes: its entries, the requests for pages that they make, and how the pool serves them. The rules
+-- and their order are this project's own; they follow the kernel's kexec core, which keeps a drawn destination page for
+-- its own request (kimage_alloc_page).
+use Rattle.std.specs.Prelude.{ℕ, zero, suc, ◌+◌, ◌/◌, ◌%◌, Bool, true, false, cond, not, ◌||◌, eqb, List, [], ◌∷◌, ◌++◌, replicate, Option, Some, None}
+use Rattle.kx_pages.specs.Lists.{has}
+use Rattle.kx_pages.specs.declared.image.Wish.{Wish}
+use Rattle.kx_pages.specs.declared.image.Wish.TheVariants.{Plain, Kept}
+
+-- the entries of a list: the destination entry of a segment that starts at this page, and the source entry of this
+-- destination page
+pub data Entry : Type 0 where
+  Start : (page : ℕ) → Entry
+  Move : (page : ℕ) → Entry
+
+-- the destination pages of these entries
+abbrev pub pages_of : List Entry → List ℕ
+pages_of [] = []
+pages_of (Start p ∷ es) = pages_of es
+pages_of (Move p ∷ es) = p ∷ pages_of es
+
+-- the source entries of n pages, from page p on
+abbrev pub page_entries : ℕ → ℕ → List Entry
+page_entries p zero = []
+page_entries p (suc n) = Move p ∷ page_entries (suc p) n
+
+-- how many of them are destination entries
+abbrev pub starts : List Entry → ℕ
+starts [] = 0
+starts (Start p ∷ es) = suc (starts es)
+starts (Move p ∷ es) = starts es
+
+-- a request is for this destination page, or for none: then it is for the control page, the swap page or a link page
+abbrev pub Request : Type 0
+Request = Option ℕ
+
+abbrev pub is_for : Request → ℕ → Bool
+is_for None q = false
+is_for (Some d) q = eqb d q
+
+-- the pages before the link pages: the control page, and with context preserved the swap page
+abbrev pub first_count : Wish → ℕ
+first_count Plain = 1
+first_count Kept = 2
+
+abbrev pub own_request : Entry → List Request
+own_request (Start p) = []
+own_request (Move p) = Some p ∷ []
+
+-- the requests of these entries, of which the first is number n: a link page for each 511 entries, and the pages
+abbrev pub requests_from : ℕ → List Entry → List Request
+requests_from n [] = []
+requests_from n (e ∷ es) = cond (eqb (n % 511) 0) (None ∷ []) [] ++ (own_request e ++ requests_from (suc n) es)
+
+-- the requests of a load, in order
+abbrev pub requests : Wish → List Entry → List Request
+requests wish es = replicate (first_count wish) None ++ requests_from 0 es
+
+-- how many pages a load takes that has so many destination pages and segments
+abbrev pub need_of : Wish → ℕ → ℕ → ℕ
+need_of wish pages segments = pages + (segments + pages + 510) / 511 + first_count wish
+
+-- where a load stands
+pub record Loading : Type 0 where
+  pub left : List ℕ  -- pool pages not yet drawn
+  pub filed : List ℕ  -- drawn destination pages, kept for their own requests
+  pub pairs : List (ℕ × ℕ)  -- (destination, source) so far
+  pub spare : List ℕ  -- pages taken for no destination so far
+
+abbrev pub begun : List ℕ → Loading
+begun pool = record { left = pool; filed = []; pairs = []; spare = [] }
+
+-- the first p taken out
+abbrev pub without : ℕ → List ℕ → List ℕ
+without p [] = []
+without p (x ∷ xs) = cond (eqb x p) xs (x ∷ without p xs)
+
+-- the source from which page p is loaded
+abbrev pub source_of : ℕ → List (ℕ × ℕ) → Option ℕ
+source_of p [] = None
+source_of p (q ∷ qs) = cond (eqb q.0 p) (Some q.1) (source_of p qs)
+
+-- the pair of destination p becomes (p, p)
+abbrev pub at_home : ℕ → List (ℕ × ℕ) → List (ℕ × ℕ)
+at_home p [] = []
+at_home p (q ∷ qs) = cond (eqb q.0 p) ((p, p) ∷ qs) (q ∷ at_home p qs)
+
+-- Draws pages until one serves. D tells the destination pages. A page that was asked for, or that is no destination,
+-- is given. Where a destination page is loaded already, its source is given, and it becomes its own source. Any other
+-- destination page is filed.
+abbrev pub draw : (ℕ → Bool) → Request → List (ℕ × ℕ) → List ℕ → List ℕ → List ℕ → Option (ℕ × Loading)
+draw D r pairs spare filed [] = None
+draw D r pairs spare filed (q ∷ left) =
+    elim (is_for r q || not (D q)) [
+      | true ↦ Some (q, record { left = left; filed = filed; pairs = pairs; spare = spare })
+      | false ↦ elim (source_of q pairs) [
+        | Some s ↦ Some (s, record { left = left; filed = filed; pairs = at_home q pairs; spare = spare })
+        | None ↦ draw D r pairs spare (q ∷ filed) left
+      ]
+    ]
+
+-- the page that a request takes, and where the load stands then: a filed page serves its own request
+abbrev pub taken : (ℕ → Bool) → Request → Loading → Option (ℕ × Loading)
+taken D None l = draw D None l.pairs l.spare l.filed l.left
+taken D (Some d) l =
+    elim (has d l.filed) [
+      | true ↦ Some (d, record l { filed = without d l.filed })
+      | false ↦ draw D (Some d) l.pairs l.spare l.filed l.left
+    ]
+
+-- the page that was taken is put to its use
+abbrev pub given : Request → ℕ × Loading → Loading
+given None t = record t.1 { spare = t.1.spare ++ t.0 ∷ [] }
+given (Some d) t = record t.1 { pairs = t.1.pairs ++ (d, t.0) ∷ [] }
+
+-- where these requests, one after another, lead: None where the pool runs out
+abbrev pub served : (ℕ → Bool) → List Request → Loading → Option Loading
+served D [] l = Some l
+served D (r ∷ rs) l = elim (taken D r l) [ None ↦ None | Some t ↦ served D rs (given r t) ]
+
+-- where a load of these entries stands that began with this pool
+abbrev pub loaded : (ℕ → Bool) → Wish → List Entry → List ℕ → Option Loading
+loaded D wish es pool = served D (requests wish es) (begun pool)

@@ -1,0 +1,96 @@
+//! What is made before a list is written.
+
+ghost use Rattle.std.specs.Prelude.{◌≡◌, ℕ, ◌≤◌, ◌<◌, ◌+◌, ◌^◌, ◌||◌, length, slice_index, OnOk, IfOk, Some, None, cond};
+ghost use Rattle.page_memory.specs.Contents.{at, IsHeld};
+ghost use Rattle.kx_pages.specs.Spans.{AreApart, in_spans, in_span};
+ghost use Rattle.kimage_list.specs.Load.{need_of, first_count};
+ghost use Rattle.kimage_list.specs.Tables.{slot, fresh_slot};
+ghost use Rattle.kimage_list.specs.Beginning.{IsFresh, AreHeld};
+
+use crate::table::Table;
+use kx_pages::{Page, PageSet, Span, Wish};
+use page_memory::Memory;
+use page_pool::Pool;
+use std::alloc::{AllocError, Global};
+
+// How many pages a load takes.
+pub fn need(pages: u64, segments: usize, wish: Wish) -> u64
+    requires pages { pages ≤ 65536 }
+    requires segments { segments ≤ 16 }
+    ensures { result ≡ need_of wish pages segments }
+{
+    let links = (segments as u64 + pages + 510) / 511;
+    pages + links + first_pages(wish)
+}
+
+// The pages before the link pages.
+fn first_pages(wish: Wish) -> u64
+    ensures { result ≡ first_count wish }
+{
+    match wish {
+        Wish::Plain => 1,
+        Wish::Kept => 2,
+    }
+}
+
+// All memory of a load: the table of the wanted pages, and the first pages of the pool.
+pub fn prepare(
+    alloc: Global,
+    memory: &mut Memory,
+    pool: &Pool,
+    wanted: &PageSet,
+    need: u64,
+) -> Result<Table, AllocError>
+    requires { need ≤ length pool.now.left }
+    ensures ready { IfOk result (λ table. IsFresh wanted.now table × AreApart 0 wanted.now × AreHeld need pool.now.left memory.new) }
+    ensures same { (q : ℕ) → at memory.new q ≡ at memory.old q }
+    ensures sets { memory.new.sets ≡ memory.old.sets }
+    ensures stay { (q : ℕ) → IsHeld memory.old q → IsHeld memory.new q }
+{
+    hold_first(memory, pool, need)?;
+    table_of(alloc, wanted)
+}
+
+// A table of the wanted pages, none of them loaded.
+fn table_of(alloc: Global, wanted: &PageSet) -> Result<Table, AllocError>
+    ensures { IfOk result (λ table. IsFresh wanted.now table × AreApart 0 wanted.now) }
+{
+    let mut table = Table::new(alloc);
+    for i in 0..wanted.spans() {
+        add_span(&mut table, wanted.span(i))?;
+    }
+    Ok(table)
+}
+
+fn add_span(table: &mut Table, span: Span) -> Result<(), AllocError>
+    ensures { IfOk result (λ _. (q : ℕ) → slot table.new q ≡ cond (in_span span q) (Some None) (slot table.old q)) }
+{
+    for number in span.first()..span.first() + span.count() {
+        table.add(page_of_number(number))?;
+    }
+    Ok(())
+}
+
+/// The page of a number that is one.
+pub fn page_of_number(number: u64) -> Page
+    requires { number < 2 ^ 34 }
+    ensures { result ≡ number }
+{
+    Page::new(number).unwrap()
+}
+
+// Holds the first n pages of the pool.
+fn hold_first(memory: &mut Memory, pool: &Pool, n: u64) -> Result<(), AllocError>
+    requires { n ≤ length pool.now.left }
+    ensures held { OnOk result (AreHeld n pool.now.left memory.new) }
+    ensures same { (q : ℕ) → at memory.new q ≡ at memory.old q }
+    ensures sets { memory.new.sets ≡ memory.old.sets }
+    ensures stay { (q : ℕ) → IsHeld memory.old q → IsHeld memory.new q }
+{
+    for i in 0..n {
+        let page = pool.page(i);
+        let _number = page.number();
+        memory.hold(page)?;
+    }
+    Ok(())
+}

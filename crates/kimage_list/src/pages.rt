@@ -1,0 +1,78 @@
+//! What is written into memory, page by page and word by word.
+
+ghost use Rattle.std.specs.Prelude.{◌≡◌, ℕ, ◌/◌, ◌%◌, ◌<◌, ◌≤◌, ◌^◌, [], length};
+ghost use Rattle.page_memory.specs.Contents.{at, IsHeld, page_of};
+ghost use Rattle.page_memory.specs.Memory.{put, set_word};
+ghost use Rattle.kx_pages.specs.Items.{code};
+ghost use Rattle.kx_pages.specs.declared.item.Item.TheVariants.{Source, Link, Destination};
+ghost use Rattle.kimage_list.specs.Drafts.{CanMove, moved};
+
+use crate::taking::Taken;
+use kx_pages::{Item, Page};
+use page_memory::Memory;
+
+// The word at this address.
+pub fn write_word(memory: &mut Memory, place: u64, word: u64)
+    requires inside { place < 2 ^ 46 }
+    requires aligned { place % 8 ≡ 0 }
+    requires held { IsHeld memory.old (place / 4096) }
+    ensures value { at memory.new ≡ set_word (at memory.old) place word }
+    ensures stay { (q : ℕ) → IsHeld memory.old q → IsHeld memory.new q }
+{
+    memory.set_word(place, word);
+}
+
+// A page of these bytes, then zeros.
+pub fn fill(memory: &mut Memory, p: Page, bytes: &[u8])
+    requires held { IsHeld memory.old p }
+    requires fits { length bytes.now ≤ 4096 }
+    ensures value { at memory.new ≡ put (at memory.old) p (page_of bytes.now) }
+    ensures stay { (q : ℕ) → IsHeld memory.old q → IsHeld memory.new q }
+{
+    memory.set(p, bytes);
+}
+
+// The bytes of `from` move to `page`, and the word at `place` names it as their source.
+pub fn move_source(memory: &mut Memory, page: Page, from: Page, place: u64)
+    requires inside { place < 2 ^ 46 }
+    requires aligned { place % 8 ≡ 0 }
+    requires held { IsHeld memory.old page }
+    requires list_held { IsHeld memory.old (place / 4096) }
+    ensures value { at memory.new ≡ set_word (put (at memory.old) page (at memory.old from)) place (code (Source page)) }
+    ensures stay { (q : ℕ) → IsHeld memory.old q → IsHeld memory.new q }
+{
+    memory.copy(page, from);
+    write_word(memory, place, source_word(page));
+}
+
+// The word of a source.
+pub fn source_word(p: Page) -> u64
+    ensures { result ≡ code (Source p) }
+{
+    Item::Source(p.number()).word()
+}
+
+// The word that leads on to a link page.
+pub fn link_word(p: Page) -> u64
+    ensures { result ≡ code (Link p) }
+{
+    Item::Link(p.number()).word()
+}
+
+// The word of a segment's start.
+pub fn destination_word(p: Page) -> u64
+    ensures { result ≡ code (Destination p) }
+{
+    Item::Destination(p.number()).word()
+}
+
+// Makes the exchange that freed the page.
+pub fn settle(memory: &mut Memory, taken: &Taken)
+    requires { CanMove taken.now.moved memory.old }
+    ensures value { at memory.new ≡ moved (at memory.old) taken.now.moved taken.now.page }
+    ensures stay { (q : ℕ) → IsHeld memory.old q → IsHeld memory.new q }
+{
+    if let Some(moved) = &taken.moved {
+        move_source(memory, moved.page, taken.page, moved.place);
+    }
+}

@@ -1,0 +1,146 @@
+//! The worked examples of loads with one segment.
+
+ghost use Rattle.std.specs.Prelude.{◌≡◌, ℕ, ◌+◌, ◌≤◌, ◌<◌, ◌^◌, false, IfOk};
+ghost use Rattle.page_pool.specs.Pages.{is_filed};
+ghost use Rattle.kx_pages.specs.Spans.{in_span, in_spans, pages};
+
+use crate::{BeginFault, BeginRefused, ListWriter, Written};
+use kx_pages::{Mode, Page, PageSet, Span, Wish};
+use page_memory::Memory;
+use page_pool::Pool;
+use std::alloc::Global;
+use std::test::*;
+
+fn pool_of(alloc: Global, numbers: &[u64]) -> Result<Pool, Fail>
+    ensures { IfOk result (λ p. (q : ℕ) → is_filed p q ≡ false) }
+{
+    let mut list = Vec::new(alloc);
+    for n in numbers {
+        list.push(Page::new(*n).ok_or("a page")?)?;
+    }
+    match Pool::new(alloc, list) {
+        Ok(pool) => Ok(pool),
+        Err(_) => Err("a pool".into()),
+    }
+}
+
+// A load of `count` pages from page `first` on: page number i has one letter, from `a` on.
+fn load(
+    alloc: Global,
+    pool: Pool,
+    wanted: &PageSet,
+    first: Page,
+    count: u64,
+    wish: Wish,
+) -> Result<Written, BeginRefused>
+    requires unfiled { (q : ℕ) → is_filed pool q ≡ false }
+    requires wanted { (q : ℕ) → in_spans wanted.now q ≡ in_span (record { first = first; count = count }) q }
+    requires pages { pages wanted.now ≤ 65536 }
+    requires below { first + count ≤ 2 ^ 34 }
+{
+    let begun = ListWriter::begin(alloc, Memory::empty(alloc), pool, wanted, 1, wish);
+    let mut writer = match begun {
+        Ok(writer) => writer,
+        Err(refused) => return Err(refused),
+    };
+    writer.add_destination(first);
+    for i in 0..count {
+        writer.add_source(&[b'a' + (i % 26) as u8]);
+    }
+    Ok(writer.finish())
+}
+
+// The same, of pages from page 2 on, over a pool of these pages.
+fn load_over(
+    alloc: Global,
+    numbers: &[u64],
+    count: u64,
+    wish: Wish,
+) -> Result<Result<Written, BeginRefused>, Fail> {
+    let first = Page::new(2).ok_or("a page")?;
+    let mut wanted = PageSet::new(alloc);
+    wanted.add(Span::new(2, count).ok_or("a span")?)?;
+    if wanted.total() > 65536 {
+        return Err("at most 65,536 pages".into());
+    }
+    Ok(load(alloc, pool_of(alloc, numbers)?, &wanted, first, count, wish))
+}
+
+#[test]
+fn loads_two_pages_over_pools_with_destinations(rt: HostRuntime) -> Result<(), Fail> {
+    let own = load_over(rt.alloc(), &[2, 3, 0x10, 0x11], 2, Wish::Plain)?
+        .ok()
+        .ok_or("a list")?;
+    let exchanged = load_over(rt.alloc(), &[0x10, 0x11, 0x12, 2], 2, Wish::Plain)?
+        .ok()
+        .ok_or("a list")?;
+    for (written, last) in [(&own, 0x3008), (&exchanged, 0x12008)] {
+        let image = written.image;
+        assert_eq!(rt; image.control.number(), 0x10);
+        assert_eq!(rt; image.head, 0x11002);
+        assert_eq!(rt; image.mode, Mode::Plain);
+        assert_eq!(rt; written.memory.word(0x11000), 0x2001);
+        assert_eq!(rt; written.memory.word(0x11008), 0x2008);
+        assert_eq!(rt; written.memory.word(0x11010), last);
+        assert_eq!(rt; written.memory.word(0x11018), 4);
+        assert_eq!(rt; written.memory.word(0x11020), 0);
+        assert_eq!(rt; written.memory.word(0x2000), 0x61);
+        assert_eq!(rt; written.pool.left(), 0);
+    }
+    assert_eq!(rt; own.memory.word(0x3000), 0x62);
+    assert_eq!(rt; exchanged.memory.word(0x12000), 0x62);
+    Ok(())
+}
+
+#[test]
+fn keeps_a_swap_page(rt: HostRuntime) -> Result<(), Fail> {
+    let written = load_over(rt.alloc(), &[0x10, 0x11, 0x12, 0x13, 2], 2, Wish::Kept)?
+        .ok()
+        .ok_or("a list")?;
+    let swap = Page::new(0x11).ok_or("a page")?;
+    let image = written.image;
+    assert_eq!(rt; image.control.number(), 0x10);
+    assert_eq!(rt; image.mode, Mode::Kept { swap });
+    assert_eq!(rt; image.head, 0x12002);
+    assert_eq!(rt; written.memory.word(0x12000), 0x2001);
+    assert_eq!(rt; written.memory.word(0x12008), 0x2008);
+    assert_eq!(rt; written.memory.word(0x12010), 0x13008);
+    assert_eq!(rt; written.memory.word(0x12018), 4);
+    Ok(())
+}
+
+#[test]
+fn refuses_a_pool_that_is_one_page_short(rt: HostRuntime) -> Result<(), Fail> {
+    let refused = load_over(rt.alloc(), &[0x10, 0x11, 0x12], 2, Wish::Plain)?
+        .err()
+        .ok_or("a refusal")?;
+    assert_eq!(rt; refused.why, BeginFault::NoPages { pool: 3, need: 4 });
+    assert_eq!(rt; refused.pool.left(), 3);
+    let text = format!(in rt.alloc(); "{}", refused.why)?;
+    assert_eq!(rt;
+        text.as_str(),
+        "the pool has 3 pages left and the load takes 4: give the pool more pages"
+    );
+    Ok(())
+}
+
+#[test]
+fn takes_a_second_link_page_for_511_pages(rt: HostRuntime) -> Result<(), Fail> {
+    let mut numbers = Vec::new(rt.alloc());
+    for n in 0x1000..0x1210 {
+        numbers.push(n)?;
+    }
+    let one = load_over(rt.alloc(), &numbers, 510, Wish::Plain)?
+        .ok()
+        .ok_or("a list")?;
+    assert_eq!(rt; one.pool.left(), 0x210 - 512);
+    assert_eq!(rt; one.memory.word(0x1001ff8), 4);
+    let two = load_over(rt.alloc(), &numbers, 511, Wish::Plain)?
+        .ok()
+        .ok_or("a list")?;
+    assert_eq!(rt; two.pool.left(), 0x210 - 514);
+    assert_eq!(rt; two.memory.word(0x1001ff8), 0x1200002);
+    assert_eq!(rt; two.memory.word(0x1200000), 0x1201008);
+    assert_eq!(rt; two.memory.word(0x1200008), 4);
+    Ok(())
+}

@@ -1,0 +1,165 @@
+//! The writer of a list.
+
+ghost use Rattle.std.specs.Prelude.{◌≡◌, ◌≢◌, ℕ, ◌<◌, ◌≤◌, ◌+◌, ◌^◌, ◌∷◌, [], length, take, drop, None, Some, IfOk, IfErr, false};
+ghost use Rattle.page_memory.specs.Contents.{at, IsHeld, page_of};
+ghost use Rattle.page_pool.specs.Pages.{is_filed};
+ghost use Rattle.kx_pages.specs.Lists.{count, sources};
+ghost use Rattle.kx_pages.specs.Spans.{pages};
+ghost use Rattle.kimage_list.specs.Load.{need_of};
+ghost use Rattle.kimage_list.specs.Laying.{image_of, laid};
+ghost use Rattle.kimage_list.specs.Tables.{slot};
+ghost use Rattle.kimage_list.specs.Writers.{Load, StandsAt, IsAwaited, with_destination, with_source, need};
+ghost use Rattle.kimage_list.specs.Calls.{load_begun, Refuses, IsPrepared, IsWritten};
+
+use crate::begin::{need, page_of_number, prepare};
+use crate::open_list::OpenList;
+use crate::written::{BeginFault, BeginRefused, Written};
+use kx_pages::{Image, Mode, Page, PageSet, Wish};
+use page_memory::Memory;
+use page_pool::Pool;
+use std::alloc::Global;
+use std::marker::Model;
+
+/// Owns memory and pool while a list is written. Contracts see what it has so far, and speak of a load by `StandsAt`:
+/// the writer stands where the rules of taking pages and laying a list lead for a load that was asked for so much.
+/// Only `begin` takes memory.
+#[derive(Drop)]
+pub struct ListWriter {
+    list: OpenList,
+    control: Page,
+    mode: Mode,
+    segments_left: usize,
+    destination: Option<u64>,
+}
+
+impl Model for ListWriter {
+    ghost use Rattle.kimage_list.specs.Writers.{Writer, writer_code, Load, StandsAt};
+
+    ghost Value = { Writer };
+
+    ghost coded = { writer_code };
+
+    ghost use Rattle.kimage_list.specs.Calls.{writer_of};
+
+    ghost view = { writer_of };
+
+    ghost invariant = { λ s. (h : Load) × StandsAt h (writer_of s) };
+}
+
+impl ListWriter {
+    /// Begins a load of the pages `wanted`, in so many segments: the control page and, with context preserved, the swap
+    /// page are taken. Refuses where the pool has fewer pages left than the load takes, or for want of memory; memory
+    /// then reads as before, and the pool is as it was. 1 to 16 segments, at most 65,536 pages (this project's own
+    /// limits; kexec_load(2) has KEXEC_SEGMENT_MAX), and nothing filed.
+    pub fn begin(
+        alloc: Global,
+        mut memory: Memory,
+        pool: Pool,
+        wanted: &PageSet,
+        segments: usize,
+        wish: Wish,
+    ) -> Result<ListWriter, BeginRefused>
+        requires some { 1 ≤ segments }
+        requires segments { segments ≤ 16 }
+        requires pages { pages wanted.now ≤ 65536 }
+        requires unfiled { (p : ℕ) → is_filed pool p ≡ false }
+        ensures begun { IfOk result (λ w. StandsAt (load_begun (at memory) pool.left wanted.now segments wish) w) }
+        ensures enough { IfOk result (λ _. need_of wish (pages wanted.now) segments ≤ length pool.left) }
+        ensures why { IfErr result (λ r. Refuses r.why (length pool.left) (need_of wish (pages wanted.now) segments)) }
+        ensures pool_back { IfErr result (λ r. r.pool ≡ pool) }
+        ensures memory_back { IfErr result (λ r. (q : ℕ) → at r.memory q ≡ at memory q) }
+        ensures sets_back { IfErr result (λ r. r.memory.sets ≡ memory.sets) }
+        ensures held_back { IfErr result (λ r. (q : ℕ) → IsHeld memory q → IsHeld r.memory q) }
+    {
+        let need = need(wanted.total(), segments, wish);
+        let left = pool.left();
+        if left < need {
+            return Err(BeginRefused {
+                memory,
+                pool,
+                why: BeginFault::NoPages { pool: left, need },
+            });
+        }
+        match prepare(alloc, &mut memory, &pool, wanted, need) {
+            Ok(table) => Ok(open(OpenList::new(memory, pool, table), segments, wish)),
+            Err(_) => Err(BeginRefused {
+                memory,
+                pool,
+                why: BeginFault::Memory,
+            }),
+        }
+    }
+
+    /// Writes the destination entry of a segment that starts at page `d`: the next source goes to `d`. Fewer than
+    /// all destination entries were written.
+    pub fn add_destination(&mut self, d: Page)
+        requires { 0 < self.old.segments_left }
+        ensures { (h : Load) → StandsAt h self.old → StandsAt (with_destination h d) self.new }
+    {
+        self.list.add_start(d);
+        self.segments_left -= 1;
+        self.destination = Some(d.number());
+    }
+
+    /// Loads the current destination page, which is wanted and not yet loaded, with these at most 4,096 bytes, then
+    /// zeros, and writes its source entry: the next source goes to the page behind it.
+    pub fn add_source(&mut self, bytes: &[u8])
+        requires destination { (d : ℕ) × (self.old.destination ≡ Some d) × IsAwaited self.old d }
+        requires fits { length bytes.now ≤ 4096 }
+        ensures { (h : Load) (d : ℕ) → self.old.destination ≡ Some d → StandsAt h self.old → StandsAt (with_source h d (page_of bytes.now)) self.new }
+    {
+        match self.destination {
+            Some(number) => {
+                self.list.load_page(page_of_number(number), bytes);
+                self.destination = Some(number + 1);
+            }
+            None => unreachable!(),
+        }
+    }
+
+    /// Ends the list with the done word. All destination entries were written, and every wanted page is loaded.
+    pub fn finish(self) -> Written
+        requires segments { self.segments_left ≡ 0 }
+        requires loaded { (d : ℕ) → IsAwaited self d → ⊥ }
+        ensures { (h : Load) → StandsAt h self → IsWritten h result }
+    {
+        let ListWriter {
+            list,
+            control,
+            mode,
+            segments_left: _,
+            destination: _,
+        } = self;
+        let ended = list.end();
+        Written {
+            memory: ended.memory,
+            pool: ended.pool,
+            image: Image {
+                head: ended.head,
+                mode,
+                control,
+            },
+        }
+    }
+}
+
+// Takes the control page and, with context preserved, the swap page.
+fn open(mut list: OpenList, segments: usize, wish: Wish) -> ListWriter
+    requires { (h : Load) × IsPrepared h list segments wish }
+    ensures { (h : Load) → IsPrepared h list segments wish → StandsAt h result }
+{
+    let first = list.take_first();
+    let mode = match wish {
+        Wish::Plain => Mode::Plain,
+        Wish::Kept => Mode::Kept {
+            swap: list.take_first(),
+        },
+    };
+    ListWriter {
+        list,
+        control: first,
+        mode,
+        segments_left: segments,
+        destination: None,
+    }
+}

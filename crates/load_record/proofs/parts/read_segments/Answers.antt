@@ -1,0 +1,27 @@
+use Rattle.std.proofs.Common.{◌≡◌, ◌+◌, ◌-◌, suc, arith, sym, ◌∙◌}
+use Rattle.load_record.proofs.Walking.{step_ok, step_fails, end_ok, end_trailing}
+use Rattle.load_record.proofs.parts.read_segments.Goals as goal
+
+pub returns-in-Err : goal.returns-in-Err
+returns-in-Err c =
+    let more : c.args.count - c.loop.counter ≡ suc (c.args.count - (c.loop.counter + 1)) = omega arith in
+    step_fails _ _ _ c.loop.rest.now c.loop.list.items _ c.in-Err.fault more c.in-Err.ensures.exact c.loop.invariant.same
+
+pub loop-preserved : goal.loop-preserved
+loop-preserved c =
+    let more : c.args.count - c.loop.counter ≡ suc (c.args.count - (c.loop.counter + 1)) = omega arith in
+    let shorter = c.in-Ok.ensures.shorter in
+    record {
+      within = omega (arith, c.loop.invariant.within, shorter);
+      same = rw c.in_ok-push.ensures.items (step_ok _ _ _ c.loop.rest.now _ _ c.loop.list.items _ more c.in-Ok.ensures.exact c.loop.invariant.same);
+    }
+
+pub returns-then-not-is_empty : goal.returns-then-not-is_empty
+returns-then-not-is_empty c =
+    let none : c.args.count - c.loop.counter ≡ 0 = omega arith in
+    end_trailing _ _ c.loop.rest.now c.loop.list.items _ none (sym c.is_empty.ensures ∙ c.if-not-is_empty.true) c.loop.invariant.same
+
+pub returns : goal.returns
+returns c =
+    let none : c.args.count - c.loop.counter ≡ 0 = omega arith in
+    end_ok _ _ c.loop.rest.now c.loop.list.items _ none (sym c.is_empty.ensures ∙ c.if-not-is_empty.false) c.loop.invariant.same

@@ -1,0 +1,39 @@
+use Rattle.std.proofs.Common.{length, subst, arith}
+use Rattle.page_memory.specs.Contents.{at}
+use Rattle.kimage_list.specs.Calls.{Refuses}
+use Rattle.segments.specs.Laws.{AreSegments-from_IsBare}
+use Rattle.load_states.proofs.FillSteps.{filling_begun, span_pages, need_same}
+use Rattle.load_states.proofs.filling.Filling.begin.Goals as goal
+
+pub begin-begun-requires-clause-some : goal.begin-begun-requires-clause-some
+begin-begun-requires-clause-some c = let k = AreSegments-from_IsBare c.args.segments c.count-count.ensures.valid in omega (arith, k.some, c.count-count.ensures.value)
+
+pub begin-begun-requires-clause-segments : goal.begin-begun-requires-clause-segments
+begin-begun-requires-clause-segments c = let k = AreSegments-from_IsBare c.args.segments c.count-count.ensures.valid in omega (arith, k.few, c.count-count.ensures.value)
+
+pub begin-begun-requires-clause-pages : goal.begin-begun-requires-clause-pages
+begin-begun-requires-clause-pages c =
+    let k = AreSegments-from_IsBare c.args.segments c.count-count.ensures.valid in
+    omega (arith, k.small, span_pages c.args.segments c.pages_of.result.now k c.pages_of.ensures.apart c.pages_of.ensures.pages)
+
+pub returns-in-Ok-clause-begun : goal.returns-in-Ok-clause-begun
+returns-in-Ok-clause-begun c =
+    let k = AreSegments-from_IsBare c.args.segments c.count-count.ensures.valid in
+    filling_begun c.args.memory c.args.pool.left c.pages_of.result.now c.args.wish c.args.segments c.count-count.result c.in-Ok.writer k c.count-count.ensures.value c.pages_of.ensures.pages c.in-Ok.ensures.begun
+
+pub invariant_of-result : goal.invariant_of-result
+invariant_of-result c =
+    let k = AreSegments-from_IsBare c.args.segments c.count-count.ensures.valid in
+    (at c.args.memory, c.args.pool.left, c.args.wish, filling_begun c.args.memory c.args.pool.left c.pages_of.result.now c.args.wish c.args.segments c.count-count.result c.in-Ok.writer k c.count-count.ensures.value c.pages_of.ensures.pages c.in-Ok.ensures.begun)
+
+pub returns-in-Ok-clause-enough : goal.returns-in-Ok-clause-enough
+returns-in-Ok-clause-enough c =
+    let k = AreSegments-from_IsBare c.args.segments c.count-count.ensures.valid in
+    let e = need_same c.args.wish c.args.segments _ c.count-count.result (span_pages c.args.segments c.pages_of.result.now k c.pages_of.ensures.apart c.pages_of.ensures.pages) c.count-count.ensures.value in
+    rw (← e) c.in-Ok.ensures.enough
+
+pub returns-in-Err-clause-why : goal.returns-in-Err-clause-why
+returns-in-Err-clause-why c =
+    let k = AreSegments-from_IsBare c.args.segments c.count-count.ensures.valid in
+    let e = need_same c.args.wish c.args.segments _ c.count-count.result (span_pages c.args.segments c.pages_of.result.now k c.pages_of.ensures.apart c.pages_of.ensures.pages) c.count-count.ensures.value in
+    subst (Refuses c.in-Err.refused.why (length c.args.pool.left)) e c.in-Err.ensures.why

@@ -1,0 +1,6 @@
+use Rattle.std.proofs.Common.{◌≤◌, ◌+◌}
+use Rattle.load_states.proofs.Going.{Goes}
+use Rattle.load_states.proofs.filling.fill_segment.Given as goal
+
+abbrev pub invariant-loop-number : goal.invariant-loop-number
+invariant-loop-number l = (l.first ≤ l.number) × (l.number ≤ l.first + l.count) × Goes l.segments l.i l.first l.number l.fn.writer l.writer

@@ -1,0 +1,66 @@
+-- A load of segments while they are written.
+use Rattle.std.specs.Prelude.{◌≡◌, ℕ, ◌+◌, ◌-◌, ◌≤◌, List, length, take, drop, cond, false, Some, None, refl}
+use Rattle.std.specs.Coded.{Coded, code_by, coded×, coded_ℕ, coded_list}
+use Rattle.kx_pages.specs.Lists.{has, count, sources}
+use Rattle.kx_pages.specs.Spans.{in_spans}
+use Rattle.kx_pages.specs.declared.image.Wish.{Wish}
+use Rattle.page_memory.specs.Contents.{at}
+use Rattle.page_memory.specs.Memory.{Mem}
+use Rattle.page_pool.specs.Pages.{is_filed}
+use Rattle.kimage_list.specs.Load.{Loading, Entry, pages_of}
+use Rattle.kimage_list.specs.Laying.{image_of, list_of}
+use Rattle.kimage_list.specs.Writers.{Writer, writer_code, StandsAt}
+use Rattle.kimage_list.specs.Writers as writers
+use Rattle.segments.specs.Parts.{Part, is_destination, want, need}
+use Rattle.segments.specs.Laws.{AreSegments}
+use Rattle.list_checker.specs.Walk.{IsAccepted, swap_page}
+use Rattle.load_states.specs.States.{Load, part_code}
+use Rattle.load_states.specs.Loads.{entries_of, loading_of, memory_of}
+
+-- What a clause sees of a load while its segments are written.
+pub record Fill : Type 0 where
+  pub writer : Writer
+  pub segments : List Part
+  pub written : ℕ  -- how many of them are written
+
+abbrev pub fill_code : Coded Fill
+fill_code = code_by (Writer × (List Part × ℕ)) (coded× writer_code (coded× (coded_list part_code) coded_ℕ)) (λ f. (f.writer, (f.segments, f.written))) (λ p. record { writer = p.0; segments = p.1.0; written = p.1.1 }) (λ _. refl)
+
+-- how many segments are not yet written
+abbrev pub left : Fill → ℕ
+left f = length f.segments - f.written
+
+-- The writer stands behind these entries of a load of the segments, which began with memory M and a pool of these pages,
+-- and each destination so far was given what it is to have.
+pub record Fills (M : Mem) (pool : List ℕ) (wish : Wish) (ss : List Part) (es : List Entry) (w : Writer) : Type 0 where
+  pub load : writers.Load
+  pub stands : StandsAt load w
+  pub from_memory : load.before ≡ M
+  pub from_pool : load.pool ≡ pool
+  pub as_wished : load.wish ≡ wish
+  pub all_segments : load.segments ≡ length ss
+  pub all_pages : (q : ℕ) → in_spans load.wanted q ≡ is_destination ss q
+  pub entries : load.entries ≡ es
+  pub bytes : (q : ℕ) → load.bytes q ≡ cond (has q (pages_of es)) (want ss q) None
+
+-- So many segments of the load are written, whole, and no other.
+pub record FillsFrom (M : Mem) (pool : List ℕ) (wish : Wish) (f : Fill) : Type 0 where
+  pub good : AreSegments f.segments
+  pub within : f.written ≤ length f.segments
+  pub fills : Fills M pool wish f.segments (entries_of (take f.written f.segments)) f.writer
+
+-- What a load of the segments is that is written whole.
+pub record IsSealed (M : Mem) (pool : List ℕ) (wish : Wish) (ss : List Part) (r : Load) : Type 0 where
+  pub loading : Loading
+  pub requests : loading_of wish ss pool ≡ Some loading
+  pub image : r.image ≡ image_of wish loading
+  pub memory : (p : ℕ) → at r.memory p ≡ memory_of M wish ss loading p
+  pub segments : r.segments ≡ ss
+  -- exactly the first pages of the pool are drawn, as many as the load takes: the pages in use
+  pub drawn : r.pool.left ≡ drop (need wish ss) pool
+  pub in_use : (x : ℕ) → count x loading.spare + count x (sources loading.pairs) ≡ count x (take (need wish ss) pool)
+  pub unfiled : (p : ℕ) → is_filed r.pool p ≡ false
+  -- memory agrees with what it was at every other page
+  pub others : (p : ℕ) → count p (take (need wish ss) pool) ≡ 0 → at r.memory p ≡ M p
+  -- the list is accepted for the segments
+  pub accepted : IsAccepted (at r.memory) (want ss) r.image.head r.image.control (swap_page r.image.mode) (list_of wish (entries_of ss) loading)

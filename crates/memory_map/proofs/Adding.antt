@@ -1,0 +1,22 @@
+-- Lines read one after another.
+use Rattle.std.proofs.Common.{◌≡◌, ℕ, ◌+◌, List, [], ◌∷◌, refl, Ok}
+use Rattle.memory_map.specs.Named.{Named}
+use Rattle.memory_map.specs.Text.{lines_onto, line_onto, Fails}
+use Rattle.memory_map.specs.declared.fault.MapFault.{MapFault}
+use Rattle.memory_map.specs.declared.fault.MapFault.TheVariants as faults
+
+pub onto_ok : (n : ℕ) (found more : Named) (line : List ℕ) (ls rest : List (List ℕ)) → ls ≡ line ∷ rest → line_onto n found line ≡ Ok more → lines_onto n found ls ≡ lines_onto (n + 1) more rest
+unfolding lines_onto
+onto_ok n found more line ls rest split step = rw (split, step) refl
+
+pub onto_fails : (n : ℕ) (found : Named) (line : List ℕ) (ls rest : List (List ℕ)) (e : MapFault) → ls ≡ line ∷ rest → Fails e (line_onto n found line) → Fails e (lines_onto n found ls)
+unfolding lines_onto
+onto_fails n found line ls rest faults.Memory split step = tt
+onto_fails n found line ls rest (faults.BadLine at) split step = rw (split, step) refl
+onto_fails n found line ls rest (faults.Backwards at) split step = rw (split, step) refl
+onto_fails n found line ls rest (faults.RamOverlaps at) split step = rw (split, step) refl
+onto_fails n found line ls rest faults.NoRam split step = rw (split, step) refl
+
+pub onto_end : (n : ℕ) (found : Named) (ls : List (List ℕ)) → ls ≡ [] → lines_onto n found ls ≡ Ok found
+unfolding lines_onto
+onto_end n found ls none = rw none refl

@@ -1,0 +1,6 @@
+pub mod Adding
+pub mod Index
+pub mod PageLemmas
+pub mod Reading
+pub mod Sets
+pub mod Parts

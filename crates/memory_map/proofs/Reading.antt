@@ -1,0 +1,28 @@
+-- What a text reads as.
+use Rattle.std.proofs.Common.{◌≡◌, ℕ, List, [], Ok, Err, refl, sym, ◌∙◌}
+use Rattle.std.specs.Prelude.{◌==◌, Result}
+use Rattle.std.proofs.lemmas.Bool.{eq-eqb, ne_eqb, cond-true, cond-false}
+use Rattle.text_lines.specs.Lines.{lines}
+use Rattle.memory_map.specs.Named.{Named, ram_pages}
+use Rattle.memory_map.specs.Text.{lines_onto, map_reading, Fails}
+use Rattle.memory_map.specs.declared.fault.MapFault.{MapFault}
+use Rattle.memory_map.specs.declared.fault.MapFault.TheVariants as faults
+
+abbrev pub found_in : List ℕ → Result Named MapFault
+found_in text = lines_onto 1 (record { rows = []; areas = [] }) (lines text)
+
+pub reads : (text : List ℕ) (m : Named) (n : ℕ) → found_in text ≡ Ok m → n ≡ ram_pages m → (n ≡ 0 → ⊥) → map_reading text ≡ Ok m
+unfolding map_reading
+reads text m n found count some = rw found (cond-false (ram_pages m == 0) (Err faults.NoRam) (Ok m) (ne_eqb (ram_pages m) 0 (λ z. some (count ∙ z))))
+
+pub no_ram : (text : List ℕ) (m : Named) (n : ℕ) → found_in text ≡ Ok m → n ≡ ram_pages m → n ≡ 0 → map_reading text ≡ Err faults.NoRam
+unfolding map_reading
+no_ram text m n found count none = rw found (cond-true (ram_pages m == 0) (Err faults.NoRam) (Ok m) (eq-eqb (ram_pages m) 0 (sym count ∙ none)))
+
+pub fails : (text : List ℕ) (e : MapFault) → Fails e (found_in text) → Fails e (map_reading text)
+unfolding map_reading
+fails text faults.Memory found = tt
+fails text (faults.BadLine at) found = rw found refl
+fails text (faults.Backwards at) found = rw found refl
+fails text (faults.RamOverlaps at) found = rw found refl
+fails text faults.NoRam found = rw found refl

@@ -1,0 +1,6 @@
+pub mod Rows
+pub mod Named
+pub mod Walk
+pub mod Text
+pub mod Index
+pub mod Reader

@@ -1,0 +1,15 @@
+-- The rows and areas so far, with the System RAM rows in order.
+use Rattle.memory_map.specs.declared.reader.Reader.{Reader}
+use Rattle.memory_map.specs.Index.{IsIndex}
+use Rattle.memory_map.specs.Rows.{AreBelow, HaveBytes}
+use Rattle.memory_map.specs.Named.{Named}
+
+pub record IsReader (r : Reader) : Type 0 where
+  pub rows : AreBelow r.rows.items
+  pub some : HaveBytes r.rows.items
+  pub areas : AreBelow r.areas.items
+  pub index : IsIndex r.rows.items r.ram
+
+-- what the lines so far say
+abbrev pub named : Reader → Named
+named r = record { rows = r.rows.items; areas = r.areas.items }

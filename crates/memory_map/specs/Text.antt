@@ -1,0 +1,108 @@
+-- The text of a memory map (/proc/iomem): a line is spaces, the first and the last byte in hexadecimal with `-`
+-- between, ` : ` and a name.
+use Rattle.std.specs.Prelude.{◌≡◌, ℕ, ◌+◌, ◌-◌, ◌^◌, ◌++◌, ◌==◌, ◌&&◌, Bool, List, [], ◌∷◌, drop, codes, not, nat_lt, nat_eq, min, if◌then◌else◌, Option, Some, None, Result, Ok, Err}
+use Rattle.std.specs.List.{list_any, starts_with}
+use Rattle.std.specs.Str.{bytes_eq}
+use Rattle.text_lines.specs.Lines.{cut, lines, number}
+use Rattle.memory_map.specs.declared.fault.MapFault.{MapFault}
+use Rattle.memory_map.specs.declared.fault.MapFault.TheVariants as faults
+use Rattle.memory_map.specs.declared.row.Class.{Class}
+use Rattle.memory_map.specs.declared.row.Class.TheVariants as classes
+use Rattle.memory_map.specs.declared.row.Row.{Row}
+use Rattle.memory_map.specs.Rows.{rows_meet, is_ram_row}
+use Rattle.memory_map.specs.Named.{Named, ram_pages}
+
+infixl 10 ◌>>=◌
+abbrev pub ◌>>=◌ : {A B : Type 0} → Result A MapFault → (A → Result B MapFault) → Result B MapFault
+(Ok x) >>= f = f x
+(Err e) >>= f = Err e
+
+-- what a name says of a range
+unfoldable pub class_of : List ℕ → Class
+class_of name =
+    if bytes_eq name (codes "System RAM") then classes.Listed 1
+    else if bytes_eq name (codes "Reserved") then classes.Listed 2
+    else if bytes_eq name (codes "reserved") then classes.Listed 2
+    else if bytes_eq name (codes "ACPI Tables") then classes.Listed 3
+    else if bytes_eq name (codes "ACPI Non-volatile Storage") then classes.Listed 4
+    else if bytes_eq name (codes "Crash kernel") then classes.CrashArea
+    else classes.Other
+
+abbrev pub without_spaces : List ℕ → List ℕ
+without_spaces [] = []
+without_spaces (b ∷ bs) = if b == 32 then without_spaces bs else b ∷ bs
+
+abbrev pub entry_named : Option ℕ → Option ℕ → List ℕ → Option (ℕ × ℕ × Class)
+entry_named (Some first) (Some last) name = Some (first, last, class_of name)
+entry_named (Some first) None name = None
+entry_named None last name = None
+
+abbrev pub entry_to : Option ℕ → Option (List ℕ × List ℕ) → Option (ℕ × ℕ × Class)
+entry_to first None = None
+entry_to first (Some p) = if not (starts_with nat_eq p.1 (codes ": ")) then None else entry_named first (number p.0) (drop 2 p.1)
+
+abbrev pub entry_from : Option (List ℕ × List ℕ) → Option (ℕ × ℕ × Class)
+entry_from None = None
+entry_from (Some p) = entry_to (number p.0) (cut 32 p.1)
+
+-- the first and the last byte of a line, and what they are: none where the line has another form
+unfoldable pub entry_of : List ℕ → Option (ℕ × ℕ × Class)
+entry_of line = entry_from (cut 45 (without_spaces line))
+
+abbrev pub check_entry : ℕ → Option (ℕ × ℕ × Class) → Result (ℕ × ℕ × Class) MapFault
+check_entry n None = Err (faults.BadLine n)
+check_entry n (Some e) = if nat_lt e.1 e.0 then Err (faults.Backwards n) else Ok e
+
+-- the same for the line number n, or its first fault
+unfoldable pub checked_entry : ℕ → List ℕ → Result (ℕ × ℕ × Class) MapFault
+checked_entry n line = check_entry n (entry_of line)
+
+-- the bytes from the first to the last that lie below 2^46
+abbrev pub below_limit : ℕ → ℕ → ℕ → Row
+below_limit first last kind = record { start = min first (2 ^ 46); size = min (last + 1) (2 ^ 46) - min first (2 ^ 46); kind = kind }
+
+-- whether a row has a byte of a System RAM row
+abbrev pub meets_ram : Row → List Row → Bool
+meets_ram r rows = list_any (λ s. is_ram_row s && rows_meet r s) rows
+
+abbrev pub row_onto : ℕ → Named → Row → Result Named MapFault
+row_onto n m r =
+    if r.size == 0 then Ok m
+    else if is_ram_row r && meets_ram r m.rows then Err (faults.RamOverlaps n)
+    else Ok (record { rows = m.rows ++ r ∷ []; areas = m.areas })
+
+abbrev pub class_onto : ℕ → Named → Class → ℕ → ℕ → Result Named MapFault
+class_onto n m classes.Other first last = Ok m
+class_onto n m classes.CrashArea first last = Ok (record { rows = m.rows; areas = m.areas ++ below_limit first last 0 ∷ [] })
+class_onto n m (classes.Listed kind) first last = row_onto n m (below_limit first last kind)
+
+-- what the lines before say, and the line number n
+unfoldable pub line_onto : ℕ → Named → List ℕ → Result Named MapFault
+line_onto n m line = do
+  e ← checked_entry n line
+  class_onto n m e.2 e.0 e.1
+
+-- and the lines from n on
+unfoldable pub lines_onto : ℕ → Named → List (List ℕ) → Result Named MapFault
+lines_onto n m [] = Ok m
+lines_onto n m (line ∷ rest) = do
+  more ← line_onto n m line
+  lines_onto (n + 1) more rest
+
+abbrev pub if_ram : Named → Result Named MapFault
+if_ram m = if ram_pages m == 0 then Err faults.NoRam else Ok m
+
+-- what a map says, or its first fault
+unfoldable pub map_reading : List ℕ → Result Named MapFault
+map_reading text = do
+  m ← lines_onto 1 (record { rows = []; areas = [] }) (lines text)
+  if_ram m
+
+abbrev pub Fails : {Y : Type 0} → MapFault → Result Y MapFault → Type 0
+Fails faults.Memory r = Unit {0}
+Fails e r = r ≡ Err e
+
+-- what a call gave, seen by view, is this reading or its fault, unless memory ran out
+abbrev pub Gives : {X Y : Type 0} → (X → Y) → Result X MapFault → Result Y MapFault → Type 0
+Gives view (Ok x) r = r ≡ Ok (view x)
+Gives view (Err e) r = Fails e r

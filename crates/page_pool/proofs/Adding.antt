@@ -1,0 +1,54 @@
+-- Pages added, line by line.
+use Rattle.std.proofs.Common.{◌≡◌, ℕ, zero, suc, ◌+◌, ◌≤◌, ◌<◌, List, [], ◌∷◌, ◌++◌, append_assoc, add-one, refl, sym, ap, ◌∙◌, arith, length, length-append, Ok, take, drop, drop-cons, true, false, Some, None, Bool, cond}
+use Rattle.std.specs.Prelude.{nat_eq, if◌then◌else◌, is_some, get_or}
+use Rattle.std.specs.List.{range_with_len, list_any}
+use Rattle.std.specs.BTreeMap as tree
+use Rattle.std.specs.Ordering.{nat_cmp}
+use Rattle.std.proofs.lemmas.List.{take_more}
+use Rattle.std.proofs.lemmas.List.FromFn.{length-range_with_len}
+use Rattle.page_pool.specs.Counts.{first_repeat}
+use Rattle.page_pool.specs.Marks.{AreMarks}
+use Rattle.page_pool.specs.File.{pages_onto, line_onto, Fails}
+use Rattle.page_pool.specs.declared.fault.PoolFault.{PoolFault}
+use Rattle.page_pool.specs.declared.fault.PoolFault.TheVariants as faults
+
+pub range_more : (n a : ℕ) → range_with_len a (suc n) ≡ range_with_len a n ++ (a + n) ∷ []
+range_more zero a = ap (λ (x : ℕ). x ∷ []) (omega arith)
+range_more (suc n) a =
+    let place : a + 1 + n ≡ a + suc n = omega arith in
+    ap (λ (xs : List ℕ). a ∷ xs) (range_more n (a + 1) ∙ ap (λ (x : ℕ). range_with_len (a + 1) n ++ x ∷ []) place)
+
+pub added : (old pages : List ℕ) (a i : ℕ) → pages ≡ old ++ range_with_len a i → pages ++ (a + i) ∷ [] ≡ old ++ range_with_len a (i + 1)
+added old pages a i h = rw (h, add-one, range_more i a) (append_assoc old (range_with_len a i) _)
+
+pub onto_ok : (n : ℕ) (pages more line : List ℕ) (ls rest : List (List ℕ)) → ls ≡ line ∷ rest → line_onto n pages line ≡ Ok more → pages_onto n pages ls ≡ pages_onto (n + 1) more rest
+unfolding pages_onto
+onto_ok n pages more line ls rest split step = rw (split, step) refl
+
+pub onto_fails : (n : ℕ) (pages line : List ℕ) (ls rest : List (List ℕ)) (e : PoolFault) → ls ≡ line ∷ rest → Fails e (line_onto n pages line) → Fails e (pages_onto n pages ls)
+unfolding pages_onto
+onto_fails n pages line ls rest faults.Memory split step = tt
+onto_fails n pages line ls rest (faults.BadLine at) split step = rw (split, step) refl
+onto_fails n pages line ls rest (faults.Backwards at) split step = rw (split, step) refl
+onto_fails n pages line ls rest (faults.PastLimit at) split step = rw (split, step) refl
+onto_fails n pages line ls rest (faults.TooMany at) split step = rw (split, step) refl
+onto_fails n pages line ls rest (faults.Repeats at) split step = rw (split, step) refl
+
+pub onto_end : (n : ℕ) (pages : List ℕ) (ls : List (List ℕ)) → ls ≡ [] → pages_onto n pages ls ≡ Ok pages
+unfolding pages_onto
+onto_end n pages ls none = rw none refl
+
+pub few_added : (old new : List ℕ) (a n : ℕ) → new ≡ old ++ range_with_len a n → length old + n ≤ 262144 → length new ≤ 262144
+few_added old new a n h few = omega (arith, ap length h, length-append old (range_with_len a n), length-range_with_len a n)
+
+some_of : (b : Bool) → is_some (cond b (Some false) None) ≡ b
+some_of true = refl
+some_of false = refl
+
+pub repeat_step : (xs : List ℕ) (i k : ℕ) (m : tree.BTreeMap ℕ Bool) (b : Bool) → i < length xs → k ≡ get_or xs i k → AreMarks (take i xs) m → b ≡ is_some (tree.get nat_cmp m k) → first_repeat (take i xs) (drop i xs) ≡ (if b then Some k else first_repeat (take (i + 1) xs) (drop (i + 1) xs))
+repeat_step xs i k m b h is marks e =
+    let any : list_any (nat_eq k) (take i xs) ≡ b = sym (e ∙ ap is_some (marks.each k) ∙ some_of _) in
+    let front : take (i + 1) xs ≡ take i xs ++ k ∷ [] = take_more xs i k h ∙ ap (λ (y : ℕ). take i xs ++ y ∷ []) (sym is) in
+    let plus : i + 1 ≡ suc i = omega arith in
+    let back : drop i xs ≡ k ∷ drop (i + 1) xs = drop-cons xs i k h ∙ ap (λ (y : ℕ). y ∷ drop (suc i) xs) (sym is) ∙ ap (λ (j : ℕ). k ∷ drop j xs) (sym plus) in
+    rw (back, front, any) refl

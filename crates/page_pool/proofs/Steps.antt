@@ -1,0 +1,73 @@
+-- Each change of a pool leaves a pool.
+use Rattle.std.proofs.Common.{◌≡◌, ℕ, ◌+◌, ◌<◌, ◌≤◌, List, [], ◌∷◌, Bool, true, false, cond, refl, sym, ap, ◌∙◌, subst, Some, arith, take, length, ⊎_elim}
+use Rattle.std.specs.Prelude.{IsSome, is_some, get_or, nat_eq, unwrap_or}
+use Rattle.std.specs.List.{list_any}
+use Rattle.std.specs.Ordering.{nat_cmp, is_eq}
+use Rattle.std.specs.declared.cmp.Ordering.{Ordering}
+use Rattle.std.specs.declared.cmp.Ordering.TheVariants.{Less, Equal, Greater}
+use Rattle.std.specs.Cmp.{nat_cmp_total}
+use Rattle.std.specs.BTreeMap as tree
+use Rattle.std.specs.FinMap as finite
+use Rattle.std.specs.FinMap.{nat_cmp-IsAntisymmetric, get-insert}
+use Rattle.std.proofs.lemmas.List.{take_more}
+use Rattle.std.proofs.lemmas.Option.{slice_get_read}
+use Rattle.kx_pages.specs.Lists.{count}
+use Rattle.page_pool.specs.Counts.{IsFirstRepeat}
+use Rattle.page_pool.specs.Marks.{marks_of, FiledAreAmong, AreMarks, IsPool}
+use Rattle.page_pool.proofs.Tables.{count-append}
+use Rattle.page_pool.proofs.Made.{marks_none, pool_made, count-any, some-fresh}
+
+-- a draw
+pub drawn_pool : (xs : List ℕ) (n : ℕ) (m : tree.BTreeMap ℕ Bool) → IsPool xs n m → n < length xs → IsPool xs (n + 1) m
+drawn_pool xs n m h less = record {
+  within = omega (arith, less);
+  once = h.once;
+  have = h.have;
+  few = h.few;
+  filed = record { each = λ x f. omega (arith, h.filed.each x f, ap (count x) (take_more xs n 0 less), count-append x (take n xs) (get_or xs n 0 ∷ [])) };
+}
+
+equal : (r : Ordering) → is_eq r ≡ true → r ≡ Equal
+equal Less e = cc
+equal Equal e = refl
+equal Greater e = cc
+
+filed_more : (xs : List ℕ) (m n : tree.BTreeMap ℕ Bool) (p : ℕ) (b : Bool) → FiledAreAmong xs m → marks_of n ≡ finite.insert (marks_of m) p b → (b ≡ true → 1 ≤ count p xs) → FiledAreAmong xs n
+filed_more xs m n p b old new known = record { each = λ x f. go x _ refl (sym (ap (λ o. unwrap_or o false) (ap (λ t. finite.get t x) new ∙ get-insert nat_cmp_total (marks_of m) p b x)) ∙ f) }
+  where
+    go : (x : ℕ) (z : Bool) → is_eq (nat_cmp x p) ≡ z → unwrap_or (cond z (Some b) (finite.get (marks_of m) x)) false ≡ true → 1 ≤ count x xs
+    go x true e f = subst (λ y. 1 ≤ count y xs) (sym (nat_cmp-IsAntisymmetric x p (equal _ e))) (known f)
+    go x false e f = old.each x f
+
+-- a mark
+pub marked_pool : (xs : List ℕ) (n : ℕ) (m k : tree.BTreeMap ℕ Bool) (p : ℕ) (b : Bool) → IsPool xs n m → marks_of k ≡ finite.insert (marks_of m) p b → ((q : ℕ) → IsSome (tree.get nat_cmp m q) → IsSome (tree.get nat_cmp k q)) → (b ≡ true → 1 ≤ count p (take n xs)) → IsPool xs n k
+marked_pool xs n m k p b h new stays known = record {
+  within = h.within;
+  once = h.once;
+  have = record { each = λ x c. stays x (h.have.each x c) };
+  few = h.few;
+  filed = filed_more (take n xs) m k p b h.filed new known;
+}
+
+-- no page
+pub empty_pool : (m : tree.BTreeMap ℕ Bool) → m.entries ≡ [] → IsPool [] 0 m
+empty_pool m none = pool_made [] m (omega arith) (marks_none m (λ q. rw none refl))
+
+pub empty_marks : (m : tree.BTreeMap ℕ Bool) → m.entries ≡ [] → marks_of m ≡ finite.empty
+empty_marks m none = rw none refl
+
+-- the first repeat
+pub repeat_here : (xs : List ℕ) (i k : ℕ) (m : tree.BTreeMap ℕ Bool) (b : Bool) → i < length xs → k ≡ get_or xs i k → AreMarks (take i xs) m → b ≡ is_some (tree.get nat_cmp m k) → b ≡ true → IsFirstRepeat xs k
+repeat_here xs i k m b less is marks e found = record {
+  place = i;
+  here = slice_get_read xs (length xs) i k refl less is;
+  earlier = ⊎_elim (λ t. t.1) (λ t. absurd (clash _ any t.0)) (count-any k (take i xs));
+  once = marks.once;
+}
+  where
+    any : list_any (nat_eq k) (take i xs) ≡ true
+    any = sym (some-fresh _) ∙ sym (ap is_some (marks.each k)) ∙ sym e ∙ found
+
+    clash : (b : Bool) → b ≡ true → b ≡ false → ⊥
+    clash true p q = cc
+    clash false p q = cc

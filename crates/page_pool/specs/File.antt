@@ -1,0 +1,91 @@
+-- The pool file (this project's own): each line a page number, or the first and the last page of a range, in
+-- hexadecimal.
+use Rattle.std.specs.Prelude.{ℕ, ◌+◌, ◌-◌, ◌^◌, ◌++◌, ◌≡◌, Bool, List, [], ◌∷◌, length, nat_lt, nat_le, if◌then◌else◌, Option, Some, None, Result, Ok, Err}
+use Rattle.std.specs.List.{range_with_len}
+use Rattle.std.specs.BTreeMap as tree
+use Rattle.text_lines.specs.Lines.{lines, cut, number}
+use Rattle.page_pool.specs.Counts.{first_repeat, IsFirstRepeat}
+use Rattle.page_pool.specs.Marks.{AreMarks}
+use Rattle.page_pool.specs.declared.fault.PoolFault.{PoolFault}
+use Rattle.page_pool.specs.declared.fault.PoolFault.TheVariants as faults
+
+infixl 10 ◌>>=◌
+abbrev pub ◌>>=◌ : {A B : Type 0} → Result A PoolFault → (A → Result B PoolFault) → Result B PoolFault
+(Ok x) >>= f = f x
+(Err e) >>= f = Err e
+
+abbrev pub both : Option ℕ → Option ℕ → Option (ℕ × ℕ)
+both (Some first) (Some last) = Some (first, last)
+both (Some first) None = None
+both None last = None
+
+abbrev pub range_by : Option (List ℕ × List ℕ) → List ℕ → Option (ℕ × ℕ)
+range_by (Some ends) line = both (number ends.0) (number ends.1)
+range_by None line = both (number line) (number line)
+
+-- the first and the last page of a line, `page` or `first-last`: none where it has another form
+unfoldable pub range_of : List ℕ → Option (ℕ × ℕ)
+range_of line = range_by (cut 45 line) line
+
+abbrev pub check_range : ℕ → Option (ℕ × ℕ) → Result (ℕ × ℕ) PoolFault
+check_range n None = Err (faults.BadLine n)
+check_range n (Some r) =
+    if nat_lt r.1 r.0 then Err (faults.Backwards n)
+    else if nat_le (2 ^ 34) r.1 then Err (faults.PastLimit n)
+    else Ok r
+
+-- the same for the line number n, or its first fault
+unfoldable pub checked_range : ℕ → List ℕ → Result (ℕ × ℕ) PoolFault
+checked_range n line = check_range n (range_of line)
+
+-- how many pages there are from the first to the last
+abbrev pub count_of : ℕ × ℕ → ℕ
+count_of r = r.1 + 1 - r.0
+
+-- these pages and those of the line number n: at most 262,144 in all
+unfoldable pub line_onto : ℕ → List ℕ → List ℕ → Result (List ℕ) PoolFault
+line_onto n pages line = do
+  r ← checked_range n line
+  if nat_lt 262144 (length pages + count_of r) then Err (faults.TooMany n) else Ok (pages ++ range_with_len r.0 (count_of r))
+
+-- these pages and those of all lines, the first of which has the number n
+unfoldable pub pages_onto : ℕ → List ℕ → List (List ℕ) → Result (List ℕ) PoolFault
+pages_onto n pages [] = Ok pages
+pages_onto n pages (line ∷ rest) = do
+  more ← line_onto n pages line
+  pages_onto (n + 1) more rest
+
+abbrev pub unless_repeat : Option ℕ → List ℕ → Result (List ℕ) PoolFault
+unless_repeat None pages = Ok pages
+unless_repeat (Some p) pages = Err (faults.Repeats p)
+
+-- the pages, if none stands twice
+abbrev pub each_once : List ℕ → Result (List ℕ) PoolFault
+each_once pages = unless_repeat (first_repeat [] pages) pages
+
+-- the pages of a pool file in the order of drawing, or its first fault
+unfoldable pub pool_reading : List ℕ → Result (List ℕ) PoolFault
+pool_reading text = do
+  pages ← pages_onto 1 [] (lines text)
+  each_once pages
+
+abbrev pub Fails : {Y : Type 0} → PoolFault → Result Y PoolFault → Type 0
+Fails faults.Memory r = Unit {0}
+Fails e r = r ≡ Err e
+
+-- what a call gave, seen by view, is this reading or its fault, unless memory ran out
+abbrev pub Gives : {X Y : Type 0} → (X → Y) → Result X PoolFault → Result Y PoolFault → Type 0
+Gives view (Ok x) r = r ≡ Ok (view x)
+Gives view (Err e) r = Fails e r
+
+-- a mark for each page, or the first page that stands earlier too, unless memory ran out
+abbrev pub MarksOrRepeat : Result (tree.BTreeMap ℕ Bool) PoolFault → List ℕ → Type 0
+MarksOrRepeat (Ok m) pages = AreMarks pages m × (first_repeat [] pages ≡ None)
+MarksOrRepeat (Err faults.Memory) pages = Unit {0}
+MarksOrRepeat (Err (faults.Repeats p)) pages = (first_repeat [] pages ≡ Some p) × IsFirstRepeat pages p
+MarksOrRepeat (Err e) pages = ⊥
+
+-- where a page is named as one that repeats, it is the first that stands earlier too
+abbrev pub RepeatIsFirst : List ℕ → PoolFault → Type 0
+RepeatIsFirst pages (faults.Repeats p) = IsFirstRepeat pages p
+RepeatIsFirst pages e = Unit {0}

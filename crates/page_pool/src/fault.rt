@@ -1,0 +1,44 @@
+//! Why pages are no pool.
+
+ghost use Rattle.std.specs.Prelude.{◌≡◌};
+
+use kx_pages::Page;
+use std::alloc::{AllocError, AllocFailed};
+use thiserror::Error;
+
+/// Why a text or a list of pages is no pool. Lines are numbered from 1.
+#[derive(Clone, Copy, Debug, PartialEq, Eq, Error)]
+pub enum PoolFault {
+    #[error("out of memory")]
+    Memory,
+    #[error("line {line} of the pool file is neither a page number nor first-last in hexadecimal")]
+    BadLine { line: u64 },
+    #[error("the last page of line {line} of the pool file is below its first page")]
+    Backwards { line: u64 },
+    #[error("line {line} of the pool file names a page that is not below 400000000 (hexadecimal)")]
+    PastLimit { line: u64 },
+    #[error("the pool file has more than 262144 pages by line {line}, and at most that many are allowed")]
+    TooMany { line: u64 },
+    #[error("page {:x} stands twice in the pool, and each page may stand once", .page.number())]
+    Repeats { page: Page },
+}
+
+impl From<AllocError> for PoolFault {
+    ghost use Rattle.page_pool.specs.declared.fault.PoolFault.TheVariants.{Memory};
+
+    ghost from_gives = { λ _ e. e ≡ Memory };
+
+    fn from(_: AllocError) -> PoolFault {
+        PoolFault::Memory
+    }
+}
+
+impl<T: Drop> From<AllocFailed<T>> for PoolFault {
+    ghost use Rattle.page_pool.specs.declared.fault.PoolFault.TheVariants.{Memory};
+
+    ghost from_gives = { λ _ e. e ≡ Memory };
+
+    fn from(_: AllocFailed<T>) -> PoolFault {
+        PoolFault::Memory
+    }
+}
