@@ -5,6 +5,7 @@ use Rattle.kx_edge.specs.Edge.{Files, Rose}
 use Rattle.page_memory.specs.Contents.{Contents}
 use Rattle.page_memory.specs.File.{reading}
 use Rattle.page_pool.specs.File.{pool_reading}
+use Rattle.load_record.specs.File.{Record, record_reading}
 use Rattle.kexec_words.specs.Values.{InputsValue}
 use Rattle.kexec_main.specs.declared.status.InputFault.TheVariants as inputs
 use Rattle.kexec_main.specs.declared.status.Status.{Status}
@@ -33,6 +34,9 @@ or_input fault (Err e) = Err (fault e)
 abbrev pub memory_limit : ℕ
 memory_limit = 537919504
 
+abbrev pub record_limit : ℕ
+record_limit = 268435936
+
 abbrev pub text_limit : ℕ
 text_limit = 1048576
 
@@ -50,6 +54,12 @@ abbrev pub pool_file : List ℕ → Files → Result (List ℕ) Answer
 pool_file name held = do
   bytes ← measured text_limit name held
   or_input (λ e. input (inputs.Pool e)) (pool_reading bytes)
+
+-- the load record that a file spells
+abbrev pub load_record_file : List ℕ → Files → Result Record Answer
+load_record_file name held = do
+  bytes ← measured record_limit name held
+  or_input (λ e. input (inputs.Rec e)) (record_reading bytes)
 
 -- how many bytes are left for further files of the kernel after these, which fit one after the other
 abbrev pub left_after : ℕ → List (List ℕ) → Files → Result ℕ Answer

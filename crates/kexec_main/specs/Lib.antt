@@ -4,3 +4,5 @@ pub mod Files
 pub mod Texts
 pub mod Makes
 pub mod Trace
+pub mod Loads
+pub mod Check

@@ -1,7 +1,9 @@
 //! The top call: a command's words, over files and a text output.
 #![tactic(auto)]
 
+mod check;
 mod deliver;
+mod load_files;
 mod output;
 mod status;
 mod take;

@@ -1,15 +1,16 @@
 //! Files are taken in their turn, measured, and read.
 
 ghost use Rattle.std.specs.Prelude.{◌≡◌, ◌<◌, ◌≤◌, ◌∷◌, [], ℕ, length, false, map, option_map, string_bytes, IfOk};
-ghost use Rattle.kexec_main.specs.Files.{Takes, measured, memory_file, pool_file, left_after, input_files, as_list};
+ghost use Rattle.kexec_main.specs.Files.{Takes, measured, memory_file, load_record_file, pool_file, left_after, input_files, as_list};
 ghost use Rattle.kexec_main.specs.Values.{inputs_of};
 ghost use Rattle.kexec_words.specs.Values.{inputs_value};
 ghost use Rattle.kexec_words.specs.Meaning.{files_of};
 ghost use Rattle.page_pool.specs.Pages.{is_filed};
 
 use crate::status::{InputFault, Status};
-use kx_edge::{Shelf, ShelfFault};
 use kexec_words::Inputs;
+use kx_edge::{Shelf, ShelfFault};
+use load_record::{LoadRecord, RecFault};
 use page_memory::{MemFault, Memory};
 use page_pool::{Pool, PoolFault};
 use std::alloc::{AllocError, Global};
@@ -22,6 +23,9 @@ const KERNEL_LIMIT: usize = 268_435_456;
 
 /// The most bytes of a memory file: 16 and 4,104 for each of 131,072 pages.
 const MEMORY_LIMIT: usize = 537_919_504;
+
+/// The most bytes of a load record: its head, sixteen segments' heads, and the bytes of 65,536 pages.
+const RECORD_LIMIT: usize = 268_435_936;
 
 /// Takes a file and measures it: it has at most `limit` bytes.
 pub(crate) fn take_file<S: Shelf>(
@@ -59,6 +63,24 @@ pub(crate) fn take_memory<S: Shelf>(
         Err(MemFault::Memory) => Err(Status::Memory),
         Err(fault) => Err(Status::Input {
             fault: InputFault::Mem { fault },
+        }),
+    }
+}
+
+/// Takes the file of a load record and reads it.
+pub(crate) fn take_record<S: Shelf>(
+    alloc: Global,
+    name: String,
+    shelf: &mut S,
+) -> Result<LoadRecord, Status>
+    ensures { Takes (λ r. r) (string_bytes name ∷ []) (load_record_file (string_bytes name)) (S.files shelf.old) (S.files shelf.new) (S.faults shelf.old) (S.faults shelf.new) result }
+{
+    let bytes = take_file(alloc, name, RECORD_LIMIT, shelf)?;
+    match LoadRecord::read(alloc, &bytes) {
+        Ok(load_record) => Ok(load_record),
+        Err(RecFault::Memory) => Err(Status::Memory),
+        Err(fault) => Err(Status::Input {
+            fault: InputFault::Rec { fault },
         }),
     }
 }
