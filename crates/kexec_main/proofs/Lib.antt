@@ -3,3 +3,4 @@ pub mod Taking
 pub mod Turns
 pub mod Meeting
 pub mod Outputs
+pub mod Running

@@ -6,3 +6,4 @@ pub mod Makes
 pub mod Trace
 pub mod Loads
 pub mod Check
+pub mod Exec

@@ -3,6 +3,7 @@
 
 mod check;
 mod deliver;
+mod exec;
 mod load_files;
 mod output;
 mod status;
