@@ -4,3 +4,4 @@ pub mod Turns
 pub mod Meeting
 pub mod Outputs
 pub mod Running
+pub mod Lines

@@ -7,3 +7,4 @@ pub mod Trace
 pub mod Loads
 pub mod Check
 pub mod Exec
+pub mod Dump

@@ -3,6 +3,7 @@
 
 mod check;
 mod deliver;
+mod dump;
 mod exec;
 mod load_files;
 mod output;
