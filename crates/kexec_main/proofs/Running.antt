@@ -1,5 +1,5 @@
 -- What the runs of an accepted list leave, and what is told of them.
-use Rattle.std.proofs.Common.{◌≡◌, ℕ, List, length, Bool, true, false, Option, Some, None, Result, Ok, Err, unwrap_or, refl, sym, ap, subst, ◌∙◌, ◌++◌, append_assoc}
+use Rattle.std.proofs.Common.{◌≡◌, ℕ, List, length, Bool, true, false, Result, Ok, Err, unwrap_or, refl, sym, ap, subst, ◌∙◌, ◌++◌, append_assoc}
 use Rattle.std.specs.Prelude.{IsSome}
 use Rattle.kx_pages.specs.declared.item.Item.{Item}
 use Rattle.kx_pages.specs.declared.image.Image.{Image}
@@ -10,7 +10,7 @@ use Rattle.page_memory.specs.Contents.{at}
 use Rattle.page_memory.specs.Memory.{Mem, Agree}
 use Rattle.page_pool.specs.Pages.{Pages}
 use Rattle.segments.specs.Parts.{Part, want}
-use Rattle.list_checker.specs.Walk.{swap_page, links, pairs}
+use Rattle.list_checker.specs.Walk.{swap_page}
 use Rattle.load_states.specs.Exchange.{exchange}
 use Rattle.load_states.specs.States.{Load, Checked, IsLeftAs}
 use Rattle.load_states.specs.Ready.{Told}

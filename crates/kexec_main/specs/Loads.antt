@@ -1,5 +1,5 @@
 -- The files of a load and what is refused of them before the list is looked at.
-use Rattle.std.specs.Prelude.{ℕ, Bool, false, List, Result, Ok, Err}
+use Rattle.std.specs.Prelude.{ℕ, Bool, false, List, Result, Ok}
 use Rattle.kx_edge.specs.Edge.{Files}
 use Rattle.kx_pages.specs.declared.image.Mode.{Mode}
 use Rattle.kx_pages.specs.declared.image.Mode.TheVariants.{Plain, Kept}

@@ -1,4 +1,4 @@
-use Rattle.std.proofs.Common.{◌≡◌, ◌∙◌, string_bytes, unwrap_or, false, sym, ap, subst}
+use Rattle.std.proofs.Common.{◌∙◌, string_bytes, unwrap_or, sym, ap, subst}
 use Rattle.kx_pages.specs.declared.image.Mode.TheVariants.{Kept}
 use Rattle.list_checker.specs.Walk.{swap_page}
 use Rattle.load_states.specs.States.{swap_of}
