@@ -19,7 +19,7 @@ use Rattle.kexec_main.specs.Answers.{Answer, Goods, answer_of, plan, no_pages, h
 use Rattle.kexec_main.specs.declared.status.Status.{Status}
 use Rattle.kexec_main.specs.Files.{Inputs}
 use Rattle.kexec_main.specs.Makes.{IsFileOf, IsOneFile, IsTooHeavy}
-use Rattle.kexec_main.specs.Loads.{raw_segment, unused_part, wish_of, IsRefusal, LoadsNot}
+use Rattle.kexec_main.specs.Planning.{raw_segment, unused_part, wish_of, IsRefusal, LoadsNot}
 use Rattle.kexec_main.specs.Runs.{after_runs, list_text, run_text}
 use Rattle.kexec_main.specs.Texts.{load_lines}
 use Rattle.kexec_words.specs.Values.{BootValue, LoadValue}

@@ -5,6 +5,7 @@ use Rattle.kx_edge.specs.Edge.{Files, Rose}
 use Rattle.page_memory.specs.Contents.{Contents}
 use Rattle.page_memory.specs.File.{reading}
 use Rattle.page_pool.specs.File.{pool_reading}
+use Rattle.load_record.specs.File.{Record, record_reading}
 use Rattle.memory_map.specs.Named.{Named}
 use Rattle.memory_map.specs.Text.{map_reading}
 use Rattle.memory_map.specs.declared.fault.MapFault.{MapFault}
@@ -39,6 +40,9 @@ memory_limit = 537919504
 abbrev pub text_limit : ℕ
 text_limit = 1048576
 
+abbrev pub record_limit : ℕ
+record_limit = 268435936
+
 -- the kernel, the initrd and the modules of one command together
 abbrev pub kernel_limit : ℕ
 kernel_limit = 268435456
@@ -53,6 +57,12 @@ abbrev pub pool_file : List ℕ → Files → Result (List ℕ) Answer
 pool_file name held = do
   bytes ← measured text_limit name held
   or_input (λ e. input (inputs.Pool e)) (pool_reading bytes)
+
+-- the load record that a file spells
+abbrev pub load_record_file : List ℕ → Files → Result Record Answer
+load_record_file name held = do
+  bytes ← measured record_limit name held
+  or_input (λ e. input (inputs.Rec e)) (record_reading bytes)
 
 -- a memory map, where one is given
 abbrev pub map_file : List ℕ → Files → Result Named Answer

@@ -5,5 +5,10 @@ pub mod Texts
 pub mod Makes
 pub mod Trace
 pub mod Runs
+pub mod Planning
 pub mod Loads
+pub mod Check
+pub mod Exec
+pub mod Dump
 pub mod Boot
+pub mod Run

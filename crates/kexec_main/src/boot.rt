@@ -12,7 +12,7 @@ ghost use Rattle.kexec_words.specs.Meaning.{files_of};
 ghost use Rattle.kexec_main.specs.Answers.{Meets, answer_of, ended, memory};
 ghost use Rattle.kexec_main.specs.Boot.{IsToldText, IsUnused, LoadsRaw, boots, boots_segments, loads, loads_segments, record_of_load, start_at};
 ghost use Rattle.kexec_main.specs.Files.{input_files};
-ghost use Rattle.kexec_main.specs.Loads.{raw_segment, wish_of};
+ghost use Rattle.kexec_main.specs.Planning.{raw_segment, wish_of};
 ghost use Rattle.kexec_main.specs.Makes.{Makes};
 ghost use Rattle.kexec_main.specs.Values.{inputs_of, output_of};
 

@@ -6,8 +6,8 @@ ghost use Rattle.kexec_main.specs.Answers.{Delivers, PutAll, PutSome, ended};
 ghost use Rattle.kexec_main.specs.Values.{goods_of, output_of};
 
 use crate::status::Status;
-use list_checker::ListFault;
 use kx_edge::{PutFailed, SayFailed, Shelf, Sink};
+use list_checker::ListFault;
 
 /// A file to write: its name and its bytes.
 #[derive(Drop)]

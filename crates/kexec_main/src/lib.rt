@@ -2,13 +2,19 @@
 #![tactic(auto)]
 
 mod boot;
+mod check;
 mod deliver;
+mod dump;
+mod exec;
+mod load_files;
 mod loading;
 mod output;
+mod run;
 mod running;
 mod status;
 mod take;
 mod text;
 mod trace;
 
+pub use run::kexec;
 pub use status::{InputFault, NotBuilt, Part, PlanFault, Status};

@@ -12,7 +12,7 @@ ghost use Rattle.load_states.specs.Answers.{IsAcceptedAs};
 ghost use Rattle.load_states.specs.Fillings.{FillsFrom, IsSealed};
 ghost use Rattle.kexec_words.specs.Values.{inputs_value};
 ghost use Rattle.kexec_main.specs.Answers.{answer_of, memory};
-ghost use Rattle.kexec_main.specs.Loads.{unused_part, raw_segment, Tests, Plans, LoadsInto};
+ghost use Rattle.kexec_main.specs.Planning.{unused_part, raw_segment, Tests, Plans, LoadsInto};
 
 use crate::status::{Part, PlanFault, Status};
 use kexec_words::Inputs;

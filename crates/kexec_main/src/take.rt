@@ -1,7 +1,7 @@
 //! Files are taken in their turn, measured, and read.
 
 ghost use Rattle.std.specs.Prelude.{◌≡◌, ◌<◌, ◌≤◌, ◌∷◌, [], ℕ, length, false, map, option_map, string_bytes, IfOk};
-ghost use Rattle.kexec_main.specs.Files.{Takes, measured, memory_file, pool_file, map_file, map_given, left_after, input_files, as_list};
+ghost use Rattle.kexec_main.specs.Files.{Takes, measured, memory_file, load_record_file, pool_file, map_file, map_given, left_after, input_files, as_list};
 ghost use Rattle.kexec_main.specs.Values.{inputs_of};
 ghost use Rattle.kexec_words.specs.Values.{inputs_value};
 ghost use Rattle.kexec_words.specs.Meaning.{files_of};
@@ -9,6 +9,7 @@ ghost use Rattle.page_pool.specs.Pages.{is_filed};
 
 use crate::status::{InputFault, Status};
 use kx_edge::{Shelf, ShelfFault};
+use load_record::{LoadRecord, RecFault};
 use memory_map::{Map, MapFault};
 use kexec_words::Inputs;
 use page_memory::{MemFault, Memory};
@@ -17,6 +18,9 @@ use std::alloc::{AllocError, Global};
 
 /// The most bytes of a pool file, a memory map and a note file.
 const TEXT_LIMIT: usize = 1_048_576;
+
+/// The most bytes of a load record: its head, sixteen segments' heads, and the bytes of 65,536 pages.
+const RECORD_LIMIT: usize = 268_435_936;
 
 /// The most bytes of the kernel, the initrd and the modules of one command together.
 const KERNEL_LIMIT: usize = 268_435_456;
@@ -60,6 +64,24 @@ pub(crate) fn take_memory<S: Shelf>(
         Err(MemFault::Memory) => Err(Status::Memory),
         Err(fault) => Err(Status::Input {
             fault: InputFault::Mem { fault },
+        }),
+    }
+}
+
+/// Takes the file of a load record and reads it.
+pub(crate) fn take_record<S: Shelf>(
+    alloc: Global,
+    name: String,
+    shelf: &mut S,
+) -> Result<LoadRecord, Status>
+    ensures { Takes (λ r. r) (string_bytes name ∷ []) (load_record_file (string_bytes name)) (S.files shelf.old) (S.files shelf.new) (S.faults shelf.old) (S.faults shelf.new) result }
+{
+    let bytes = take_file(alloc, name, RECORD_LIMIT, shelf)?;
+    match LoadRecord::read(alloc, &bytes) {
+        Ok(load_record) => Ok(load_record),
+        Err(RecFault::Memory) => Err(Status::Memory),
+        Err(fault) => Err(Status::Input {
+            fault: InputFault::Rec { fault },
         }),
     }
 }

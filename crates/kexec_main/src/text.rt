@@ -7,8 +7,13 @@ ghost use Rattle.kexec_main.specs.Texts.{accepted_line, head_line, start_line, r
 use kx_pages::{Image, Mode, Start};
 use std::alloc::{AllocError, Global};
 
-// How many words the walk of an accepted list has, how many link pages, and how many pairs.
-fn accepted_line(alloc: Global, words: u64, links: u64, pairs: u64) -> Result<String, AllocError>
+/// How many words the walk of an accepted list has, how many link pages, and how many pairs.
+pub(crate) fn accepted_line(
+    alloc: Global,
+    words: u64,
+    links: u64,
+    pairs: u64,
+) -> Result<String, AllocError>
     ensures { IfOk result (λ s. string_bytes s ≡ accepted_line words links pairs) }
 {
     format!(in alloc; "accepted words {words} links {links} pairs {pairs}\n")
@@ -22,7 +27,12 @@ fn head_line(alloc: Global, image: &Image) -> Result<String, AllocError>
     match image.mode {
         Mode::Plain => format!(in alloc; "head {:x} control {:x}\n", image.head, control),
         Mode::Kept { swap } => {
-            format!(in alloc; "head {:x} control {:x} swap {:x}\n", image.head, control, swap.address())
+            format!(in alloc;
+                "head {:x} control {:x} swap {:x}\n",
+                image.head,
+                control,
+                swap.address()
+            )
         }
     }
 }
@@ -31,13 +41,9 @@ fn head_line(alloc: Global, image: &Image) -> Result<String, AllocError>
 fn start_line(alloc: Global, start: &Start) -> Result<String, AllocError>
     ensures { IfOk result (λ s. string_bytes s ≡ start_line start.now) }
 {
-    format!(
-        in alloc;
+    format!(in alloc;
         "start entry {:x} rax {:x} rbx {:x} rsi {:x}\n",
-        start.entry,
-        start.rax,
-        start.rbx,
-        start.rsi
+        start.entry, start.rax, start.rbx, start.rsi
     )
 }
 
@@ -59,11 +65,7 @@ pub(crate) fn load_lines(
 }
 
 /// Adds a run, and how many steps it took.
-pub(crate) fn push_ran_line(
-    alloc: Global,
-    text: &mut String,
-    steps: u64,
-) -> Result<(), AllocError>
+pub(crate) fn push_ran_line(alloc: Global, text: &mut String, steps: u64) -> Result<(), AllocError>
     ensures { OnOk result (string_bytes text.new ≡ string_bytes text.old ++ ran_line steps) }
 {
     text.push_str(&format!(in alloc; "ran {steps}\n")?)?;

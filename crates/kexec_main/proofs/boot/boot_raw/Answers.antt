@@ -3,7 +3,7 @@ use Rattle.std.specs.Prelude.{string_bytes}
 use Rattle.page_memory.specs.Contents.{at}
 use Rattle.load_states.specs.States.{Checked}
 use Rattle.kexec_main.specs.Boot.{boots_segments}
-use Rattle.kexec_main.specs.Loads.{raw_segment, wish_of}
+use Rattle.kexec_main.specs.Planning.{raw_segment, wish_of}
 use Rattle.kexec_main.specs.Runs.{after_runs, run_text}
 use Rattle.kexec_main.specs.Values.{inputs_of}
 use Rattle.kexec_main.proofs.Meeting.{makes_handed_on}

@@ -1,0 +1,52 @@
+-- What `dump` makes: a line for each word of the list, and one for each segment.
+use Rattle.std.specs.Prelude.{◌≡◌, ℕ, ◌+◌, ◌*◌, ◌/◌, true, false, List, [], ◌∷◌, ◌++◌, length, take, codes, decimal, Option, Some, None, Result, Ok, Err}
+use Rattle.std.specs.List.{flat_map}
+use Rattle.kx_pages.specs.declared.item.Item.{Item}
+use Rattle.kx_pages.specs.declared.item.Item.TheVariants.{Link, Destination, Source, Done}
+use Rattle.kx_pages.specs.Items.{decode}
+use Rattle.page_memory.specs.Contents.{at}
+use Rattle.segments.specs.Parts.{Part}
+use Rattle.list_checker.specs.declared.fault.ListFault.{ListFault}
+use Rattle.list_checker.specs.Reading.{IsWalk}
+use Rattle.list_checker.specs.Texts.{fault_text}
+use Rattle.sha2.specs.Sha256.{sha256}
+use Rattle.hex.specs.Hex.{encode_lower}
+use Rattle.kexec_main.specs.declared.load_files.LoadFiles.{LoadFiles}
+use Rattle.kexec_main.specs.declared.status.NotBuilt.TheVariants.{Crash}
+use Rattle.kexec_main.specs.Answers.{Answer, Goods, not_built}
+use Rattle.kexec_main.specs.Texts.{hexadecimal}
+
+-- what a word is, and its address, that is the word without its flags
+abbrev pub item_text : Item → ℕ → List ℕ
+item_text (Link p) address = codes " link " ++ (hexadecimal address ++ codes "\n")
+item_text (Destination p) address = codes " destination " ++ (hexadecimal address ++ codes "\n")
+item_text (Source p) address = codes " source " ++ (hexadecimal address ++ codes "\n")
+item_text (Done p) address = codes " done\n"
+
+-- the line of a word of a walk: its number, what it is, and its address
+unfoldable pub word_line : ℕ → ℕ → List ℕ
+word_line n w = elim (decode w) [ None ↦ [] | Some item ↦ decimal n ++ item_text item (4096 * (w / 4096)) ]
+
+-- the lines of words, the first of which has this number
+abbrev pub word_lines : ℕ → List ℕ → List ℕ
+word_lines n [] = []
+word_lines n (w ∷ ws) = word_line n w ++ word_lines (n + 1) ws
+
+-- the lines of a walk. The line of a word that cannot be followed, which is the last, tells why.
+abbrev pub walk_text : List ℕ → Option ListFault → List ℕ
+walk_text ws None = word_lines 0 ws
+walk_text ws (Some f) = word_lines 0 (take f.word ws) ++ (fault_text f ++ codes "\n")
+
+-- the line of a segment: its address, its bytes of memory, the count of its bytes and their digest by SHA-256 (FIPS 180-4)
+unfoldable pub segment_line : Part → List ℕ
+segment_line s =
+    codes "segment " ++ (hexadecimal s.mem ++ (codes " memsz " ++ (hexadecimal s.memsz ++ (codes " bufsz " ++ (decimal (length s.bytes) ++ (codes " sha256 " ++ (encode_lower (sha256 s.bytes) ++ codes "\n")))))))
+
+-- No output is made, whether the list is accepted or not. Crash records are not read yet.
+abbrev pub dumps : LoadFiles → Result Goods Answer → Type 0
+dumps x (Ok goods) =
+    (x.load_record.crash ≡ false) × (goods.outputs ≡ []) × (goods.fault ≡ None)
+    × ((ws : List ℕ) × (fault : Option ListFault) × IsWalk (at x.memory) x.load_record.image.head ws fault
+    × (goods.text ≡ walk_text ws fault ++ flat_map segment_line x.load_record.segments))
+dumps x (Err (not_built what)) = (what ≡ Crash) × (x.load_record.crash ≡ true)
+dumps x (Err other) = ⊥

@@ -1,0 +1,130 @@
+//! `dump`: the words of the list of a load record, and its segments.
+
+ghost use Rattle.std.specs.Prelude.{◌≡◌, ◌++◌, ◌∷◌, [], IfOk, OnOk, string_bytes};
+ghost use Rattle.std.specs.List.{flat_map};
+ghost use Rattle.kexec_words.specs.Values.{loaded_value};
+ghost use Rattle.kexec_main.specs.Answers.{Meets, ended};
+ghost use Rattle.kexec_main.specs.Dump.{dumps, segment_line, walk_text, word_line, word_lines};
+ghost use Rattle.kexec_main.specs.Loads.{load_files};
+ghost use Rattle.kexec_main.specs.Makes.{Makes};
+
+use crate::deliver::{Goods, deliver};
+use crate::load_files::{LoadFiles, take_load_files};
+use crate::status::{NotBuilt, Status};
+use kexec_words::Loaded;
+use kx_edge::{Shelf, Sink};
+use kx_pages::Item;
+use list_checker::{Walk, walk};
+use segments::{Segment, Segments};
+use sha2::{Digest, Sha256};
+use std::alloc::{AllocError, Global};
+
+// The line of a word.
+#[tactic(auto, unfolding(crate::specs::Dump::word_line))]
+fn word_line(alloc: Global, number: usize, word: u64) -> Result<String, AllocError>
+    ensures { IfOk result (λ s. string_bytes s ≡ word_line number word) }
+{
+    let address = 4096 * (word / 4096);
+    match Item::of_word(word) {
+        Some(Item::Link(_)) => format!(in alloc; "{number} link {address:x}\n"),
+        Some(Item::Destination(_)) => format!(in alloc; "{number} destination {address:x}\n"),
+        Some(Item::Source(_)) => format!(in alloc; "{number} source {address:x}\n"),
+        Some(Item::Done(_)) => format!(in alloc; "{number} done\n"),
+        None => Ok(String::new(alloc)),
+    }
+}
+
+// Adds the lines of words, which are numbered from 0.
+fn push_words(alloc: Global, text: &mut String, words: &[u64]) -> Result<(), AllocError>
+    ensures { OnOk result (string_bytes text.new ≡ string_bytes text.old ++ word_lines 0 words.now) }
+{
+    for (number, word) in words.iter().enumerate() {
+        text.push_str(&word_line(alloc, number, *word)?)?;
+    }
+    Ok(())
+}
+
+// Adds the lines of a walk, and why it ends where its last word cannot be followed.
+fn push_walk(alloc: Global, text: &mut String, walk: Walk) -> Result<(), AllocError>
+    ensures { OnOk result (string_bytes text.new ≡ string_bytes text.old ++ walk_text walk.words.items walk.fault) }
+{
+    let Walk { mut words, fault } = walk;
+    if let Some(fault) = fault {
+        words.truncate(fault.word as usize);
+        push_words(alloc, text, &words)?;
+        text.push_str(&format!(in alloc; "{fault}\n")?)?;
+    } else {
+        push_words(alloc, text, &words)?;
+    }
+    Ok(())
+}
+
+// The line of a segment.
+#[tactic(auto, unfolding(crate::specs::Dump::segment_line))]
+fn segment_line(alloc: Global, segment: &Segment) -> Result<String, AllocError>
+    ensures { IfOk result (λ s. string_bytes s ≡ segment_line segment.now) }
+{
+    let digest = hex::encode(alloc, Sha256::digest(segment.bytes.as_slice()))?;
+    format!(in alloc;
+        "segment {:x} memsz {:x} bufsz {} sha256 {digest}\n",
+        segment.mem,
+        segment.memsz,
+        segment.bytes.len()
+    )
+}
+
+// Adds the lines of segments.
+fn push_segments(alloc: Global, text: &mut String, segments: &Segments) -> Result<(), AllocError>
+    ensures { OnOk result (string_bytes text.new ≡ string_bytes text.old ++ flat_map segment_line segments.now) }
+{
+    for i in 0..segments.count() {
+        text.push_str(&segment_line(alloc, segments.segment(i))?)?;
+    }
+    Ok(())
+}
+
+// Makes the lines of the list and of the segments.
+fn dump_goods(alloc: Global, files: LoadFiles) -> Result<Goods, Status>
+    ensures { Makes dumps files result }
+{
+    let LoadFiles {
+        memory,
+        load_record,
+    } = files;
+    if load_record.crash {
+        return Err(Status::NotBuilt {
+            what: NotBuilt::Crash,
+        });
+    }
+    let walk = walk(alloc, &memory, load_record.image.head)?;
+    let mut text = String::new(alloc);
+    push_walk(alloc, &mut text, walk)?;
+    push_segments(alloc, &mut text, &load_record.segments)?;
+    Ok(Goods {
+        outputs: Vec::new(alloc),
+        text,
+        fault: None,
+    })
+}
+
+/// Tells each word of the record's list, up to the done word or the first word that cannot be followed, and each
+/// segment.
+pub(crate) fn dump<S: Shelf, O: Sink>(
+    alloc: Global,
+    loaded: Loaded,
+    shelf: &mut S,
+    out: &mut O,
+) -> Result<(), Status>
+    ensures { Meets (string_bytes loaded.memory ∷ string_bytes loaded.load_record ∷ []) (load_files (string_bytes loaded.memory) (string_bytes loaded.load_record)) dumps
+        (record { files = S.files shelf.old; shelf_faults = S.faults shelf.old; said = O.said out.old; sink_faults = O.faults out.old })
+        (record { files = S.files shelf.new; shelf_faults = S.faults shelf.new; said = O.said out.new; sink_faults = O.faults out.new })
+        (ended result) }
+{
+    let Loaded {
+        memory,
+        load_record,
+    } = loaded;
+    let files = take_load_files(alloc, memory, load_record, shelf)?;
+    let goods = dump_goods(alloc, files)?;
+    deliver(goods, shelf, out)
+}

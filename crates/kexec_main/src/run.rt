@@ -1,0 +1,116 @@
+//! The top call.
+
+ghost use Rattle.std.specs.Prelude.{map, string_bytes};
+ghost use Rattle.kexec_main.specs.Answers.{answer_of, ended};
+ghost use Rattle.kexec_main.specs.Run.{Answers, Serves, Runs};
+ghost use Rattle.kexec_words.specs.Limits.{IsWithinLimits};
+ghost use Rattle.kexec_words.specs.Meaning.{command_of};
+ghost use Rattle.kexec_words.specs.Values as values;
+ghost use Rattle.kexec_words.specs.Values.{boot_value, command_value, inputs_value, load_value};
+
+use crate::boot::{Raw, boot, load_command};
+use crate::check::check;
+use crate::dump::dump;
+use crate::exec::exec;
+use crate::status::{NotBuilt, Status};
+use crate::trace::trace;
+use kexec_words::{Boot, Command, ImageType, Inputs, Load, WordsFault, read};
+use kx_edge::{Shelf, Sink};
+use std::alloc::Global;
+
+// Where a raw kernel goes and is entered; or what of the request is not built yet.
+fn served(image: ImageType, inputs: &Inputs) -> Result<Raw, Status>
+    ensures { Serves image (inputs_value inputs.now) result }
+{
+    let ImageType::Raw { at, entry } = image else {
+        return Err(Status::NotBuilt {
+            what: NotBuilt::Format,
+        });
+    };
+    if inputs.purgatory.is_some() {
+        return Err(Status::NotBuilt {
+            what: NotBuilt::Purgatory,
+        });
+    }
+    Ok(Raw { at, entry })
+}
+
+fn run_boot<S: Shelf, O: Sink>(
+    alloc: Global,
+    words: Boot,
+    shelf: &mut S,
+    out: &mut O,
+) -> Result<(), Status>
+    ensures { Runs (values.boot (boot_value words))
+        (record { files = S.files shelf.old; shelf_faults = S.faults shelf.old; said = O.said out.old; sink_faults = O.faults out.old })
+        (record { files = S.files shelf.new; shelf_faults = S.faults shelf.new; said = O.said out.new; sink_faults = O.faults out.new })
+        (ended result) }
+{
+    let raw = served(words.image, &words.inputs)?;
+    boot(alloc, words, raw, shelf, out)
+}
+
+fn run_load<S: Shelf, O: Sink>(
+    alloc: Global,
+    words: Load,
+    shelf: &mut S,
+    out: &mut O,
+) -> Result<(), Status>
+    ensures { Runs (values.load (load_value words))
+        (record { files = S.files shelf.old; shelf_faults = S.faults shelf.old; said = O.said out.old; sink_faults = O.faults out.old })
+        (record { files = S.files shelf.new; shelf_faults = S.faults shelf.new; said = O.said out.new; sink_faults = O.faults out.new })
+        (ended result) }
+{
+    let raw = served(words.image, &words.inputs)?;
+    load_command(alloc, words, raw, shelf, out)
+}
+
+// Runs a command.
+fn run<S: Shelf, O: Sink>(
+    alloc: Global,
+    command: Command,
+    shelf: &mut S,
+    out: &mut O,
+) -> Result<(), Status>
+    requires { IsWithinLimits (command_value command) }
+    ensures { Runs (command_value command)
+        (record { files = S.files shelf.old; shelf_faults = S.faults shelf.old; said = O.said out.old; sink_faults = O.faults out.old })
+        (record { files = S.files shelf.new; shelf_faults = S.faults shelf.new; said = O.said out.new; sink_faults = O.faults out.new })
+        (ended result) }
+{
+    match command {
+        Command::Boot(words) => run_boot(alloc, words, shelf, out),
+        Command::Load(words) => run_load(alloc, words, shelf, out),
+        Command::Check(words) => check(alloc, words, shelf, out),
+        Command::Dump(words) => dump(alloc, words, shelf, out),
+        Command::Exec(words) => exec(alloc, words, shelf, out),
+        Command::Trace(words) => trace(alloc, words, shelf, out),
+        Command::LoadPanic(_) | Command::Sample { .. } => Err(Status::NotBuilt {
+            what: NotBuilt::Command,
+        }),
+    }
+}
+
+/// Does what the words after the program's name say: takes the files that they name from the shelf, works in memory,
+/// puts the outputs, and says the text. This project's own.
+pub fn kexec<S: Shelf, O: Sink>(
+    alloc: Global,
+    words: &[String],
+    shelf: &mut S,
+    out: &mut O,
+) -> Status
+    // Each answer has its cause, and says what stands after it.
+    ensures answer { Answers (command_of (map string_bytes words.now))
+        (record { files = S.files shelf.old; shelf_faults = S.faults shelf.old; said = O.said out.old; sink_faults = O.faults out.old })
+        (record { files = S.files shelf.new; shelf_faults = S.faults shelf.new; said = O.said out.new; sink_faults = O.faults out.new })
+        (answer_of result) }
+{
+    match read(alloc, words) {
+        Ok(command) => match run(alloc, command, shelf, out) {
+            Ok(()) => Status::Done,
+            Err(status) => status,
+        },
+        Err(WordsFault::Usage { why }) => Status::Usage { why },
+        Err(WordsFault::Memory) => Status::Memory,
+    }
+}
