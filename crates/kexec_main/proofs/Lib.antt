@@ -3,6 +3,6 @@ pub mod Taking
 pub mod Turns
 pub mod Meeting
 pub mod Outputs
-pub mod Running
+pub mod ListRuns
 pub mod Lines
 pub mod Unused

@@ -1,6 +1,7 @@
 //! `boot` and `load` of raw kernels.
 
-ghost use Rattle.std.specs.Prelude.{◌≡◌, ◌≤◌, ◌∷◌, [], ℕ, List, length, false, string_bytes, IfOk, IfErr};
+ghost use Rattle.std.specs.Prelude.{◌≡◌, ◌≤◌, ◌∷◌, [], ℕ, List, length, false, cond, string_bytes, IfOk, IfErr};
+ghost use Rattle.kx_pages.specs.declared.image.Wish.TheVariants.{Kept, Plain};
 ghost use Rattle.kx_pages.specs.declared.item.Item.{Item};
 ghost use Rattle.list_checker.specs.Walk.{IsAccepted, swap_page};
 ghost use Rattle.segments.specs.Parts.{want};
@@ -59,6 +60,13 @@ fn wish_of(runs: Option<Runs>) -> Wish
         Some(_) => Wish::Kept,
         None => Wish::Plain,
     }
+}
+
+// The wish of `load`, with or without `--kept`.
+fn kept_wish(kept: bool) -> Wish
+    ensures { result ≡ cond kept Kept Plain }
+{
+    if kept { Wish::Kept } else { Wish::Plain }
 }
 
 // Plans a raw kernel and loads it.
@@ -229,7 +237,7 @@ pub(crate) fn load_command<S: Shelf, O: Sink>(
         kept,
         ..
     } = words;
-    let wish = if kept { Wish::Kept } else { Wish::Plain };
+    let wish = kept_wish(kept);
     let unused = unused_part(&inputs);
     let taken = take_inputs(alloc, inputs, shelf)?;
     refuse_unused(unused)?;

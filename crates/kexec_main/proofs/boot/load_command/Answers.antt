@@ -34,7 +34,7 @@ returns-in_err-goods g c =
     let u = sym c.unused_part-unused.ensures ∙ c.in_ok-refuse_unused.ensures in
     meets_handed_on (files_of b.inputs) (input_files b.inputs) (loads raw.at raw.entry b) _ _ _ _ e
     (meets_made (files_of b.inputs) (input_files b.inputs) (loads raw.at raw.entry b) _ _ x _ k.2
-    (without_part (unused_part b.inputs) (λ (i : Inputs). loads_segments (raw_segment raw.at i.kernel ∷ []) raw.entry (cond b.kept Kept Plain) b.out b.load_record i) x _ u c.in_err-goods.ensures)
+    (without_part (unused_part b.inputs) (λ (i : Inputs). loads_segments (raw_segment raw.at i.kernel ∷ []) raw.entry (cond b.kept Kept Plain) b.out b.load_record i) x _ u (rw c.kept_wish-wish.ensures at c.in_err-goods.ensures))
     (record { files = k.0; said = refl; sink = refl }) (record { shelf = k.1; sink = refl }))
 
 pub returns : goal.returns
@@ -45,5 +45,5 @@ returns g c =
     let x = inputs_of c.in_ok-taken.taken in
     let u = sym c.unused_part-unused.ensures ∙ c.in_ok-refuse_unused.ensures in
     meets_delivered (files_of b.inputs) (input_files b.inputs) (loads raw.at raw.entry b) _ _ x (goods_of c.in_ok-goods.goods) _ k.2
-    (made_without_part (unused_part b.inputs) (λ (i : Inputs). loads_segments (raw_segment raw.at i.kernel ∷ []) raw.entry (cond b.kept Kept Plain) b.out b.load_record i) x _ u c.in_ok-goods.ensures)
+    (made_without_part (unused_part b.inputs) (λ (i : Inputs). loads_segments (raw_segment raw.at i.kernel ∷ []) raw.entry (cond b.kept Kept Plain) b.out b.load_record i) x _ u (rw c.kept_wish-wish.ensures at c.in_ok-goods.ensures))
     (rw (k.0, k.1) at c.deliver.ensures)

@@ -1,7 +1,6 @@
-use Rattle.std.proofs.Common.{rules, ◌≡◌, ◌∙◌, ap, sym, map, length}
+use Rattle.std.proofs.Common.{rules, ◌≡◌, ◌∙◌, sym, map, length}
 use Rattle.std.proofs.lemmas.List.{length-map}
 use Rattle.list_checker.specs.Checked.{as_pair}
-use Rattle.kexec_main.specs.Texts.{load_lines}
 use Rattle.kexec_main.proofs.boot.loaded_text.Goals as goal
 
 pub returns-in_ok-load_lines-in-Ok-clause-text : goal.returns-in_ok-load_lines-in-Ok-clause-text

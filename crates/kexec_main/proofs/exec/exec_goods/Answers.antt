@@ -4,7 +4,7 @@ use Rattle.list_checker.specs.Walk.{swap_page}
 use Rattle.load_states.specs.States.{swap_of}
 use Rattle.load_states.specs.Answers.{IsAcceptedAs}
 use Rattle.load_states.specs.declared.accepted.Accepted.TheVariants as variants
-use Rattle.kexec_main.proofs.Running.{load_of, executed, executed_once, kept_mode}
+use Rattle.kexec_main.proofs.ListRuns.{load_of, executed, executed_once, kept_mode}
 use Rattle.kexec_main.proofs.exec.exec_goods.Goals as goal
 
 pub returns-in-Ok-Plain : goal.returns-in-Ok-Plain

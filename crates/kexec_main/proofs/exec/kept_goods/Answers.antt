@@ -6,7 +6,7 @@ use Rattle.load_states.specs.States.{swap_of}
 use Rattle.kx_pages.specs.declared.image.Mode.TheVariants.{Kept}
 use Rattle.kexec_main.specs.Exec.{after_runs, told_text}
 use Rattle.kexec_main.specs.Texts.{load_lines}
-use Rattle.kexec_main.proofs.Running.{ends_as, said_once, said_again, twice_as}
+use Rattle.kexec_main.proofs.ListRuns.{ends_as, said_once, said_again, twice_as}
 use Rattle.kexec_main.proofs.exec.kept_goods.Goals as goal
 
 pub returns-then-not-twice : goal.returns-then-not-twice

@@ -4,7 +4,7 @@ use Rattle.page_memory.specs.Contents.{at}
 use Rattle.list_checker.specs.Checked.{as_pair}
 use Rattle.kx_pages.specs.declared.image.Mode.TheVariants.{Plain}
 use Rattle.kexec_main.specs.Exec.{after_runs, told_text}
-use Rattle.kexec_main.proofs.Running.{ends_as, said_once}
+use Rattle.kexec_main.proofs.ListRuns.{ends_as, said_once}
 use Rattle.kexec_main.proofs.exec.plain_goods.Goals as goal
 
 pub returns : goal.returns
