@@ -8,10 +8,10 @@ ghost use Rattle.kexec_words.specs.Meaning.{files_of};
 ghost use Rattle.page_pool.specs.Pages.{is_filed};
 
 use crate::status::{InputFault, Status};
+use kexec_words::Inputs;
 use kx_edge::{Shelf, ShelfFault};
 use load_record::{LoadRecord, RecFault};
 use memory_map::{Map, MapFault};
-use kexec_words::Inputs;
 use page_memory::{MemFault, Memory};
 use page_pool::{Pool, PoolFault};
 use std::alloc::{AllocError, Global};
@@ -106,11 +106,7 @@ pub(crate) fn take_pool<S: Shelf>(
 }
 
 // Takes a memory map and reads it.
-fn take_map_file<S: Shelf>(
-    alloc: Global,
-    name: String,
-    shelf: &mut S,
-) -> Result<Map, Status>
+fn take_map_file<S: Shelf>(alloc: Global, name: String, shelf: &mut S) -> Result<Map, Status>
     ensures { Takes (λ m. m) (string_bytes name ∷ []) (map_file (string_bytes name)) (S.files shelf.old) (S.files shelf.new) (S.faults shelf.old) (S.faults shelf.new) result }
 {
     let bytes = take_file(alloc, name, TEXT_LIMIT, shelf)?;

@@ -26,6 +26,10 @@ returns c =
     let l = rw c.wish_of.ensures at c.in_ok-loaded.ensures in
     let r = c.in_ok-ran.ensures.ran in
     let x : Checked = record { load = c.in_ok-loaded.loaded; words = r.0; links = r.1; pairs = r.2 } in
-    let w = c.in_ok-outputs.ensures in
-    (x, record { ruled = l.0; enough = l.1; laid = l.2; told = r.3 }, r.5 ∙ ap (run_text c.args.runs x) c.start_at.ensures, refl,
-    (w.0, w.1, file_as (at c.in_ok-ran.ran.memory) (after_runs c.args.runs x) w.0 r.4 w.2))
+    let w = c.in_ok-outputs.ensures in (
+      x,
+      record { ruled = l.0; enough = l.1; laid = l.2; told = r.3 },
+      r.5 ∙ ap (run_text c.args.runs x) c.start_at.ensures,
+      refl,
+      (w.0, w.1, file_as (at c.in_ok-ran.ran.memory) (after_runs c.args.runs x) w.0 r.4 w.2),
+    )

@@ -31,7 +31,12 @@ returns c =
     let x : Checked = record { load = c.in_ok-loaded.loaded; words = t.0; links = t.1; pairs = t.2 } in
     let w = c.in_ok-outputs.ensures in
     let outputs : map output_of c.push.new.self.items ≡ map output_of c.in_ok-outputs.outputs.items ++ output_of c.in_ok-memory.record ∷ [] =
-    ap (map output_of) c.in_ok-push.ensures.items ∙ map-append output_of c.in_ok-outputs.outputs.items (c.in_ok-memory.record ∷ []) in
-    (x, record { ruled = l.0; enough = l.1; laid = l.2; told = t.3 }, t.4 ∙ ap (list_text x) c.start_at-start.ensures, refl,
-    w.0, file_as (at c.in_ok-memory.memory) (at c.in_ok-loaded.loaded.memory) w.0 (λ p. ap (λ m. at m p) c.in_ok-memory.ensures.memory) w.2,
-    outputs ∙ ap (λ (fs : List File). fs ++ output_of c.in_ok-memory.record ∷ []) w.1 ∙ ap (λ (f : File). (string_bytes c.args.out, w.0) ∷ f ∷ []) (c.in_ok-memory.ensures.record ∙ ap (λ s. (string_bytes c.args.load_record, record_file (record_of_load c.in_ok-loaded.loaded s))) c.start_at-start.ensures))
+    ap (map output_of) c.in_ok-push.ensures.items ∙ map-append output_of c.in_ok-outputs.outputs.items (c.in_ok-memory.record ∷ []) in (
+      x,
+      record { ruled = l.0; enough = l.1; laid = l.2; told = t.3 },
+      t.4 ∙ ap (list_text x) c.start_at-start.ensures,
+      refl,
+      w.0,
+      file_as (at c.in_ok-memory.memory) (at c.in_ok-loaded.loaded.memory) w.0 (λ p. ap (λ m. at m p) c.in_ok-memory.ensures.memory) w.2,
+      outputs ∙ ap (λ (fs : List File). fs ++ output_of c.in_ok-memory.record ∷ []) w.1 ∙ ap (λ (f : File). (string_bytes c.args.out, w.0) ∷ f ∷ []) (c.in_ok-memory.ensures.record ∙ ap (λ s. (string_bytes c.args.load_record, record_file (record_of_load c.in_ok-loaded.loaded s))) c.start_at-start.ensures),
+    )

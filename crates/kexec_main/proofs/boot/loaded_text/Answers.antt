@@ -9,7 +9,10 @@ returns-in_ok-load_lines-in-Ok-clause-text c =
     let items = c.in-Ok.accept.pairs.items in
     let ok = c.in-Ok.accept.pairs.ok in
     let len : c.len.result ≡ length items = search (rules, ok) in
-    let count : c.len.result ≡ length (map as_pair items) = len ∙ sym (length-map items as_pair) in
-    (c.in-Ok.accept.words, c.in-Ok.accept.links, map as_pair items,
-    record { items = a.0; accepted = a.1; count = a.2; link_pages = a.3; same_pairs = a.4 },
-    rw (c.image-image.ensures, count) at c.in_ok-load_lines-in-Ok.ensures)
+    let count : c.len.result ≡ length (map as_pair items) = len ∙ sym (length-map items as_pair) in (
+      c.in-Ok.accept.words,
+      c.in-Ok.accept.links,
+      map as_pair items,
+      record { items = a.0; accepted = a.1; count = a.2; link_pages = a.3; same_pairs = a.4 },
+      rw (c.image-image.ensures, count) at c.in_ok-load_lines-in-Ok.ensures,
+    )
