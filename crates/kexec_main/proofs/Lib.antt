@@ -6,3 +6,4 @@ pub mod Outputs
 pub mod ListRuns
 pub mod Lines
 pub mod Unused
+pub mod Headline

@@ -9,12 +9,17 @@ use Rattle.kexec_main.specs.declared.boot.Raw.{Raw}
 use Rattle.kexec_main.specs.declared.status.NotBuilt.{NotBuilt}
 use Rattle.kexec_main.specs.declared.status.NotBuilt.TheVariants.{Command, Format, Purgatory}
 use Rattle.kexec_main.specs.declared.status.Status.{Status}
-use Rattle.kexec_main.specs.Answers.{Answer, Moment, Untouched, Calm, Meets, answer_of, usage, not_built, memory, unread, unwritten}
-use Rattle.kexec_main.specs.Boot.{boots, loads}
+use Rattle.kx_edge.specs.Edge.{Files, Said}
+use Rattle.load_states.specs.States.{Checked}
+use Rattle.kexec_main.specs.Answers.{Answer, Moment, Untouched, Calm, Meets, PutAll, answer_of, usage, not_built, memory}
+use Rattle.kexec_main.specs.Boot.{IsLoaded, boots, loads, start_at}
 use Rattle.kexec_main.specs.Check.{checks}
 use Rattle.kexec_main.specs.Dump.{dumps}
 use Rattle.kexec_main.specs.Exec.{executes}
-use Rattle.kexec_main.specs.Files.{input_files, memory_file}
+use Rattle.kexec_main.specs.Files.{Inputs, input_files, memory_file}
+use Rattle.kexec_main.specs.Makes.{IsFileOf}
+use Rattle.kexec_main.specs.Planning.{raw_segment, wish_of}
+use Rattle.kexec_main.specs.Runs.{after_runs, run_text}
 use Rattle.kexec_main.specs.Loads.{load_files}
 use Rattle.kexec_main.specs.Trace.{traces}
 
@@ -67,3 +72,16 @@ Answers (Ok command) before after a = Runs command before after a
 Answers (Err why) before after (usage w) = (w ≡ why) × Untouched before after × Calm before after
 Answers (Err why) before after memory = Untouched before after × Calm before after
 Answers (Err why) before after other = ⊥
+
+-- What stands after `boot` answered Done, where files were told: all that the words name was read; the pool sufficed; the
+-- load laid an accepted list; OUT is the file of the memory after the last run, every other file is as it was, and the
+-- text tells the list and each run.
+pub record HasBooted (b : BootValue) (held : Files) (before after : Moment) : Type 0 where
+  pub inputs : Inputs
+  pub reads : input_files b.inputs held ≡ Ok inputs
+  pub checked : Checked
+  pub loaded : IsLoaded (wish_of b.kept) (raw_segment (address_of b.image) inputs.kernel ∷ []) inputs checked
+  pub output : List ℕ
+  pub is_memory : IsFileOf (after_runs b.kept checked) output
+  pub put : PutAll before.files ((b.out, output) ∷ []) after.files
+  pub said : Said before.said (run_text b.kept checked (start_at (entry_of b.image))) after.said

@@ -1,12 +1,13 @@
 //! The top call.
 
-ghost use Rattle.std.specs.Prelude.{map, string_bytes};
-ghost use Rattle.kexec_main.specs.Answers.{answer_of, ended};
-ghost use Rattle.kexec_main.specs.Run.{Answers, Serves, Runs};
+ghost use Rattle.std.specs.Prelude.{◌≡◌, ℕ, List, map, string_bytes, IfSome, Ok};
+ghost use Rattle.kx_edge.specs.Edge.{Rose};
+ghost use Rattle.kexec_main.specs.Answers.{answer_of, done, ended, unread, unsaid, unwritten};
+ghost use Rattle.kexec_main.specs.Run.{Answers, HasBooted, Serves, Runs};
 ghost use Rattle.kexec_words.specs.Limits.{IsWithinLimits};
 ghost use Rattle.kexec_words.specs.Meaning.{command_of};
 ghost use Rattle.kexec_words.specs.Values as values;
-ghost use Rattle.kexec_words.specs.Values.{boot_value, command_value, inputs_value, load_value};
+ghost use Rattle.kexec_words.specs.Values.{BootValue, boot_value, command_value, inputs_value, load_value};
 
 use crate::boot::{Raw, boot, load_command};
 use crate::check::check;
@@ -101,6 +102,32 @@ pub fn kexec<S: Shelf, O: Sink>(
 ) -> Status
     // Each answer has its cause, and says what stands after it.
     ensures answer { Answers (command_of (map string_bytes words.now))
+        (record { files = S.files shelf.old; shelf_faults = S.faults shelf.old; said = O.said out.old; sink_faults = O.faults out.old })
+        (record { files = S.files shelf.new; shelf_faults = S.faults shelf.new; said = O.said out.new; sink_faults = O.faults out.new })
+        (answer_of result) }
+
+    // After a boot that is Done the pool sufficed, the list that was laid is accepted, OUT is the file of the memory
+    // after the last run, all other files are as they were, and the text tells the list and each run.
+    ensures headline { (b : BootValue) → command_of (map string_bytes words.now) ≡ Ok (values.boot b) → answer_of result ≡ done → IfSome (S.files shelf.old) (λ held. HasBooted b held
+        (record { files = S.files shelf.old; shelf_faults = S.faults shelf.old; said = O.said out.old; sink_faults = O.faults out.old })
+        (record { files = S.files shelf.new; shelf_faults = S.faults shelf.new; said = O.said out.new; sink_faults = O.faults out.new })) }
+
+    // An answer that tells of a device comes only where the count of its faults rose.
+    ensures unread { (name : List ℕ) → answer_of result ≡ unread name → Rose (S.faults shelf.old) (S.faults shelf.new) }
+    ensures unwritten { (name : List ℕ) → answer_of result ≡ unwritten name → Rose (S.faults shelf.old) (S.faults shelf.new) }
+    ensures unsaid { answer_of result ≡ unsaid → Rose (O.faults out.old) (O.faults out.new) }
+{
+    answered(alloc, words, shelf, out)
+}
+
+// What each answer says, in one clause.
+fn answered<S: Shelf, O: Sink>(
+    alloc: Global,
+    words: &[String],
+    shelf: &mut S,
+    out: &mut O,
+) -> Status
+    ensures { Answers (command_of (map string_bytes words.now))
         (record { files = S.files shelf.old; shelf_faults = S.faults shelf.old; said = O.said out.old; sink_faults = O.faults out.old })
         (record { files = S.files shelf.new; shelf_faults = S.faults shelf.new; said = O.said out.new; sink_faults = O.faults out.new })
         (answer_of result) }
