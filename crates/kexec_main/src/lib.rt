@@ -13,6 +13,8 @@ mod run;
 mod running;
 mod status;
 mod take;
+#[cfg(test)]
+mod tests;
 mod text;
 mod trace;
 

@@ -29,7 +29,7 @@ fn says(
     alloc: Global,
     words: &[u64],
     head: u64,
-    wanted: u64,
+    wanted: u32,
     swap: Option<u64>,
 ) -> Result<Answer, Fail> {
     let mut bytes = Vec::new(alloc);
@@ -44,7 +44,7 @@ fn says(
     let mut list = Vec::new(alloc);
     list.push(Segment {
         bytes: wanted_bytes,
-        mem: 4096 * wanted,
+        mem: 4096 * u64::from(wanted),
         memsz: 4096,
     })?;
     let segments = Segments::bare(alloc, list).ok().ok_or("segments")?;
