@@ -13,7 +13,7 @@ use page_memory::Memory;
 use page_pool::Pool;
 use std::alloc::{AllocError, Global};
 
-// How many pages a load takes.
+/// How many pages a load takes.
 pub fn need(pages: u64, segments: usize, wish: Wish) -> u64
     requires pages { pages ≤ 65536 }
     requires segments { segments ≤ 16 }
@@ -33,7 +33,7 @@ fn first_pages(wish: Wish) -> u64
     }
 }
 
-// All memory of a load: the table of the wanted pages, and the first pages of the pool.
+/// All memory of a load: the table of the wanted pages, and the first pages of the pool.
 pub fn prepare(
     alloc: Global,
     memory: &mut Memory,

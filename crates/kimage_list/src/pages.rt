@@ -11,7 +11,7 @@ use crate::taking::Taken;
 use kx_pages::{Item, Page};
 use page_memory::Memory;
 
-// The word at this address.
+/// The word at this address.
 pub fn write_word(memory: &mut Memory, place: u64, word: u64)
     requires inside { place < 2 ^ 46 }
     requires aligned { place % 8 ≡ 0 }
@@ -22,7 +22,7 @@ pub fn write_word(memory: &mut Memory, place: u64, word: u64)
     memory.set_word(place, word);
 }
 
-// A page of these bytes, then zeros.
+/// A page of these bytes, then zeros.
 pub fn fill(memory: &mut Memory, p: Page, bytes: &[u8])
     requires held { IsHeld memory.old p }
     requires fits { length bytes.now ≤ 4096 }
@@ -32,7 +32,7 @@ pub fn fill(memory: &mut Memory, p: Page, bytes: &[u8])
     memory.set(p, bytes);
 }
 
-// The bytes of `from` move to `page`, and the word at `place` names it as their source.
+/// The bytes of `from` move to `page`, and the word at `place` names it as their source.
 pub fn move_source(memory: &mut Memory, page: Page, from: Page, place: u64)
     requires inside { place < 2 ^ 46 }
     requires aligned { place % 8 ≡ 0 }
@@ -45,28 +45,28 @@ pub fn move_source(memory: &mut Memory, page: Page, from: Page, place: u64)
     write_word(memory, place, source_word(page));
 }
 
-// The word of a source.
+/// The word of a source.
 pub fn source_word(p: Page) -> u64
     ensures { result ≡ code (Source p) }
 {
     Item::Source(p.number()).word()
 }
 
-// The word that leads on to a link page.
+/// The word that leads on to a link page.
 pub fn link_word(p: Page) -> u64
     ensures { result ≡ code (Link p) }
 {
     Item::Link(p.number()).word()
 }
 
-// The word of a segment's start.
+/// The word of a segment's start.
 pub fn destination_word(p: Page) -> u64
     ensures { result ≡ code (Destination p) }
 {
     Item::Destination(p.number()).word()
 }
 
-// Makes the exchange that freed the page.
+/// Makes the exchange that freed the page.
 pub fn settle(memory: &mut Memory, taken: &Taken)
     requires { CanMove taken.now.moved memory.old }
     ensures value { at memory.new ≡ moved (at memory.old) taken.now.moved taken.now.page }

@@ -1,6 +1,7 @@
 pub mod Bytes
 pub mod Changes
 pub mod Frames
+pub mod Heads
 pub mod Moves
 pub mod Numbers
 pub mod Reading

@@ -12,9 +12,10 @@ use kx_pages::Page;
 use std::alloc::AllocError;
 use std::collections::BTreeMap;
 
+/// In which frame of the buffer a page lies, counted from 0.
 pub type Table = BTreeMap<Page, usize>;
 
-// Frame i of the buffer.
+/// Frame i of the buffer.
 #[tactic(auto, unfolding(crate::specs::Frames::frame_in))]
 pub fn frame(frames: &[u8], i: usize) -> &[u8]
     requires { 4096 * i + 4096 ≤ length frames.now }
@@ -67,6 +68,7 @@ fn put_word(frame: &mut [u8], place: usize, v: u64)
     LittleEndian::write_u64(rest, v);
 }
 
+/// Page p, which has a frame, becomes these at most 4,096 bytes, then zeros.
 pub fn write_frame(frames: &mut Vec<u8>, table: &Table, p: Page, bytes: &[u8])
     requires old { IsTable frames.old.items table.now }
     requires held { IsSome (finite.get (pages_in frames.old.items table.now) p) }
@@ -80,6 +82,7 @@ pub fn write_frame(frames: &mut Vec<u8>, table: &Table, p: Page, bytes: &[u8])
     }
 }
 
+/// The eight bytes at a place of page p, which has a frame, become the little-endian number v.
 pub fn write_word(frames: &mut Vec<u8>, table: &Table, p: Page, place: usize, v: u64)
     requires old { IsTable frames.old.items table.now }
     requires held { IsSome (finite.get (pages_in frames.old.items table.now) p) }
@@ -108,7 +111,7 @@ fn move_frame(frames: &mut [u8], to: usize, from: usize)
     }
 }
 
-// Page d, which has a frame, becomes what page s reads as.
+/// Page d, which has a frame, becomes what page s reads as.
 pub fn copy_frame(frames: &mut Vec<u8>, table: &Table, d: Page, s: Page)
     requires old { IsTable frames.old.items table.now }
     requires held { IsSome (finite.get (pages_in frames.old.items table.now) d) }
@@ -121,7 +124,7 @@ pub fn copy_frame(frames: &mut Vec<u8>, table: &Table, d: Page, s: Page)
     }
 }
 
-// Adds a page. Room is made first, so that a refusal leaves both as they were.
+/// Adds a page. Room is made first, so that a refusal leaves both as they were.
 pub fn add_frame(
     frames: &mut Vec<u8>,
     table: &mut Table,
@@ -166,7 +169,7 @@ fn set_entry(table: &mut Table, p: Page, i: usize)
     }
 }
 
-// The frames of two pages change places.
+/// The frames of two pages change places.
 pub fn exchange(table: &mut Table, d: Page, s: Page)
     requires d { IsSome (tree.get nat_cmp table.old d) }
     requires s { IsSome (tree.get nat_cmp table.old s) }

@@ -1,23 +1,24 @@
 //! The memory file.
 
-ghost use Rattle.std.specs.Prelude.{[], ◌≡◌, ◌≤◌, ◌<◌, ◌+◌, ◌*◌, ◌^◌, ℕ, length, ◌++◌, ◌≢◌, IfOk, IfErr, OnOk, nat_le, if◌then◌else◌};
+ghost use Rattle.std.specs.Prelude.{[], ◌≡◌, ◌≤◌, ◌<◌, ◌+◌, ◌*◌, ◌^◌, ℕ, length, ◌++◌, ◌≢◌, ◌↔◌, drop, IfOk, IfErr, IfSome, IsSome, OnOk, nat_le, if◌then◌else◌};
 ghost use Rattle.page_memory.specs.declared.fault.MemFault.TheVariants.{PastLimit};
 ghost use Rattle.std.specs.FinMap as finite;
 ghost use Rattle.page_memory.specs.Contents.{IsPageOfBytes};
 ghost use Rattle.std.specs.BTreeMap.{IsOrdered};
 ghost use Rattle.std.specs.List.{AllByRecursion};
 ghost use Rattle.std.specs.Ordering.{nat_cmp};
-ghost use Rattle.page_memory.specs.File.{text_of, page_text, Gives, le64, pages_read, entry_at, pages_onto, is_all_zeros};
+ghost use Rattle.byteorder.specs.Endian.{little_bytes};
+ghost use Rattle.page_memory.specs.File.{magic, text_of, page_text, Gives, le64, pages_read, entry_at, pages_onto, is_all_zeros};
 ghost use Rattle.page_memory.specs.Frames.{pages_in, IsTable, stored_in, frame_entries};
 
 use crate::buffer::{Table, add_frame, frame};
 use crate::fault::{HeavyFault, MemFault};
-use byteorder::{ByteOrder, LittleEndian};
+use kx_fields::Block;
 use kx_pages::Page;
 use std::alloc::{AllocError, Global};
 use std::collections::BTreeMap;
 
-// Whether all bytes are zero: all are looked at, which is faster than to stop at the first that is not.
+/// Whether all bytes are zero: all are looked at, which is faster than to stop at the first that is not.
 pub fn is_zero(bytes: &[u8]) -> bool
     ensures { result ≡ is_all_zeros bytes.now }
 {
@@ -28,12 +29,43 @@ pub fn is_zero(bytes: &[u8]) -> bool
     bits == 0
 }
 
-#[tactic(auto, unfolding(crate::specs::File::le64))]
+// The number that the bytes begin with.
 fn number_at(bytes: &[u8]) -> u64
     requires { 8 ≤ length bytes.now }
     ensures { result ≡ le64 bytes.now }
 {
-    LittleEndian::read_u64(bytes)
+    match Block::<8>::cut(bytes, 0) {
+        Some(number) => number.get_u64(0),
+        None => unreachable!(),
+    }
+}
+
+// How many pages the head of a file counts; none where the file is shorter than its head.
+fn count_at(bytes: &[u8]) -> Option<u64>
+    ensures found { IsSome result ↔ (16 ≤ length bytes.now) }
+    ensures value { IfSome result (λ count. count ≡ le64 (drop 8 bytes.now)) }
+{
+    let head = Block::<16>::cut(bytes, 0)?;
+    Some(head.get_u64(8))
+}
+
+// The head of a file with so many pages.
+fn head_of(count: u64) -> Block<16>
+    ensures { result ≡ magic ++ little_bytes 8 count }
+{
+    let mut head = Block::zeros();
+    head.put_bytes(0, b"KXMEM001");
+    head.put_u64(8, count);
+    head
+}
+
+// The head of a page.
+fn page_head(p: Page) -> Block<8>
+    ensures { result ≡ little_bytes 8 p }
+{
+    let mut head = Block::zeros();
+    head.put_u64(0, p.number());
+    head
 }
 
 fn page_of_number(number: u64, place: u64) -> Result<Page, MemFault>
@@ -117,7 +149,7 @@ fn pages_of(alloc: Global, count: u64, total: u64, body: &[u8]) -> Result<Parts,
     Ok(Parts { frames, table })
 }
 
-// The parts that a memory file spells.
+/// The parts that a memory file spells.
 #[tactic(auto, unfolding(crate::specs::File::pages_read))]
 pub fn parts_of(alloc: Global, bytes: &[u8]) -> Result<Parts, MemFault>
     ensures exact { Gives (λ x. pages_in x.frames.items x.table) result (pages_read bytes.now) }
@@ -127,24 +159,21 @@ pub fn parts_of(alloc: Global, bytes: &[u8]) -> Result<Parts, MemFault>
         return Err(MemFault::BadMagic);
     }
     let total = bytes.len() as u64;
-    if total < 16 {
-        return Err(MemFault::Truncated { at: total });
-    }
-    let (_, rest) = bytes.split_at(8);
-    let count = number_at(rest);
+    let count = match count_at(bytes) {
+        Some(count) => count,
+        None => return Err(MemFault::Truncated { at: total }),
+    };
     if count > 131072 {
         return Err(MemFault::TooMany { count });
     }
-    let (_, body) = rest.split_at(8);
+    let (_, body) = bytes.split_at(16);
     pages_of(alloc, count, total, body)
 }
 
 fn put_page(out: &mut Vec<u8>, p: Page, frame: &[u8]) -> Result<(), AllocError>
     ensures { OnOk result (out.new.items ≡ out.old.items ++ page_text (p, frame.now)) }
 {
-    let mut number = [0; 8];
-    LittleEndian::write_u64(&mut number, p.number());
-    out.extend_from_slice(&number)?;
+    out.extend_from_slice(page_head(p).bytes())?;
     out.extend_from_slice(frame)?;
     Ok(())
 }
@@ -183,17 +212,14 @@ fn text_of_pages(
 {
     let mut out = Vec::new(alloc);
     out.reserve_exact(16 + 4104 * pages.len())?;
-    out.extend_from_slice(b"KXMEM001")?;
-    let mut number = [0; 8];
-    LittleEndian::write_u64(&mut number, pages.len() as u64);
-    out.extend_from_slice(&number)?;
+    out.extend_from_slice(head_of(pages.len() as u64).bytes())?;
     for (p, i) in pages {
         put_page(&mut out, *p, frame(frames, *i))?;
     }
     Ok(out)
 }
 
-// The file of the pages that are not all zeros.
+/// The file of the pages that are not all zeros.
 pub fn file_of(alloc: Global, frames: &[u8], table: &Table) -> Result<Vec<u8>, HeavyFault>
     requires { IsTable frames.now table.now }
     ensures file { IfOk result (λ v. (length (stored_in frames.now table.now) ≤ 131072) × (v.items ≡ text_of (stored_in frames.now table.now))) }
