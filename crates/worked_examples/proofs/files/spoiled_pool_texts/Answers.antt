@@ -1,0 +1,13 @@
+-- By computing.
+use Rattle.std.specs.Prelude.{refl}
+use Rattle.text_lines.specs.Lines.{lines, cut, number, number_of}
+use Rattle.page_pool.specs.File.{pool_reading, pages_onto, line_onto, checked_range, range_of}
+use Rattle.worked_examples.proofs.files.spoiled_pool_texts.Goals as goal
+
+pub returns-clause-repeats : goal.returns-clause-repeats
+unfolding pool_reading pages_onto line_onto checked_range range_of lines cut number number_of
+returns-clause-repeats c = refl
+
+pub returns-clause-backwards : goal.returns-clause-backwards
+unfolding pool_reading pages_onto line_onto checked_range range_of lines cut number number_of
+returns-clause-backwards c = refl
