@@ -1,10 +1,39 @@
 //! The definitions of the project, tried on worked examples.
 //!
-//! Nothing here is called. Each function has a name for an example, and its clauses say what the definitions give for
+//! Nothing here is called. Each function has the name of an example, and its clauses say what the definitions give for
 //! it, mostly by computing. Where an example speaks of memory, it holds of every memory that has the words and pages that
-//! it names, whatever else it holds.
+//! it names, whatever else it holds. In the comments, pages and addresses are hexadecimal.
 #![tactic(auto)]
 
+mod exchanges;
 mod files;
+mod kernels;
+mod lists;
+mod loads;
+mod runs;
+mod words;
 
-pub use files::{empty_memory_file, spoiled_memory_files, pool_texts, spoiled_pool_texts};
+pub use exchanges::{
+    exchanged_once, exchanged_twice, own_source_keeps_a_write, source_gets_a_write,
+};
+pub use files::{empty_memory_file, pool_texts, spoiled_memory_files, spoiled_pool_texts};
+pub use kernels::{
+    bad_addresses, half_of_memory, one_page_is_wanted, pages_needed, segments_that_overlap,
+    two_pages_are_wanted,
+};
+pub use lists::{
+    exchanged_page_stands_in_two_pairs, head_past_the_limit, list_that_goes_round,
+    loaded_list_is_accepted, one_page_list, own_source_is_accepted,
+    source_is_overwritten_after_its_copy, source_is_overwritten_before_its_copy,
+    word_with_two_flags,
+};
+pub use loads::{
+    kernel_without_bytes, last_slot_links_on, list_fills_its_link_page, loaded_page_is_exchanged,
+    one_page_kernel, pool_is_a_page_short, pool_pages_are_their_own_destinations,
+    two_pages_with_context_preserved,
+};
+pub use runs::{
+    destination_flag_comes_first, first_page_first_runs, kept_list_runs, last_page_first_runs,
+    off_past_the_limit, one_page_runs, round_and_round, run_without_a_source,
+};
+pub use words::{items_of_words, machine_takes_the_first_flag, words_in_memory, words_of_items};

@@ -1,0 +1,4 @@
+pub mod Kernels
+pub mod Loads
+pub mod Lists
+pub mod Runs
