@@ -1,5 +1,5 @@
 -- A list with a fault is not accepted.
-use Rattle.std.proofs.Common.{◌≡◌, ℕ, List, Option, Some, None, refl}
+use Rattle.std.proofs.Common.{ℕ, List, Option, refl}
 use Rattle.page_memory.specs.Memory.{Mem}
 use Rattle.segments.specs.Parts.{Part, want, pages}
 use Rattle.segments.specs.Rules.{bare_refusal, shape_refusal}

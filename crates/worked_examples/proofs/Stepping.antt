@@ -1,15 +1,14 @@
 -- Steps and runs, one after the other.
-use Rattle.std.proofs.Common.{◌≡◌, ◌+◌, ◌^◌, ◌<◌, ℕ, zero, suc, Bool, true, false, cond, refl, sym, ap, ◌∙◌, Some, None, Ok, Err, arith}
+use Rattle.std.proofs.Common.{◌≡◌, ◌+◌, ◌^◌, ℕ, zero, suc, false, cond, refl, ap, ◌∙◌, None, Ok, Err}
 use Rattle.std.specs.Prelude.{nat_le}
 use Rattle.kx_pages.specs.declared.image.Mode.{Mode}
 use Rattle.page_memory.specs.Contents.{Contents, at}
 use Rattle.page_memory.specs.Memory.{Mem, word, copied_page}
 use Rattle.page_memory.specs.Laws.{at-with_page}
-use Rattle.relocate_machine.specs.declared.step.Step.{Step}
 use Rattle.relocate_machine.specs.declared.step.Step.TheVariants as steps
 use Rattle.relocate_machine.specs.declared.step.Outcome.{Outcome}
 use Rattle.relocate_machine.specs.declared.step.Outcome.TheVariants.{Done, Running, Off}
-use Rattle.relocate_machine.specs.Machine.{State, copied, taken, step_of, start_of}
+use Rattle.relocate_machine.specs.Machine.{State, copied, taken, step_of}
 use Rattle.relocate_machine.specs.Run.{run_from, run_after, run_of}
 use Rattle.worked_examples.specs.Runs.{ComesOut}
 

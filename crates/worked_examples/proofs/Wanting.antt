@@ -1,5 +1,5 @@
 -- Pages that are not wanted are left alone.
-use Rattle.std.proofs.Common.{◌≡◌, ℕ, List, Option, Some, None, refl, sym, ap, ◌∙◌}
+use Rattle.std.proofs.Common.{◌≡◌, ℕ, List, Option, Some, None, refl, ap}
 use Rattle.std.specs.Prelude.{unwrap_or}
 use Rattle.kx_pages.specs.Lists.{Has}
 use Rattle.page_memory.specs.Memory.{Mem, Wants}

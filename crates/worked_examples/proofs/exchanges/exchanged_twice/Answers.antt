@@ -1,6 +1,6 @@
 -- By cases on the page.
-use Rattle.std.proofs.Common.{◌≡◌, ℕ, refl, sym, ap, subst, inl, inr, true, false, cond}
-use Rattle.std.specs.Prelude.{◌≢◌, ◌⊎◌, eqb}
+use Rattle.std.proofs.Common.{◌≡◌, ℕ, refl, subst, inl, inr, false}
+use Rattle.std.specs.Prelude.{◌≢◌, eqb}
 use Rattle.std.proofs.lemmas.Bool.Decides.{eqb_tells}
 use Rattle.page_memory.specs.Memory.{Mem}
 use Rattle.load_states.specs.Exchange.{exchange}

@@ -1,6 +1,5 @@
 -- By computing: no word is read.
 use Rattle.std.proofs.Common.{refl, None}
-use Rattle.page_memory.specs.Memory.{Mem}
 use Rattle.list_checker.specs.declared.fault.Why.TheVariants.{PastLimit}
 use Rattle.worked_examples.specs.Kernels.{three_bytes}
 use Rattle.worked_examples.proofs.Refusing.{refused, three_bytes-listed}

@@ -1,5 +1,5 @@
 -- By induction over a walk: each word that is read is the same link.
-use Rattle.std.proofs.Common.{◌≡◌, ◌+◌, ◌*◌, ℕ, List, refl, sym, ap, ◌∙◌, subst, Some, None, arith}
+use Rattle.std.proofs.Common.{◌≡◌, ◌+◌, ◌*◌, ℕ, List, refl, sym, ap, ◌∙◌, None, arith}
 use Rattle.std.specs.Prelude.{◌∷◌, []}
 use Rattle.page_memory.specs.Memory.{Mem, word}
 use Rattle.kx_pages.specs.declared.item.Item.{Item}

@@ -1,5 +1,5 @@
 -- By computing, and by the list's own acceptance.
-use Rattle.std.proofs.Common.{refl, sym, ap, Some, arith}
+use Rattle.std.proofs.Common.{refl, arith}
 use Rattle.page_memory.specs.Contents.{page_of}
 use Rattle.page_memory.specs.Memory.{word}
 use Rattle.worked_examples.proofs.Refusing.{three_bytes-listed}

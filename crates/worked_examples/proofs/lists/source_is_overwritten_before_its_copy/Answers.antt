@@ -1,10 +1,10 @@
 -- The words up to the faulty one have no reason.
-use Rattle.std.proofs.Common.{◌≡◌, refl, ap, Some, None, arith}
+use Rattle.std.proofs.Common.{◌≡◌, refl, ap, None, arith}
 use Rattle.std.specs.Prelude.{◌∷◌, [], codes}
 use Rattle.page_memory.specs.Contents.{page_of}
 use Rattle.page_memory.specs.Memory.{Mem}
 use Rattle.kx_pages.specs.Items.{decode}
-use Rattle.kx_pages.specs.declared.item.Item.TheVariants.{Link, Destination, Source, Done}
+use Rattle.kx_pages.specs.declared.item.Item.TheVariants.{Link, Destination, Source}
 use Rattle.list_checker.specs.declared.fault.Why.TheVariants.{SourceSpoiled}
 use Rattle.worked_examples.specs.Kernels.{two_pages}
 use Rattle.worked_examples.specs.Lists.{HasWords, FirstFault}
