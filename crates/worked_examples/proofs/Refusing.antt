@@ -7,7 +7,7 @@ use Rattle.list_checker.specs.Laws.{ListsWanted}
 use Rattle.list_checker.specs.declared.fault.Why.{Why}
 use Rattle.list_checker.proofs.Ending.{check_ends}
 use Rattle.list_checker.proofs.Wanted.{parts_listed}
-use Rattle.worked_examples.specs.Kernels.{three_bytes, two_pages}
+use Rattle.worked_examples.specs.Kernels.{three_bytes, two_pages, no_bytes}
 use Rattle.worked_examples.specs.Lists.{FirstFault, NoneAccepted}
 
 pub three_bytes-listed : ListsWanted (want three_bytes) (pages three_bytes)
@@ -21,6 +21,10 @@ two_pages-listed = parts_listed (two_pages 2) refl
 pub two_more_pages-listed : ListsWanted (want (two_pages 3)) (pages (two_pages 3))
 unfolding bare_refusal shape_refusal
 two_more_pages-listed = parts_listed (two_pages 3) refl
+
+pub no_bytes-listed : ListsWanted (want no_bytes) (pages no_bytes)
+unfolding bare_refusal shape_refusal
+no_bytes-listed = parts_listed no_bytes refl
 
 pub refused : (M : Mem) (ss : List Part) (head control : ℕ) (swap : Option ℕ) (n : ℕ) (why : Why) → ListsWanted (want ss) (pages ss) → FirstFault M ss head control swap n why → NoneAccepted M ss head control swap
 refused M ss head control swap n why listed fault = ((check_ends M (want ss) (pages ss) head control swap listed).1 n why fault).0

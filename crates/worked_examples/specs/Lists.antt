@@ -1,11 +1,11 @@
 -- Lists of page copies in memory.
-use Rattle.std.specs.Prelude.{◌≡◌, ℕ, ◌+◌, List, [], ◌∷◌, Option, None}
+use Rattle.std.specs.Prelude.{◌≡◌, ℕ, ◌+◌, List, [], ◌∷◌, Option, Some, None}
 use Rattle.kx_pages.specs.declared.item.Item.{Item}
 use Rattle.kx_pages.specs.declared.item.Item.TheVariants.{Link, Destination, Source, Done}
 use Rattle.page_memory.specs.Memory.{Mem, word}
 use Rattle.segments.specs.Parts.{Part, want, pages}
 use Rattle.list_checker.specs.Walk.{IsAccepted}
-use Rattle.list_checker.specs.Faults.{Faulty, nothing_earlier}
+use Rattle.list_checker.specs.Faults.{Faulty, Earlier, nothing_earlier, reason}
 use Rattle.list_checker.specs.declared.fault.Why.{Why}
 
 -- M has these words from address a on
@@ -36,3 +36,23 @@ last_page_first = Link 0x20 ∷ Destination 4 ∷ Source 3 ∷ Destination 3 ∷
 -- page 3 comes from page 2, and then page 4 from page 3
 abbrev pub first_page_first : List Item
 first_page_first = Link 0x20 ∷ Destination 3 ∷ Source 2 ∷ Source 3 ∷ Done 0 ∷ []
+
+-- why an item at this place is refused, after words that were so
+abbrev pub why_refused : Mem → List Part → ℕ → Option ℕ → Option ℕ → Earlier → Item → Option Why
+why_refused M ss control swap place earlier i = reason M (want ss) (pages ss) control swap place earlier (Some i)
+
+-- page 2 is its own source, and page 3 comes from page 12
+abbrev pub one_exchanged : List Item
+one_exchanged = Link 0x11 ∷ Destination 2 ∷ Source 2 ∷ Source 0x12 ∷ Done 0 ∷ []
+
+-- a destination without a source
+abbrev pub no_move : List Item
+no_move = Link 0x11 ∷ Destination 2 ∷ Done 0 ∷ []
+
+-- the list begins in page 20, and no pair came yet; the next destination is as given
+abbrev pub no_pair_yet : Option ℕ → Earlier
+no_pair_yet next = record { links = 0x20 ∷ []; pairs = []; next = next }
+
+-- the list begins in page 20, and page 2 came from page 30; the next destination is as given
+abbrev pub one_pair_yet : ℕ → Earlier
+one_pair_yet next = record { links = 0x20 ∷ []; pairs = (2, 0x30) ∷ []; next = Some next }

@@ -1,6 +1,6 @@
 //! What segments need and want, and which rule refuses them first.
 
-ghost use Rattle.std.specs.Prelude.{◌≡◌, ℕ, ◌++◌, ◌∷◌, [], Some, None, List, codes, replicate};
+ghost use Rattle.std.specs.Prelude.{◌≡◌, ◌++◌, ◌∷◌, [], Some, None, codes, replicate};
 ghost use Rattle.kx_pages.specs.declared.image.Wish.TheVariants.{Plain, Kept};
 ghost use Rattle.page_memory.specs.Memory.{Mem};
 ghost use Rattle.segments.specs.Parts.{need, want, overlay, pages};

@@ -6,6 +6,7 @@
 #![tactic(auto)]
 
 mod exchanges;
+mod faults;
 mod files;
 mod kernels;
 mod lists;
@@ -16,13 +17,18 @@ mod words;
 pub use exchanges::{
     exchanged_once, exchanged_twice, own_source_keeps_a_write, source_gets_a_write,
 };
+pub use faults::{
+    destinations_of_source_words, done_words, sources_of_source_words, words_at_the_head,
+    words_that_link,
+};
 pub use files::{empty_memory_file, pool_texts, spoiled_memory_files, spoiled_pool_texts};
 pub use kernels::{
     bad_addresses, half_of_memory, one_page_is_wanted, pages_needed, segments_that_overlap,
     two_pages_are_wanted,
 };
 pub use lists::{
-    exchanged_page_stands_in_two_pairs, head_past_the_limit, list_that_goes_round,
+    crash_list, exchanged_list_is_accepted, exchanged_page_stands_in_two_pairs,
+    head_past_the_limit, list_that_goes_round, list_without_a_source_is_accepted,
     loaded_list_is_accepted, one_page_list, own_source_is_accepted,
     source_is_overwritten_after_its_copy, source_is_overwritten_before_its_copy,
     word_with_two_flags,
@@ -33,7 +39,7 @@ pub use loads::{
     two_pages_with_context_preserved,
 };
 pub use runs::{
-    destination_flag_comes_first, first_page_first_runs, kept_list_runs, last_page_first_runs,
-    off_past_the_limit, one_page_runs, round_and_round, run_without_a_source,
+    destination_flag_comes_first, exchanged_list_runs, first_page_first_runs, kept_list_runs,
+    last_page_first_runs, off_past_the_limit, one_page_runs, round_and_round, run_without_a_source,
 };
 pub use words::{items_of_words, machine_takes_the_first_flag, words_in_memory, words_of_items};

@@ -1,12 +1,10 @@
 //! Which pages a load takes from its pool, and the list that it lays.
 
-ghost use Rattle.std.specs.Prelude.{◌≡◌, ℕ, ◌+◌, ◌*◌, ◌++◌, ◌∷◌, [], Some, None, List, length, map, codes, replicate};
+ghost use Rattle.std.specs.Prelude.{◌≡◌, ◌+◌, ◌*◌, ◌++◌, ◌∷◌, [], Some, None, length, map, codes, replicate};
 ghost use Rattle.std.specs.List.{range_with_len};
 ghost use Rattle.std.specs.Option.{option_map};
 ghost use Rattle.kx_pages.specs.declared.image.Wish.TheVariants.{Plain, Kept};
 ghost use Rattle.kx_pages.specs.declared.image.Mode.TheVariants as mode;
-ghost use Rattle.kx_pages.specs.declared.item.Item.TheVariants.{Link, Destination, Source, Done};
-ghost use Rattle.page_memory.specs.Contents.{page_of};
 ghost use Rattle.page_memory.specs.Memory.{Mem};
 ghost use Rattle.segments.specs.Parts.{is_destination};
 ghost use Rattle.kimage_list.specs.Load.{Start, Move, begun, requests, taken};

@@ -1,11 +1,10 @@
 //! How the machine runs lists, step by step.
 
-ghost use Rattle.std.specs.Prelude.{◌≡◌, ℕ, ◌∷◌, [], None, codes};
+ghost use Rattle.std.specs.Prelude.{◌≡◌, ℕ, ◌∷◌, [], codes};
 ghost use Rattle.kx_pages.specs.declared.image.Mode.TheVariants.{Plain, Kept};
 ghost use Rattle.page_memory.specs.Contents.{Contents, at, page_of};
 ghost use Rattle.page_memory.specs.Memory.{Mem, copied_page};
 ghost use Rattle.segments.specs.Parts.{want, overlay};
-ghost use Rattle.relocate_machine.specs.Run.{run_of};
 ghost use Rattle.relocate_machine.specs.declared.step.Outcome.TheVariants.{Done, Running, Off};
 ghost use Rattle.load_states.specs.Exchange.{exchange};
 ghost use Rattle.worked_examples.specs.Kernels.{three_bytes, two_pages};
@@ -23,6 +22,13 @@ pub fn one_page_runs()
 pub fn run_without_a_source()
     ensures run { (m : Contents) → HasWords (at m) 0x11000 (0x2001 ∷ 4 ∷ []) → ComesOut m 0x11002 Plain 10 (Done 3) (at m) }
     ensures stopped { (m : Contents) → HasWords (at m) 0x11000 (0x2001 ∷ 4 ∷ []) → ComesOut m 0x11002 Plain 2 (Running 2) (at m) }
+{}
+
+/// A list in which page 2 is its own source: it is copied onto itself, and page 3 from page 12.
+pub fn exchanged_list_runs()
+    ensures run { (m : Contents) → HasWords (at m) 0x11000 (0x2001 ∷ 0x2008 ∷ 0x12008 ∷ 4 ∷ []) → ComesOut m 0x11002 Plain 10 (Done 5) (copied_page (copied_page (at m) 2 2) 0x12 3) }
+    ensures own_source { (M : Mem) → copied_page (copied_page M 2 2) 0x12 3 2 ≡ M 2 }
+    ensures other { (M : Mem) → copied_page (copied_page M 2 2) 0x12 3 3 ≡ M 0x12 }
 {}
 
 /// A kernel one page below its destination, its last page first: both pages arrive, and memory is what the kernel wants.

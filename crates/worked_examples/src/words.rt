@@ -1,11 +1,11 @@
 //! Words: what the list's items are as words, what the machine takes words for, and words in memory.
 
-ghost use Rattle.std.specs.Prelude.{◌≡◌, ℕ, ◌++◌, ◌∷◌, [], Some, None, replicate};
+ghost use Rattle.std.specs.Prelude.{◌≡◌, ◌++◌, ◌∷◌, [], Some, None, replicate};
 ghost use Rattle.byteorder.specs.Endian.{little_bytes};
 ghost use Rattle.kx_pages.specs.Items.{code, decode};
 ghost use Rattle.kx_pages.specs.declared.item.Item.TheVariants.{Link, Destination, Source, Done};
 ghost use Rattle.page_memory.specs.Contents.{page_of};
-ghost use Rattle.page_memory.specs.Memory.{Mem, word, set_word};
+ghost use Rattle.page_memory.specs.Memory.{word, set_word};
 ghost use Rattle.kimage_list.specs.Laying.{in_bytes};
 ghost use Rattle.relocate_machine.specs.Machine.{kind_of, masked};
 ghost use Rattle.relocate_machine.specs.declared.word.Kind.TheVariants as kinds;
