@@ -1,3 +1,4 @@
 pub mod Refusing
 pub mod Stepping
 pub mod Wanting
+pub mod Passing

@@ -2,3 +2,4 @@ pub mod Kernels
 pub mod Loads
 pub mod Lists
 pub mod Runs
+pub mod Maps

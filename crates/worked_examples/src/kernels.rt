@@ -55,6 +55,23 @@ pub fn bad_addresses()
     ensures none { bare_refusal [] ≡ Some faults.NoSegments }
 {}
 
+/// More bytes than memory, more segments than sixteen, and more pages than 65,536.
+pub fn too_much()
+    ensures bytes { bare_refusal (record { bytes = 1 ∷ []; mem = 0x2000; memsz = 0 } ∷ []) ≡ Some (faults.TooFull 0) }
+    ensures sixteen { bare_refusal (replicate 16 (pages_at 0x100 0)) ≡ None }
+    ensures seventeen { bare_refusal (replicate 17 (pages_at 0x100 0)) ≡ Some faults.TooMany }
+    ensures pages { bare_refusal (pages_at 0x100 65537 ∷ []) ≡ Some (faults.TooLarge 65537) }
+{}
+
+/// Pages that are no memory, and a crash kernel that leaves its area.
+pub fn misplaced_segments()
+    ensures no_memory { refusal (record { first = 0; count = 2 } ∷ []) kinds.Normal three_bytes ≡ Some (faults.NotRam 0) }
+    ensures inside { refusal (record { first = 0; count = 0x200 } ∷ []) (kinds.Crash (record { first = 0x100; count = 0x10 })) (pages_at 0x10c 4 ∷ []) ≡ None }
+    ensures behind { refusal (record { first = 0; count = 0x200 } ∷ []) (kinds.Crash (record { first = 0x100; count = 0x10 })) (pages_at 0x10d 4 ∷ []) ≡ Some (faults.OutsideReserved 0) }
+    ensures before { refusal (record { first = 0; count = 0x200 } ∷ []) (kinds.Crash (record { first = 0x100; count = 0x10 })) (pages_at 0xff 4 ∷ []) ≡ Some (faults.OutsideReserved 0) }
+    ensures errno { errno (faults.OutsideReserved 0) ≡ 99 }
+{}
+
 /// Memory of eight pages: a segment of four passes, and one of five takes more than half of memory.
 pub fn half_of_memory()
     ensures four { refusal (record { first = 0x100; count = 8 } ∷ []) kinds.Normal (pages_at 0x100 4 ∷ []) ≡ None }

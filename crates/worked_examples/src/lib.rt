@@ -11,6 +11,7 @@ mod files;
 mod kernels;
 mod lists;
 mod loads;
+mod maps;
 mod runs;
 mod words;
 
@@ -23,8 +24,8 @@ pub use faults::{
 };
 pub use files::{empty_memory_file, pool_texts, spoiled_memory_files, spoiled_pool_texts};
 pub use kernels::{
-    bad_addresses, half_of_memory, one_page_is_wanted, pages_needed, segments_that_overlap,
-    two_pages_are_wanted,
+    bad_addresses, half_of_memory, misplaced_segments, one_page_is_wanted, pages_needed,
+    segments_that_overlap, too_much, two_pages_are_wanted,
 };
 pub use lists::{
     crash_list, exchanged_list_is_accepted, exchanged_page_stands_in_two_pairs,
@@ -38,6 +39,7 @@ pub use loads::{
     one_page_kernel, pool_is_a_page_short, pool_pages_are_their_own_destinations,
     two_pages_with_context_preserved,
 };
+pub use maps::{map_with_a_crash_area, spoiled_maps};
 pub use runs::{
     destination_flag_comes_first, exchanged_list_runs, first_page_first_runs, kept_list_runs,
     last_page_first_runs, off_past_the_limit, one_page_runs, round_and_round, run_without_a_source,

@@ -15,3 +15,7 @@ returns-clause-read c = refl
 pub returns-clause-three_pages : goal.returns-clause-three_pages
 unfolding text_of page_of
 returns-clause-three_pages c = refl
+
+pub returns-clause-one_page : goal.returns-clause-one_page
+unfolding pages_read pages_onto entry_at text_of le64 page_of
+returns-clause-one_page c = refl

@@ -15,3 +15,11 @@ returns-clause-lines c = refl
 pub returns-clause-empty : goal.returns-clause-empty
 unfolding pool_reading pages_onto line_onto checked_range range_of lines cut number number_of
 returns-clause-empty c = refl
+
+pub returns-clause-in_the_order_of_the_text : goal.returns-clause-in_the_order_of_the_text
+unfolding pool_reading pages_onto line_onto checked_range range_of lines cut number number_of
+returns-clause-in_the_order_of_the_text c = refl
+
+pub returns-clause-last_page : goal.returns-clause-last_page
+unfolding pool_reading pages_onto line_onto checked_range range_of lines cut number number_of
+returns-clause-last_page c = refl

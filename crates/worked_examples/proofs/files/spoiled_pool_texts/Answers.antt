@@ -11,3 +11,19 @@ returns-clause-repeats c = refl
 pub returns-clause-backwards : goal.returns-clause-backwards
 unfolding pool_reading pages_onto line_onto checked_range range_of lines cut number number_of
 returns-clause-backwards c = refl
+
+pub returns-clause-past_the_limit : goal.returns-clause-past_the_limit
+unfolding pool_reading pages_onto line_onto checked_range range_of lines cut number number_of
+returns-clause-past_the_limit c = refl
+
+pub returns-clause-too_many : goal.returns-clause-too_many
+unfolding pool_reading pages_onto line_onto checked_range range_of lines cut number number_of
+returns-clause-too_many c = refl
+
+pub returns-clause-no_number : goal.returns-clause-no_number
+unfolding pool_reading pages_onto line_onto checked_range range_of lines cut number number_of
+returns-clause-no_number c = refl
+
+pub returns-clause-too_many_digits : goal.returns-clause-too_many_digits
+unfolding pool_reading pages_onto line_onto checked_range range_of lines cut number number_of
+returns-clause-too_many_digits c = refl
