@@ -1,6 +1,6 @@
 -- By computing; where there is no RAM, because no page passes.
-use Rattle.std.proofs.Common.{◌≡◌, ◌+◌, ◌*◌, ◌^◌, ℕ, false, true, refl, ap, cond, Ok, Err, arith}
-use Rattle.std.specs.Prelude.{◌==◌, List, [], ◌∷◌}
+use Rattle.std.proofs.Common.{◌≡◌, ◌^◌, ℕ, false, true, refl, ap, cond, Ok, Err, arith}
+use Rattle.std.specs.Prelude.{◌==◌, [], ◌∷◌}
 use Rattle.std.proofs.lemmas.Bool.Decides.{nat_tests}
 use Rattle.text_lines.specs.Lines.{lines, cut, number, number_of}
 use Rattle.memory_map.specs.Named.{Named, is_ram, ram_pages}
