@@ -3,3 +3,4 @@ pub mod Loads
 pub mod Lists
 pub mod Runs
 pub mod Maps
+pub mod Records
