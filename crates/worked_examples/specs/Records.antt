@@ -1,5 +1,5 @@
 -- The record of a load of `abc` to page 2 that took pages 10, 11 and 12, and its file byte for byte.
-use Rattle.std.specs.Prelude.{ℕ, ◌++◌, List, [], ◌∷◌, codes, replicate, false}
+use Rattle.std.specs.Prelude.{ℕ, ◌++◌, List, ◌∷◌, codes, replicate, false}
 use Rattle.kx_pages.specs.declared.image.Mode.TheVariants.{Plain, Kept}
 use Rattle.load_record.specs.File.{Record}
 use Rattle.worked_examples.specs.Kernels.{three_bytes}
