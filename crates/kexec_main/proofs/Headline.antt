@@ -1,17 +1,21 @@
 -- What a reader looks for in the answers of the top call.
-use Rattle.std.proofs.Common.{◌≡◌, ℕ, List, [], ◌∷◌, Option, Some, None, Result, Ok, Err, subst, sym, ap, inl, inr}
-use Rattle.std.specs.Prelude.{IfSome, ◌⊎◌}
+use Rattle.std.proofs.Common.{◌≡◌, ℕ, List, [], ◌∷◌, Option, Some, None, Result, Ok, Err, subst}
+use Rattle.std.specs.Prelude.{IfSome}
 use Rattle.kx_edge.specs.Edge.{Files, Rose, Said}
 use Rattle.kexec_words.specs.declared.faults.UsageWhy.{UsageWhy}
-use Rattle.kexec_words.specs.Values.{CommandValue, BootValue, LoadValue, boot, load, load_panic, check, dump, exec, trace, sample}
+use Rattle.kexec_words.specs.Values.{CommandValue, BootValue, ExecValue, LoadValue, boot, load, load_panic, check, dump, exec, trace, sample}
 use Rattle.kexec_main.specs.declared.status.NotBuilt.{NotBuilt}
 use Rattle.kexec_main.specs.declared.status.Part.{Part}
-use Rattle.kexec_main.specs.Answers.{Answer, Goods, Moment, File, PutAll, done, unread, unwritten, unsaid, usage}
-use Rattle.kexec_main.specs.Boot.{boots, boots_segments, or_unused}
-use Rattle.kexec_main.specs.Files.{Inputs, input_files}
-use Rattle.kexec_main.specs.Makes.{IsFileOf}
+use Rattle.kexec_main.specs.Answers.{Answer, Goods, Moment, File, PutAll, done, unread, unwritten, unsaid}
+use Rattle.load_record.specs.File.{record_file}
+use Rattle.kexec_main.specs.Boot.{boots_segments, loads_segments, or_unused, record_of_load, start_at}
 use Rattle.kexec_main.specs.Planning.{raw_segment, unused_part, wish_of}
-use Rattle.kexec_main.specs.Run.{Answers, Runs, Boots, Loads, unserved, address_of, entry_of, HasBooted}
+use Rattle.kexec_main.specs.Run.{Answers, Runs, Boots, Loads, unserved, address_of, entry_of, segments_of, load_wish, HasBooted, HasLoaded, HasExecuted}
+use Rattle.load_states.specs.States.{Checked}
+use Rattle.kexec_main.specs.Exec.{executes_as, load_of, runs_of}
+use Rattle.kexec_main.specs.Runs.{after_runs}
+use Rattle.kexec_main.proofs.Leaving.{leaves_as, leaves_by, leaves_of}
+use Rattle.kexec_main.proofs.ListRuns.{runs_fit}
 
 told : {P Q : Files → Type 0} (files : Option Files) → ((held : Files) → P held → Q held) → IfSome files P → IfSome files Q
 told None f h = tt
@@ -36,6 +40,7 @@ boots_done None b before after h = told before.files (λ held k.
       reads = k.2;
       checked = m.0;
       loaded = m.1;
+      leaves = leaves_of b.kept (segments_of b.image k.0.kernel) k.0 m.0 m.1;
       output = m.4.0;
       is_memory = m.4.2;
       put = put_one before.files after.files k.1.outputs (b.out, m.4.0) m.4.1 k.5.0;
@@ -45,6 +50,56 @@ boots_done None b before after h = told before.files (λ held k.
 pub headline : (r : Result CommandValue UsageWhy) (b : BootValue) (before after : Moment) (a : Answer) → r ≡ Ok (boot b) → a ≡ done → Answers r before after a → IfSome before.files (λ held. HasBooted b held before after)
 headline r b before after a e f h =
     boots_done (unserved b.image b.inputs) b before after (subst (λ x. Runs (boot b) before after x) f (subst (λ x. Answers x before after a) e h))
+
+put_two : (before after : Option Files) (outputs : List File) (f g : File) → outputs ≡ f ∷ g ∷ [] → PutAll before outputs after → PutAll before (f ∷ g ∷ []) after
+put_two before after outputs f g e h = subst (λ os. PutAll before os after) e h
+
+loads_done : (o : Option NotBuilt) (l : LoadValue) (before after : Moment) → Loads o l before after done → IfSome before.files (λ held. HasLoaded l held before after)
+loads_done (Some what) l before after h = absurd h
+loads_done None l before after h = told before.files (λ held k.
+    let m = made (unused_part l.inputs) (loads_segments (segments_of l.image k.0.kernel) (entry_of l.image) (load_wish l) l.out l.load_record k.0) k.1 k.3 in
+    record {
+      inputs = k.0;
+      reads = k.2;
+      checked = m.0;
+      loaded = m.1;
+      output = m.4;
+      is_memory = m.5;
+      put = put_two before.files after.files k.1.outputs (l.out, m.4) (l.load_record, record_file (record_of_load m.0.load (start_at (entry_of l.image)))) m.6 k.5.0;
+      said = said_text before.said after.said k.1.text _ m.2 k.5.1;
+    }) h.1
+
+pub loaded : (r : Result CommandValue UsageWhy) (l : LoadValue) (before after : Moment) (a : Answer) → r ≡ Ok (load l) → a ≡ done → Answers r before after a → IfSome before.files (λ held. HasLoaded l held before after)
+loaded r l before after a e f h =
+    loads_done (unserved l.image l.inputs) l before after (subst (λ x. Runs (load l) before after x) f (subst (λ x. Answers x before after a) e h))
+
+executed_done : (e : ExecValue) (before after : Moment) → Runs (exec e) before after done → IfSome before.files (λ held. HasExecuted e held before after)
+executed_done e before after h = told before.files (λ held k.
+    let x = k.0 in
+    let runs = runs_of e.twice x.load_record.image.mode in
+    let r = subst (λ fault. executes_as e.out e.twice x k.1 fault) k.4 k.3.2 in
+    let N = r.1.0 in
+    let l = r.1.1 in
+    let c : Checked = record { load = load_of x r.0; words = l.0; links = l.1; pairs = l.2 } in
+    let f = r.1.3 in
+    record {
+      files = x;
+      reads = k.2;
+      pool = r.0;
+      checked = c;
+      of_files = λ i. load_of x r.0;
+      accepted = l.3;
+      left = N;
+      leaves = leaves_as runs c N (after_runs runs c) l.4 (leaves_by runs c x.load_record.image.mode (λ i. x.load_record.image.mode) (runs_fit e.twice x.load_record.image.mode) l.3);
+      output = f.0;
+      is_memory = f.2;
+      put = put_one before.files after.files k.1.outputs (e.out, f.0) f.1 k.5.0;
+      said = said_text before.said after.said k.1.text _ l.5 k.5.1;
+    }) h.1
+
+pub executed : (r : Result CommandValue UsageWhy) (e : ExecValue) (before after : Moment) (a : Answer) → r ≡ Ok (exec e) → a ≡ done → Answers r before after a → IfSome before.files (λ held. HasExecuted e held before after)
+executed r e before after a is f h =
+    executed_done e before after (subst (λ x. Runs (exec e) before after x) f (subst (λ x. Answers x before after a) is h))
 
 -- the causes of the answers that tell of a device
 boots_unread : (o : Option NotBuilt) (b : BootValue) (before after : Moment) (n : List ℕ) → Boots o b before after (unread n) → Rose before.shelf_faults after.shelf_faults

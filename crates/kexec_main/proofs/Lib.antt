@@ -6,4 +6,6 @@ pub mod Outputs
 pub mod ListRuns
 pub mod Lines
 pub mod Unused
+pub mod Leaving
 pub mod Headline
+pub mod Complete

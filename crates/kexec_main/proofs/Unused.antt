@@ -1,9 +1,8 @@
 -- Parts that a raw kernel has no use for.
-use Rattle.std.proofs.Common.{◌≡◌, List, ◌∷◌, [], Option, Some, None, Result, Ok, Err, sym, subst, refl}
+use Rattle.std.proofs.Common.{◌≡◌, Option, Some, None, Result, Ok, Err, sym, subst, refl}
 use Rattle.kexec_main.specs.declared.status.Part.{Part}
-use Rattle.kexec_main.specs.declared.status.PlanFault.TheVariants as plans
 use Rattle.kexec_main.specs.declared.status.Status.{Status}
-use Rattle.kexec_main.specs.Answers.{Answer, Goods, answer_of, plan}
+use Rattle.kexec_main.specs.Answers.{Answer, Goods, answer_of}
 use Rattle.kexec_main.specs.Boot.{IsUnused, or_unused}
 use Rattle.kexec_main.specs.Makes.{MakesNot}
 

@@ -1,5 +1,5 @@
 -- What `boot` and `load` make of what they read, for raw kernels.
-use Rattle.std.specs.Prelude.{◌≡◌, ℕ, ◌≤◌, List, [], ◌∷◌, length, Bool, true, false, cond, Option, Some, None, Result, Ok, Err}
+use Rattle.std.specs.Prelude.{◌≡◌, ℕ, ◌≤◌, List, [], ◌∷◌, length, false, cond, Option, Some, None, Result, Ok, Err}
 use Rattle.kx_pages.specs.declared.image.Start.{Start}
 use Rattle.kx_pages.specs.declared.image.Wish.{Wish}
 use Rattle.kx_pages.specs.declared.image.Wish.TheVariants.{Plain, Kept}

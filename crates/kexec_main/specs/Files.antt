@@ -8,7 +8,6 @@ use Rattle.page_pool.specs.File.{pool_reading}
 use Rattle.load_record.specs.File.{Record, record_reading}
 use Rattle.memory_map.specs.Named.{Named}
 use Rattle.memory_map.specs.Text.{map_reading}
-use Rattle.memory_map.specs.declared.fault.MapFault.{MapFault}
 use Rattle.kexec_words.specs.Values.{InputsValue}
 use Rattle.kexec_main.specs.declared.status.InputFault.TheVariants as inputs
 use Rattle.kexec_main.specs.declared.status.Status.{Status}

@@ -1,25 +1,34 @@
 -- What each answer of the top call says, by the words after the program's name.
-use Rattle.std.specs.Prelude.{◌≡◌, ℕ, Option, Some, None, is_some, if◌then◌else◌, Result, Ok, Err, List, [], ◌∷◌}
+use Rattle.std.specs.Prelude.{◌≡◌, ◌≤◌, ℕ, Option, Some, None, is_some, if◌then◌else◌, cond, Result, Ok, Err, List, [], ◌∷◌, length}
 use Rattle.kexec_words.specs.declared.faults.UsageWhy.{UsageWhy}
 use Rattle.kexec_words.specs.declared.commands.ImageType.{ImageType}
 use Rattle.kexec_words.specs.declared.commands.ImageType.TheVariants as image
-use Rattle.kexec_words.specs.Values.{CommandValue, InputsValue, BootValue, LoadValue, boot, load, load_panic, check, dump, exec, trace, sample}
+use Rattle.kexec_words.specs.Values.{CommandValue, InputsValue, BootValue, ExecValue, LoadValue, boot, load, load_panic, check, dump, exec, trace, sample}
 use Rattle.kexec_words.specs.Meaning.{files_of}
 use Rattle.kexec_main.specs.declared.boot.Raw.{Raw}
 use Rattle.kexec_main.specs.declared.status.NotBuilt.{NotBuilt}
 use Rattle.kexec_main.specs.declared.status.NotBuilt.TheVariants.{Command, Format, Purgatory}
 use Rattle.kexec_main.specs.declared.status.Status.{Status}
 use Rattle.kx_edge.specs.Edge.{Files, Said}
+use Rattle.kx_pages.specs.declared.image.Wish.{Wish}
+use Rattle.kx_pages.specs.declared.image.Wish.TheVariants as wishes
+use Rattle.page_memory.specs.Contents.{at}
+use Rattle.page_memory.specs.Memory.{Mem}
+use Rattle.segments.specs.Parts.{Part, need}
+use Rattle.load_record.specs.File.{record_file}
 use Rattle.load_states.specs.States.{Checked}
+use Rattle.load_states.specs.Ready.{Told}
+use Rattle.page_pool.specs.Pages.{Pages}
+use Rattle.kexec_main.specs.declared.load_files.LoadFiles.{LoadFiles}
 use Rattle.kexec_main.specs.Answers.{Answer, Moment, Untouched, Calm, Meets, PutAll, answer_of, usage, not_built, memory}
-use Rattle.kexec_main.specs.Boot.{IsLoaded, boots, loads, start_at}
+use Rattle.kexec_main.specs.Boot.{IsLoaded, boots, loads, record_of_load, start_at}
 use Rattle.kexec_main.specs.Check.{checks}
 use Rattle.kexec_main.specs.Dump.{dumps}
-use Rattle.kexec_main.specs.Exec.{executes}
+use Rattle.kexec_main.specs.Exec.{executes, load_of, runs_of}
 use Rattle.kexec_main.specs.Files.{Inputs, input_files, memory_file}
-use Rattle.kexec_main.specs.Makes.{IsFileOf}
-use Rattle.kexec_main.specs.Planning.{raw_segment, wish_of}
-use Rattle.kexec_main.specs.Runs.{after_runs, run_text}
+use Rattle.kexec_main.specs.Makes.{IsFileOf, IsTooHeavy}
+use Rattle.kexec_main.specs.Planning.{IsRefusal, raw_segment, unused_part, wish_of}
+use Rattle.kexec_main.specs.Runs.{Leaves, after_runs, list_text, run_text}
 use Rattle.kexec_main.specs.Loads.{load_files}
 use Rattle.kexec_main.specs.Trace.{traces}
 
@@ -73,15 +82,73 @@ Answers (Err why) before after (usage w) = (w ≡ why) × Untouched before after
 Answers (Err why) before after memory = Untouched before after × Calm before after
 Answers (Err why) before after other = ⊥
 
+-- the segments of a raw kernel of these bytes
+abbrev pub segments_of : ImageType → List ℕ → List Part
+segments_of im kernel = raw_segment (address_of im) kernel ∷ []
+
 -- What stands after `boot` answered Done, where files were told: all that the words name was read; the pool sufficed; the
--- load laid an accepted list; OUT is the file of the memory after the last run, every other file is as it was, and the
--- text tells the list and each run.
+-- load wrote only pages of the pool and laid an accepted list; the runs leave what they are to leave; OUT is the file of
+-- the memory after the last run, every other file is as it was, and the text tells the list and each run.
 pub record HasBooted (b : BootValue) (held : Files) (before after : Moment) : Type 0 where
   pub inputs : Inputs
   pub reads : input_files b.inputs held ≡ Ok inputs
   pub checked : Checked
-  pub loaded : IsLoaded (wish_of b.kept) (raw_segment (address_of b.image) inputs.kernel ∷ []) inputs checked
+  pub loaded : IsLoaded (wish_of b.kept) (segments_of b.image inputs.kernel) inputs checked
+  pub leaves : Leaves b.kept checked (after_runs b.kept checked)
   pub output : List ℕ
   pub is_memory : IsFileOf (after_runs b.kept checked) output
   pub put : PutAll before.files ((b.out, output) ∷ []) after.files
   pub said : Said before.said (run_text b.kept checked (start_at (entry_of b.image))) after.said
+
+-- the wish of a load
+abbrev pub load_wish : LoadValue → Wish
+load_wish l = cond l.kept wishes.Kept wishes.Plain
+
+-- What stands after `load` answered Done, where files were told: all that the words name was read; the pool sufficed; the
+-- load wrote only pages of the pool and laid an accepted list; OUT is the file of the memory after the load, RECORD tells
+-- its list, start and segments, every other file is as it was, and the text tells the list.
+pub record HasLoaded (l : LoadValue) (held : Files) (before after : Moment) : Type 0 where
+  pub inputs : Inputs
+  pub reads : input_files l.inputs held ≡ Ok inputs
+  pub checked : Checked
+  pub loaded : IsLoaded (load_wish l) (segments_of l.image inputs.kernel) inputs checked
+  pub output : List ℕ
+  pub is_memory : IsFileOf (at checked.load.memory) output
+  pub put : PutAll before.files ((l.out, output) ∷ (l.load_record, record_file (record_of_load checked.load (start_at (entry_of l.image)))) ∷ []) after.files
+  pub said : Said before.said (list_text checked (start_at (entry_of l.image))) after.said
+
+-- What stands after `exec` answered Done, where files were told: the memory and the record were read; the record's list is
+-- accepted in the memory for the record's segments; the runs left what they are to leave; OUT is the file of that memory,
+-- every other file is as it was, and the text tells the list and each run.
+pub record HasExecuted (e : ExecValue) (held : Files) (before after : Moment) : Type 0 where
+  pub files : LoadFiles
+  pub reads : load_files e.memory e.load_record held ≡ Ok files
+  pub pool : Pages
+  pub checked : Checked
+  pub of_files : checked.load ≡ load_of files pool
+  pub accepted : Told checked.load checked.words checked.links checked.pairs
+  pub left : Mem
+  pub leaves : Leaves (runs_of e.twice files.load_record.image.mode) checked left
+  pub output : List ℕ
+  pub is_memory : IsFileOf left output
+  pub put : PutAll before.files ((e.out, output) ∷ []) after.files
+  pub said : Said before.said (run_text (runs_of e.twice files.load_record.image.mode) checked files.load_record.start) after.said
+
+-- Nothing refuses a load of what these inputs hold, and each memory that it may leave has a file: the request is served,
+-- the files are read, no part is given that the kernel has no use for, the segments meet the rules, the pool has as many
+-- pages as the load takes, and the memory has at most as many pages as a file.
+pub record IsInOrder (image : ImageType) (i : InputsValue) (wish : Wish) (leaves : Checked → Mem) (held : Files) : Type 0 where
+  pub served : unserved image i ≡ None
+  pub inputs : Inputs
+  pub reads : input_files i held ≡ Ok inputs
+  pub used : unused_part i ≡ None
+  pub ruled : IsRefusal inputs.map (segments_of image inputs.kernel) None
+  pub enough : need wish (segments_of image inputs.kernel) ≤ length inputs.pool
+  pub light : (c : Checked) (count : ℕ) → IsLoaded wish (segments_of image inputs.kernel) inputs c → IsTooHeavy (leaves c) count → ⊥
+
+-- the memory after `boot`, and after `load`
+abbrev pub boot_leaves : BootValue → Checked → Mem
+boot_leaves b c = after_runs b.kept c
+
+abbrev pub load_leaves : Checked → Mem
+load_leaves c = at c.load.memory

@@ -1,30 +1,28 @@
 //! `exec`: runs the list of a load record where it is accepted.
 
-ghost use Rattle.std.specs.Prelude.{◌≡◌, ◌∷◌, [], length, false, IfOk, string_bytes};
-ghost use Rattle.page_memory.specs.Contents.{at};
-ghost use Rattle.load_states.specs.States.{swap_of};
+ghost use Rattle.std.specs.Prelude.{◌≡◌, ◌∷◌, [], string_bytes};
+ghost use Rattle.load_states.specs.Answers.{IsAcceptedAs};
+ghost use Rattle.load_states.specs.States.{Load as LoadOf};
 ghost use Rattle.kexec_words.specs.Values.{exec_value};
 ghost use Rattle.kexec_main.specs.Answers.{Meets, ended};
-ghost use Rattle.kexec_main.specs.Exec.{after_runs, ends, executes, told_text};
+ghost use Rattle.kexec_main.specs.Boot.{HasMode};
+ghost use Rattle.kexec_main.specs.Exec.{executes, runs_list, runs_of};
 ghost use Rattle.kexec_main.specs.Loads.{lacks_swap_page, load_files};
 ghost use Rattle.kexec_main.specs.Makes.{Makes};
-ghost use Rattle.kexec_main.specs.Texts.{load_lines};
 
 use crate::check::fault_goods;
 use crate::deliver::{Goods, deliver};
 use crate::load_files::{LoadFiles, take_load_files};
 use crate::output::memory_output;
+use crate::running::run_accepted;
 use crate::status::{NotBuilt, Status};
-use crate::text::{load_lines, push_ran_line};
-use kexec_words::Exec;
+use kexec_words::{Exec, Runs};
 use kx_edge::{Shelf, Sink};
-use kx_pages::{Image, Mode, Start};
-use list_checker::Accept;
+use kx_pages::{Mode, Start};
 use load_record::LoadRecord;
-use load_states::{Accepted, AcceptedKept, AcceptedPlain, Loaded};
-use page_memory::Memory;
+use load_states::{Accepted, Loaded};
 use page_pool::Pool;
-use std::alloc::{AllocError, Global};
+use std::alloc::Global;
 
 // A second run is asked for, and the record is in plain mode.
 fn lacks_swap_page(twice: bool, mode: Mode) -> bool
@@ -36,60 +34,35 @@ fn lacks_swap_page(twice: bool, mode: Mode) -> bool
     }
 }
 
-// What is told of an accepted list.
-fn told(alloc: Global, accept: &Accept, image: Image, start: &Start) -> Result<String, AllocError>
-    ensures { IfOk result (λ s. string_bytes s ≡ load_lines accept.now.words accept.now.links (length accept.now.pairs.items) image start.now) }
+// The runs of a list in this mode.
+fn runs_of(twice: bool, mode: Mode) -> Option<Runs>
+    ensures { result ≡ runs_of twice mode }
 {
-    let pairs = accept.pairs.len() as u64;
-    load_lines(alloc, accept.words, accept.links, pairs, &image, start)
+    match (mode, twice) {
+        (Mode::Plain, _) => None,
+        (Mode::Kept { swap: _ }, false) => Some(Runs::Once),
+        (Mode::Kept { swap: _ }, true) => Some(Runs::Twice),
+    }
 }
 
-// The text, and the file of the memory after the last run.
-fn finish(alloc: Global, memory: &Memory, text: String, out: String) -> Result<Goods, Status>
-    ensures { Makes (ends (string_bytes out) (string_bytes text)) (at memory.now) result }
+// Runs an accepted list, and makes the file of the memory after the last run.
+fn run_goods(
+    alloc: Global,
+    accepted: Accepted,
+    runs: Option<Runs>,
+    start: &Start,
+    out: String,
+) -> Result<Goods, Status>
+    requires { (s : LoadOf) × IsAcceptedAs s accepted × HasMode runs s.image.mode }
+    ensures { (s : LoadOf) → IsAcceptedAs s accepted → Makes (runs_list (string_bytes out) runs start.now) s result }
 {
-    let outputs = memory_output(alloc, memory, out)?;
+    let ran = run_accepted(alloc, accepted, runs, start)?;
+    let outputs = memory_output(alloc, &ran.memory, out)?;
     Ok(Goods {
         outputs,
-        text,
+        text: ran.text,
         fault: None,
     })
-}
-
-// Runs a plain list.
-fn plain_goods(
-    alloc: Global,
-    list: AcceptedPlain,
-    start: &Start,
-    out: String,
-) -> Result<Goods, Status>
-    ensures { Makes (ends (string_bytes out) (told_text false list start.now)) (after_runs Mode.Plain false (at list.load.memory) list.load.segments list.pairs) result }
-{
-    let mut text = told(alloc, list.accept_data(), list.image(), start)?;
-    let ran = list.exec();
-    push_ran_line(alloc, &mut text, ran.steps())?;
-    finish(alloc, ran.memory(), text, out)
-}
-
-// Runs a list with context preserved, once or twice.
-fn kept_goods(
-    alloc: Global,
-    list: AcceptedKept,
-    start: &Start,
-    twice: bool,
-    out: String,
-) -> Result<Goods, Status>
-    ensures { Makes (ends (string_bytes out) (told_text twice list start.now)) (after_runs (Mode.Kept (swap_of list.load)) twice (at list.load.memory) list.load.segments list.pairs) result }
-{
-    let mut text = told(alloc, list.accept_data(), list.image(), start)?;
-    let ran = list.exec();
-    push_ran_line(alloc, &mut text, ran.steps())?;
-    if !twice {
-        return finish(alloc, ran.memory(), text, out);
-    }
-    let back = ran.back();
-    push_ran_line(alloc, &mut text, back.steps())?;
-    finish(alloc, back.memory(), text, out)
 }
 
 // Runs the list where it is accepted, and makes the file of the memory after the last run.
@@ -115,11 +88,11 @@ fn exec_goods(alloc: Global, files: LoadFiles, twice: bool, out: String) -> Resu
     if lacks_swap_page(twice, image.mode) {
         return Err(Status::NotKept);
     }
+    let runs = runs_of(twice, image.mode);
     let loaded = Loaded::from_parts(memory, Pool::empty(alloc), image, segments);
     match loaded.accept(alloc) {
         Err(refused) => fault_goods(alloc, refused.why),
-        Ok(Accepted::Plain(list)) => plain_goods(alloc, list, &start, out),
-        Ok(Accepted::Kept(list)) => kept_goods(alloc, list, &start, twice, out),
+        Ok(accepted) => run_goods(alloc, accepted, runs, &start, out),
     }
 }
 

@@ -6,9 +6,13 @@ mod check;
 mod deliver;
 mod dump;
 mod exec;
+#[cfg(test)]
+mod first_example;
 mod load_files;
 mod loading;
 mod output;
+#[cfg(test)]
+mod refused_memory;
 mod run;
 mod running;
 mod status;

@@ -1,13 +1,14 @@
 //! The top call.
 
-ghost use Rattle.std.specs.Prelude.{◌≡◌, ℕ, List, map, string_bytes, IfSome, Ok};
+ghost use Rattle.std.specs.Prelude.{◌≡◌, ◌⊎◌, ℕ, List, map, string_bytes, IfSome, Ok};
 ghost use Rattle.kx_edge.specs.Edge.{Rose};
-ghost use Rattle.kexec_main.specs.Answers.{answer_of, done, ended, unread, unsaid, unwritten};
-ghost use Rattle.kexec_main.specs.Run.{Answers, HasBooted, Serves, Runs};
+ghost use Rattle.kexec_main.specs.Answers.{answer_of, done, ended, memory, unread, unsaid, unwritten};
+ghost use Rattle.kexec_main.specs.Planning.{wish_of};
+ghost use Rattle.kexec_main.specs.Run.{Answers, HasBooted, HasExecuted, HasLoaded, IsInOrder, Serves, Runs, boot_leaves, load_leaves, load_wish};
 ghost use Rattle.kexec_words.specs.Limits.{IsWithinLimits};
 ghost use Rattle.kexec_words.specs.Meaning.{command_of};
 ghost use Rattle.kexec_words.specs.Values as values;
-ghost use Rattle.kexec_words.specs.Values.{BootValue, boot_value, command_value, inputs_value, load_value};
+ghost use Rattle.kexec_words.specs.Values.{BootValue, ExecValue, LoadValue, boot_value, command_value, inputs_value, load_value};
 
 use crate::boot::{Raw, boot, load_command};
 use crate::check::check;
@@ -106,11 +107,34 @@ pub fn kexec<S: Shelf, O: Sink>(
         (record { files = S.files shelf.new; shelf_faults = S.faults shelf.new; said = O.said out.new; sink_faults = O.faults out.new })
         (answer_of result) }
 
-    // After a boot that is Done the pool sufficed, the list that was laid is accepted, OUT is the file of the memory
-    // after the last run, all other files are as they were, and the text tells the list and each run.
+    // After a boot that is Done the pool sufficed, the load wrote only pages of the pool, the list that was laid is
+    // accepted, each page of the segments has its bytes and then zeros (after a second run each page but the swap page is
+    // as it was before the first), OUT is the file of the memory after the last run, all other files are as they were,
+    // and the text tells the list and each run.
     ensures headline { (b : BootValue) → command_of (map string_bytes words.now) ≡ Ok (values.boot b) → answer_of result ≡ done → IfSome (S.files shelf.old) (λ held. HasBooted b held
         (record { files = S.files shelf.old; shelf_faults = S.faults shelf.old; said = O.said out.old; sink_faults = O.faults out.old })
         (record { files = S.files shelf.new; shelf_faults = S.faults shelf.new; said = O.said out.new; sink_faults = O.faults out.new })) }
+
+    // After a load that is Done the pool sufficed, the load wrote only pages of the pool, the list that was laid is
+    // accepted, OUT is the file of the memory and RECORD that of the load, all other files are as they were, and the text
+    // tells the list.
+    ensures loaded { (l : LoadValue) → command_of (map string_bytes words.now) ≡ Ok (values.load l) → answer_of result ≡ done → IfSome (S.files shelf.old) (λ held. HasLoaded l held
+        (record { files = S.files shelf.old; shelf_faults = S.faults shelf.old; said = O.said out.old; sink_faults = O.faults out.old })
+        (record { files = S.files shelf.new; shelf_faults = S.faults shelf.new; said = O.said out.new; sink_faults = O.faults out.new })) }
+
+    // After an exec that is Done the record's list is accepted in the memory for the record's segments, each page of the
+    // segments has its bytes and then zeros and a plain run changed no other page (after a second run each page but the
+    // swap page is as it was before the first), OUT is the file of that memory, all other files are as they were, and the
+    // text tells the list and each run.
+    ensures executed { (e : ExecValue) → command_of (map string_bytes words.now) ≡ Ok (values.exec e) → answer_of result ≡ done → IfSome (S.files shelf.old) (λ held. HasExecuted e held
+        (record { files = S.files shelf.old; shelf_faults = S.faults shelf.old; said = O.said out.old; sink_faults = O.faults out.old })
+        (record { files = S.files shelf.new; shelf_faults = S.faults shelf.new; said = O.said out.new; sink_faults = O.faults out.new })) }
+
+    // What nothing refuses is Done, where no count of faults rises, or memory is wanted.
+    ensures boot_complete { (b : BootValue) → command_of (map string_bytes words.now) ≡ Ok (values.boot b) → IfSome (S.files shelf.old) (λ held. IsInOrder b.image b.inputs (wish_of b.kept) (boot_leaves b) held
+        → (Rose (S.faults shelf.old) (S.faults shelf.new) → ⊥) → (Rose (O.faults out.old) (O.faults out.new) → ⊥) → (answer_of result ≡ done) ⊎ (answer_of result ≡ memory)) }
+    ensures load_complete { (l : LoadValue) → command_of (map string_bytes words.now) ≡ Ok (values.load l) → IfSome (S.files shelf.old) (λ held. IsInOrder l.image l.inputs (load_wish l) load_leaves held
+        → (Rose (S.faults shelf.old) (S.faults shelf.new) → ⊥) → (Rose (O.faults out.old) (O.faults out.new) → ⊥) → (answer_of result ≡ done) ⊎ (answer_of result ≡ memory)) }
 
     // An answer that tells of a device comes only where the count of its faults rose.
     ensures unread { (name : List ℕ) → answer_of result ≡ unread name → Rose (S.faults shelf.old) (S.faults shelf.new) }

@@ -9,7 +9,8 @@ ghost use Rattle.kexec_main.specs.Boot.{HasMode, RunsLoaded};
 ghost use Rattle.page_memory.specs.Contents.{at};
 ghost use Rattle.page_memory.specs.Memory.{Agree};
 ghost use Rattle.list_checker.specs.Checked.{as_pair};
-ghost use Rattle.load_states.specs.States.{swap_of};
+ghost use Rattle.load_states.specs.Answers.{IsAcceptedAs};
+ghost use Rattle.load_states.specs.States.{Load, swap_of};
 ghost use Rattle.load_states.specs.Exchange.{exchange};
 ghost use Rattle.kexec_main.specs.Texts.{load_lines, ran_line};
 ghost use Rattle.kexec_main.specs.Runs.{after_runs, run_text};
@@ -50,12 +51,8 @@ fn accepted_text(
     )
 }
 
-/// Runs a plain list.
-pub(crate) fn run_plain(
-    alloc: Global,
-    accepted: AcceptedPlain,
-    start: &Start,
-) -> Result<Ran, AllocError>
+// Runs a plain list.
+fn run_plain(alloc: Global, accepted: AcceptedPlain, start: &Start) -> Result<Ran, AllocError>
     ensures memory { IfOk result (λ r. Agree (at r.memory) (after_runs None accepted)) }
     ensures text { IfOk result (λ r. string_bytes r.text ≡ run_text None accepted start.now) }
 {
@@ -80,8 +77,8 @@ fn run_back(alloc: Global, ran: RanKept, text: &mut String) -> Result<Memory, Al
     Ok(memory)
 }
 
-/// Runs a list with context preserved, once, or once and back again.
-pub(crate) fn run_kept(
+// Runs a list with context preserved, once, or once and back again.
+fn run_kept(
     alloc: Global,
     accepted: AcceptedKept,
     runs: Runs,
@@ -106,6 +103,23 @@ pub(crate) fn run_kept(
     }
 }
 
+/// Runs an accepted list: a plain one once, and one with context preserved as often as is asked.
+pub(crate) fn run_accepted(
+    alloc: Global,
+    accepted: Accepted,
+    runs: Option<Runs>,
+    start: &Start,
+) -> Result<Ran, AllocError>
+    requires { (s : Load) × IsAcceptedAs s accepted × HasMode runs s.image.mode }
+    ensures { (s : Load) → IsAcceptedAs s accepted → IfOk result (λ r. RunsLoaded runs s start.now (at r.memory) (string_bytes r.text)) }
+{
+    match (accepted, runs) {
+        (Accepted::Plain(plain), None) => run_plain(alloc, plain, start),
+        (Accepted::Kept(kept), Some(runs)) => run_kept(alloc, kept, runs, start),
+        _ => unreachable!(),
+    }
+}
+
 /// Accepts a load whose list is accepted, and runs it.
 pub(crate) fn run_loaded(
     alloc: Global,
@@ -118,9 +132,6 @@ pub(crate) fn run_loaded(
     ensures ran { IfOk result (λ r. RunsLoaded runs loaded start.now (at r.memory) (string_bytes r.text)) }
     ensures memory { IfErr result (λ s. answer_of s ≡ memory) }
 {
-    match (accept(alloc, loaded)?, runs) {
-        (Accepted::Plain(plain), None) => Ok(run_plain(alloc, plain, start)?),
-        (Accepted::Kept(kept), Some(runs)) => Ok(run_kept(alloc, kept, runs, start)?),
-        _ => unreachable!(),
-    }
+    let accepted = accept(alloc, loaded)?;
+    Ok(run_accepted(alloc, accepted, runs, start)?)
 }

@@ -1,70 +1,158 @@
-use super::*;
-use kx_edge::{MemoryShelf, MemorySink, Shelf};
+use crate::Status;
+use crate::first_example::{
+    BOOT, BOOT_TEXT, EXEC, LOAD, LOAD_TEXT, first_memory, first_record, lacks, memory_start,
+    numbers, push_page, run, shelf,
+};
+use kx_edge::Shelf;
 use std::alloc::{AllocError, Global};
 use std::test::Fail;
-
-// Words, made of these texts.
-fn words(alloc: Global, texts: &[&str]) -> Result<Vec<String>, AllocError> {
-    texts
-        .iter()
-        .map(|text| String::from_str(alloc, text))
-        .try_collect(alloc)
-}
-
-// A memory without pages, this pool and the kernel `abc`, with room for the output.
-fn shelf(alloc: Global, pool: &str, failing: &[u64]) -> Result<MemoryShelf, AllocError> {
-    let mut files = Vec::new(alloc);
-    files.push((
-        String::from_str(alloc, "m")?,
-        b"KXMEM001\0\0\0\0\0\0\0\0".to_vec(alloc)?,
-    ))?;
-    files.push((
-        String::from_str(alloc, "p")?,
-        pool.as_bytes().to_vec(alloc)?,
-    ))?;
-    files.push((String::from_str(alloc, "k")?, b"abc".to_vec(alloc)?))?;
-    let mut shelf = MemoryShelf::new(alloc, files, failing.to_vec(alloc)?);
-    shelf.reserve("o", 20000)?;
-    Ok(shelf)
-}
-
-// The exit status of the first boot over this shelf, and what was said.
-fn boot(alloc: Global, shelf: &mut MemoryShelf) -> Result<(u8, MemorySink), AllocError> {
-    let words = words(
-        alloc,
-        &["boot", "--type", "raw", "--at", "2000", "m", "p", "o", "k"],
-    )?;
-    let mut sink = MemorySink::new(alloc, Vec::new(alloc));
-    sink.reserve(200)?;
-    let status = kexec(alloc, &words, shelf, &mut sink);
-    Ok((status.code(), sink))
-}
 
 #[test]
 fn the_first_boot_is_done(rt: HostRuntime) -> Result<(), Fail> {
     let alloc = rt.alloc();
-    let mut shelf = shelf(alloc, "10-12\n", &[])?;
-    let (code, sink) = boot(alloc, &mut shelf)?;
-    assert_eq!(rt; code, 0);
-    let text =
-        b"accepted words 4 links 1 pairs 1\nhead 11002 control 10000\nstart entry 2000 rax 0 rbx 0 rsi 0\nran 4\n";
-    assert_eq!(rt; sink.said(), text.as_slice());
-    let out = shelf.take(alloc, "o", 20000)?;
-    assert_eq!(rt; out.len(), 12328);
+    let mut shelf = shelf(alloc, "10-12\n", b"abc", &[])?;
+    let (status, sink) = run(alloc, &BOOT, &mut shelf, &[])?;
+    assert_eq!(rt; status.code(), 0);
+    assert_eq!(rt; sink.said(), BOOT_TEXT);
+    assert!(rt; shelf.take(alloc, "o", 20000)? == first_memory(alloc, true)?);
     Ok(())
 }
 
 #[test]
-fn a_pool_that_is_one_page_short_and_failing_devices(rt: HostRuntime) -> Result<(), Fail> {
+fn a_pool_that_is_one_page_short_is_told(rt: HostRuntime) -> Result<(), Fail> {
     let alloc = rt.alloc();
-    let mut short = shelf(alloc, "10-11\n", &[])?;
-    let (code, sink) = boot(alloc, &mut short)?;
-    assert_eq!(rt; code, 9);
+    let mut shelf = shelf(alloc, "10-11\n", b"abc", &[])?;
+    let (status, sink) = run(alloc, &BOOT, &mut shelf, &[])?;
+    assert!(rt; matches!(status, Status::NoPages { pool: 2, need: 3 }));
+    assert_eq!(rt; status.code(), 9);
     assert_eq!(rt; sink.said().len(), 0);
-    for (failing, wanted) in [(0u64, 3u8), (1, 3), (2, 3), (3, 4), (4, 0)] {
-        let mut shelf = shelf(alloc, "10-12\n", &[failing])?;
-        let (code, _) = boot(alloc, &mut shelf)?;
-        assert_eq!(rt; code, wanted, "call {failing}");
+    Ok(())
+}
+
+// The memory after the run of a kernel of 510 pages: its pages, the list and the source pages.
+fn long_memory(alloc: Global, kernel: &[u8]) -> Result<Vec<u8>, AllocError> {
+    let mut list = numbers(alloc, &[0x2001])?;
+    let mut file = memory_start(alloc, 1021)?;
+    for (page, bytes) in (2..512u64).zip(kernel.chunks(4096)) {
+        push_page(&mut file, page, bytes)?;
+        list.extend_from_slice(&(4096 * (page + 0x1000) + 8).to_le_bytes())?;
     }
+    list.extend_from_slice(&4u64.to_le_bytes())?;
+    push_page(&mut file, 0x1001, &list)?;
+    for (page, bytes) in (0x1002..0x1200u64).zip(kernel.chunks(4096)) {
+        push_page(&mut file, page, bytes)?;
+    }
+    Ok(file)
+}
+
+// The pool has the 512 pages that the load takes. The second kernel ends one byte into its last page.
+#[test]
+fn a_boot_of_510_pages_fills_one_link_page(rt: HostRuntime) -> Result<(), Fail> {
+    let alloc = rt.alloc();
+    for length in [510 * 4096, 509 * 4096 + 1u32] {
+        let mut kernel = Vec::new(alloc);
+        for i in 0..length {
+            kernel.push((i % 251) as u8)?;
+        }
+        let mut shelf = shelf(alloc, "1000-11ff\n", &kernel, &[])?;
+        let (status, sink) = run(alloc, &BOOT, &mut shelf, &[])?;
+        assert_eq!(rt; status.code(), 0);
+        let text =
+            b"accepted words 513 links 1 pairs 510\nhead 1001002 control 1000000\nstart entry 2000 rax 0 rbx 0 rsi 0\nran 513\n";
+        assert_eq!(rt; sink.said(), text.as_slice());
+        let out = shelf.take(alloc, "o", 5_000_000)?;
+        assert!(rt; out == long_memory(alloc, &kernel)?, "{length} bytes");
+    }
+    Ok(())
+}
+
+#[test]
+fn a_load_and_then_its_exec_do_what_the_boot_does(rt: HostRuntime) -> Result<(), Fail> {
+    let alloc = rt.alloc();
+    let mut shelf = shelf(alloc, "10-12\n", b"abc", &[])?;
+    let (status, sink) = run(alloc, &LOAD, &mut shelf, &[])?;
+    assert_eq!(rt; status.code(), 0);
+    assert_eq!(rt; sink.said(), LOAD_TEXT);
+    assert!(rt; shelf.take(alloc, "o", 20000)? == first_memory(alloc, false)?);
+    let load_record = shelf.take(alloc, "r", 20000)?;
+    assert_eq!(rt; load_record.len(), 123);
+    assert!(rt; load_record == first_record(alloc)?);
+    let (status, sink) = run(alloc, &EXEC, &mut shelf, &[])?;
+    assert_eq!(rt; status.code(), 0);
+    assert_eq!(rt; sink.said(), BOOT_TEXT);
+    assert!(rt; shelf.take(alloc, "x", 20000)? == first_memory(alloc, true)?);
+    Ok(())
+}
+
+#[test]
+fn a_file_that_cannot_be_taken_ends_the_load(rt: HostRuntime) -> Result<(), Fail> {
+    let alloc = rt.alloc();
+    for (failing, wanted) in [(0u64, "m"), (1, "p"), (2, "k")] {
+        let mut shelf = shelf(alloc, "10-12\n", b"abc", &[failing])?;
+        let (status, sink) = run(alloc, &LOAD, &mut shelf, &[])?;
+        assert_eq!(rt; status.code(), 3, "call {failing}");
+        assert!(rt; matches!(&status, Status::Unread { name } if name.as_str() == wanted));
+        assert_eq!(rt; sink.said().len(), 0);
+        assert!(rt; lacks(alloc, &mut shelf, "o"));
+        assert!(rt; lacks(alloc, &mut shelf, "r"));
+    }
+    Ok(())
+}
+
+// A put that fails leaves half of the output, 4,112 of 8,224 bytes and 61 of 123, and no later one is made.
+#[test]
+fn an_output_that_cannot_be_put_ends_the_load(rt: HostRuntime) -> Result<(), Fail> {
+    let alloc = rt.alloc();
+    let memory = first_memory(alloc, false)?;
+    for (failing, wanted, length) in [(3u64, "o", 4112usize), (4, "r", 8224)] {
+        let mut shelf = shelf(alloc, "10-12\n", b"abc", &[failing])?;
+        let (status, sink) = run(alloc, &LOAD, &mut shelf, &[])?;
+        assert_eq!(rt; status.code(), 4, "call {failing}");
+        assert!(rt; matches!(&status, Status::Unwritten { name } if name.as_str() == wanted));
+        assert_eq!(rt; sink.said().len(), 0);
+        let out = shelf.take(alloc, "o", 20000)?;
+        assert_eq!(rt; out.len(), length);
+        assert!(rt; memory.starts_with(&out));
+        assert_eq!(rt; lacks(alloc, &mut shelf, "r"), failing == 3);
+        if failing == 4 {
+            let load_record = shelf.take(alloc, "r", 20000)?;
+            assert_eq!(rt; load_record.len(), 61);
+            assert!(rt; first_record(alloc)?.starts_with(&load_record));
+        }
+    }
+    Ok(())
+}
+
+// The load makes five calls of the shelf: the sixth, which fails, is the test's own.
+#[test]
+fn a_sink_that_fails_leaves_whole_outputs(rt: HostRuntime) -> Result<(), Fail> {
+    let alloc = rt.alloc();
+    for (failing, code) in [([0u64].as_slice(), 5u8), ([].as_slice(), 0)] {
+        let mut shelf = shelf(alloc, "10-12\n", b"abc", &[5])?;
+        let (status, sink) = run(alloc, &LOAD, &mut shelf, failing)?;
+        assert_eq!(rt; status.code(), code);
+        assert_eq!(rt; sink.said().is_empty(), code == 5);
+        assert!(rt; lacks(alloc, &mut shelf, "o"));
+        assert!(rt; shelf.take(alloc, "o", 20000)? == first_memory(alloc, false)?);
+        assert!(rt; shelf.take(alloc, "r", 20000)? == first_record(alloc)?);
+    }
+    Ok(())
+}
+
+// The first byte of the source page is changed after the load.
+#[test]
+fn a_spoiled_list_is_told_and_not_run(rt: HostRuntime) -> Result<(), Fail> {
+    let alloc = rt.alloc();
+    let mut shelf = shelf(alloc, "10-12\n", b"abc", &[])?;
+    let (status, _) = run(alloc, &LOAD, &mut shelf, &[])?;
+    assert_eq!(rt; status.code(), 0);
+    let mut memory = shelf.take(alloc, "o", 20000)?;
+    assert_eq!(rt; memory.len(), 8224);
+    memory[4128] = b'b';
+    assert!(rt; shelf.put("o", &memory).is_ok());
+    let (status, sink) = run(alloc, &EXEC, &mut shelf, &[])?;
+    assert_eq!(rt; status.code(), 1);
+    assert_eq!(rt; sink.said(), b"word 2: WrongBytes\n".as_slice());
+    assert!(rt; lacks(alloc, &mut shelf, "x"));
     Ok(())
 }

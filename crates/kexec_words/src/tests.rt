@@ -141,9 +141,18 @@ fn says_what_is_wrong_and_what_is_wanted(rt: HostRuntime) -> Result<(), Fail> {
     let why = UsageWhy::Number { which: Which::At };
     let text = format!(in alloc; "{}", WordsFault::Usage { why })?;
     assert!(rt; text.as_str() == "--at is not a hexadecimal number of 1 to 16 digits");
-    let general = help_of(&split(alloc, "restart")?);
-    assert!(rt; general.starts_with("Usage: kexec COMMAND"));
-    let trace = help_of(&split(alloc, "trace m")?);
-    assert!(rt; trace.starts_with("Usage: kexec trace"));
+    for (line, usage) in [
+        ("restart", "Usage: kexec COMMAND "),
+        ("boot m", "Usage: kexec boot "),
+        ("load", "Usage: kexec load ["),
+        ("load-panic", "Usage: kexec load-panic "),
+        ("check", "Usage: kexec check "),
+        ("dump --help", "Usage: kexec dump "),
+        ("exec", "Usage: kexec exec "),
+        ("trace m", "Usage: kexec trace "),
+        ("sample x", "Usage: kexec sample "),
+    ] {
+        assert!(rt; help_of(&split(alloc, line)?).starts_with(usage), "{line}");
+    }
     Ok(())
 }

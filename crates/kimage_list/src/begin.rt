@@ -47,6 +47,7 @@ pub fn prepare(
     ensures sets { memory.new.sets ≡ memory.old.sets }
     ensures stay { (q : ℕ) → IsHeld memory.old q → IsHeld memory.new q }
 {
+    memory.reserve(need as usize)?;
     hold_first(memory, pool, need)?;
     table_of(alloc, wanted)
 }

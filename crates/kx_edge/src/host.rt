@@ -8,7 +8,7 @@ ghost use Rattle.kx_edge.specs.Edge.{Rose, raised, read_of, PutFile, PutPrefix, 
 use crate::{PutFailed, SayFailed, Shelf, ShelfFault, Sink};
 use std::alloc::Global;
 use std::fs;
-use std::io::{Read, Write};
+use std::io::{self, Read, Write};
 use std::marker::Model;
 use std::rt::Files;
 
@@ -17,7 +17,8 @@ const PIECE: usize = 65536;
 
 /// The files of the system, by their paths. It tells no contents, and contracts see its count of faults.
 ///
-/// It is the trusted edge: that the count rises at each failure is proved, and what a file holds is not.
+/// It is the trusted edge: that the count rises exactly where a call answers a failure is proved, and neither
+/// that each failure of the system is answered nor what a file holds is.
 #[derive(Drop)]
 pub struct HostShelf<'a, R: Files> {
     rt: &'a R,
@@ -133,7 +134,8 @@ impl<R: Files> Shelf for HostShelf<'_, R> {
 
 /// The standard output. It tells no contents, and contracts see its count of faults.
 ///
-/// It is the trusted edge: that the count rises at each failure is proved, and what is shown is not.
+/// It is the trusted edge: that the count rises exactly where a call answers a failure is proved, and neither
+/// that each failure of the system is answered nor what is shown is.
 #[derive(Drop)]
 pub struct StdSink<'a, R: Print> {
     rt: &'a R,
@@ -159,18 +161,6 @@ impl<'a, R: Print> StdSink<'a, R> {
     }
 }
 
-/// Prints all of the bytes. A write that takes nothing of a piece that is not empty is a failure.
-fn print_all<R: Print>(rt: &R, bytes: &[u8]) -> Result<(), SayFailed> {
-    let mut rest = bytes;
-    while !rest.is_empty() {
-        match rt.write_some(rest) {
-            Ok(0) | Err(_) => return Err(SayFailed),
-            Ok(count) => rest = rest.split_at(count).1,
-        }
-    }
-    Ok(())
-}
-
 impl<R: Print> Sink for StdSink<'_, R> {
     ghost said = { λ _. None };
 
@@ -188,7 +178,10 @@ impl<R: Print> Sink for StdSink<'_, R> {
         ensures calm { OnOk result (self.new ≡ self.old) }
         ensures after_failed { OnErr result (self.new ≡ raised self.old) }
     {
-        let answer = print_all(self.rt, bytes);
+        let answer = match write_all(&mut io::writer(self.rt), bytes) {
+            Ok(()) => Ok(()),
+            Err(PutFailed) => Err(SayFailed),
+        };
         if answer.is_err() {
             self.faults = self.faults.saturating_add(1);
         }

@@ -124,19 +124,39 @@ pub link_unwanted : (M : Mem) (W : Wants) (head control swap : ℕ) (is : List I
 link_unwanted M W head control swap is a p h =
     by_whole W (pairs is) a.plain.whole p (no_destination p (pairs is) (links_out (pairs is) (links is) p a.plain.links_unwritten a.links_no_sources h)) (W p) refl
 
+-- a destination of pairs that have no page of pair q is no page of it
+away_from : (q : ℕ × ℕ) (rs : List (ℕ × ℕ)) (y : ℕ) → Each (Away q) rs → Has y (destinations rs) → (q.0 ≢ y) × (q.1 ≢ y)
+away_from q [] y c h = absurd h
+away_from q (r ∷ rs) y c (inl e) = ((λ f. c.0.0 (f ∙ sym e)), λ f. c.0.2 (f ∙ sym e))
+away_from q (r ∷ rs) y c (inr h) = away_from q rs y c.1 h
+
 -- the partner of a destination is a source
 destination_partner : (qs : List (ℕ × ℕ)) (x : ℕ) → PairsApart qs → Has x (destinations qs) → Has (partner qs x) (sources qs)
 destination_partner [] x b h = absurd h
 destination_partner (q ∷ qs) x b (inl e) = let f : q.1 ≡ partner (q ∷ qs) x = grind (arith, e) in inl f
 destination_partner (q ∷ qs) x b (inr h) =
-    let o = each_destination qs x b.0 h in
+    let o = away_from q qs x b.0 h in
     let f : partner qs x ≡ partner (q ∷ qs) x = grind (arith, o.0, o.1) in
     inr (subst (λ y. Has y (sources qs)) f (destination_partner qs x b.1 h))
-  where
-    each_destination : (rs : List (ℕ × ℕ)) (y : ℕ) → Each (Away q) rs → Has y (destinations rs) → (q.0 ≢ y) × (q.1 ≢ y)
-    each_destination [] y c h = absurd h
-    each_destination (r ∷ rs) y c (inl e) = ((λ f. c.0.0 (f ∙ sym e)), λ f. c.0.2 (f ∙ sym e))
-    each_destination (r ∷ rs) y c (inr h) = each_destination rs y c.1 h
+
+-- a destination's partner holds what the destination is to have
+partner_has : (M : Mem) (W : Wants) (qs : List (ℕ × ℕ)) (p : ℕ) → PairsApart qs → Each (λ q. W q.0 ≡ Some (M q.1)) qs → Has p (destinations qs) → W p ≡ Some (M (partner qs p))
+partner_has M W [] p a r h = absurd h
+partner_has M W (q ∷ qs) p a r (inl e) =
+    let f : q.1 ≡ partner (q ∷ qs) p = grind (arith, e) in ap W (sym e) ∙ r.0 ∙ ap (λ x. Some (M x)) f
+partner_has M W (q ∷ qs) p a r (inr h) =
+    let o = away_from q qs p a.0 h in
+    let f : partner qs p ≡ partner (q ∷ qs) p = grind (arith, o.0, o.1) in partner_has M W qs p a.1 r.1 h ∙ ap (λ x. Some (M x)) f
+
+some_same : (x y : List ℕ) → Some x ≡ Some y → x ≡ y
+some_same x y e = cc
+
+-- one run leaves each destination what it is to have
+pub arrives : (M : Mem) (W : Wants) (head control swap : ℕ) (is : List Item) → AcceptedKept M W head control swap is → (p : ℕ) (b : List ℕ) → W p ≡ Some b → exchange M (pairs is) swap p ≡ b
+arrives M W head control swap is a p b e =
+    let h = a.plain.whole p b e in
+    let apart : p ≢ swap = λ s. no_destination swap (pairs is) a.swap_apart.2 (subst (λ x. Has x (destinations (pairs is))) s h) in
+    off_swap M (pairs is) swap p apart ∙ some_same (M (partner (pairs is) p)) b (sym (partner_has M W (pairs is) p a.apart a.plain.right_bytes h) ∙ e)
 
 partner_sources : (qs : List (ℕ × ℕ)) → PairsApart qs → Each (λ q. partner qs q.1 ≡ q.0) qs
 partner_sources [] a = tt
@@ -160,3 +180,8 @@ module _ (W : Wants) (qs : List (ℕ × ℕ)) (w : ℕ) (apart : PairsApart qs) 
   -- each source gets what its destination held
   pub sources_get : Each (λ q. N q.1 ≡ M' q.0) qs
   sources_get = Each-both qs (λ q e o. leaves q.1 ∙ off_swap M' qs w q.1 o.1 ∙ ap M' e) (partner_sources qs apart) out
+
+-- two runs restore each page but the swap page
+pub returns : (M : Mem) (W : Wants) (head control swap : ℕ) (is : List Item) → AcceptedKept M W head control swap is → (p : ℕ) → p ≢ swap → exchange (exchange M (pairs is) swap) (pairs is) swap p ≡ M p
+returns M W head control swap is a p n =
+    restores W (pairs is) swap a.apart a.swap_apart.2 (exchange M (pairs is) swap) (exchange (exchange M (pairs is) swap) (pairs is) swap) (λ q. refl) M p n refl

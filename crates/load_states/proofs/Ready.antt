@@ -17,7 +17,7 @@ use Rattle.list_checker.specs.Walk.{Accepted, AcceptedKept, PairsApart, IsAccept
 use Rattle.list_checker.specs.Checked.{as_pair, IsAccept}
 use Rattle.load_states.specs.States.{Load, Checked, checked_of, swap_of}
 use Rattle.load_states.specs.Exchange.{exchange, partner}
-use Rattle.load_states.proofs.Exchange.{link_kept, link_unwanted, restores, no_source_wanted, sources_get}
+use Rattle.load_states.proofs.Exchange.{arrives, link_kept, link_unwanted, restores, returns, no_source_wanted, sources_get}
 use Rattle.load_states.specs.Ready.{Told, HoldsPairs, IsReadyPlain, IsKept, IsReadyKept, IsToGoBack}
 use Rattle.load_states.proofs.Bridge.{Comes, begin_at, plain_runs, kept_runs, done_runs}
 use Rattle.load_states.proofs.Holding.{Holds}
@@ -153,6 +153,13 @@ goes_back c d r s leaves = record {
         ∙ ap (λ w. exchange (at c.load.memory) (pairs r.items) w p) (swap_is (at c.load.memory) c r.swap r.items r.kept)
         ∙ link_kept (at c.load.memory) (want c.load.segments) c.load.image.head c.load.image.control r.swap r.items r.kept.accepted p h
 
+-- one run of it leaves each page of the segments what it is to have
+pub kept_arrives : (c : Checked) → IsReadyKept c → (p : ℕ) (b : List ℕ) → want c.load.segments p ≡ Some b → exchange (at c.load.memory) c.pairs (swap_of c.load) p ≡ b
+kept_arrives c r p b e =
+    ap (λ qs. exchange (at c.load.memory) qs (swap_of c.load) p) (sym r.kept.same_pairs)
+    ∙ ap (λ w. exchange (at c.load.memory) (pairs r.items) w p) (swap_is (at c.load.memory) c r.swap r.items r.kept)
+    ∙ arrives (at c.load.memory) (want c.load.segments) c.load.image.head c.load.image.control r.swap r.items r.kept.accepted p b e
+
 -- what the second run leaves
 pub record Undoes (c : Checked) (N : Mem) : Type 0 where
   pub restored : (M : Mem) → ((q : ℕ) → at c.load.memory q ≡ exchange M c.pairs (swap_of c.load) q) → (p : ℕ) → p ≢ swap_of c.load → N p ≡ M p
@@ -215,3 +222,25 @@ pub crash_ends : (m n : Contents) (head h : ℕ) → m ≡ n → head ≡ h → 
 crash_ends m n head h e f done =
     subst (λ x. Ends m (record { head = head; mode = Plain; control = 0 }) 1 (at x)) e
     (ends_of m (record { head = head; mode = Plain; control = 0 }) 1 (at m) (done_runs Plain m head (ap (λ x. x % 4096) f ∙ done)))
+
+-- what runs leave of a load whose list was accepted with context preserved
+module _ (c : Checked) (swap : ℕ) (mode : c.load.image.mode ≡ Kept swap) (t : Told c.load c.words c.links c.pairs) where
+  accepted_kept : AcceptedKept (at c.load.memory) (want c.load.segments) c.load.image.head c.load.image.control swap t.items
+  accepted_kept = subst (λ mode. IsAccepted (at c.load.memory) (want c.load.segments) c.load.image.head c.load.image.control (swap_page mode) t.items) mode t.accepted
+
+  its_swap : swap_of c.load ≡ swap
+  its_swap = ap (λ mode. unwrap_or (swap_page mode) 0) mode
+
+  -- one run leaves each page of the segments what it is to have
+  pub once_arrives : (p : ℕ) (b : List ℕ) → want c.load.segments p ≡ Some b → exchange (at c.load.memory) c.pairs (swap_of c.load) p ≡ b
+  once_arrives p b e =
+      ap (λ qs. exchange (at c.load.memory) qs (swap_of c.load) p) (sym t.same_pairs)
+      ∙ ap (λ w. exchange (at c.load.memory) (pairs t.items) w p) its_swap
+      ∙ arrives (at c.load.memory) (want c.load.segments) c.load.image.head c.load.image.control swap t.items accepted_kept p b e
+
+  -- two runs restore each page but the swap page
+  pub twice_returns : (p : ℕ) → p ≢ swap_of c.load → exchange (exchange (at c.load.memory) c.pairs (swap_of c.load)) c.pairs (swap_of c.load) p ≡ at c.load.memory p
+  twice_returns p n =
+      ap (λ qs. exchange (exchange (at c.load.memory) qs (swap_of c.load)) qs (swap_of c.load) p) (sym t.same_pairs)
+      ∙ ap (λ w. exchange (exchange (at c.load.memory) (pairs t.items) w) (pairs t.items) w p) its_swap
+      ∙ returns (at c.load.memory) (want c.load.segments) c.load.image.head c.load.image.control swap t.items accepted_kept p (λ s. n (s ∙ sym its_swap))

@@ -1,6 +1,6 @@
 //! Accepted lists, which can be run.
 
-ghost use Rattle.std.specs.Prelude.{◌≡◌, ℕ, map, IsSome};
+ghost use Rattle.std.specs.Prelude.{◌≡◌, ℕ, List, map, IsSome, Some};
 ghost use Rattle.kx_pages.specs.Lists.{Each};
 ghost use Rattle.page_memory.specs.Contents.{at};
 ghost use Rattle.relocate_machine.specs.Machine.{AreHeld, move_writes};
@@ -165,9 +165,11 @@ impl AcceptedKept {
     }
 
     /// Runs the list. It has no refusal and takes no memory. It takes exactly as many steps as the walk has words, which
-    /// `steps` tells of what ran, and exchanges the two pages of each pair. All else stays.
+    /// `steps` tells of what ran, and exchanges the two pages of each pair, so that each page of the segments is what it
+    /// is to be. All else stays.
     pub fn exec(self) -> RanKept
         ensures memory { (p : ℕ) → at result.load.memory p ≡ exchange (at self.load.memory) self.pairs (swap_of self.load) p }
+        ensures arrived { (p : ℕ) (bytes : List ℕ) → want self.load.segments p ≡ Some bytes → at result.load.memory p ≡ bytes }
         ensures sets { result.load.memory.sets ≡ self.load.memory.sets }
         ensures rest { result ≡ record self { load = with_memory self.load result.load.memory } }
     {

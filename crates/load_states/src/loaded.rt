@@ -101,6 +101,7 @@ impl Loaded {
         ensures held { OnOk result (Each (λ q. AreHeld self.new.memory (move_writes self.new.image.mode q.0 q.1)) (map as_pair pairs.now)) }
         ensures same { IsLeftAs self.old self.new }
     {
+        self.memory.reserve(pairs.len())?;
         hold_pairs(&mut self.memory, &self.image.mode, pairs)
     }
 

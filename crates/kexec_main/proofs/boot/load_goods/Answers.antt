@@ -1,11 +1,11 @@
-use Rattle.std.proofs.Common.{rules, ◌≡◌, ◌∷◌, [], ◌++◌, ◌∙◌, ap, map, refl, sym, Err, List}
+use Rattle.std.proofs.Common.{rules, ◌≡◌, ◌∷◌, [], ◌++◌, ◌∙◌, ap, map, refl, Err, List}
 use Rattle.std.specs.Prelude.{string_bytes}
 use Rattle.std.proofs.lemmas.List.{map-append}
 use Rattle.page_memory.specs.Contents.{at}
 use Rattle.load_record.specs.File.{record_file}
 use Rattle.load_states.specs.States.{Checked}
 use Rattle.kexec_main.specs.Answers.{File}
-use Rattle.kexec_main.specs.Boot.{loads_segments, start_at, record_of_load}
+use Rattle.kexec_main.specs.Boot.{loads_segments, record_of_load}
 use Rattle.kexec_main.specs.Planning.{raw_segment}
 use Rattle.kexec_main.specs.Runs.{list_text}
 use Rattle.kexec_main.specs.Values.{inputs_of, output_of}

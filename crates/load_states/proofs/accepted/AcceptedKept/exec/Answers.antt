@@ -2,7 +2,8 @@ use Rattle.std.proofs.Common.{ap, sym, ◌∙◌, subst}
 use Rattle.page_memory.specs.Contents.{Contents, at, IsHeld}
 use Rattle.load_states.specs.States.{Load, Checked, checked_of, swap_of}
 use Rattle.load_states.specs.Exchange.{exchange}
-use Rattle.load_states.proofs.Ready.{kept_ends, goes_back}
+use Rattle.segments.specs.Parts.{want}
+use Rattle.load_states.proofs.Ready.{kept_ends, kept_arrives, goes_back}
 use Rattle.load_states.proofs.accepted.AcceptedKept.exec.Goals as goal
 
 pub run_to_end-requires : goal.run_to_end-requires
@@ -33,6 +34,14 @@ returns-clause-memory c = λ p.
     let runs = kept_ends (at c.self.inside.loaded.memory) (checked_of c.self.inside.loaded c.self.inside.accept) k.swap k.items c.parts-memory.result.0 c.parts-memory.result.2 k.kept c.parts-memory.ensures.memory c.parts-memory.ensures.image in
     ap (λ (r : Checked). at r.load.memory p) c.new.ensures ∙ ap (λ (l : Load). at l.memory p) c.from_parts.ensures ∙ ap (λ (m : Contents). at m p) c.run_to_end.ensures.memory ∙ runs.leaves p
     ∙ ap (λ (s : Checked). exchange (at s.load.memory) s.pairs (swap_of s.load) p) c.self.view_is
+
+pub returns-clause-arrived : goal.returns-clause-arrived
+returns-clause-arrived c = λ p bytes e.
+    let k = c.self.invariant in
+    let s : Checked = checked_of c.self.inside.loaded c.self.inside.accept in
+    let runs = kept_ends (at c.self.inside.loaded.memory) s k.swap k.items c.parts-memory.result.0 c.parts-memory.result.2 k.kept c.parts-memory.ensures.memory c.parts-memory.ensures.image in
+    ap (λ (r : Checked). at r.load.memory p) c.new.ensures ∙ ap (λ (l : Load). at l.memory p) c.from_parts.ensures ∙ ap (λ (m : Contents). at m p) c.run_to_end.ensures.memory ∙ runs.leaves p
+    ∙ kept_arrives s k p bytes (ap (λ (s : Checked). want s.load.segments p) c.self.view_is ∙ e)
 
 pub returns-clause-sets : goal.returns-clause-sets
 returns-clause-sets c =
