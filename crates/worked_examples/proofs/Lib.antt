@@ -1,0 +1,4 @@
+pub mod Refusing
+pub mod Stepping
+pub mod Wanting
+pub mod Passing

@@ -1,0 +1,9 @@
+-- By computing.
+use Rattle.std.specs.Prelude.{refl}
+use Rattle.worked_examples.proofs.loads.list_fills_its_link_page.Goals as goal
+
+pub returns-clause-count : goal.returns-clause-count
+returns-clause-count c = refl
+
+pub returns-clause-words : goal.returns-clause-words
+returns-clause-words c = refl

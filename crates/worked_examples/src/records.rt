@@ -1,0 +1,32 @@
+//! The file of a load record.
+
+ghost use Rattle.std.specs.Prelude.{◌≡◌, ◌++◌, ◌∷◌, [], Ok, Err, length, take, drop, codes};
+ghost use Rattle.byteorder.specs.Endian.{little_bytes};
+ghost use Rattle.segments.specs.declared.fault.SegFault.TheVariants as segment_faults;
+ghost use Rattle.load_record.specs.File.{record_file, record_reading};
+ghost use Rattle.load_record.specs.declared.fault.RecFault.TheVariants as faults;
+ghost use Rattle.worked_examples.specs.Records.{three_bytes_record, three_bytes_file, kept_record};
+
+/// The record of a kernel of three bytes has 123 bytes, and is read as it was written; so is one with context preserved.
+pub fn record_of_one_page()
+    ensures bytes { record_file three_bytes_record ≡ three_bytes_file }
+    ensures length { length three_bytes_file ≡ 123 }
+    ensures read { record_reading three_bytes_file ≡ Ok three_bytes_record }
+    ensures kept { record_reading (record_file kept_record) ≡ Ok kept_record }
+{}
+
+/// The first refusal of a record: cut short in the head or in the segment, longer, with another magic, kind, mode, page or
+/// number of segments.
+pub fn spoiled_records()
+    ensures shorter { record_reading (take 122 three_bytes_file) ≡ Err (faults.Truncated 122) }
+    ensures short_head { record_reading (take 95 three_bytes_file) ≡ Err (faults.Truncated 95) }
+    ensures longer { record_reading (three_bytes_file ++ 0 ∷ []) ≡ Err (faults.Trailing 123) }
+    ensures magic { record_reading (codes "KXREC009" ++ drop 8 three_bytes_file) ≡ Err faults.BadMagic }
+    ensures kind { record_reading (take 8 three_bytes_file ++ (little_bytes 4 2 ++ drop 12 three_bytes_file)) ≡ Err (faults.BadKind 2) }
+    ensures mode { record_reading (take 12 three_bytes_file ++ (little_bytes 4 2 ++ drop 16 three_bytes_file)) ≡ Err (faults.BadMode 2) }
+    ensures crash_kept { record_reading (take 8 three_bytes_file ++ (little_bytes 4 1 ++ (little_bytes 4 1 ++ drop 16 three_bytes_file))) ≡ Err (faults.BadMode 1) }
+    ensures crash_control_page { record_reading (take 8 three_bytes_file ++ (little_bytes 4 1 ++ drop 12 three_bytes_file)) ≡ Err faults.BadPage }
+    ensures swap_page_without_need { record_reading (take 32 three_bytes_file ++ (little_bytes 8 0x11000 ++ drop 40 three_bytes_file)) ≡ Err faults.BadPage }
+    ensures no_segments { record_reading (take 88 three_bytes_file ++ little_bytes 8 0) ≡ Err (faults.Segments segment_faults.NoSegments) }
+    ensures bad_address { record_reading (take 96 three_bytes_file ++ (little_bytes 8 0x2001 ++ drop 104 three_bytes_file)) ≡ Err (faults.Segments (segment_faults.BadAddress 0)) }
+{}
