@@ -111,18 +111,32 @@ fn kept_boot(rt: &(impl Abort + Print), alloc: Global) -> Result<(), ShelfFault>
 fn load_and_exec(rt: &(impl Abort + Print), alloc: Global) -> Result<(), ShelfFault> {
     let memory = first_memory(alloc, false)?;
     let load_record = first_record(alloc)?;
-    let loaded = [("o", memory.as_slice()), ("r", load_record.as_slice())];
     let out = first_memory(alloc, true)?;
     let pool = "10-12\n";
     let mut shelf = shelf(alloc, pool, b"abc", &[])?;
-    let inputs = [
-        ("m", NO_PAGES),
-        ("p", pool.as_bytes()),
-        ("k", b"abc".as_slice()),
-    ];
-    if is_done(rt, alloc, &LOAD, &mut shelf, &inputs, &loaded, LOAD_TEXT)? {
-        let out = [("x", out.as_slice())];
-        is_done(rt, alloc, &EXEC, &mut shelf, &loaded, &out, BOOT_TEXT)?;
+    let is_loaded = is_done(
+        rt,
+        alloc,
+        &LOAD,
+        &mut shelf,
+        &[
+            ("m", NO_PAGES),
+            ("p", pool.as_bytes()),
+            ("k", b"abc".as_slice()),
+        ],
+        &[("o", memory.as_slice()), ("r", load_record.as_slice())],
+        LOAD_TEXT,
+    )?;
+    if is_loaded {
+        is_done(
+            rt,
+            alloc,
+            &EXEC,
+            &mut shelf,
+            &[("o", memory.as_slice()), ("r", load_record.as_slice())],
+            &[("x", out.as_slice())],
+            BOOT_TEXT,
+        )?;
     }
     Ok(())
 }

@@ -32,12 +32,14 @@ fn a_pool_that_is_one_page_short_is_told(rt: HostRuntime) -> Result<(), Fail> {
 // The memory after the run of a kernel of 510 pages: its pages, the list and the source pages.
 fn long_memory(alloc: Global, kernel: &[u8]) -> Result<Vec<u8>, AllocError> {
     let mut list = numbers(alloc, &[0x2001])?;
+    for source in 0x1002..0x1200u64 {
+        list.extend_from_slice(&(4096 * source + 8).to_le_bytes())?;
+    }
+    list.extend_from_slice(&4u64.to_le_bytes())?;
     let mut file = memory_start(alloc, 1021)?;
     for (page, bytes) in (2..512u64).zip(kernel.chunks(4096)) {
         push_page(&mut file, page, bytes)?;
-        list.extend_from_slice(&(4096 * (page + 0x1000) + 8).to_le_bytes())?;
     }
-    list.extend_from_slice(&4u64.to_le_bytes())?;
     push_page(&mut file, 0x1001, &list)?;
     for (page, bytes) in (0x1002..0x1200u64).zip(kernel.chunks(4096)) {
         push_page(&mut file, page, bytes)?;
