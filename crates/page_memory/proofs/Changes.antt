@@ -1,5 +1,5 @@
 -- A page that is added, and two pages whose frames change places.
-use Rattle.std.proofs.Common.{take, drop, ◌-◌, ◌≡◌, ◌≢◌, ℕ, ◌+◌, ◌*◌, ◌/◌, ◌<◌, ◌≤◌, ◌^◌, List, [], ◌∷◌, ◌++◌, length, Bool, true, false, cond, refl, sym, ap, ◌∙◌, subst, arith, Some, None, Option, ◌⊎◌, inl, inr}
+use Rattle.std.proofs.Common.{take, drop, ◌-◌, ◌≡◌, ◌≢◌, ℕ, ◌+◌, ◌<◌, ◌≤◌, ◌^◌, List, [], ◌∷◌, ◌++◌, length, Bool, true, false, cond, refl, sym, ap, ◌∙◌, subst, arith, Some, None, Option, ◌⊎◌, inl, inr}
 use Rattle.std.specs.Prelude.{is_some, IsSome, replicate}
 use Rattle.std.proofs.lemmas.Grind.{common_steps}
 use Rattle.page_memory.specs.File.{is_all_zeros}
@@ -17,7 +17,7 @@ use Rattle.std.proofs.lemmas.List.{length-append, length-drop, take-append-drop}
 use Rattle.page_memory.specs.View.{pages_by, AreFrames}
 use Rattle.page_memory.specs.Laws.{frame_at-found, frame_at-insert_other, frame_at-insert_same, get-insert_other, page_of-fits}
 use Rattle.page_memory.specs.OneFile.{list_zeros, zeros_are}
-use Rattle.page_memory.specs.Contents.{IsPageOfBytes, frame_at, page_of}
+use Rattle.page_memory.specs.Contents.{IsBytes, IsPageOfBytes, frame_at, page_of}
 use Rattle.page_memory.specs.Frames.{frame_in, IsTable, pages_in, Differs}
 use Rattle.page_memory.proofs.Bytes.{IsBytes-append}
 use Rattle.page_memory.proofs.Tables.{get-pages_by, equal_of_is_eq, pages_by-differs, some_held}
@@ -25,17 +25,25 @@ use Rattle.page_memory.proofs.Frames.{other_frames, inside_found, frame_in-appen
 
 -- what is asked of a frame
 abbrev Inside : List ℕ → ℕ → ℕ → Type 0
-Inside xs q i = (q < 2 ^ 34) × (4096 * i + 4096 ≤ length xs)
+Inside xs q i = (q < 2 ^ 34) × (i + 4096 ≤ length xs)
 
 pub pages_by-same : (f g : ℕ → List ℕ) (m : BTreeMap ℕ ℕ) → ((q j : ℕ) → tree.get nat_cmp m q ≡ Some j → g j ≡ f j) → pages_by g m.entries ≡ pages_by f m.entries
 pages_by-same f g m h = same_map nat_cmp_total nat_cmp-IsAntisymmetric _ _ (λ q.
     get-pages_by g m.entries q ∙ other_frames f g (tree.get nat_cmp m q) (h q) ∙ sym (get-pages_by f m.entries q))
 
-pub pages-added : (xs bytes : List ℕ) (m n : BTreeMap ℕ ℕ) (p i : ℕ) → IsTable xs m → i ≡ length xs / 4096 → length bytes ≡ 4096 → Differs m n p i → pages_in (xs ++ bytes) n ≡ insert (pages_in xs m) p bytes
+-- the frame of one page more
+pub pages-inserted : (xs : List ℕ) (m n : BTreeMap ℕ ℕ) (p i : ℕ) → Differs m n p i → pages_in xs n ≡ insert (pages_in xs m) p (frame_in xs i)
+pages-inserted xs m n p i h = pages_by-differs (frame_in xs) m n p i (frame_in xs i) h refl
+
+-- a buffer that goes on
+pub pages-longer : (xs ys : List ℕ) (m : BTreeMap ℕ ℕ) → IsTable xs m → pages_in (xs ++ ys) m ≡ pages_in xs m
+pages-longer xs ys m is = pages_by-same (frame_in xs) (frame_in (xs ++ ys)) m (λ q j e. frame_in-append xs ys j (inside_found xs m q j is (sym e)).1)
+
+pub pages-added : (xs bytes : List ℕ) (m n : BTreeMap ℕ ℕ) (p i : ℕ) → IsTable xs m → i ≡ length xs → length bytes ≡ 4096 → Differs m n p i → pages_in (xs ++ bytes) n ≡ insert (pages_in xs m) p bytes
 pages-added xs bytes m n p i is last whole h =
-    let at_i : length xs ≡ 4096 * i = omega (arith, is.whole) in
-    pages_by-differs (frame_in (xs ++ bytes)) m n p i bytes h (frame_in-last xs bytes i at_i whole)
-    ∙ ap (λ k. insert k p bytes) (pages_by-same (frame_in xs) (frame_in (xs ++ bytes)) m (λ q j e. frame_in-append xs bytes j (inside_found xs m q j is (sym e)).1))
+    pages-inserted (xs ++ bytes) m n p i h
+    ∙ ap (insert (pages_in (xs ++ bytes) m) p) (frame_in-last xs bytes i (sym last) whole)
+    ∙ ap (λ k. insert k p bytes) (pages-longer xs bytes m is)
 
 some_same : (a b : ℕ) → ◌≡◌ {A = Option ℕ} (Some a) (Some b) → a ≡ b
 some_same a b h = cc
@@ -52,27 +60,58 @@ if_some : (o : Option ℕ) (P : ℕ → Type 0) → ((k : ℕ) → o ≡ Some k 
 if_some None P h = tt
 if_some (Some k) P h = h k refl
 
-inside_added : (xs bytes : List ℕ) (m : BTreeMap ℕ ℕ) (p i q k : ℕ) → IsTable xs m → i ≡ length xs / 4096 → length bytes ≡ 4096 → p < 2 ^ 34 → ((q ≡ p) × (k ≡ i)) ⊎ (tree.get nat_cmp m q ≡ Some k) → Inside (xs ++ bytes) q k
-inside_added xs bytes m p i q k is last whole below (inl h) =
-    let at_i : length xs ≡ 4096 * i = omega (arith, is.whole) in
-    (omega (arith, h.0), omega (arith, h.1, length-append xs bytes))
-inside_added xs bytes m p i q k is last whole below (inr h) =
-    let old = inside_found xs m q k is (sym h) in
-    (old.0, omega (arith, old.1, length-append xs bytes))
+-- each frame ends at this place or before it
+abbrev pub EndBy : BTreeMap ℕ ℕ → ℕ → Type 0
+EndBy m end = (q k : ℕ) → tree.get nat_cmp m q ≡ Some k → k + 4096 ≤ end
 
-both_added : (xs : List ℕ) (m : BTreeMap ℕ ℕ) (p i a b k : ℕ) → IsTable xs m → i ≡ length xs / 4096 → ((a ≡ p) × (k ≡ i)) ⊎ (tree.get nat_cmp m a ≡ Some k) → ((b ≡ p) × (k ≡ i)) ⊎ (tree.get nat_cmp m b ≡ Some k) → a ≡ b
-both_added xs m p i a b k is last (inl x) (inl y) = x.0 ∙ sym y.0
-both_added xs m p i a b k is last (inl x) (inr y) = let old = inside_found xs m b k is (sym y) in absurd (omega (arith, x.1, old.1))
-both_added xs m p i a b k is last (inr x) (inl y) = let old = inside_found xs m a k is (sym x) in absurd (omega (arith, y.1, old.1))
-both_added xs m p i a b k is last (inr x) (inr y) = is.apart a b k x y
+inside_inserted : (xs : List ℕ) (m : BTreeMap ℕ ℕ) (p i q k : ℕ) → IsTable xs m → i + 4096 ≤ length xs → p < 2 ^ 34 → ((q ≡ p) × (k ≡ i)) ⊎ (tree.get nat_cmp m q ≡ Some k) → Inside xs q k
+inside_inserted xs m p i q k is inside below (inl h) = (omega (arith, h.0), omega (arith, h.1))
+inside_inserted xs m p i q k is inside below (inr h) = inside_found xs m q k is (sym h)
 
-pub IsTable-added : (xs bytes : List ℕ) (m n : BTreeMap ℕ ℕ) (p i : ℕ) → IsTable xs m → i ≡ length xs / 4096 → IsPageOfBytes bytes → p < 2 ^ 34 → Differs m n p i → IsTable (xs ++ bytes) n
-IsTable-added xs bytes m n p i is last page below h = record {
-  inside = λ q. if_some (tree.get nat_cmp n q) (Inside (xs ++ bytes) q) (λ k e. inside_added xs bytes m p i q k is last page.whole below (from_differs m n p i q k h e));
-  apart = λ a b k at_a at_b. both_added xs m p i a b k is last (from_differs m n p i a k h at_a) (from_differs m n p i b k h at_b);
-  bytes = IsBytes-append xs bytes is.bytes page.small;
-  whole = omega (arith, is.whole, page.whole, length-append xs bytes);
+both_inserted : (xs : List ℕ) (m : BTreeMap ℕ ℕ) (p i a b k : ℕ) → IsTable xs m → EndBy m i → ((a ≡ p) × (k ≡ i)) ⊎ (tree.get nat_cmp m a ≡ Some k) → ((b ≡ p) × (k ≡ i)) ⊎ (tree.get nat_cmp m b ≡ Some k) → a ≡ b
+both_inserted xs m p i a b k is before (inl x) (inl y) = x.0 ∙ sym y.0
+both_inserted xs m p i a b k is before (inl x) (inr y) = absurd (omega (arith, x.1, before b k y))
+both_inserted xs m p i a b k is before (inr x) (inl y) = absurd (omega (arith, y.1, before a k x))
+both_inserted xs m p i a b k is before (inr x) (inr y) = is.apart a b k x y
+
+clear_inserted : (xs : List ℕ) (m : BTreeMap ℕ ℕ) (p i a b j k : ℕ) → IsTable xs m → EndBy m i → ((a ≡ p) × (j ≡ i)) ⊎ (tree.get nat_cmp m a ≡ Some j) → ((b ≡ p) × (k ≡ i)) ⊎ (tree.get nat_cmp m b ≡ Some k) → j < k → j + 4096 ≤ k
+clear_inserted xs m p i a b j k is before (inl x) (inl y) less = absurd (omega (arith, x.1, y.1))
+clear_inserted xs m p i a b j k is before (inl x) (inr y) less = absurd (omega (arith, x.1, before b k y))
+clear_inserted xs m p i a b j k is before (inr x) (inl y) less = omega (arith, y.1, before a j x)
+clear_inserted xs m p i a b j k is before (inr x) (inr y) less = is.clear a b j k x y less
+
+pub IsTable-inserted : (xs : List ℕ) (m n : BTreeMap ℕ ℕ) (p i : ℕ) → IsTable xs m → i + 4096 ≤ length xs → EndBy m i → p < 2 ^ 34 → Differs m n p i → IsTable xs n
+IsTable-inserted xs m n p i is inside before below h = record {
+  inside = λ q. if_some (tree.get nat_cmp n q) (Inside xs q) (λ k e. inside_inserted xs m p i q k is inside below (from_differs m n p i q k h e));
+  apart = λ a b k at_a at_b. both_inserted xs m p i a b k is before (from_differs m n p i a k h at_a) (from_differs m n p i b k h at_b);
+  clear = λ a b j k at_a at_b. clear_inserted xs m p i a b j k is before (from_differs m n p i a j h at_a) (from_differs m n p i b k h at_b);
+  bytes = is.bytes;
 }
+
+ends_inserted : (m : BTreeMap ℕ ℕ) (p i q k end : ℕ) → EndBy m i → i + 4096 ≤ end → ((q ≡ p) × (k ≡ i)) ⊎ (tree.get nat_cmp m q ≡ Some k) → k + 4096 ≤ end
+ends_inserted m p i q k end before le (inl h) = omega (arith, h.1)
+ends_inserted m p i q k end before le (inr h) = omega (arith, before q k h)
+
+pub EndBy-inserted : (m n : BTreeMap ℕ ℕ) (p i end : ℕ) → EndBy m i → i + 4096 ≤ end → Differs m n p i → EndBy n end
+EndBy-inserted m n p i end before le h = λ q k e. ends_inserted m p i q k end before le (from_differs m n p i q k h e)
+
+pub EndBy-later : (m : BTreeMap ℕ ℕ) (a b : ℕ) → EndBy m a → a ≤ b → EndBy m b
+EndBy-later m a b before le = λ q k e. omega (arith, before q k e)
+
+IsTable-longer : (xs ys : List ℕ) (m : BTreeMap ℕ ℕ) → IsTable xs m → IsBytes ys → IsTable (xs ++ ys) m
+IsTable-longer xs ys m is small = record {
+  inside = λ q. if_some (tree.get nat_cmp m q) (Inside (xs ++ ys) q) (λ k e.
+      let old = inside_found xs m q k is (sym e) in
+      (old.0, omega (arith, old.1, length-append xs ys)));
+  apart = is.apart;
+  clear = is.clear;
+  bytes = IsBytes-append xs ys is.bytes small;
+}
+
+pub IsTable-added : (xs bytes : List ℕ) (m n : BTreeMap ℕ ℕ) (p i : ℕ) → IsTable xs m → i ≡ length xs → IsPageOfBytes bytes → p < 2 ^ 34 → Differs m n p i → IsTable (xs ++ bytes) n
+IsTable-added xs bytes m n p i is last page below h =
+    IsTable-inserted (xs ++ bytes) m n p i (IsTable-longer xs bytes m is page.small) (omega (arith, page.whole, length-append xs bytes))
+    (λ q k e. omega (arith, (inside_found xs m q k is (sym e)).1)) below h
 
 -- two frames change places
 pub pages-exchanged : (xs : List ℕ) (m k n : BTreeMap ℕ ℕ) (d s i j : ℕ) → tree.get nat_cmp m d ≡ Some i → tree.get nat_cmp m s ≡ Some j → Differs m k s i → Differs k n d j → pages_in xs n ≡ insert (insert (pages_in xs m) s (frame_at (pages_in xs m) d)) d (frame_at (pages_in xs m) s)
@@ -127,8 +166,11 @@ IsTable-exchanged xs m k n d s i j ne at_d at_s one two is = record {
       let x = which_exchanged m k n d s i j a v at_d at_s one two at_a in
       let y = which_exchanged m k n d s i j b v at_d at_s one two at_b in
       which_same d s a b x.0 y.0 x.2 y.2 (is.apart x.0 y.0 v x.1 y.1) ne;
+  clear = λ a b v u at_a at_b.
+      let x = which_exchanged m k n d s i j a v at_d at_s one two at_a in
+      let y = which_exchanged m k n d s i j b u at_d at_s one two at_b in
+      is.clear x.0 y.0 v u x.1 y.1;
   bytes = is.bytes;
-  whole = is.whole;
 }
 
 -- each entry of a table is inside
@@ -142,7 +184,7 @@ rest_inside xs e es q true t above h =
     let same : e.0 ≡ q = at_it q e.0 t in
     subst (λ o. IfSome o (Inside xs q)) (sym (subst (λ k. lookup (is_at (nat_cmp k)) es ≡ None) same (lookup-above e.0 es above))) tt
 
-pub all_inside : (xs : List ℕ) (es : List (ℕ × ℕ)) → IsStrictlySortedBy nat_cmp (keys_of es) → ((q : ℕ) → IfSome (lookup (is_at (nat_cmp q)) es) (Inside xs q)) → AllByRecursion (λ e. 4096 * e.1 + 4096 ≤ length xs) es
+pub all_inside : (xs : List ℕ) (es : List (ℕ × ℕ)) → IsStrictlySortedBy nat_cmp (keys_of es) → ((q : ℕ) → IfSome (lookup (is_at (nat_cmp q)) es) (Inside xs q)) → AllByRecursion (λ e. e.1 + 4096 ≤ length xs) es
 unfolding IsStrictlySortedBy
 all_inside xs [] sorted h = tt
 all_inside xs (e ∷ es) sorted h =
@@ -191,13 +233,19 @@ none_some : (i : ℕ) → ◌≡◌ {A = Option ℕ} None (Some i) → ⊥
 none_some i h = cc
 
 -- no pages
-pub IsTable-empty : (m : BTreeMap ℕ ℕ) → m.entries ≡ [] → IsTable [] m
-IsTable-empty m h = record {
-  inside = λ q. subst (λ es. IfSome (lookup (is_at (nat_cmp q)) es) (Inside [] q)) (sym h) tt;
-  apart = λ p q i at_p at_q. absurd (none_some i (subst (λ es. lookup (is_at (nat_cmp p)) es ≡ Some i) h at_p));
-  bytes = λ i. omega arith;
-  whole = refl;
+none_at : (m : BTreeMap ℕ ℕ) (p i : ℕ) → m.entries ≡ [] → tree.get nat_cmp m p ≡ Some i → ⊥
+none_at m p i h e = none_some i (subst (λ es. lookup (is_at (nat_cmp p)) es ≡ Some i) h e)
+
+pub IsTable-empty : (xs : List ℕ) (m : BTreeMap ℕ ℕ) → IsBytes xs → m.entries ≡ [] → IsTable xs m
+IsTable-empty xs m small h = record {
+  inside = λ q. subst (λ es. IfSome (lookup (is_at (nat_cmp q)) es) (Inside xs q)) (sym h) tt;
+  apart = λ p q i at_p at_q. absurd (none_at m p i h at_p);
+  clear = λ p q i j at_p at_q less. absurd (none_at m p i h at_p);
+  bytes = small;
 }
+
+pub EndBy-empty : (m : BTreeMap ℕ ℕ) (end : ℕ) → m.entries ≡ [] → EndBy m end
+EndBy-empty m end h = λ q k e. absurd (none_at m q k h e)
 
 pub pages-empty : (xs : List ℕ) (m : BTreeMap ℕ ℕ) → m.entries ≡ [] → pages_in xs m ≡ empty
 pages-empty xs m h = ap (pages_by (frame_in xs)) h

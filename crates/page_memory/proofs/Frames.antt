@@ -1,5 +1,5 @@
 -- A frame that is written.
-use Rattle.std.proofs.Common.{◌≡◌, ◌≢◌, ℕ, ◌+◌, ◌-◌, ◌*◌, ◌<◌, ◌≤◌, ◌^◌, List, ◌++◌, length, take, drop, Bool, true, false, cond, refl, sym, ap, ◌∙◌, subst, arith, Some, None, Option}
+use Rattle.std.proofs.Common.{◌≡◌, ◌≢◌, ℕ, ◌+◌, ◌-◌, ◌<◌, ◌≤◌, ◌^◌, List, ◌++◌, length, take, drop, Bool, true, false, cond, refl, sym, ap, ◌∙◌, subst, arith, Some, None, Option}
 use Rattle.std.specs.Option.{option_map, IfSome}
 use Rattle.std.specs.Ordering.{nat_cmp}
 use Rattle.std.specs.Cmp.{nat_cmp_total, eq_by_cmp_equiv}
@@ -35,11 +35,11 @@ either_way : (i j : ℕ) → j ≢ i → (j < i) ⊎ (i < j)
 either_way i j apart = either_test i j (nat_lt j i) refl apart
 
 -- the frame that was written
-pub frame_in-put_same : (xs : List ℕ) (i : ℕ) (ys : List ℕ) → 4096 * i + 4096 ≤ length xs → length ys ≡ 4096 → frame_in (put_frame xs i ys) i ≡ ys
+pub frame_in-put_same : (xs : List ℕ) (i : ℕ) (ys : List ℕ) → i + 4096 ≤ length xs → length ys ≡ 4096 → frame_in (put_frame xs i ys) i ≡ ys
 unfolding frame_in put_frame
 frame_in-put_same xs i ys inside whole =
-    ap (take 4096) (front_dropped (take (4096 * i) xs) (ys ++ drop 4096 (drop (4096 * i) xs)) (4096 * i) (take_long xs (4096 * i) (omega arith)))
-    ∙ front_taken ys (drop 4096 (drop (4096 * i) xs)) 4096 whole
+    ap (take 4096) (front_dropped (take i xs) (ys ++ drop 4096 (drop i xs)) i (take_long xs i (omega arith)))
+    ∙ front_taken ys (drop 4096 (drop i xs)) 4096 whole
 
 seg_before : (xs rest : List ℕ) (k n m : ℕ) → k + n ≤ m → m ≤ length xs → take n (drop k (take m xs ++ rest)) ≡ take n (drop k xs)
 seg_before xs rest k n m h inside =
@@ -64,16 +64,16 @@ seg_after a ys xs k m n at_m at_n h =
     ∙ ap (λ k. drop k xs) back
 
 -- any other frame
-pub frame_in-put_other : (xs : List ℕ) (i j : ℕ) (ys : List ℕ) → 4096 * i + 4096 ≤ length xs → length ys ≡ 4096 → j ≢ i → frame_in (put_frame xs i ys) j ≡ frame_in xs j
+pub frame_in-put_other : (xs : List ℕ) (i j : ℕ) (ys : List ℕ) → i + 4096 ≤ length xs → length ys ≡ 4096 → j ≢ i → (j < i → j + 4096 ≤ i) → (i < j → i + 4096 ≤ j) → frame_in (put_frame xs i ys) j ≡ frame_in xs j
 unfolding frame_in put_frame
-frame_in-put_other xs i j ys inside whole apart = ⊎_elim
-    (λ (less : j < i). seg_before xs (ys ++ drop 4096 (drop (4096 * i) xs)) (4096 * j) 4096 (4096 * i) (omega (arith, less)) (omega (arith, inside)))
-    (λ (more : i < j). ap (take 4096) (seg_after (take (4096 * i) xs) ys xs (4096 * j) (4096 * i) 4096 (take_long xs (4096 * i) (omega (arith, inside))) whole (omega (arith, more))))
+frame_in-put_other xs i j ys inside whole apart before after = ⊎_elim
+    (λ (less : j < i). seg_before xs (ys ++ drop 4096 (drop i xs)) j 4096 i (before less) (omega (arith, inside)))
+    (λ (more : i < j). ap (take 4096) (seg_after (take i xs) ys xs j i 4096 (take_long xs i (omega (arith, inside))) whole (after more)))
     (either_way i j apart)
 
-pub length-put_frame : (xs : List ℕ) (i : ℕ) (ys : List ℕ) → 4096 * i + 4096 ≤ length xs → length ys ≡ 4096 → length (put_frame xs i ys) ≡ length xs
+pub length-put_frame : (xs : List ℕ) (i : ℕ) (ys : List ℕ) → i + 4096 ≤ length xs → length ys ≡ 4096 → length (put_frame xs i ys) ≡ length xs
 unfolding put_frame
-length-put_frame xs i ys inside whole = omega (arith, length-append (take (4096 * i) xs) (ys ++ drop 4096 (drop (4096 * i) xs)), length-append ys (drop 4096 (drop (4096 * i) xs)), length-take (4096 * i) xs, length-drop 4096 (drop (4096 * i) xs), length-drop (4096 * i) xs)
+length-put_frame xs i ys inside whole = omega (arith, length-append (take i xs) (ys ++ drop 4096 (drop i xs)), length-append ys (drop 4096 (drop i xs)), length-take i xs, length-drop 4096 (drop i xs), length-drop i xs)
 
 -- what a buffer is after a slice of it was lent
 pub vec_back : (n : ℕ) (xs ys : List ℕ) → n ≡ length ys → take n (ys ++ drop (length ys) xs) ≡ ys
@@ -99,27 +99,32 @@ pages_by-written f g m p i ys at_p new others = same_map nat_cmp_total nat_cmp-I
     (λ e. other_frames f g (tree.get nat_cmp m q) (λ j is. others q j (λ same. true_false (sym ((eq_by_cmp_equiv nat_cmp_total).refl p) ∙ ap (λ q. is_at (nat_cmp q) p) (sym same) ∙ e)) is))
     ∙ sym (get-insert nat_cmp_total (pages_by f m.entries) p ys q ∙ ap (cond (is_at (nat_cmp q) p) (Some ys)) (get-pages_by f m.entries q)))
 
-pub inside_found : (frames : List ℕ) (m : BTreeMap ℕ ℕ) (p i : ℕ) → IsTable frames m → Some i ≡ tree.get nat_cmp m p → (p < 2 ^ 34) × (4096 * i + 4096 ≤ length frames)
-inside_found frames m p i is e = subst (λ o. IfSome o (λ i. (p < 2 ^ 34) × (4096 * i + 4096 ≤ length frames))) (sym e) (is.inside p)
+pub inside_found : (frames : List ℕ) (m : BTreeMap ℕ ℕ) (p i : ℕ) → IsTable frames m → Some i ≡ tree.get nat_cmp m p → (p < 2 ^ 34) × (i + 4096 ≤ length frames)
+inside_found frames m p i is e = subst (λ o. IfSome o (λ i. (p < 2 ^ 34) × (i + 4096 ≤ length frames))) (sym e) (is.inside p)
 
-pub IsPageOfBytes-frame_in : (xs : List ℕ) (i : ℕ) → 4096 * i + 4096 ≤ length xs → IsBytes xs → IsPageOfBytes (frame_in xs i)
+-- where the frame of one page is written, those of the others stay
+pub other_page : (xs : List ℕ) (m : BTreeMap ℕ ℕ) (p i : ℕ) (ys : List ℕ) → IsTable xs m → tree.get nat_cmp m p ≡ Some i → length ys ≡ 4096 → (q j : ℕ) → q ≢ p → tree.get nat_cmp m q ≡ Some j → frame_in (put_frame xs i ys) j ≡ frame_in xs j
+other_page xs m p i ys is at_p whole q j ne at_q =
+    frame_in-put_other xs i j ys (inside_found xs m p i is (sym at_p)).1 whole (λ same. ne (is.apart q p j at_q (at_p ∙ ap Some (sym same)))) (is.clear q p j i at_q at_p) (is.clear p q i j at_p at_q)
+
+pub IsPageOfBytes-frame_in : (xs : List ℕ) (i : ℕ) → i + 4096 ≤ length xs → IsBytes xs → IsPageOfBytes (frame_in xs i)
 unfolding frame_in
 IsPageOfBytes-frame_in xs i inside small = record {
-  whole = omega (arith, length-take 4096 (drop (4096 * i) xs), length-drop (4096 * i) xs);
-  small = IsBytes-take 4096 (drop (4096 * i) xs) (IsBytes-drop (4096 * i) xs small);
+  whole = omega (arith, length-take 4096 (drop i xs), length-drop i xs);
+  small = IsBytes-take 4096 (drop i xs) (IsBytes-drop i xs small);
 }
 
 -- a frame of a longer buffer
-pub frame_in-append : (xs zs : List ℕ) (j : ℕ) → 4096 * j + 4096 ≤ length xs → frame_in (xs ++ zs) j ≡ frame_in xs j
+pub frame_in-append : (xs zs : List ℕ) (j : ℕ) → j + 4096 ≤ length xs → frame_in (xs ++ zs) j ≡ frame_in xs j
 unfolding frame_in
 frame_in-append xs zs j inside =
-    let long : 4096 ≤ length (drop (4096 * j) xs) = omega (arith, length-drop (4096 * j) xs) in
-    ap (take 4096) (drop-append-le (4096 * j) xs zs (omega (arith, inside))) ∙ take-append-le 4096 (drop (4096 * j) xs) zs long
+    let long : 4096 ≤ length (drop j xs) = omega (arith, length-drop j xs) in
+    ap (take 4096) (drop-append-le j xs zs (omega (arith, inside))) ∙ take-append-le 4096 (drop j xs) zs long
 
 -- the last frame
-pub frame_in-last : (xs zs : List ℕ) (j : ℕ) → length xs ≡ 4096 * j → length zs ≡ 4096 → frame_in (xs ++ zs) j ≡ zs
+pub frame_in-last : (xs zs : List ℕ) (j : ℕ) → length xs ≡ j → length zs ≡ 4096 → frame_in (xs ++ zs) j ≡ zs
 unfolding frame_in
-frame_in-last xs zs j at_j whole = ap (take 4096) (front_dropped xs zs (4096 * j) at_j) ∙ take_all_of zs 4096 whole
+frame_in-last xs zs j at_j whole = ap (take 4096) (front_dropped xs zs j at_j) ∙ take_all_of zs 4096 whole
   where
     take_all_of : (xs : List ℕ) (n : ℕ) → length xs ≡ n → take n xs ≡ xs
     take_all_of xs n e = grind (arith, common_steps)

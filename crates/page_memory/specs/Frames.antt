@@ -1,5 +1,5 @@
--- A buffer of frames and a table from pages to frames.
-use Rattle.std.specs.Prelude.{◌≡◌, ℕ, ◌+◌, ◌*◌, ◌%◌, ◌<◌, ◌≤◌, ◌^◌, ◌++◌, List, length, take, drop, map, filter, IfSome, Some, cond}
+-- A buffer with frames in it, and a table from pages to the places of their frames.
+use Rattle.std.specs.Prelude.{◌≡◌, ℕ, ◌+◌, ◌<◌, ◌≤◌, ◌^◌, ◌++◌, List, length, take, drop, map, filter, IfSome, Some, cond}
 use Rattle.std.specs.Ordering.{nat_cmp}
 use Rattle.std.specs.BTreeMap as tree
 use Rattle.std.specs.BTreeMap.{is_at}
@@ -8,24 +8,25 @@ use Rattle.page_memory.specs.Contents.{IsBytes}
 use Rattle.page_memory.specs.File.{is_stored}
 use Rattle.page_memory.specs.View.{pages_by}
 
--- frame i of a buffer
+-- the frame of a buffer that begins at place i
 unfoldable pub frame_in : List ℕ → ℕ → List ℕ
-frame_in xs i = take 4096 (drop (4096 * i) xs)
+frame_in xs i = take 4096 (drop i xs)
 
--- the buffer with these bytes as frame i
+-- the buffer with these bytes as the frame at place i
 unfoldable pub put_frame : List ℕ → ℕ → List ℕ → List ℕ
-put_frame xs i ys = take (4096 * i) xs ++ (ys ++ drop 4096 (drop (4096 * i) xs))
+put_frame xs i ys = take i xs ++ (ys ++ drop 4096 (drop i xs))
 
 -- the pages of a table over a buffer
 abbrev pub pages_in : List ℕ → tree.BTreeMap ℕ ℕ → finite.FinMap nat_cmp (List ℕ)
 pages_in frames table = pages_by (frame_in frames) table.entries
 
--- frames of different pages differ, and each lies in the buffer
+-- each frame lies in the buffer, and no two have a byte in common: two pages have two places, and a frame ends before the
+-- next one begins
 pub record IsTable (frames : List ℕ) (table : tree.BTreeMap ℕ ℕ) : Type 0 where
-  pub inside : (q : ℕ) → IfSome (tree.get nat_cmp table q) (λ i. (q < 2 ^ 34) × (4096 * i + 4096 ≤ length frames))
+  pub inside : (q : ℕ) → IfSome (tree.get nat_cmp table q) (λ i. (q < 2 ^ 34) × (i + 4096 ≤ length frames))
   pub apart : (p q i : ℕ) → tree.get nat_cmp table p ≡ Some i → tree.get nat_cmp table q ≡ Some i → p ≡ q
+  pub clear : (p q i j : ℕ) → tree.get nat_cmp table p ≡ Some i → tree.get nat_cmp table q ≡ Some j → i < j → i + 4096 ≤ j
   pub bytes : IsBytes frames
-  pub whole : length frames % 4096 ≡ 0
 
 -- n has v at k, and at each other key what m has
 abbrev pub Differs : {X : Type 0} → tree.BTreeMap ℕ X → tree.BTreeMap ℕ X → ℕ → X → Type 0

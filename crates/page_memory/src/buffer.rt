@@ -1,6 +1,6 @@
-//! The buffer of frames, and the table from pages to frames.
+//! The buffer in which the frames lie, and the table from pages to the places of their frames.
 
-ghost use Rattle.std.specs.Prelude.{◌≡◌, ℕ, ◌+◌, ◌*◌, ◌≤◌, ◌≢◌, length, IsSome, OnOk, OnErr, List, None, Some};
+ghost use Rattle.std.specs.Prelude.{◌≡◌, ℕ, ◌+◌, ◌<◌, ◌≤◌, ◌≢◌, length, IsSome, OnOk, OnErr, List, None, Some};
 ghost use Rattle.std.specs.FinMap as finite;
 ghost use Rattle.std.specs.Ordering.{nat_cmp};
 ghost use Rattle.std.specs.BTreeMap as tree;
@@ -12,28 +12,28 @@ use kx_pages::Page;
 use std::alloc::AllocError;
 use std::collections::BTreeMap;
 
-/// In which frame of the buffer a page lies, counted from 0.
+/// Where in the buffer the frame of a page begins.
 pub type Table = BTreeMap<Page, usize>;
 
-/// Frame i of the buffer.
+/// The frame that begins at a place of the buffer.
 #[tactic(auto, unfolding(crate::specs::Frames::frame_in))]
-pub fn frame(frames: &[u8], i: usize) -> &[u8]
-    requires { 4096 * i + 4096 ≤ length frames.now }
-    ensures { result.now ≡ frame_in frames.now i }
+pub fn frame(frames: &[u8], place: usize) -> &[u8]
+    requires { place + 4096 ≤ length frames.now }
+    ensures { result.now ≡ frame_in frames.now place }
 {
-    let (_, rest) = frames.split_at(4096 * i);
+    let (_, rest) = frames.split_at(place);
     let (frame, _) = rest.split_at(4096);
     frame
 }
 
 // Fills a frame with bytes, then zeros.
 #[tactic(auto, unfolding(crate::specs::Frames::put_frame))]
-fn fill(frames: &mut [u8], i: usize, bytes: &[u8])
-    requires inside { 4096 * i + 4096 ≤ length frames.old }
+fn fill(frames: &mut [u8], place: usize, bytes: &[u8])
+    requires inside { place + 4096 ≤ length frames.old }
     requires fits { length bytes.now ≤ 4096 }
-    ensures { frames.new ≡ put_frame frames.old i (page_of bytes.now) }
+    ensures { frames.new ≡ put_frame frames.old place (page_of bytes.now) }
 {
-    let (_, rest) = frames.split_at_mut(4096 * i);
+    let (_, rest) = frames.split_at_mut(place);
     let (frame, _) = rest.split_at_mut(4096);
     fill_frame(frame, bytes);
 }
@@ -48,14 +48,14 @@ fn fill_frame(frame: &mut [u8], bytes: &[u8])
     back.fill(0);
 }
 
-// Writes a word into a frame.
+// Writes a word at a place of the frame that begins at `start`.
 #[tactic(auto, unfolding(crate::specs::Frames::put_frame, crate::specs::Frames::frame_in))]
-fn fill_word(frames: &mut [u8], i: usize, place: usize, v: u64)
-    requires inside { 4096 * i + 4096 ≤ length frames.old }
+fn fill_word(frames: &mut [u8], start: usize, place: usize, v: u64)
+    requires inside { start + 4096 ≤ length frames.old }
     requires fits { place + 8 ≤ 4096 }
-    ensures { frames.new ≡ put_frame frames.old i (page_with_word (frame_in frames.old i) place v) }
+    ensures { frames.new ≡ put_frame frames.old start (page_with_word (frame_in frames.old start) place v) }
 {
-    let (_, rest) = frames.split_at_mut(4096 * i);
+    let (_, rest) = frames.split_at_mut(start);
     let (frame, _) = rest.split_at_mut(4096);
     put_word(frame, place, v);
 }
@@ -77,7 +77,7 @@ pub fn write_frame(frames: &mut Vec<u8>, table: &Table, p: Page, bytes: &[u8])
     ensures table { IsTable frames.new.items table.now }
 {
     match table.get(&p) {
-        Some(i) => fill(frames, *i, bytes),
+        Some(place) => fill(frames, *place, bytes),
         None => unreachable!(),
     }
 }
@@ -91,22 +91,24 @@ pub fn write_word(frames: &mut Vec<u8>, table: &Table, p: Page, place: usize, v:
     ensures table { IsTable frames.new.items table.now }
 {
     match table.get(&p) {
-        Some(i) => fill_word(frames, *i, place, v),
+        Some(start) => fill_word(frames, *start, place, v),
         None => unreachable!(),
     }
 }
 
-// Frame `to` becomes what frame `from` is.
+// The frame at `to` becomes what the one at `from` is. They are one frame, or have no byte in common.
 fn move_frame(frames: &mut [u8], to: usize, from: usize)
-    requires to { 4096 * to + 4096 ≤ length frames.old }
-    requires from { 4096 * from + 4096 ≤ length frames.old }
+    requires to { to + 4096 ≤ length frames.old }
+    requires from { from + 4096 ≤ length frames.old }
+    requires up { from < to → from + 4096 ≤ to }
+    requires down { to < from → to + 4096 ≤ from }
     ensures { frames.new ≡ put_frame frames.old to (frame_in frames.old from) }
 {
     if from < to {
-        let (low, high) = frames.split_at_mut(4096 * to);
+        let (low, high) = frames.split_at_mut(to);
         fill(high, 0, frame(low, from));
     } else if to < from {
-        let (low, high) = frames.split_at_mut(4096 * from);
+        let (low, high) = frames.split_at_mut(from);
         fill(low, to, frame(high, 0));
     }
 }
@@ -139,9 +141,9 @@ pub fn add_frame(
     ensures table { IsTable frames.new.items table.new }
 {
     let _number = p.number();
-    let next = frames.len() / 4096;
+    let place = frames.len();
     frames.reserve(4096)?;
-    table.insert(p, next)?;
+    table.insert(p, place)?;
     match frames.extend_from_slice(bytes) {
         Ok(()) => Ok(()),
         Err(_) => unreachable!(),
@@ -169,7 +171,7 @@ fn set_entry(table: &mut Table, p: Page, i: usize)
     }
 }
 
-/// The frames of two pages change places.
+/// The frames of two pages change places: no byte moves.
 pub fn exchange(table: &mut Table, d: Page, s: Page)
     requires d { IsSome (tree.get nat_cmp table.old d) }
     requires s { IsSome (tree.get nat_cmp table.old s) }

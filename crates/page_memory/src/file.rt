@@ -1,6 +1,6 @@
 //! The memory file.
 
-ghost use Rattle.std.specs.Prelude.{[], ◌≡◌, ◌≤◌, ◌<◌, ◌+◌, ◌*◌, ◌^◌, ℕ, length, ◌++◌, ◌≢◌, ◌↔◌, drop, IfOk, IfErr, IfSome, IsSome, OnOk, nat_le, if◌then◌else◌};
+ghost use Rattle.std.specs.Prelude.{[], ◌≡◌, ◌≤◌, ◌<◌, ◌+◌, ◌*◌, ◌^◌, ℕ, length, ◌++◌, ◌≢◌, ◌↔◌, drop, IfOk, IfErr, IfSome, IsSome, OnOk, nat_le, take, if◌then◌else◌};
 ghost use Rattle.page_memory.specs.declared.fault.MemFault.TheVariants.{PastLimit};
 ghost use Rattle.std.specs.FinMap as finite;
 ghost use Rattle.page_memory.specs.Contents.{IsPageOfBytes};
@@ -11,7 +11,7 @@ ghost use Rattle.byteorder.specs.Endian.{little_bytes};
 ghost use Rattle.page_memory.specs.File.{magic, text_of, page_text, Gives, le64, pages_read, entry_at, pages_onto, is_all_zeros};
 ghost use Rattle.page_memory.specs.Frames.{pages_in, IsTable, stored_in, frame_entries};
 
-use crate::buffer::{Table, add_frame, frame};
+use crate::buffer::{Table, frame};
 use crate::fault::{HeavyFault, MemFault};
 use kx_fields::Block;
 use kx_pages::Page;
@@ -86,8 +86,8 @@ fn next_page(
     bytes: &[u8],
 ) -> Result<(Page, &[u8], &[u8]), MemFault>
     ensures exact { Gives (λ x. (x.0, x.1.now, x.2.now)) result (entry_at total place low bytes.now) }
-    ensures whole { IfOk result (λ x. IsPageOfBytes x.1.now) }
-    ensures rises { IfOk result (λ x. low ≤ x.0) }
+    ensures cut { IfOk result (λ x. (4104 ≤ length bytes.now) × (x.1.now ≡ take 4096 (drop 8 bytes.now)) × (x.2.now ≡ drop 4096 (drop 8 bytes.now))) }
+    ensures page { IfOk result (λ x. x.0 < 2 ^ 34) }
 {
     if bytes.len() < 4104 {
         return Err(MemFault::Truncated { at: total });
@@ -105,39 +105,23 @@ fn next_page(
     Ok((page, frame, after))
 }
 
-/// What a memory is made of.
-#[derive(Drop)]
-pub struct Parts {
-    pub frames: Vec<u8>,
-    pub table: BTreeMap<Page, usize>,
-}
-
-// Room for the pages that the bytes have, at once.
-fn room_for(alloc: Global, count: u64, length: usize) -> Result<Vec<u8>, AllocError>
-    requires { count ≤ 131072 }
-    ensures { IfOk result (λ v. v.items ≡ []) }
+// The table of so many pages that stand after a file's head, and that nothing follows. Each frame stays where it lies.
+fn table_of(alloc: Global, count: u64, bytes: &[u8]) -> Result<Table, MemFault>
+    requires few { count ≤ 131072 }
+    requires headed { 16 ≤ length bytes.now }
+    ensures exact { Gives (λ t. pages_in bytes.now t) result (pages_onto (length bytes.now) 16 0 finite.empty count (drop 8 (drop 8 bytes.now))) }
+    ensures table { IfOk result (λ t. IsTable bytes.now t) }
 {
-    let mut frames = Vec::new(alloc);
-    frames.reserve_exact((4096 * count as usize).min(length))?;
-    Ok(frames)
-}
-
-// The pages that the bytes spell, all of the bytes.
-fn pages_of(alloc: Global, count: u64, total: u64, body: &[u8]) -> Result<Parts, MemFault>
-    requires { count ≤ 131072 }
-    ensures exact { Gives (λ x. pages_in x.frames.items x.table) result (pages_onto total 16 0 finite.empty count body.now) }
-    ensures table { IfOk result (λ x. IsTable x.frames.items x.table) }
-{
-    let mut frames = room_for(alloc, count, body.len())?;
+    let total = bytes.len() as u64;
     let mut table = BTreeMap::new(alloc);
     let mut low = 0;
-    let mut rest = body;
+    let (_, mut rest) = bytes.split_at(16);
     for i in 0..count {
-        let (page, bytes, after) = match next_page(total, 16 + 4104 * i, low, rest) {
+        let (page, _, after) = match next_page(total, 16 + 4104 * i, low, rest) {
             Ok(next) => next,
             Err(e) => return Err(e),
         };
-        add_frame(&mut frames, &mut table, page, bytes)?;
+        table.insert(page, (24 + 4104 * i) as usize)?;
         low = page.number() + 1;
         rest = after;
     }
@@ -146,28 +130,30 @@ fn pages_of(alloc: Global, count: u64, total: u64, body: &[u8]) -> Result<Parts,
             at: 16 + 4104 * count,
         });
     }
-    Ok(Parts { frames, table })
+    Ok(table)
 }
 
-/// The parts that a memory file spells.
+/// The table of the pages that a memory file spells, over the bytes of the file.
 #[tactic(auto, unfolding(crate::specs::File::pages_read))]
-pub fn parts_of(alloc: Global, bytes: &[u8]) -> Result<Parts, MemFault>
-    ensures exact { Gives (λ x. pages_in x.frames.items x.table) result (pages_read bytes.now) }
-    ensures table { IfOk result (λ x. IsTable x.frames.items x.table) }
+pub fn file_table(alloc: Global, bytes: &[u8]) -> Result<Table, MemFault>
+    ensures exact { Gives (λ t. pages_in bytes.now t) result (pages_read bytes.now) }
+    ensures table { IfOk result (λ t. IsTable bytes.now t) }
 {
     if !bytes.starts_with(b"KXMEM001") {
         return Err(MemFault::BadMagic);
     }
-    let total = bytes.len() as u64;
     let count = match count_at(bytes) {
         Some(count) => count,
-        None => return Err(MemFault::Truncated { at: total }),
+        None => {
+            return Err(MemFault::Truncated {
+                at: bytes.len() as u64,
+            });
+        }
     };
     if count > 131072 {
         return Err(MemFault::TooMany { count });
     }
-    let (_, body) = bytes.split_at(16);
-    pages_of(alloc, count, total, body)
+    table_of(alloc, count, bytes)
 }
 
 fn put_page(out: &mut Vec<u8>, p: Page, frame: &[u8]) -> Result<(), AllocError>
@@ -178,7 +164,7 @@ fn put_page(out: &mut Vec<u8>, p: Page, frame: &[u8]) -> Result<(), AllocError>
     Ok(())
 }
 
-// The pages that are not all zeros, each with its frame.
+// The pages that are not all zeros, each with the place of its frame.
 fn stored_frames(
     alloc: Global,
     frames: &[u8],
@@ -186,15 +172,15 @@ fn stored_frames(
 ) -> Result<Vec<(Page, usize)>, AllocError>
     requires { IsTable frames.now table.now }
     ensures stored { IfOk result (λ v. frame_entries frames.now v.items ≡ stored_in frames.now table.now) }
-    ensures inside { IfOk result (λ v. AllByRecursion (λ e. 4096 * e.1 + 4096 ≤ length frames.now) v.items) }
+    ensures inside { IfOk result (λ v. AllByRecursion (λ e. e.1 + 4096 ≤ length frames.now) v.items) }
     ensures ordered { IsOrdered nat_cmp table.now }
 {
     let entries = table.iter();
     let mut stored = Vec::new(alloc);
     stored.reserve_exact(table.len())?;
-    for (p, i) in entries {
-        if !is_zero(frame(frames, *i)) {
-            stored.push((*p, *i))?;
+    for (p, place) in entries {
+        if !is_zero(frame(frames, *place)) {
+            stored.push((*p, *place))?;
         }
     }
     Ok(stored)
@@ -206,15 +192,15 @@ fn text_of_pages(
     frames: &[u8],
     pages: &[(Page, usize)],
 ) -> Result<Vec<u8>, AllocError>
-    requires inside { AllByRecursion (λ e. 4096 * e.1 + 4096 ≤ length frames.now) pages.now }
+    requires inside { AllByRecursion (λ e. e.1 + 4096 ≤ length frames.now) pages.now }
     requires few { length pages.now ≤ 131072 }
     ensures { IfOk result (λ v. v.items ≡ text_of (frame_entries frames.now pages.now)) }
 {
     let mut out = Vec::new(alloc);
     out.reserve_exact(16 + 4104 * pages.len())?;
     out.extend_from_slice(head_of(pages.len() as u64).bytes())?;
-    for (p, i) in pages {
-        put_page(&mut out, *p, frame(frames, *i))?;
+    for (p, place) in pages {
+        put_page(&mut out, *p, frame(frames, *place))?;
     }
     Ok(out)
 }

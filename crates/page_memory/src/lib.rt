@@ -1,8 +1,9 @@
 //! Memory images: what each page holds, by its number, and the memory file.
 //!
-//! A page has 4,096 bytes. A page that is not held reads as zeros. The bytes lie in one buffer of frames; an ordered
-//! table says in which frame a page lies. No contract tells this: a memory is seen as a map from held pages to their
-//! bytes, and a number of sets, which only `set` and `set_word` raise.
+//! A page has 4,096 bytes. A page that is not held reads as zeros. The bytes lie in one buffer, each page in a frame of its
+//! own; an ordered table says at which place the frame of a page begins. The buffer of a memory that was read is its
+//! file, so that no page is copied, and pages that are held later stand after it. No contract tells this: a memory is
+//! seen as a map from held pages to their bytes, and a number of sets, which only `set` and `set_word` raise.
 #![tactic(auto)]
 
 ghost use Rattle.std.specs.Prelude.{◌≡◌, ℕ, ◌+◌, ◌*◌, ◌/◌, ◌%◌, ◌<◌, ◌≤◌, ◌^◌, ◌≢◌, ◌↔◌, length, slice_index, IsTrue, IfSome, IsSome, OnOk, OnErr, IfOk, IfErr};
@@ -20,7 +21,7 @@ mod file;
 mod tests;
 
 use crate::buffer::{Table, add_frame, copy_frame, exchange, frame, write_frame, write_word};
-use crate::file::{Parts, file_of, parts_of};
+use crate::file::{file_of, file_table};
 use byteorder::{ByteOrder, LittleEndian};
 pub use fault::{HeavyFault, MemFault};
 use kx_pages::{PAGE_SIZE, Page};
@@ -90,7 +91,7 @@ impl Memory {
         ensures bytes { IfSome result (λ s. IsPageOfBytes s.now) }
     {
         match self.table.get(&p) {
-            Some(i) => Some(frame(&self.frames, *i)),
+            Some(place) => Some(frame(&self.frames, *place)),
             None => None,
         }
     }
@@ -260,7 +261,28 @@ impl Memory {
         // The bytes are the file of what was read.
         ensures found { IfOk result (λ m. file m ≡ bytes.now) }
     {
-        memory_of(alloc, bytes)
+        let table = file_table(alloc, bytes)?;
+        let frames = copy_of(alloc, bytes)?;
+        Ok(Memory {
+            frames,
+            table,
+            sets: 0,
+            alloc,
+        })
+    }
+
+    /// As `read`, of bytes that are handed in: they become the memory's own, and no page is copied. This project's own.
+    pub fn from_file(alloc: Global, bytes: Vec<u8>) -> Result<Memory, MemFault>
+        ensures exact { Gives (λ m. m) result (reading bytes.items) }
+        ensures found { IfOk result (λ m. file m ≡ bytes.items) }
+    {
+        let table = file_table(alloc, &bytes)?;
+        Ok(Memory {
+            frames: bytes,
+            table,
+            sets: 0,
+            alloc,
+        })
     }
 
     /// The file of the pages that are not all zeros.
@@ -272,18 +294,12 @@ impl Memory {
     }
 }
 
-fn memory_of(alloc: Global, bytes: &[u8]) -> Result<Memory, MemFault>
-    ensures { Gives (λ m. m) result (reading bytes.now) }
+fn copy_of(alloc: Global, bytes: &[u8]) -> Result<Vec<u8>, AllocError>
+    ensures { IfOk result (λ v. v.items ≡ bytes.now) }
 {
-    match parts_of(alloc, bytes) {
-        Ok(Parts { frames, table }) => Ok(Memory {
-            frames,
-            table,
-            sets: 0,
-            alloc,
-        }),
-        Err(e) => Err(e),
-    }
+    let mut copy = Vec::new(alloc);
+    copy.extend_from_slice(bytes)?;
+    Ok(copy)
 }
 
 /// What `write` gives is read back: the file of a memory within the limit reads as a memory that agrees with it at

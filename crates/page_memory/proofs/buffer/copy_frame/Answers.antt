@@ -1,4 +1,4 @@
-use Rattle.std.proofs.Common.{Some, ◌≡◌, sym, ap, ◌∙◌, arith, length, List, ℕ}
+use Rattle.std.proofs.Common.{◌≡◌, sym, ap, ◌∙◌, arith, length, List, ℕ}
 use Rattle.std.specs.FinMap.{insert}
 use Rattle.page_memory.specs.Contents.{frame_at}
 use Rattle.page_memory.specs.Laws.{frame_at-found, frame_at-none}
@@ -6,7 +6,7 @@ use Rattle.page_memory.specs.Frames.{frame_in, put_frame, pages_in}
 use Rattle.page_memory.proofs.Changes.{some_in}
 use Rattle.page_memory.proofs.Moves.{length-frame_in, page_of-nothing}
 use Rattle.page_memory.proofs.Tables.{none_held, some_held}
-use Rattle.page_memory.proofs.Frames.{inside_found, frame_in-put_same, frame_in-put_other, pages_by-written, vec_back}
+use Rattle.page_memory.proofs.Frames.{inside_found, frame_in-put_same, other_page, pages_by-written, vec_back}
 use Rattle.page_memory.proofs.buffer.copy_frame.Goals as goal
 
 pub entry_of-requires : goal.entry_of-requires
@@ -14,6 +14,12 @@ entry_of-requires c = some_in c.args.frames.now.items c.args.table.now c.args.d 
 
 pub move_frame-requires-clause-from : goal.move_frame-requires-clause-from
 move_frame-requires-clause-from c = rw c.deref_mut.ensures.value (inside_found c.args.frames.now.items c.args.table.now c.args.s c.in-Some.from.now c.requires.old c.in-Some.ensures.value).1
+
+pub move_frame-requires-clause-up : goal.move_frame-requires-clause-up
+move_frame-requires-clause-up c = c.requires.old.clear c.args.s c.args.d c.in-Some.from.now c.entry_of.result (sym c.in-Some.ensures.value) c.entry_of.ensures
+
+pub move_frame-requires-clause-down : goal.move_frame-requires-clause-down
+move_frame-requires-clause-down c = c.requires.old.clear c.args.d c.args.s c.entry_of.result c.in-Some.from.now c.entry_of.ensures (sym c.in-Some.ensures.value)
 
 pub returns-in-Some-clause-value : goal.returns-in-Some-clause-value
 returns-in-Some-clause-value c =
@@ -33,7 +39,7 @@ returns-in-Some-clause-value c =
     let back = vec_back c.args.frames.now.len xs c.move_frame.new.frames all ∙ written in
     rw (back, read) (pages_by-written (frame_in xs) (frame_in (put_frame xs i ys)) t c.args.d i ys at_d
     (frame_in-put_same xs i ys to_is.1 whole)
-    (λ q j ne at_q. frame_in-put_other xs i j ys to_is.1 whole (λ same. ne (c.requires.old.apart q c.args.d j at_q (at_d ∙ ap Some (sym same))))))
+    (other_page xs t c.args.d i ys c.requires.old at_d whole))
 
 pub returns-in-None-clause-value : goal.returns-in-None-clause-value
 returns-in-None-clause-value c =

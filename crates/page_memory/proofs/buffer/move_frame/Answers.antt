@@ -1,4 +1,4 @@
-use Rattle.std.proofs.Common.{◌≡◌, ◌*◌, ◌++◌, take, drop, length, ap, ◌∙◌, arith}
+use Rattle.std.proofs.Common.{◌≡◌, ◌++◌, take, drop, length, ap, ◌∙◌, arith}
 use Rattle.page_memory.specs.Contents.{page_of}
 use Rattle.page_memory.specs.Frames.{frame_in, put_frame}
 use Rattle.page_memory.proofs.Moves.{moved_up, moved_down, moved_nowhere, length-frame_in}
@@ -15,21 +15,21 @@ fill-requires-then-to-from-clause-fits c =
 pub returns-then-from-to : goal.returns-then-from-to
 returns-then-from-to c =
     let xs = c.args.frames.now in
-    let n = 4096 * c.args.to in
+    let n = c.args.to in
     let low = c.split_at_mut-low.ensures.front in
     let high = c.split_at_mut-low.ensures.back in
     ap (λ t. t ++ c.fill.new.frames) low
-    ∙ moved_up xs c.fill.new.frames c.args.to c.args.from c.requires.to c.if-from-to.true
+    ∙ moved_up xs c.fill.new.frames c.args.to c.args.from c.requires.to (c.requires.up c.if-from-to.true)
     (c.fill.ensures ∙ ap (λ t. put_frame t 0 (page_of c.frame.result.now)) high ∙ ap (λ t. put_frame (drop n xs) 0 (page_of t)) (c.frame.ensures ∙ ap (λ t. frame_in t c.args.from) low))
 
 pub returns-then-to-from : goal.returns-then-to-from
 returns-then-to-from c =
     let xs = c.args.frames.now in
-    let n = 4096 * c.args.from in
+    let n = c.args.from in
     let low = c.split_at_mut-low-then-to-from.ensures.front in
     let high = c.split_at_mut-low-then-to-from.ensures.back in
     ap (λ t. c.fill-then-to-from.new.frames ++ t) high
-    ∙ moved_down xs c.fill-then-to-from.new.frames c.args.to c.args.from c.requires.from c.if-to-from.true
+    ∙ moved_down xs c.fill-then-to-from.new.frames c.args.to c.args.from c.requires.from (c.requires.down c.if-to-from.true)
     (c.fill-then-to-from.ensures ∙ ap (λ t. put_frame t c.args.to (page_of c.frame-then-to-from.result.now)) low ∙ ap (λ t. put_frame (take n xs) c.args.to (page_of t)) (c.frame-then-to-from.ensures ∙ ap (λ t. frame_in t 0) high))
 
 pub returns-else-to-from : goal.returns-else-to-from

@@ -1,13 +1,13 @@
-use Rattle.std.proofs.Common.{Some, ◌≡◌, sym, ap, ◌∙◌, arith, length}
+use Rattle.std.proofs.Common.{◌≡◌, sym, ap, ◌∙◌, arith, length}
 use Rattle.page_memory.specs.Contents.{page_of}
 use Rattle.page_memory.specs.Frames.{frame_in, put_frame}
 use Rattle.page_memory.proofs.Bytes.{length-page_of}
 use Rattle.page_memory.proofs.Tables.{none_held}
-use Rattle.page_memory.proofs.Frames.{inside_found, frame_in-put_same, frame_in-put_other, pages_by-written, vec_back}
+use Rattle.page_memory.proofs.Frames.{inside_found, frame_in-put_same, other_page, pages_by-written, vec_back}
 use Rattle.page_memory.proofs.buffer.write_frame.Goals as goal
 
 pub fill-requires-clause-inside : goal.fill-requires-clause-inside
-fill-requires-clause-inside c = rw c.deref_mut.ensures.value (inside_found c.args.frames.now.items c.args.table.now c.args.p c.in-Some.i.now c.requires.old c.in-Some.ensures.value).1
+fill-requires-clause-inside c = rw c.deref_mut.ensures.value (inside_found c.args.frames.now.items c.args.table.now c.args.p c.in-Some.place.now c.requires.old c.in-Some.ensures.value).1
 
 pub unreachable-requires : goal.unreachable-requires
 unreachable-requires c =
@@ -17,7 +17,7 @@ unreachable-requires c =
 pub returns-clause-value : goal.returns-clause-value
 returns-clause-value c =
     let xs = c.args.frames.now.items in
-    let i = c.in-Some.i.now in
+    let i = c.in-Some.place.now in
     let ys = page_of c.args.bytes.now in
     let found = inside_found xs c.args.table.now c.args.p i c.requires.old c.in-Some.ensures.value in
     let whole = length-page_of c.args.bytes.now c.requires.fits in
@@ -26,4 +26,4 @@ returns-clause-value c =
     let back = vec_back c.args.frames.now.len xs c.fill.new.frames all ∙ written in
     rw back (pages_by-written (frame_in xs) (frame_in (put_frame xs i ys)) c.args.table.now c.args.p i ys (sym c.in-Some.ensures.value)
     (frame_in-put_same xs i ys found.1 whole)
-    (λ q j ne at_q. frame_in-put_other xs i j ys found.1 whole (λ same. ne (c.requires.old.apart q c.args.p j at_q (sym c.in-Some.ensures.value ∙ ap Some (sym same))))))
+    (other_page xs c.args.table.now c.args.p i ys c.requires.old (sym c.in-Some.ensures.value) whole))

@@ -1,14 +1,14 @@
-use Rattle.std.proofs.Common.{Some, ◌≡◌, sym, ap, ◌∙◌, arith, length}
+use Rattle.std.proofs.Common.{◌≡◌, sym, ap, ◌∙◌, arith, length}
 use Rattle.page_memory.specs.Contents.{page_with_word, frame_at}
 use Rattle.page_memory.specs.Laws.{frame_at-found}
 use Rattle.page_memory.specs.Frames.{frame_in, put_frame, pages_in}
 use Rattle.page_memory.proofs.Bytes.{IsPageOfBytes-page_with_word}
 use Rattle.page_memory.proofs.Tables.{none_held, some_held}
-use Rattle.page_memory.proofs.Frames.{inside_found, frame_in-put_same, frame_in-put_other, pages_by-written, vec_back, IsPageOfBytes-frame_in}
+use Rattle.page_memory.proofs.Frames.{inside_found, frame_in-put_same, other_page, pages_by-written, vec_back, IsPageOfBytes-frame_in}
 use Rattle.page_memory.proofs.buffer.write_word.Goals as goal
 
 pub fill_word-requires-clause-inside : goal.fill_word-requires-clause-inside
-fill_word-requires-clause-inside c = rw c.deref_mut.ensures.value (inside_found c.args.frames.now.items c.args.table.now c.args.p c.in-Some.i.now c.requires.old c.in-Some.ensures.value).1
+fill_word-requires-clause-inside c = rw c.deref_mut.ensures.value (inside_found c.args.frames.now.items c.args.table.now c.args.p c.in-Some.start.now c.requires.old c.in-Some.ensures.value).1
 
 pub unreachable-requires : goal.unreachable-requires
 unreachable-requires c =
@@ -18,7 +18,7 @@ unreachable-requires c =
 pub returns-clause-value : goal.returns-clause-value
 returns-clause-value c =
     let xs = c.args.frames.now.items in
-    let i = c.in-Some.i.now in
+    let i = c.in-Some.start.now in
     let found = inside_found xs c.args.table.now c.args.p i c.requires.old c.in-Some.ensures.value in
     let ys = page_with_word (frame_in xs i) c.args.place c.args.v in
     let whole = (IsPageOfBytes-page_with_word (frame_in xs i) c.args.place c.args.v c.requires.fits (IsPageOfBytes-frame_in xs i found.1 c.requires.old.bytes)).whole in
@@ -28,4 +28,4 @@ returns-clause-value c =
     let back = vec_back c.args.frames.now.len xs c.fill_word.new.frames all ∙ written in
     rw (back, same) (pages_by-written (frame_in xs) (frame_in (put_frame xs i ys)) c.args.table.now c.args.p i ys (sym c.in-Some.ensures.value)
     (frame_in-put_same xs i ys found.1 whole)
-    (λ q j ne at_q. frame_in-put_other xs i j ys found.1 whole (λ same. ne (c.requires.old.apart q c.args.p j at_q (sym c.in-Some.ensures.value ∙ ap Some (sym same))))))
+    (other_page xs c.args.table.now c.args.p i ys c.requires.old (sym c.in-Some.ensures.value) whole))
