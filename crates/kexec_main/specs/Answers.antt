@@ -77,6 +77,10 @@ pub record Moment : Type 0 where
   pub said : Option (List ℕ)
   pub sink_faults : ℕ
 
+-- the moment of a shelf with these files and faults, and a sink with this text and these faults
+abbrev pub moment : Option Files → ℕ → Option (List ℕ) → ℕ → Moment
+moment files shelf_faults said sink_faults = record { files = files; shelf_faults = shelf_faults; said = said; sink_faults = sink_faults }
+
 -- neither count of faults rose
 pub record Calm (before after : Moment) : Type 0 where
   pub shelf : after.shelf_faults ≡ before.shelf_faults

@@ -4,7 +4,7 @@ ghost use Rattle.std.specs.Prelude.{◌≡◌, ◌∷◌, [], length, IfOk, IfEr
 ghost use Rattle.list_checker.specs.declared.fault.ListFault.{ListFault as SpecFault};
 ghost use Rattle.list_checker.specs.declared.fault.CheckFault.TheVariants as faults;
 ghost use Rattle.kexec_words.specs.Values.{loaded_value};
-ghost use Rattle.kexec_main.specs.Answers.{Meets, answer_of, ended, memory};
+ghost use Rattle.kexec_main.specs.Answers.{Meets, answer_of, ended, memory, moment};
 ghost use Rattle.kexec_main.specs.Check.{IsFaultLine, checks};
 ghost use Rattle.kexec_main.specs.Loads.{load_files};
 ghost use Rattle.kexec_main.specs.Makes.{Makes};
@@ -69,8 +69,8 @@ pub(crate) fn check<S: Shelf, O: Sink>(
     out: &mut O,
 ) -> Result<(), Status>
     ensures { Meets (string_bytes loaded.memory ∷ string_bytes loaded.load_record ∷ []) (load_files (string_bytes loaded.memory) (string_bytes loaded.load_record)) checks
-        (record { files = S.files shelf.old; shelf_faults = S.faults shelf.old; said = O.said out.old; sink_faults = O.faults out.old })
-        (record { files = S.files shelf.new; shelf_faults = S.faults shelf.new; said = O.said out.new; sink_faults = O.faults out.new })
+        (moment (S.files shelf.old) (S.faults shelf.old) (O.said out.old) (O.faults out.old))
+        (moment (S.files shelf.new) (S.faults shelf.new) (O.said out.new) (O.faults out.new))
         (ended result) }
 {
     let Loaded {

@@ -2,7 +2,7 @@
 
 ghost use Rattle.std.specs.Prelude.{◌≡◌, List, map, string_bytes, OnOk, IfErr};
 ghost use Rattle.kx_edge.specs.Edge.{Rose};
-ghost use Rattle.kexec_main.specs.Answers.{Delivers, PutAll, PutSome, ended};
+ghost use Rattle.kexec_main.specs.Answers.{Delivers, PutAll, PutSome, ended, moment};
 ghost use Rattle.kexec_main.specs.Values.{goods_of, output_of};
 
 use crate::status::Status;
@@ -48,8 +48,8 @@ pub(crate) fn deliver<S: Shelf, O: Sink>(
     out: &mut O,
 ) -> Result<(), Status>
     ensures { Delivers (goods_of goods)
-        (record { files = S.files shelf.old; shelf_faults = S.faults shelf.old; said = O.said out.old; sink_faults = O.faults out.old })
-        (record { files = S.files shelf.new; shelf_faults = S.faults shelf.new; said = O.said out.new; sink_faults = O.faults out.new })
+        (moment (S.files shelf.old) (S.faults shelf.old) (O.said out.old) (O.faults out.old))
+        (moment (S.files shelf.new) (S.faults shelf.new) (O.said out.new) (O.faults out.new))
         (ended result) }
 {
     let Goods {

@@ -4,7 +4,7 @@ ghost use Rattle.std.specs.Prelude.{◌≡◌, ◌∷◌, [], string_bytes};
 ghost use Rattle.load_states.specs.Answers.{IsAcceptedAs};
 ghost use Rattle.load_states.specs.States.{Load as LoadOf};
 ghost use Rattle.kexec_words.specs.Values.{exec_value};
-ghost use Rattle.kexec_main.specs.Answers.{Meets, ended};
+ghost use Rattle.kexec_main.specs.Answers.{Meets, ended, moment};
 ghost use Rattle.kexec_main.specs.Boot.{HasMode};
 ghost use Rattle.kexec_main.specs.Exec.{executes, runs_list, runs_of};
 ghost use Rattle.kexec_main.specs.Loads.{lacks_swap_page, load_files};
@@ -104,8 +104,8 @@ pub(crate) fn exec<S: Shelf, O: Sink>(
     out: &mut O,
 ) -> Result<(), Status>
     ensures { Meets (string_bytes exec.memory ∷ string_bytes exec.load_record ∷ []) (load_files (string_bytes exec.memory) (string_bytes exec.load_record)) (executes (string_bytes exec.out) exec.twice)
-        (record { files = S.files shelf.old; shelf_faults = S.faults shelf.old; said = O.said out.old; sink_faults = O.faults out.old })
-        (record { files = S.files shelf.new; shelf_faults = S.faults shelf.new; said = O.said out.new; sink_faults = O.faults out.new })
+        (moment (S.files shelf.old) (S.faults shelf.old) (O.said out.old) (O.faults out.old))
+        (moment (S.files shelf.new) (S.faults shelf.new) (O.said out.new) (O.faults out.new))
         (ended result) }
 {
     let Exec {

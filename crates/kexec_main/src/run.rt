@@ -2,7 +2,7 @@
 
 ghost use Rattle.std.specs.Prelude.{◌≡◌, ◌⊎◌, ℕ, List, map, string_bytes, IfSome, Ok};
 ghost use Rattle.kx_edge.specs.Edge.{Rose};
-ghost use Rattle.kexec_main.specs.Answers.{answer_of, done, ended, memory, unread, unsaid, unwritten};
+ghost use Rattle.kexec_main.specs.Answers.{answer_of, done, ended, memory, unread, unsaid, unwritten, moment};
 ghost use Rattle.kexec_main.specs.Planning.{wish_of};
 ghost use Rattle.kexec_main.specs.Run.{Answers, HasBooted, HasExecuted, HasLoaded, IsInOrder, Serves, Runs, boot_leaves, load_leaves, load_wish};
 ghost use Rattle.kexec_words.specs.Limits.{IsWithinLimits};
@@ -44,8 +44,8 @@ fn run_boot<S: Shelf, O: Sink>(
     out: &mut O,
 ) -> Result<(), Status>
     ensures { Runs (values.boot (boot_value words))
-        (record { files = S.files shelf.old; shelf_faults = S.faults shelf.old; said = O.said out.old; sink_faults = O.faults out.old })
-        (record { files = S.files shelf.new; shelf_faults = S.faults shelf.new; said = O.said out.new; sink_faults = O.faults out.new })
+        (moment (S.files shelf.old) (S.faults shelf.old) (O.said out.old) (O.faults out.old))
+        (moment (S.files shelf.new) (S.faults shelf.new) (O.said out.new) (O.faults out.new))
         (ended result) }
 {
     let raw = served(words.image, &words.inputs)?;
@@ -59,8 +59,8 @@ fn run_load<S: Shelf, O: Sink>(
     out: &mut O,
 ) -> Result<(), Status>
     ensures { Runs (values.load (load_value words))
-        (record { files = S.files shelf.old; shelf_faults = S.faults shelf.old; said = O.said out.old; sink_faults = O.faults out.old })
-        (record { files = S.files shelf.new; shelf_faults = S.faults shelf.new; said = O.said out.new; sink_faults = O.faults out.new })
+        (moment (S.files shelf.old) (S.faults shelf.old) (O.said out.old) (O.faults out.old))
+        (moment (S.files shelf.new) (S.faults shelf.new) (O.said out.new) (O.faults out.new))
         (ended result) }
 {
     let raw = served(words.image, &words.inputs)?;
@@ -76,8 +76,8 @@ fn run<S: Shelf, O: Sink>(
 ) -> Result<(), Status>
     requires { IsWithinLimits (command_value command) }
     ensures { Runs (command_value command)
-        (record { files = S.files shelf.old; shelf_faults = S.faults shelf.old; said = O.said out.old; sink_faults = O.faults out.old })
-        (record { files = S.files shelf.new; shelf_faults = S.faults shelf.new; said = O.said out.new; sink_faults = O.faults out.new })
+        (moment (S.files shelf.old) (S.faults shelf.old) (O.said out.old) (O.faults out.old))
+        (moment (S.files shelf.new) (S.faults shelf.new) (O.said out.new) (O.faults out.new))
         (ended result) }
 {
     match command {
@@ -103,8 +103,8 @@ pub fn kexec<S: Shelf, O: Sink>(
 ) -> Status
     // Each answer has its cause, and says what stands after it.
     ensures answer { Answers (command_of (map string_bytes words.now))
-        (record { files = S.files shelf.old; shelf_faults = S.faults shelf.old; said = O.said out.old; sink_faults = O.faults out.old })
-        (record { files = S.files shelf.new; shelf_faults = S.faults shelf.new; said = O.said out.new; sink_faults = O.faults out.new })
+        (moment (S.files shelf.old) (S.faults shelf.old) (O.said out.old) (O.faults out.old))
+        (moment (S.files shelf.new) (S.faults shelf.new) (O.said out.new) (O.faults out.new))
         (answer_of result) }
 
     // After a boot that is Done the pool sufficed, the load wrote only pages of the pool, the list that was laid is
@@ -112,23 +112,23 @@ pub fn kexec<S: Shelf, O: Sink>(
     // as it was before the first), OUT is the file of the memory after the last run, all other files are as they were,
     // and the text tells the list and each run.
     ensures headline { (b : BootValue) → command_of (map string_bytes words.now) ≡ Ok (values.boot b) → answer_of result ≡ done → IfSome (S.files shelf.old) (λ held. HasBooted b held
-        (record { files = S.files shelf.old; shelf_faults = S.faults shelf.old; said = O.said out.old; sink_faults = O.faults out.old })
-        (record { files = S.files shelf.new; shelf_faults = S.faults shelf.new; said = O.said out.new; sink_faults = O.faults out.new })) }
+        (moment (S.files shelf.old) (S.faults shelf.old) (O.said out.old) (O.faults out.old))
+        (moment (S.files shelf.new) (S.faults shelf.new) (O.said out.new) (O.faults out.new))) }
 
     // After a load that is Done the pool sufficed, the load wrote only pages of the pool, the list that was laid is
     // accepted, OUT is the file of the memory and RECORD that of the load, all other files are as they were, and the text
     // tells the list.
     ensures loaded { (l : LoadValue) → command_of (map string_bytes words.now) ≡ Ok (values.load l) → answer_of result ≡ done → IfSome (S.files shelf.old) (λ held. HasLoaded l held
-        (record { files = S.files shelf.old; shelf_faults = S.faults shelf.old; said = O.said out.old; sink_faults = O.faults out.old })
-        (record { files = S.files shelf.new; shelf_faults = S.faults shelf.new; said = O.said out.new; sink_faults = O.faults out.new })) }
+        (moment (S.files shelf.old) (S.faults shelf.old) (O.said out.old) (O.faults out.old))
+        (moment (S.files shelf.new) (S.faults shelf.new) (O.said out.new) (O.faults out.new))) }
 
     // After an exec that is Done the record's list is accepted in the memory for the record's segments, each page of the
     // segments has its bytes and then zeros and a plain run changed no other page (after a second run each page but the
     // swap page is as it was before the first), OUT is the file of that memory, all other files are as they were, and the
     // text tells the list and each run.
     ensures executed { (e : ExecValue) → command_of (map string_bytes words.now) ≡ Ok (values.exec e) → answer_of result ≡ done → IfSome (S.files shelf.old) (λ held. HasExecuted e held
-        (record { files = S.files shelf.old; shelf_faults = S.faults shelf.old; said = O.said out.old; sink_faults = O.faults out.old })
-        (record { files = S.files shelf.new; shelf_faults = S.faults shelf.new; said = O.said out.new; sink_faults = O.faults out.new })) }
+        (moment (S.files shelf.old) (S.faults shelf.old) (O.said out.old) (O.faults out.old))
+        (moment (S.files shelf.new) (S.faults shelf.new) (O.said out.new) (O.faults out.new))) }
 
     // What nothing refuses is Done, where no count of faults rises, or memory is wanted.
     ensures boot_complete { (b : BootValue) → command_of (map string_bytes words.now) ≡ Ok (values.boot b) → IfSome (S.files shelf.old) (λ held. IsInOrder b.image b.inputs (wish_of b.kept) (boot_leaves b) held
@@ -152,8 +152,8 @@ fn answered<S: Shelf, O: Sink>(
     out: &mut O,
 ) -> Status
     ensures { Answers (command_of (map string_bytes words.now))
-        (record { files = S.files shelf.old; shelf_faults = S.faults shelf.old; said = O.said out.old; sink_faults = O.faults out.old })
-        (record { files = S.files shelf.new; shelf_faults = S.faults shelf.new; said = O.said out.new; sink_faults = O.faults out.new })
+        (moment (S.files shelf.old) (S.faults shelf.old) (O.said out.old) (O.faults out.old))
+        (moment (S.files shelf.new) (S.faults shelf.new) (O.said out.new) (O.faults out.new))
         (answer_of result) }
 {
     match read(alloc, words) {

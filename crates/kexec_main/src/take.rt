@@ -59,7 +59,7 @@ pub(crate) fn take_memory<S: Shelf>(
     ensures { Takes (λ m. m) (string_bytes name ∷ []) (memory_file (string_bytes name)) (S.files shelf.old) (S.files shelf.new) (S.faults shelf.old) (S.faults shelf.new) result }
 {
     let bytes = take_file(alloc, name, MEMORY_LIMIT, shelf)?;
-    match Memory::read(alloc, &bytes) {
+    match Memory::from_file(alloc, bytes) {
         Ok(memory) => Ok(memory),
         Err(MemFault::Memory) => Err(Status::Memory),
         Err(fault) => Err(Status::Input {
