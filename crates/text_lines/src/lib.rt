@@ -7,7 +7,7 @@
 //! takes memory, and each reads a byte once.
 #![tactic(auto)]
 
-ghost use Rattle.std.specs.Prelude.{◌≡◌, ◌<◌, ◌≤◌, ◌∷◌, [], length, IfSome, IfNone, option_map, ◌==◌};
+ghost use Rattle.std.specs.Prelude.{◌≡◌, ◌+◌, ◌<◌, ◌≤◌, ◌∷◌, [], drop, length, IfSome, IfNone, option_map, ◌==◌};
 ghost use Rattle.std.specs.List.{position_or_len};
 ghost use Rattle.text_lines.specs.Lines.{lines, cut, number, number_of};
 
@@ -50,6 +50,7 @@ pub fn cut(bytes: &[u8], at: u8) -> Option<(&[u8], &[u8])>
 pub fn next_line(text: &[u8]) -> Option<(&[u8], &[u8])>
     ensures none { IfNone result (lines text.now ≡ []) }
     ensures some { IfSome result (λ r. lines text.now ≡ r.0.now ∷ lines r.1.now) }
+    ensures rest { IfSome result (λ r. r.1.now ≡ drop (length r.0.now + 1) text.now) }
     ensures shorter { IfSome result (λ r. length r.1.now < length text.now) }
 {
     if text.is_empty() {
