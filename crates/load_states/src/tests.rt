@@ -1,6 +1,6 @@
 use super::*;
 use kx_pages::{Image, Mode, Page};
-use list_checker::Why;
+use list_checker::{CheckFault, ListFault, Why};
 use page_memory::Memory;
 use page_pool::Pool;
 use segments::{Segment, Segments};
@@ -128,6 +128,12 @@ fn a_refused_list_comes_back(rt: HostRuntime) -> Result<(), Fail> {
     let Err(refused) = loaded.accept(alloc) else {
         return Err("refused".into());
     };
+    // the head links to a page of zeros, whose first word has no flag
+    let fault = ListFault {
+        word: 1,
+        why: Why::Flags,
+    };
+    assert_eq!(rt; refused.why, CheckFault::List { fault });
     let (_, pool, image, segments) = refused.loaded.parts();
     assert_eq!(rt; pool.left(), 0);
     assert_eq!(rt; image.head, 0x20002);
