@@ -58,7 +58,7 @@ pub(crate) fn run(
 ) -> Result<(Status, MemorySink), AllocError> {
     let words = words(alloc, texts)?;
     let mut sink = MemorySink::new(alloc, failing.to_vec(alloc)?);
-    sink.reserve(200)?;
+    sink.reserve(400)?;
     let status = kexec(alloc, &words, shelf, &mut sink);
     Ok((status, sink))
 }

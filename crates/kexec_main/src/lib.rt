@@ -5,6 +5,8 @@ mod boot;
 mod check;
 mod deliver;
 mod dump;
+#[cfg(test)]
+mod each_command;
 mod exec;
 #[cfg(test)]
 mod first_example;

@@ -4,3 +4,4 @@ pub mod Numbers
 pub mod Values
 pub mod Meaning
 pub mod Limits
+pub mod Texts

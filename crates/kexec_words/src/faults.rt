@@ -107,6 +107,11 @@ impl From<Which> for WordsFault {
 }
 
 impl Display for Which {
+    ghost use Rattle.std.specs.Prelude.{Some};
+    ghost use Rattle.kexec_words.specs.Texts.{which_text};
+
+    ghost output = { λ which. Some (which_text which) };
+
     fn fmt<W: Write>(&self, f: &mut Formatter<W>) -> fmt::Result {
         f.write_str(match self {
             Which::Type => "--type",

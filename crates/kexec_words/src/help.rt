@@ -1,5 +1,8 @@
 // What the commands and their words mean, for people.
 
+ghost use Rattle.std.specs.Prelude.{◌≡◌, map, string_bytes};
+ghost use Rattle.kexec_words.specs.Texts.{first_named, help_text};
+
 use crate::naming::{Name, name_of};
 
 const COMMANDS: &str = "\
@@ -199,7 +202,9 @@ Words:
 ";
 
 /// The text that says what a command takes, where the first word names one, and else what commands there are.
-pub fn help_of(words: &[String]) -> &'static str {
+pub fn help_of(words: &[String]) -> &'static str
+    ensures { result.now ≡ help_text (first_named (map string_bytes words.now)) }
+{
     let Some(first) = words.first() else {
         return COMMANDS;
     };

@@ -1,0 +1,36 @@
+-- How options and words are named in texts, and which help belongs to which words.
+use Rattle.std.specs.Prelude.{ℕ, List, [], ◌∷◌, codes, Option, Some, None}
+use Rattle.kexec_words.specs.declared.faults.Which.{Which}
+use Rattle.kexec_words.specs.declared.faults.Which.TheVariants as which
+use Rattle.kexec_words.specs.declared.naming.Name.{Name}
+use Rattle.kexec_words.specs.declared.naming.Name.TheVariants as name
+use Rattle.kexec_words.specs.declared.help.TheConstants as help
+use Rattle.kexec_words.specs.Meaning.{named}
+
+-- the option or the word, as users write it
+abbrev pub which_text : Which → List ℕ
+which_text which.«Type» = codes "--type"
+which_text which.Kept = codes "--kept"
+which_text which.At = codes "--at"
+which_text which.Entry = codes "--entry"
+which_text which.Swap = codes "--swap"
+which_text which.Head = codes "HEAD"
+which_text which.Limit = codes "LIMIT"
+which_text which.Number = codes "NUMBER"
+
+-- the help of a command, or of all commands where none is named
+abbrev pub help_text : Option Name → List ℕ
+help_text None = help.COMMANDS.now
+help_text (Some name.Boot) = help.BOOT.now
+help_text (Some name.Load) = help.LOAD.now
+help_text (Some name.LoadPanic) = help.LOAD_PANIC.now
+help_text (Some name.Check) = help.CHECK.now
+help_text (Some name.Dump) = help.DUMP.now
+help_text (Some name.Exec) = help.EXEC.now
+help_text (Some name.Trace) = help.TRACE.now
+help_text (Some name.Sample) = help.SAMPLE.now
+
+-- the command that the first word names
+abbrev pub first_named : List (List ℕ) → Option Name
+first_named [] = None
+first_named (word ∷ words) = named word
