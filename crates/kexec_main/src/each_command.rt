@@ -31,7 +31,7 @@ fn a_loaded_list_is_checked_dumped_traced_and_run(rt: HostRuntime) -> Result<(),
     ];
     for (words, text) in commands {
         let (status, sink) = run(alloc, words, &mut shelf, &[])?;
-        assert_eq!(rt; status.code(), 0, "{}", words[0]);
+        assert_eq!(rt; status.code(), 0);
         assert_eq!(rt; sink.said(), text);
     }
     assert!(rt; shelf.take(alloc, "x", 20000)? == first_memory(alloc, true)?);
