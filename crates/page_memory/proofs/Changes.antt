@@ -1,5 +1,5 @@
 -- A page that is added, and two pages whose frames change places.
-use Rattle.std.proofs.Common.{take, drop, ◌-◌, ◌≡◌, ◌≢◌, ℕ, ◌+◌, ◌<◌, ◌≤◌, ◌^◌, List, [], ◌∷◌, ◌++◌, length, Bool, true, false, cond, refl, sym, ap, ◌∙◌, subst, arith, Some, None, Option, ◌⊎◌, inl, inr}
+use Rattle.std.proofs.Common.{append_assoc, take, drop, ◌-◌, ◌*◌, ◌%◌, ◌≡◌, ◌≢◌, ℕ, ◌+◌, ◌<◌, ◌≤◌, ◌^◌, List, [], ◌∷◌, ◌++◌, length, Bool, true, false, cond, refl, sym, ap, ◌∙◌, subst, arith, Some, None, Option, ◌⊎◌, inl, inr}
 use Rattle.std.specs.Prelude.{is_some, IsSome, replicate}
 use Rattle.std.proofs.lemmas.Grind.{common_steps}
 use Rattle.page_memory.specs.File.{is_all_zeros}
@@ -39,11 +39,12 @@ pages-inserted xs m n p i h = pages_by-differs (frame_in xs) m n p i (frame_in x
 pub pages-longer : (xs ys : List ℕ) (m : BTreeMap ℕ ℕ) → IsTable xs m → pages_in (xs ++ ys) m ≡ pages_in xs m
 pages-longer xs ys m is = pages_by-same (frame_in xs) (frame_in (xs ++ ys)) m (λ q j e. frame_in-append xs ys j (inside_found xs m q j is (sym e)).1)
 
-pub pages-added : (xs bytes : List ℕ) (m n : BTreeMap ℕ ℕ) (p i : ℕ) → IsTable xs m → i ≡ length xs → length bytes ≡ 4096 → Differs m n p i → pages_in (xs ++ bytes) n ≡ insert (pages_in xs m) p bytes
-pages-added xs bytes m n p i is last whole h =
-    pages-inserted (xs ++ bytes) m n p i h
-    ∙ ap (insert (pages_in (xs ++ bytes) m) p) (frame_in-last xs bytes i (sym last) whole)
-    ∙ ap (λ k. insert k p bytes) (pages-longer xs bytes m is)
+pub pages-added : (xs heads bytes : List ℕ) (m n : BTreeMap ℕ ℕ) (p i : ℕ) → IsTable xs m → length (xs ++ heads) ≡ i → length bytes ≡ 4096 → Differs m n p i → pages_in (xs ++ heads ++ bytes) n ≡ insert (pages_in xs m) p bytes
+pages-added xs heads bytes m n p i is last whole h =
+    pages-inserted (xs ++ heads ++ bytes) m n p i h
+    ∙ ap (insert (pages_in (xs ++ heads ++ bytes) m) p) (frame_in-last (xs ++ heads) bytes i last whole)
+    ∙ ap (λ zs. insert (pages_in zs m) p bytes) (append_assoc xs heads bytes)
+    ∙ ap (λ k. insert k p bytes) (pages-longer xs (heads ++ bytes) m is)
 
 some_same : (a b : ℕ) → ◌≡◌ {A = Option ℕ} (Some a) (Some b) → a ≡ b
 some_same a b h = cc
@@ -61,57 +62,40 @@ if_some None P h = tt
 if_some (Some k) P h = h k refl
 
 -- each frame ends at this place or before it
-abbrev pub EndBy : BTreeMap ℕ ℕ → ℕ → Type 0
+abbrev EndBy : BTreeMap ℕ ℕ → ℕ → Type 0
 EndBy m end = (q k : ℕ) → tree.get nat_cmp m q ≡ Some k → k + 4096 ≤ end
 
-inside_inserted : (xs : List ℕ) (m : BTreeMap ℕ ℕ) (p i q k : ℕ) → IsTable xs m → i + 4096 ≤ length xs → p < 2 ^ 34 → ((q ≡ p) × (k ≡ i)) ⊎ (tree.get nat_cmp m q ≡ Some k) → Inside xs q k
-inside_inserted xs m p i q k is inside below (inl h) = (omega (arith, h.0), omega (arith, h.1))
-inside_inserted xs m p i q k is inside below (inr h) = inside_found xs m q k is (sym h)
+inside_added : (xs zs : List ℕ) (m : BTreeMap ℕ ℕ) (p i q k : ℕ) → IsTable xs m → length xs ≤ length zs → i + 4096 ≤ length zs → p < 2 ^ 34 → ((q ≡ p) × (k ≡ i)) ⊎ (tree.get nat_cmp m q ≡ Some k) → Inside zs q k
+inside_added xs zs m p i q k is longer inside below (inl h) = (omega (arith, h.0), omega (arith, h.1))
+inside_added xs zs m p i q k is longer inside below (inr h) = let old = inside_found xs m q k is (sym h) in (old.0, omega (arith, old.1))
 
-both_inserted : (xs : List ℕ) (m : BTreeMap ℕ ℕ) (p i a b k : ℕ) → IsTable xs m → EndBy m i → ((a ≡ p) × (k ≡ i)) ⊎ (tree.get nat_cmp m a ≡ Some k) → ((b ≡ p) × (k ≡ i)) ⊎ (tree.get nat_cmp m b ≡ Some k) → a ≡ b
-both_inserted xs m p i a b k is before (inl x) (inl y) = x.0 ∙ sym y.0
-both_inserted xs m p i a b k is before (inl x) (inr y) = absurd (omega (arith, x.1, before b k y))
-both_inserted xs m p i a b k is before (inr x) (inl y) = absurd (omega (arith, y.1, before a k x))
-both_inserted xs m p i a b k is before (inr x) (inr y) = is.apart a b k x y
+both_added : (xs : List ℕ) (m : BTreeMap ℕ ℕ) (p i a b k : ℕ) → IsTable xs m → EndBy m i → ((a ≡ p) × (k ≡ i)) ⊎ (tree.get nat_cmp m a ≡ Some k) → ((b ≡ p) × (k ≡ i)) ⊎ (tree.get nat_cmp m b ≡ Some k) → a ≡ b
+both_added xs m p i a b k is before (inl x) (inl y) = x.0 ∙ sym y.0
+both_added xs m p i a b k is before (inl x) (inr y) = absurd (omega (arith, x.1, before b k y))
+both_added xs m p i a b k is before (inr x) (inl y) = absurd (omega (arith, y.1, before a k x))
+both_added xs m p i a b k is before (inr x) (inr y) = is.apart a b k x y
 
-clear_inserted : (xs : List ℕ) (m : BTreeMap ℕ ℕ) (p i a b j k : ℕ) → IsTable xs m → EndBy m i → ((a ≡ p) × (j ≡ i)) ⊎ (tree.get nat_cmp m a ≡ Some j) → ((b ≡ p) × (k ≡ i)) ⊎ (tree.get nat_cmp m b ≡ Some k) → j < k → j + 4096 ≤ k
-clear_inserted xs m p i a b j k is before (inl x) (inl y) less = absurd (omega (arith, x.1, y.1))
-clear_inserted xs m p i a b j k is before (inl x) (inr y) less = absurd (omega (arith, x.1, before b k y))
-clear_inserted xs m p i a b j k is before (inr x) (inl y) less = omega (arith, y.1, before a j x)
-clear_inserted xs m p i a b j k is before (inr x) (inr y) less = is.clear a b j k x y less
+slot_added : (xs : List ℕ) (m : BTreeMap ℕ ℕ) (p i q k n : ℕ) → IsTable xs m → i ≡ 24 + 4104 * n → ((q ≡ p) × (k ≡ i)) ⊎ (tree.get nat_cmp m q ≡ Some k) → k % 4104 ≡ 24
+slot_added xs m p i q k n is slot (inl h) = omega (arith, h.1)
+slot_added xs m p i q k n is slot (inr h) = is.slots q k h
 
-pub IsTable-inserted : (xs : List ℕ) (m n : BTreeMap ℕ ℕ) (p i : ℕ) → IsTable xs m → i + 4096 ≤ length xs → EndBy m i → p < 2 ^ 34 → Differs m n p i → IsTable xs n
-IsTable-inserted xs m n p i is inside before below h = record {
-  inside = λ q. if_some (tree.get nat_cmp n q) (Inside xs q) (λ k e. inside_inserted xs m p i q k is inside below (from_differs m n p i q k h e));
-  apart = λ a b k at_a at_b. both_inserted xs m p i a b k is before (from_differs m n p i a k h at_a) (from_differs m n p i b k h at_b);
-  clear = λ a b j k at_a at_b. clear_inserted xs m p i a b j k is before (from_differs m n p i a j h at_a) (from_differs m n p i b k h at_b);
-  bytes = is.bytes;
-}
+one_slot_more : (z i m n : ℕ) → z ≡ i + 4096 → i ≡ 24 + 4104 * m → n ≡ m + 1 → z - 16 ≡ 4104 * n
+one_slot_more z i m n long slot more = omega (arith, long, slot, more)
 
-ends_inserted : (m : BTreeMap ℕ ℕ) (p i q k end : ℕ) → EndBy m i → i + 4096 ≤ end → ((q ≡ p) × (k ≡ i)) ⊎ (tree.get nat_cmp m q ≡ Some k) → k + 4096 ≤ end
-ends_inserted m p i q k end before le (inl h) = omega (arith, h.1)
-ends_inserted m p i q k end before le (inr h) = omega (arith, before q k h)
-
-pub EndBy-inserted : (m n : BTreeMap ℕ ℕ) (p i end : ℕ) → EndBy m i → i + 4096 ≤ end → Differs m n p i → EndBy n end
-EndBy-inserted m n p i end before le h = λ q k e. ends_inserted m p i q k end before le (from_differs m n p i q k h e)
-
-pub EndBy-later : (m : BTreeMap ℕ ℕ) (a b : ℕ) → EndBy m a → a ≤ b → EndBy m b
-EndBy-later m a b before le = λ q k e. omega (arith, before q k e)
-
-IsTable-longer : (xs ys : List ℕ) (m : BTreeMap ℕ ℕ) → IsTable xs m → IsBytes ys → IsTable (xs ++ ys) m
-IsTable-longer xs ys m is small = record {
-  inside = λ q. if_some (tree.get nat_cmp m q) (Inside (xs ++ ys) q) (λ k e.
-      let old = inside_found xs m q k is (sym e) in
-      (old.0, omega (arith, old.1, length-append xs ys)));
-  apart = is.apart;
-  clear = is.clear;
-  bytes = IsBytes-append xs ys is.bytes small;
-}
-
-pub IsTable-added : (xs bytes : List ℕ) (m n : BTreeMap ℕ ℕ) (p i : ℕ) → IsTable xs m → i ≡ length xs → IsPageOfBytes bytes → p < 2 ^ 34 → Differs m n p i → IsTable (xs ++ bytes) n
-IsTable-added xs bytes m n p i is last page below h =
-    IsTable-inserted (xs ++ bytes) m n p i (IsTable-longer xs bytes m is page.small) (omega (arith, page.whole, length-append xs bytes))
-    (λ q k e. omega (arith, (inside_found xs m q k is (sym e)).1)) below h
+-- a buffer that goes on by a slot, whose page is new
+pub IsTable-added : (xs heads bytes : List ℕ) (m n : BTreeMap ℕ ℕ) (p i : ℕ) → IsTable xs m → length (xs ++ heads) ≡ i → i ≡ 24 + 4104 * length m.entries → IsBytes heads → IsPageOfBytes bytes → p < 2 ^ 34 → Differs m n p i → length n.entries ≡ length m.entries + 1 → IsTable (xs ++ heads ++ bytes) n
+IsTable-added xs heads bytes m n p i is last slot small page below h more =
+    let zs = xs ++ heads ++ bytes in
+    let long : length zs ≡ i + 4096 = omega (arith, length-append (xs ++ heads) bytes, page.whole, last) in
+    let longer : length xs ≤ i = omega (arith, length-append xs heads, last) in
+    let before : EndBy m i = λ q k e. omega (arith, (inside_found xs m q k is (sym e)).1, longer) in
+    record {
+      inside = λ q. if_some (tree.get nat_cmp n q) (Inside zs q) (λ k e. inside_added xs zs m p i q k is (omega (arith, long, longer)) (omega (arith, long)) below (from_differs m n p i q k h e));
+      apart = λ a b k at_a at_b. both_added xs m p i a b k is before (from_differs m n p i a k h at_a) (from_differs m n p i b k h at_b);
+      slots = λ q k at_q. slot_added xs m p i q k (length m.entries) is slot (from_differs m n p i q k h at_q);
+      full = one_slot_more (length zs) i (length m.entries) (length n.entries) long slot more;
+      bytes = IsBytes-append (xs ++ heads) bytes (IsBytes-append xs heads is.bytes small) page.small;
+    }
 
 -- two frames change places
 pub pages-exchanged : (xs : List ℕ) (m k n : BTreeMap ℕ ℕ) (d s i j : ℕ) → tree.get nat_cmp m d ≡ Some i → tree.get nat_cmp m s ≡ Some j → Differs m k s i → Differs k n d j → pages_in xs n ≡ insert (insert (pages_in xs m) s (frame_at (pages_in xs m) d)) d (frame_at (pages_in xs m) s)
@@ -156,8 +140,8 @@ below_which d s q r (inl x) hd hs hr = omega (arith, x.0)
 below_which d s q r (inr (inl x)) hd hs hr = omega (arith, x.0)
 below_which d s q r (inr (inr x)) hd hs hr = omega (arith, x.2)
 
-pub IsTable-exchanged : (xs : List ℕ) (m k n : BTreeMap ℕ ℕ) (d s i j : ℕ) → d ≢ s → tree.get nat_cmp m d ≡ Some i → tree.get nat_cmp m s ≡ Some j → Differs m k s i → Differs k n d j → IsTable xs m → IsTable xs n
-IsTable-exchanged xs m k n d s i j ne at_d at_s one two is = record {
+pub IsTable-exchanged : (xs : List ℕ) (m k n : BTreeMap ℕ ℕ) (d s i j : ℕ) → d ≢ s → tree.get nat_cmp m d ≡ Some i → tree.get nat_cmp m s ≡ Some j → Differs m k s i → Differs k n d j → length n.entries ≡ length m.entries → IsTable xs m → IsTable xs n
+IsTable-exchanged xs m k n d s i j ne at_d at_s one two same is = record {
   inside = λ q. if_some (tree.get nat_cmp n q) (Inside xs q) (λ v e.
       let w = which_exchanged m k n d s i j q v at_d at_s one two e in
       let old = inside_found xs m w.0 v is (sym w.1) in
@@ -166,10 +150,8 @@ IsTable-exchanged xs m k n d s i j ne at_d at_s one two is = record {
       let x = which_exchanged m k n d s i j a v at_d at_s one two at_a in
       let y = which_exchanged m k n d s i j b v at_d at_s one two at_b in
       which_same d s a b x.0 y.0 x.2 y.2 (is.apart x.0 y.0 v x.1 y.1) ne;
-  clear = λ a b v u at_a at_b.
-      let x = which_exchanged m k n d s i j a v at_d at_s one two at_a in
-      let y = which_exchanged m k n d s i j b u at_d at_s one two at_b in
-      is.clear x.0 y.0 v u x.1 y.1;
+  slots = λ q v at_q. let w = which_exchanged m k n d s i j q v at_d at_s one two at_q in is.slots w.0 v w.1;
+  full = is.full ∙ ap (λ l. 4104 * l) (sym same);
   bytes = is.bytes;
 }
 
@@ -226,8 +208,13 @@ exchange_is_swap P one two d s w ne is_one is_two =
     frame_at-insert_other first s (frame_at first d) w (λ e. ne (sym e)) ∙ frame_at-insert_same P w (frame_at P s) ∙ sym (frame_at-insert_other P w (frame_at P s) s ne) in
     is_two ∙ ap (λ m. insert (insert m s (frame_at m d)) d (frame_at m s)) is_one ∙ ap (λ v. insert (insert first s (frame_at first d)) d v) (sym moved)
 
-pub absent-added : (m : FinMap nat_cmp (List ℕ)) (p low : ℕ) (v : List ℕ) → low ≤ p → ((q : ℕ) → low ≤ q → get m q ≡ None) → (q : ℕ) → p + 1 ≤ q → get (insert m p v) q ≡ None
-absent-added m p low v le h q up = get-insert_other m p v q (omega (arith, up)) ∙ h q (omega (arith, le, up))
+absent_above : (p q i : ℕ) (b : Bool) (o : Option ℕ) → is_at (nat_cmp p) q ≡ b → p + 1 ≤ q → o ≡ None → cond b (Some i) o ≡ None
+absent_above p q i true o t up none = absurd (omega (arith, at_it p q t, up))
+absent_above p q i false o t up none = none
+
+-- one page more leaves those above it absent
+pub absent-added : (m n : BTreeMap ℕ ℕ) (p i low : ℕ) → Differs m n p i → low ≤ p → ((q : ℕ) → low ≤ q → tree.get nat_cmp m q ≡ None) → (q : ℕ) → p + 1 ≤ q → tree.get nat_cmp n q ≡ None
+absent-added m n p i low h le none q up = h q ∙ absent_above p q i (is_at (nat_cmp p) q) (tree.get nat_cmp m q) refl up (none q (omega (arith, le, up)))
 
 none_some : (i : ℕ) → ◌≡◌ {A = Option ℕ} None (Some i) → ⊥
 none_some i h = cc
@@ -236,22 +223,22 @@ none_some i h = cc
 none_at : (m : BTreeMap ℕ ℕ) (p i : ℕ) → m.entries ≡ [] → tree.get nat_cmp m p ≡ Some i → ⊥
 none_at m p i h e = none_some i (subst (λ es. lookup (is_at (nat_cmp p)) es ≡ Some i) h e)
 
-pub IsTable-empty : (xs : List ℕ) (m : BTreeMap ℕ ℕ) → IsBytes xs → m.entries ≡ [] → IsTable xs m
-IsTable-empty xs m small h = record {
-  inside = λ q. subst (λ es. IfSome (lookup (is_at (nat_cmp q)) es) (Inside xs q)) (sym h) tt;
-  apart = λ p q i at_p at_q. absurd (none_at m p i h at_p);
-  clear = λ p q i j at_p at_q less. absurd (none_at m p i h at_p);
-  bytes = small;
-}
-
-pub EndBy-empty : (m : BTreeMap ℕ ℕ) (end : ℕ) → m.entries ≡ [] → EndBy m end
-EndBy-empty m end h = λ q k e. absurd (none_at m q k h e)
+pub IsTable-empty : (xs : List ℕ) (m : BTreeMap ℕ ℕ) → IsBytes xs → length xs ≤ 16 → m.entries ≡ [] → IsTable xs m
+IsTable-empty xs m small head h =
+    let nothing : length m.entries ≡ 0 = ap length h in
+    record {
+      inside = λ q. subst (λ es. IfSome (lookup (is_at (nat_cmp q)) es) (Inside xs q)) (sym h) tt;
+      apart = λ p q i at_p at_q. absurd (none_at m p i h at_p);
+      slots = λ q i at_q. absurd (none_at m q i h at_q);
+      full = omega (arith, nothing, head);
+      bytes = small;
+    }
 
 pub pages-empty : (xs : List ℕ) (m : BTreeMap ℕ ℕ) → m.entries ≡ [] → pages_in xs m ≡ empty
 pages-empty xs m h = ap (pages_by (frame_in xs)) h
 
-pub absent-empty : (xs : List ℕ) (m : BTreeMap ℕ ℕ) (q : ℕ) → m.entries ≡ [] → get (pages_in xs m) q ≡ None
-absent-empty xs m q h = ap (λ k. get k q) (pages-empty xs m h) ∙ get-empty nat_cmp q
+pub absent-empty : (m : BTreeMap ℕ ℕ) (q : ℕ) → m.entries ≡ [] → tree.get nat_cmp m q ≡ None
+absent-empty m q h = ap (lookup (is_at (nat_cmp q))) h
 
 -- whether a page is some bytes, then zeros
 drop_front : (xs rest : List ℕ) (n : ℕ) → length xs ≡ n → drop n (xs ++ rest) ≡ rest

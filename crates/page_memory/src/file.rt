@@ -88,6 +88,7 @@ fn next_page(
     ensures exact { Gives (λ x. (x.0, x.1.now, x.2.now)) result (entry_at total place low bytes.now) }
     ensures cut { IfOk result (λ x. (4104 ≤ length bytes.now) × (x.1.now ≡ take 4096 (drop 8 bytes.now)) × (x.2.now ≡ drop 4096 (drop 8 bytes.now))) }
     ensures page { IfOk result (λ x. x.0 < 2 ^ 34) }
+    ensures rises { IfOk result (λ x. low ≤ x.0) }
 {
     if bytes.len() < 4104 {
         return Err(MemFault::Truncated { at: total });

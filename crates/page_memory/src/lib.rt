@@ -114,7 +114,8 @@ impl Memory {
     pub fn reserve(&mut self, pages: usize) -> Result<(), AllocError>
         ensures same { self.new ≡ self.old }
     {
-        self.frames.reserve_exact(pages.saturating_mul(4096))
+        self.frames
+            .reserve_exact(pages.saturating_mul(4104).saturating_add(16))
     }
 
     /// The page, which is held, becomes these at most 4,096 bytes, then zeros.
