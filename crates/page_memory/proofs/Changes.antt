@@ -1,5 +1,5 @@
 -- A page that is added, and two pages whose frames change places.
-use Rattle.std.proofs.Common.{append_assoc, take, drop, ◌-◌, ◌*◌, ◌%◌, ◌≡◌, ◌≢◌, ℕ, ◌+◌, ◌<◌, ◌≤◌, ◌^◌, List, [], ◌∷◌, ◌++◌, length, Bool, true, false, cond, refl, sym, ap, ◌∙◌, subst, arith, Some, None, Option, ◌⊎◌, inl, inr}
+use Rattle.std.proofs.Common.{append_assoc, take, drop, ◌-◌, ◌*◌, ◌/◌, ◌%◌, ◌≡◌, ◌≢◌, ℕ, ◌+◌, ◌<◌, ◌≤◌, ◌^◌, List, [], ◌∷◌, ◌++◌, length, Bool, true, false, cond, refl, sym, ap, ◌∙◌, subst, arith, Some, None, Option, ◌⊎◌, inl, inr}
 use Rattle.std.specs.Prelude.{is_some, IsSome, replicate}
 use Rattle.std.proofs.lemmas.Grind.{common_steps}
 use Rattle.page_memory.specs.File.{is_all_zeros}
@@ -8,9 +8,12 @@ use Rattle.std.specs.Ordering.{nat_cmp}
 use Rattle.std.specs.declared.cmp.Ordering.TheVariants.{Less}
 use Rattle.std.specs.Cmp.{nat_cmp_total, eq_by_cmp_equiv}
 use Rattle.std.specs.Map.{lookup, keys_of}
-use Rattle.std.specs.List.{AllByRecursion}
+use Rattle.std.specs.List.{AllByRecursion, IsDistinct}
+use Rattle.std.specs.Prelude.{eqb}
+use Rattle.std.specs.Ordering.{is_eq}
+use Rattle.std.proofs.lemmas.Bool.{ne_eqb}
 use Rattle.std.specs.List.Sorted.{IsStrictlySortedBy}
-use Rattle.std.specs.BTreeMap.{is_at, BTreeMap}
+use Rattle.std.specs.BTreeMap.{IsOrdered, is_at, BTreeMap}
 use Rattle.std.specs.BTreeMap as tree
 use Rattle.std.specs.FinMap.{FinMap, get, insert, same_map, empty, get-empty, nat_cmp-IsAntisymmetric}
 use Rattle.std.proofs.lemmas.List.{length-append, length-drop, take-append-drop}
@@ -19,6 +22,8 @@ use Rattle.page_memory.specs.Laws.{frame_at-found, frame_at-insert_other, frame_
 use Rattle.page_memory.specs.OneFile.{list_zeros, zeros_are}
 use Rattle.page_memory.specs.Contents.{IsBytes, IsPageOfBytes, frame_at, page_of}
 use Rattle.page_memory.specs.Frames.{frame_in, IsTable, pages_in, Differs}
+use Rattle.page_memory.specs.InPlace.{AreInSlots, slots_of}
+use Rattle.page_memory.proofs.Stored.{all_kept, distinct_kept, kept_in}
 use Rattle.page_memory.proofs.Bytes.{IsBytes-append}
 use Rattle.page_memory.proofs.Tables.{get-pages_by, equal_of_is_eq, pages_by-differs, some_held}
 use Rattle.page_memory.proofs.Frames.{other_frames, inside_found, frame_in-append, frame_in-last, IsPageOfBytes-frame_in}
@@ -155,23 +160,61 @@ IsTable-exchanged xs m k n d s i j ne at_d at_s one two same is = record {
   bytes = is.bytes;
 }
 
--- each entry of a table is inside
+-- the entries of a table
 lookup-above : {X : Type 0} (k : ℕ) (es : List (ℕ × X)) → AllByRecursion (λ y. nat_cmp k y ≡ Less) (keys_of es) → lookup (is_at (nat_cmp k)) es ≡ None
 lookup-above k [] h = refl
 lookup-above k (e ∷ es) h = rw h.0 (lookup-above k es h.1)
 
-rest_inside : (xs : List ℕ) (e : ℕ × ℕ) (es : List (ℕ × ℕ)) (q : ℕ) (b : Bool) → is_at (nat_cmp q) e.0 ≡ b → AllByRecursion (λ y. nat_cmp e.0 y ≡ Less) (keys_of es) → IfSome (cond b (Some e.1) (lookup (is_at (nat_cmp q)) es)) (Inside xs q) → IfSome (lookup (is_at (nat_cmp q)) es) (Inside xs q)
-rest_inside xs e es q false t above h = h
-rest_inside xs e es q true t above h =
+rest_of : (P : ℕ → ℕ → Type 0) (e : ℕ × ℕ) (es : List (ℕ × ℕ)) (q : ℕ) (b : Bool) → is_at (nat_cmp q) e.0 ≡ b → AllByRecursion (λ y. nat_cmp e.0 y ≡ Less) (keys_of es) → IfSome (cond b (Some e.1) (lookup (is_at (nat_cmp q)) es)) (P q) → IfSome (lookup (is_at (nat_cmp q)) es) (P q)
+rest_of P e es q false t above h = h
+rest_of P e es q true t above h =
     let same : e.0 ≡ q = at_it q e.0 t in
-    subst (λ o. IfSome o (Inside xs q)) (sym (subst (λ k. lookup (is_at (nat_cmp k)) es ≡ None) same (lookup-above e.0 es above))) tt
+    subst (λ o. IfSome o (P q)) (sym (subst (λ k. lookup (is_at (nat_cmp k)) es ≡ None) same (lookup-above e.0 es above))) tt
 
-pub all_inside : (xs : List ℕ) (es : List (ℕ × ℕ)) → IsStrictlySortedBy nat_cmp (keys_of es) → ((q : ℕ) → IfSome (lookup (is_at (nat_cmp q)) es) (Inside xs q)) → AllByRecursion (λ e. e.1 + 4096 ≤ length xs) es
+all_entries : (P : ℕ → ℕ → Type 0) (es : List (ℕ × ℕ)) → IsStrictlySortedBy nat_cmp (keys_of es) → ((q : ℕ) → IfSome (lookup (is_at (nat_cmp q)) es) (P q)) → AllByRecursion (λ e. P e.0 e.1) es
 unfolding IsStrictlySortedBy
-all_inside xs [] sorted h = tt
-all_inside xs (e ∷ es) sorted h =
-    let here : Inside xs e.0 e.1 = subst (λ b. IfSome (cond b (Some e.1) (lookup (is_at (nat_cmp e.0)) es)) (Inside xs e.0)) ((eq_by_cmp_equiv nat_cmp_total).refl e.0) (h e.0) in
-    (here.1, all_inside xs es sorted.1 (λ q. rest_inside xs e es q (is_at (nat_cmp q) e.0) refl sorted.0 (h q)))
+all_entries P [] sorted h = tt
+all_entries P (e ∷ es) sorted h =
+    (subst (λ b. IfSome (cond b (Some e.1) (lookup (is_at (nat_cmp e.0)) es)) (P e.0)) ((eq_by_cmp_equiv nat_cmp_total).refl e.0) (h e.0), all_entries P es sorted.1 (λ q. rest_of P e es q (is_at (nat_cmp q) e.0) refl sorted.0 (h q)))
+
+-- each entry of a table is inside, in a slot, and is what the table has at its page
+pub all_inside : (xs : List ℕ) (m : BTreeMap ℕ ℕ) → IsOrdered nat_cmp m → IsTable xs m → AllByRecursion (λ e. e.1 + 4096 ≤ length xs) m.entries
+all_inside xs m sorted is = all_entries (λ q i. i + 4096 ≤ length xs) m.entries sorted (λ q. if_some (tree.get nat_cmp m q) (λ i. i + 4096 ≤ length xs) (λ i e. (inside_found xs m q i is (sym e)).1))
+
+all_slots : (xs : List ℕ) (m : BTreeMap ℕ ℕ) → IsOrdered nat_cmp m → IsTable xs m → AllByRecursion (λ e. e.1 % 4104 ≡ 24) m.entries
+all_slots xs m sorted is = all_entries (λ q i. i % 4104 ≡ 24) m.entries sorted (λ q. if_some (tree.get nat_cmp m q) (λ i. i % 4104 ≡ 24) (λ i e. is.slots q i e))
+
+all_found : (m : BTreeMap ℕ ℕ) → IsOrdered nat_cmp m → AllByRecursion (λ e. tree.get nat_cmp m e.0 ≡ Some e.1) m.entries
+all_found m sorted = all_entries (λ q i. tree.get nat_cmp m q ≡ Some i) m.entries sorted (λ q. if_some (tree.get nat_cmp m q) (λ i. tree.get nat_cmp m q ≡ Some i) (λ i e. e))
+
+not_below : (n : ℕ) → nat_cmp n n ≡ Less → ⊥
+not_below n h = true_false (sym ((eq_by_cmp_equiv nat_cmp_total).refl n) ∙ ap is_eq h)
+
+slot_differs : (i j : ℕ) → i % 4104 ≡ 24 → j % 4104 ≡ 24 → (i ≡ j → ⊥) → eqb (i / 4104) (j / 4104) ≡ false
+slot_differs i j at_i at_j apart = ne_eqb (i / 4104) (j / 4104) (λ same. apart (omega (arith, at_i, at_j, same)))
+
+-- the slot of an entry is not that of an entry with another page
+slots_differ : (xs : List ℕ) (m : BTreeMap ℕ ℕ) (e : ℕ × ℕ) (es : List (ℕ × ℕ)) → IsTable xs m → tree.get nat_cmp m e.0 ≡ Some e.1 → e.1 % 4104 ≡ 24 → AllByRecursion (λ y. nat_cmp e.0 y ≡ Less) (keys_of es) → AllByRecursion (λ f. tree.get nat_cmp m f.0 ≡ Some f.1) es → AllByRecursion (λ f. f.1 % 4104 ≡ 24) es → AllByRecursion (λ y. eqb (e.1 / 4104) y ≡ false) (slots_of es)
+slots_differ xs m e [] is at_e slot above found slots = tt
+slots_differ xs m e (f ∷ es) is at_e slot above found slots = (
+  slot_differs e.1 f.1 slot slots.0 (λ same. not_below e.0 (ap (nat_cmp e.0) (is.apart e.0 f.0 e.1 at_e (found.0 ∙ ap Some (sym same))) ∙ above.0)),
+  slots_differ xs m e es is at_e slot above.1 found.1 slots.1,
+)
+
+slots_distinct : (xs : List ℕ) (m : BTreeMap ℕ ℕ) (es : List (ℕ × ℕ)) → IsTable xs m → IsStrictlySortedBy nat_cmp (keys_of es) → AllByRecursion (λ f. tree.get nat_cmp m f.0 ≡ Some f.1) es → AllByRecursion (λ f. f.1 % 4104 ≡ 24) es → IsDistinct eqb (slots_of es)
+unfolding IsStrictlySortedBy IsDistinct
+slots_distinct xs m [] is sorted found slots = tt
+slots_distinct xs m (e ∷ es) is sorted found slots = (slots_differ xs m e es is found.0 slots.0 sorted.0 found.1 slots.1, slots_distinct xs m es is sorted.1 found.1 slots.1)
+
+-- the pages that a file has lie in slots of their own
+pub AreInSlots-kept : (xs : List ℕ) (m : BTreeMap ℕ ℕ) → IsOrdered nat_cmp m → IsTable xs m → AreInSlots xs (kept_in xs m.entries)
+AreInSlots-kept xs m sorted is =
+    let slots = all_slots xs m sorted is in
+    record {
+      inside = all_kept (λ e. e.1 + 4096 ≤ length xs) xs m.entries (all_inside xs m sorted is);
+      slots = all_kept (λ e. e.1 % 4104 ≡ 24) xs m.entries slots;
+      apart = distinct_kept xs m.entries (slots_distinct xs m m.entries is sorted (all_found m sorted) slots);
+    }
 
 none_of_map : {X Y : Type 0} (f : X → Y) (o : Option X) → option_map f o ≡ None → o ≡ None
 none_of_map f None h = refl

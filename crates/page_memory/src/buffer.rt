@@ -61,7 +61,8 @@ fn fill_word(frames: &mut [u8], start: usize, place: usize, v: u64)
     put_word(frame, place, v);
 }
 
-fn put_word(frame: &mut [u8], place: usize, v: u64)
+/// Writes a word at a place.
+pub fn put_word(frame: &mut [u8], place: usize, v: u64)
     requires { place + 8 ≤ length frame.old }
     ensures { frame.new ≡ page_with_word frame.old place v }
 {
