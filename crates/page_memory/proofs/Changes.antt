@@ -1,5 +1,5 @@
 -- A page that is added, and two pages whose frames change places.
-use Rattle.std.proofs.Common.{take, drop, ◌-◌, ◌≡◌, ◌≢◌, ℕ, ◌+◌, ◌<◌, ◌≤◌, ◌^◌, List, [], ◌∷◌, ◌++◌, length, Bool, true, false, cond, refl, sym, ap, ◌∙◌, subst, arith, Some, None, Option, ◌⊎◌, inl, inr}
+use Rattle.std.proofs.Common.{append_assoc, take, drop, ◌-◌, ◌*◌, ◌/◌, ◌%◌, ◌≡◌, ◌≢◌, ℕ, ◌+◌, ◌<◌, ◌≤◌, ◌^◌, List, [], ◌∷◌, ◌++◌, length, Bool, true, false, cond, refl, sym, ap, ◌∙◌, subst, arith, Some, None, Option, ◌⊎◌, inl, inr}
 use Rattle.std.specs.Prelude.{is_some, IsSome, replicate}
 use Rattle.std.proofs.lemmas.Grind.{common_steps}
 use Rattle.page_memory.specs.File.{is_all_zeros}
@@ -8,9 +8,12 @@ use Rattle.std.specs.Ordering.{nat_cmp}
 use Rattle.std.specs.declared.cmp.Ordering.TheVariants.{Less}
 use Rattle.std.specs.Cmp.{nat_cmp_total, eq_by_cmp_equiv}
 use Rattle.std.specs.Map.{lookup, keys_of}
-use Rattle.std.specs.List.{AllByRecursion}
+use Rattle.std.specs.List.{AllByRecursion, IsDistinct}
+use Rattle.std.specs.Prelude.{eqb}
+use Rattle.std.specs.Ordering.{is_eq}
+use Rattle.std.proofs.lemmas.Bool.{ne_eqb}
 use Rattle.std.specs.List.Sorted.{IsStrictlySortedBy}
-use Rattle.std.specs.BTreeMap.{is_at, BTreeMap}
+use Rattle.std.specs.BTreeMap.{IsOrdered, is_at, BTreeMap}
 use Rattle.std.specs.BTreeMap as tree
 use Rattle.std.specs.FinMap.{FinMap, get, insert, same_map, empty, get-empty, nat_cmp-IsAntisymmetric}
 use Rattle.std.proofs.lemmas.List.{length-append, length-drop, take-append-drop}
@@ -19,6 +22,8 @@ use Rattle.page_memory.specs.Laws.{frame_at-found, frame_at-insert_other, frame_
 use Rattle.page_memory.specs.OneFile.{list_zeros, zeros_are}
 use Rattle.page_memory.specs.Contents.{IsBytes, IsPageOfBytes, frame_at, page_of}
 use Rattle.page_memory.specs.Frames.{frame_in, IsTable, pages_in, Differs}
+use Rattle.page_memory.specs.InPlace.{AreInSlots, slots_of}
+use Rattle.page_memory.proofs.Stored.{all_kept, distinct_kept, kept_in}
 use Rattle.page_memory.proofs.Bytes.{IsBytes-append}
 use Rattle.page_memory.proofs.Tables.{get-pages_by, equal_of_is_eq, pages_by-differs, some_held}
 use Rattle.page_memory.proofs.Frames.{other_frames, inside_found, frame_in-append, frame_in-last, IsPageOfBytes-frame_in}
@@ -39,11 +44,12 @@ pages-inserted xs m n p i h = pages_by-differs (frame_in xs) m n p i (frame_in x
 pub pages-longer : (xs ys : List ℕ) (m : BTreeMap ℕ ℕ) → IsTable xs m → pages_in (xs ++ ys) m ≡ pages_in xs m
 pages-longer xs ys m is = pages_by-same (frame_in xs) (frame_in (xs ++ ys)) m (λ q j e. frame_in-append xs ys j (inside_found xs m q j is (sym e)).1)
 
-pub pages-added : (xs bytes : List ℕ) (m n : BTreeMap ℕ ℕ) (p i : ℕ) → IsTable xs m → i ≡ length xs → length bytes ≡ 4096 → Differs m n p i → pages_in (xs ++ bytes) n ≡ insert (pages_in xs m) p bytes
-pages-added xs bytes m n p i is last whole h =
-    pages-inserted (xs ++ bytes) m n p i h
-    ∙ ap (insert (pages_in (xs ++ bytes) m) p) (frame_in-last xs bytes i (sym last) whole)
-    ∙ ap (λ k. insert k p bytes) (pages-longer xs bytes m is)
+pub pages-added : (xs heads bytes : List ℕ) (m n : BTreeMap ℕ ℕ) (p i : ℕ) → IsTable xs m → length (xs ++ heads) ≡ i → length bytes ≡ 4096 → Differs m n p i → pages_in (xs ++ heads ++ bytes) n ≡ insert (pages_in xs m) p bytes
+pages-added xs heads bytes m n p i is last whole h =
+    pages-inserted (xs ++ heads ++ bytes) m n p i h
+    ∙ ap (insert (pages_in (xs ++ heads ++ bytes) m) p) (frame_in-last (xs ++ heads) bytes i last whole)
+    ∙ ap (λ zs. insert (pages_in zs m) p bytes) (append_assoc xs heads bytes)
+    ∙ ap (λ k. insert k p bytes) (pages-longer xs (heads ++ bytes) m is)
 
 some_same : (a b : ℕ) → ◌≡◌ {A = Option ℕ} (Some a) (Some b) → a ≡ b
 some_same a b h = cc
@@ -61,57 +67,40 @@ if_some None P h = tt
 if_some (Some k) P h = h k refl
 
 -- each frame ends at this place or before it
-abbrev pub EndBy : BTreeMap ℕ ℕ → ℕ → Type 0
+abbrev EndBy : BTreeMap ℕ ℕ → ℕ → Type 0
 EndBy m end = (q k : ℕ) → tree.get nat_cmp m q ≡ Some k → k + 4096 ≤ end
 
-inside_inserted : (xs : List ℕ) (m : BTreeMap ℕ ℕ) (p i q k : ℕ) → IsTable xs m → i + 4096 ≤ length xs → p < 2 ^ 34 → ((q ≡ p) × (k ≡ i)) ⊎ (tree.get nat_cmp m q ≡ Some k) → Inside xs q k
-inside_inserted xs m p i q k is inside below (inl h) = (omega (arith, h.0), omega (arith, h.1))
-inside_inserted xs m p i q k is inside below (inr h) = inside_found xs m q k is (sym h)
+inside_added : (xs zs : List ℕ) (m : BTreeMap ℕ ℕ) (p i q k : ℕ) → IsTable xs m → length xs ≤ length zs → i + 4096 ≤ length zs → p < 2 ^ 34 → ((q ≡ p) × (k ≡ i)) ⊎ (tree.get nat_cmp m q ≡ Some k) → Inside zs q k
+inside_added xs zs m p i q k is longer inside below (inl h) = (omega (arith, h.0), omega (arith, h.1))
+inside_added xs zs m p i q k is longer inside below (inr h) = let old = inside_found xs m q k is (sym h) in (old.0, omega (arith, old.1))
 
-both_inserted : (xs : List ℕ) (m : BTreeMap ℕ ℕ) (p i a b k : ℕ) → IsTable xs m → EndBy m i → ((a ≡ p) × (k ≡ i)) ⊎ (tree.get nat_cmp m a ≡ Some k) → ((b ≡ p) × (k ≡ i)) ⊎ (tree.get nat_cmp m b ≡ Some k) → a ≡ b
-both_inserted xs m p i a b k is before (inl x) (inl y) = x.0 ∙ sym y.0
-both_inserted xs m p i a b k is before (inl x) (inr y) = absurd (omega (arith, x.1, before b k y))
-both_inserted xs m p i a b k is before (inr x) (inl y) = absurd (omega (arith, y.1, before a k x))
-both_inserted xs m p i a b k is before (inr x) (inr y) = is.apart a b k x y
+both_added : (xs : List ℕ) (m : BTreeMap ℕ ℕ) (p i a b k : ℕ) → IsTable xs m → EndBy m i → ((a ≡ p) × (k ≡ i)) ⊎ (tree.get nat_cmp m a ≡ Some k) → ((b ≡ p) × (k ≡ i)) ⊎ (tree.get nat_cmp m b ≡ Some k) → a ≡ b
+both_added xs m p i a b k is before (inl x) (inl y) = x.0 ∙ sym y.0
+both_added xs m p i a b k is before (inl x) (inr y) = absurd (omega (arith, x.1, before b k y))
+both_added xs m p i a b k is before (inr x) (inl y) = absurd (omega (arith, y.1, before a k x))
+both_added xs m p i a b k is before (inr x) (inr y) = is.apart a b k x y
 
-clear_inserted : (xs : List ℕ) (m : BTreeMap ℕ ℕ) (p i a b j k : ℕ) → IsTable xs m → EndBy m i → ((a ≡ p) × (j ≡ i)) ⊎ (tree.get nat_cmp m a ≡ Some j) → ((b ≡ p) × (k ≡ i)) ⊎ (tree.get nat_cmp m b ≡ Some k) → j < k → j + 4096 ≤ k
-clear_inserted xs m p i a b j k is before (inl x) (inl y) less = absurd (omega (arith, x.1, y.1))
-clear_inserted xs m p i a b j k is before (inl x) (inr y) less = absurd (omega (arith, x.1, before b k y))
-clear_inserted xs m p i a b j k is before (inr x) (inl y) less = omega (arith, y.1, before a j x)
-clear_inserted xs m p i a b j k is before (inr x) (inr y) less = is.clear a b j k x y less
+slot_added : (xs : List ℕ) (m : BTreeMap ℕ ℕ) (p i q k n : ℕ) → IsTable xs m → i ≡ 24 + 4104 * n → ((q ≡ p) × (k ≡ i)) ⊎ (tree.get nat_cmp m q ≡ Some k) → k % 4104 ≡ 24
+slot_added xs m p i q k n is slot (inl h) = omega (arith, h.1)
+slot_added xs m p i q k n is slot (inr h) = is.slots q k h
 
-pub IsTable-inserted : (xs : List ℕ) (m n : BTreeMap ℕ ℕ) (p i : ℕ) → IsTable xs m → i + 4096 ≤ length xs → EndBy m i → p < 2 ^ 34 → Differs m n p i → IsTable xs n
-IsTable-inserted xs m n p i is inside before below h = record {
-  inside = λ q. if_some (tree.get nat_cmp n q) (Inside xs q) (λ k e. inside_inserted xs m p i q k is inside below (from_differs m n p i q k h e));
-  apart = λ a b k at_a at_b. both_inserted xs m p i a b k is before (from_differs m n p i a k h at_a) (from_differs m n p i b k h at_b);
-  clear = λ a b j k at_a at_b. clear_inserted xs m p i a b j k is before (from_differs m n p i a j h at_a) (from_differs m n p i b k h at_b);
-  bytes = is.bytes;
-}
+one_slot_more : (z i m n : ℕ) → z ≡ i + 4096 → i ≡ 24 + 4104 * m → n ≡ m + 1 → z - 16 ≡ 4104 * n
+one_slot_more z i m n long slot more = omega (arith, long, slot, more)
 
-ends_inserted : (m : BTreeMap ℕ ℕ) (p i q k end : ℕ) → EndBy m i → i + 4096 ≤ end → ((q ≡ p) × (k ≡ i)) ⊎ (tree.get nat_cmp m q ≡ Some k) → k + 4096 ≤ end
-ends_inserted m p i q k end before le (inl h) = omega (arith, h.1)
-ends_inserted m p i q k end before le (inr h) = omega (arith, before q k h)
-
-pub EndBy-inserted : (m n : BTreeMap ℕ ℕ) (p i end : ℕ) → EndBy m i → i + 4096 ≤ end → Differs m n p i → EndBy n end
-EndBy-inserted m n p i end before le h = λ q k e. ends_inserted m p i q k end before le (from_differs m n p i q k h e)
-
-pub EndBy-later : (m : BTreeMap ℕ ℕ) (a b : ℕ) → EndBy m a → a ≤ b → EndBy m b
-EndBy-later m a b before le = λ q k e. omega (arith, before q k e)
-
-IsTable-longer : (xs ys : List ℕ) (m : BTreeMap ℕ ℕ) → IsTable xs m → IsBytes ys → IsTable (xs ++ ys) m
-IsTable-longer xs ys m is small = record {
-  inside = λ q. if_some (tree.get nat_cmp m q) (Inside (xs ++ ys) q) (λ k e.
-      let old = inside_found xs m q k is (sym e) in
-      (old.0, omega (arith, old.1, length-append xs ys)));
-  apart = is.apart;
-  clear = is.clear;
-  bytes = IsBytes-append xs ys is.bytes small;
-}
-
-pub IsTable-added : (xs bytes : List ℕ) (m n : BTreeMap ℕ ℕ) (p i : ℕ) → IsTable xs m → i ≡ length xs → IsPageOfBytes bytes → p < 2 ^ 34 → Differs m n p i → IsTable (xs ++ bytes) n
-IsTable-added xs bytes m n p i is last page below h =
-    IsTable-inserted (xs ++ bytes) m n p i (IsTable-longer xs bytes m is page.small) (omega (arith, page.whole, length-append xs bytes))
-    (λ q k e. omega (arith, (inside_found xs m q k is (sym e)).1)) below h
+-- a buffer that goes on by a slot, whose page is new
+pub IsTable-added : (xs heads bytes : List ℕ) (m n : BTreeMap ℕ ℕ) (p i : ℕ) → IsTable xs m → length (xs ++ heads) ≡ i → i ≡ 24 + 4104 * length m.entries → IsBytes heads → IsPageOfBytes bytes → p < 2 ^ 34 → Differs m n p i → length n.entries ≡ length m.entries + 1 → IsTable (xs ++ heads ++ bytes) n
+IsTable-added xs heads bytes m n p i is last slot small page below h more =
+    let zs = xs ++ heads ++ bytes in
+    let long : length zs ≡ i + 4096 = omega (arith, length-append (xs ++ heads) bytes, page.whole, last) in
+    let longer : length xs ≤ i = omega (arith, length-append xs heads, last) in
+    let before : EndBy m i = λ q k e. omega (arith, (inside_found xs m q k is (sym e)).1, longer) in
+    record {
+      inside = λ q. if_some (tree.get nat_cmp n q) (Inside zs q) (λ k e. inside_added xs zs m p i q k is (omega (arith, long, longer)) (omega (arith, long)) below (from_differs m n p i q k h e));
+      apart = λ a b k at_a at_b. both_added xs m p i a b k is before (from_differs m n p i a k h at_a) (from_differs m n p i b k h at_b);
+      slots = λ q k at_q. slot_added xs m p i q k (length m.entries) is slot (from_differs m n p i q k h at_q);
+      full = one_slot_more (length zs) i (length m.entries) (length n.entries) long slot more;
+      bytes = IsBytes-append (xs ++ heads) bytes (IsBytes-append xs heads is.bytes small) page.small;
+    }
 
 -- two frames change places
 pub pages-exchanged : (xs : List ℕ) (m k n : BTreeMap ℕ ℕ) (d s i j : ℕ) → tree.get nat_cmp m d ≡ Some i → tree.get nat_cmp m s ≡ Some j → Differs m k s i → Differs k n d j → pages_in xs n ≡ insert (insert (pages_in xs m) s (frame_at (pages_in xs m) d)) d (frame_at (pages_in xs m) s)
@@ -156,8 +145,8 @@ below_which d s q r (inl x) hd hs hr = omega (arith, x.0)
 below_which d s q r (inr (inl x)) hd hs hr = omega (arith, x.0)
 below_which d s q r (inr (inr x)) hd hs hr = omega (arith, x.2)
 
-pub IsTable-exchanged : (xs : List ℕ) (m k n : BTreeMap ℕ ℕ) (d s i j : ℕ) → d ≢ s → tree.get nat_cmp m d ≡ Some i → tree.get nat_cmp m s ≡ Some j → Differs m k s i → Differs k n d j → IsTable xs m → IsTable xs n
-IsTable-exchanged xs m k n d s i j ne at_d at_s one two is = record {
+pub IsTable-exchanged : (xs : List ℕ) (m k n : BTreeMap ℕ ℕ) (d s i j : ℕ) → d ≢ s → tree.get nat_cmp m d ≡ Some i → tree.get nat_cmp m s ≡ Some j → Differs m k s i → Differs k n d j → length n.entries ≡ length m.entries → IsTable xs m → IsTable xs n
+IsTable-exchanged xs m k n d s i j ne at_d at_s one two same is = record {
   inside = λ q. if_some (tree.get nat_cmp n q) (Inside xs q) (λ v e.
       let w = which_exchanged m k n d s i j q v at_d at_s one two e in
       let old = inside_found xs m w.0 v is (sym w.1) in
@@ -166,30 +155,66 @@ IsTable-exchanged xs m k n d s i j ne at_d at_s one two is = record {
       let x = which_exchanged m k n d s i j a v at_d at_s one two at_a in
       let y = which_exchanged m k n d s i j b v at_d at_s one two at_b in
       which_same d s a b x.0 y.0 x.2 y.2 (is.apart x.0 y.0 v x.1 y.1) ne;
-  clear = λ a b v u at_a at_b.
-      let x = which_exchanged m k n d s i j a v at_d at_s one two at_a in
-      let y = which_exchanged m k n d s i j b u at_d at_s one two at_b in
-      is.clear x.0 y.0 v u x.1 y.1;
+  slots = λ q v at_q. let w = which_exchanged m k n d s i j q v at_d at_s one two at_q in is.slots w.0 v w.1;
+  full = is.full ∙ ap (λ l. 4104 * l) (sym same);
   bytes = is.bytes;
 }
 
--- each entry of a table is inside
+-- the entries of a table
 lookup-above : {X : Type 0} (k : ℕ) (es : List (ℕ × X)) → AllByRecursion (λ y. nat_cmp k y ≡ Less) (keys_of es) → lookup (is_at (nat_cmp k)) es ≡ None
 lookup-above k [] h = refl
 lookup-above k (e ∷ es) h = rw h.0 (lookup-above k es h.1)
 
-rest_inside : (xs : List ℕ) (e : ℕ × ℕ) (es : List (ℕ × ℕ)) (q : ℕ) (b : Bool) → is_at (nat_cmp q) e.0 ≡ b → AllByRecursion (λ y. nat_cmp e.0 y ≡ Less) (keys_of es) → IfSome (cond b (Some e.1) (lookup (is_at (nat_cmp q)) es)) (Inside xs q) → IfSome (lookup (is_at (nat_cmp q)) es) (Inside xs q)
-rest_inside xs e es q false t above h = h
-rest_inside xs e es q true t above h =
+rest_of : (P : ℕ → ℕ → Type 0) (e : ℕ × ℕ) (es : List (ℕ × ℕ)) (q : ℕ) (b : Bool) → is_at (nat_cmp q) e.0 ≡ b → AllByRecursion (λ y. nat_cmp e.0 y ≡ Less) (keys_of es) → IfSome (cond b (Some e.1) (lookup (is_at (nat_cmp q)) es)) (P q) → IfSome (lookup (is_at (nat_cmp q)) es) (P q)
+rest_of P e es q false t above h = h
+rest_of P e es q true t above h =
     let same : e.0 ≡ q = at_it q e.0 t in
-    subst (λ o. IfSome o (Inside xs q)) (sym (subst (λ k. lookup (is_at (nat_cmp k)) es ≡ None) same (lookup-above e.0 es above))) tt
+    subst (λ o. IfSome o (P q)) (sym (subst (λ k. lookup (is_at (nat_cmp k)) es ≡ None) same (lookup-above e.0 es above))) tt
 
-pub all_inside : (xs : List ℕ) (es : List (ℕ × ℕ)) → IsStrictlySortedBy nat_cmp (keys_of es) → ((q : ℕ) → IfSome (lookup (is_at (nat_cmp q)) es) (Inside xs q)) → AllByRecursion (λ e. e.1 + 4096 ≤ length xs) es
+all_entries : (P : ℕ → ℕ → Type 0) (es : List (ℕ × ℕ)) → IsStrictlySortedBy nat_cmp (keys_of es) → ((q : ℕ) → IfSome (lookup (is_at (nat_cmp q)) es) (P q)) → AllByRecursion (λ e. P e.0 e.1) es
 unfolding IsStrictlySortedBy
-all_inside xs [] sorted h = tt
-all_inside xs (e ∷ es) sorted h =
-    let here : Inside xs e.0 e.1 = subst (λ b. IfSome (cond b (Some e.1) (lookup (is_at (nat_cmp e.0)) es)) (Inside xs e.0)) ((eq_by_cmp_equiv nat_cmp_total).refl e.0) (h e.0) in
-    (here.1, all_inside xs es sorted.1 (λ q. rest_inside xs e es q (is_at (nat_cmp q) e.0) refl sorted.0 (h q)))
+all_entries P [] sorted h = tt
+all_entries P (e ∷ es) sorted h =
+    (subst (λ b. IfSome (cond b (Some e.1) (lookup (is_at (nat_cmp e.0)) es)) (P e.0)) ((eq_by_cmp_equiv nat_cmp_total).refl e.0) (h e.0), all_entries P es sorted.1 (λ q. rest_of P e es q (is_at (nat_cmp q) e.0) refl sorted.0 (h q)))
+
+-- each entry of a table is inside, in a slot, and is what the table has at its page
+pub all_inside : (xs : List ℕ) (m : BTreeMap ℕ ℕ) → IsOrdered nat_cmp m → IsTable xs m → AllByRecursion (λ e. e.1 + 4096 ≤ length xs) m.entries
+all_inside xs m sorted is = all_entries (λ q i. i + 4096 ≤ length xs) m.entries sorted (λ q. if_some (tree.get nat_cmp m q) (λ i. i + 4096 ≤ length xs) (λ i e. (inside_found xs m q i is (sym e)).1))
+
+all_slots : (xs : List ℕ) (m : BTreeMap ℕ ℕ) → IsOrdered nat_cmp m → IsTable xs m → AllByRecursion (λ e. e.1 % 4104 ≡ 24) m.entries
+all_slots xs m sorted is = all_entries (λ q i. i % 4104 ≡ 24) m.entries sorted (λ q. if_some (tree.get nat_cmp m q) (λ i. i % 4104 ≡ 24) (λ i e. is.slots q i e))
+
+all_found : (m : BTreeMap ℕ ℕ) → IsOrdered nat_cmp m → AllByRecursion (λ e. tree.get nat_cmp m e.0 ≡ Some e.1) m.entries
+all_found m sorted = all_entries (λ q i. tree.get nat_cmp m q ≡ Some i) m.entries sorted (λ q. if_some (tree.get nat_cmp m q) (λ i. tree.get nat_cmp m q ≡ Some i) (λ i e. e))
+
+not_below : (n : ℕ) → nat_cmp n n ≡ Less → ⊥
+not_below n h = true_false (sym ((eq_by_cmp_equiv nat_cmp_total).refl n) ∙ ap is_eq h)
+
+slot_differs : (i j : ℕ) → i % 4104 ≡ 24 → j % 4104 ≡ 24 → (i ≡ j → ⊥) → eqb (i / 4104) (j / 4104) ≡ false
+slot_differs i j at_i at_j apart = ne_eqb (i / 4104) (j / 4104) (λ same. apart (omega (arith, at_i, at_j, same)))
+
+-- the slot of an entry is not that of an entry with another page
+slots_differ : (xs : List ℕ) (m : BTreeMap ℕ ℕ) (e : ℕ × ℕ) (es : List (ℕ × ℕ)) → IsTable xs m → tree.get nat_cmp m e.0 ≡ Some e.1 → e.1 % 4104 ≡ 24 → AllByRecursion (λ y. nat_cmp e.0 y ≡ Less) (keys_of es) → AllByRecursion (λ f. tree.get nat_cmp m f.0 ≡ Some f.1) es → AllByRecursion (λ f. f.1 % 4104 ≡ 24) es → AllByRecursion (λ y. eqb (e.1 / 4104) y ≡ false) (slots_of es)
+slots_differ xs m e [] is at_e slot above found slots = tt
+slots_differ xs m e (f ∷ es) is at_e slot above found slots = (
+  slot_differs e.1 f.1 slot slots.0 (λ same. not_below e.0 (ap (nat_cmp e.0) (is.apart e.0 f.0 e.1 at_e (found.0 ∙ ap Some (sym same))) ∙ above.0)),
+  slots_differ xs m e es is at_e slot above.1 found.1 slots.1,
+)
+
+slots_distinct : (xs : List ℕ) (m : BTreeMap ℕ ℕ) (es : List (ℕ × ℕ)) → IsTable xs m → IsStrictlySortedBy nat_cmp (keys_of es) → AllByRecursion (λ f. tree.get nat_cmp m f.0 ≡ Some f.1) es → AllByRecursion (λ f. f.1 % 4104 ≡ 24) es → IsDistinct eqb (slots_of es)
+unfolding IsStrictlySortedBy IsDistinct
+slots_distinct xs m [] is sorted found slots = tt
+slots_distinct xs m (e ∷ es) is sorted found slots = (slots_differ xs m e es is found.0 slots.0 sorted.0 found.1 slots.1, slots_distinct xs m es is sorted.1 found.1 slots.1)
+
+-- the pages that a file has lie in slots of their own
+pub AreInSlots-kept : (xs : List ℕ) (m : BTreeMap ℕ ℕ) → IsOrdered nat_cmp m → IsTable xs m → AreInSlots xs (kept_in xs m.entries)
+AreInSlots-kept xs m sorted is =
+    let slots = all_slots xs m sorted is in
+    record {
+      inside = all_kept (λ e. e.1 + 4096 ≤ length xs) xs m.entries (all_inside xs m sorted is);
+      slots = all_kept (λ e. e.1 % 4104 ≡ 24) xs m.entries slots;
+      apart = distinct_kept xs m.entries (slots_distinct xs m m.entries is sorted (all_found m sorted) slots);
+    }
 
 none_of_map : {X Y : Type 0} (f : X → Y) (o : Option X) → option_map f o ≡ None → o ≡ None
 none_of_map f None h = refl
@@ -226,8 +251,13 @@ exchange_is_swap P one two d s w ne is_one is_two =
     frame_at-insert_other first s (frame_at first d) w (λ e. ne (sym e)) ∙ frame_at-insert_same P w (frame_at P s) ∙ sym (frame_at-insert_other P w (frame_at P s) s ne) in
     is_two ∙ ap (λ m. insert (insert m s (frame_at m d)) d (frame_at m s)) is_one ∙ ap (λ v. insert (insert first s (frame_at first d)) d v) (sym moved)
 
-pub absent-added : (m : FinMap nat_cmp (List ℕ)) (p low : ℕ) (v : List ℕ) → low ≤ p → ((q : ℕ) → low ≤ q → get m q ≡ None) → (q : ℕ) → p + 1 ≤ q → get (insert m p v) q ≡ None
-absent-added m p low v le h q up = get-insert_other m p v q (omega (arith, up)) ∙ h q (omega (arith, le, up))
+absent_above : (p q i : ℕ) (b : Bool) (o : Option ℕ) → is_at (nat_cmp p) q ≡ b → p + 1 ≤ q → o ≡ None → cond b (Some i) o ≡ None
+absent_above p q i true o t up none = absurd (omega (arith, at_it p q t, up))
+absent_above p q i false o t up none = none
+
+-- one page more leaves those above it absent
+pub absent-added : (m n : BTreeMap ℕ ℕ) (p i low : ℕ) → Differs m n p i → low ≤ p → ((q : ℕ) → low ≤ q → tree.get nat_cmp m q ≡ None) → (q : ℕ) → p + 1 ≤ q → tree.get nat_cmp n q ≡ None
+absent-added m n p i low h le none q up = h q ∙ absent_above p q i (is_at (nat_cmp p) q) (tree.get nat_cmp m q) refl up (none q (omega (arith, le, up)))
 
 none_some : (i : ℕ) → ◌≡◌ {A = Option ℕ} None (Some i) → ⊥
 none_some i h = cc
@@ -236,22 +266,22 @@ none_some i h = cc
 none_at : (m : BTreeMap ℕ ℕ) (p i : ℕ) → m.entries ≡ [] → tree.get nat_cmp m p ≡ Some i → ⊥
 none_at m p i h e = none_some i (subst (λ es. lookup (is_at (nat_cmp p)) es ≡ Some i) h e)
 
-pub IsTable-empty : (xs : List ℕ) (m : BTreeMap ℕ ℕ) → IsBytes xs → m.entries ≡ [] → IsTable xs m
-IsTable-empty xs m small h = record {
-  inside = λ q. subst (λ es. IfSome (lookup (is_at (nat_cmp q)) es) (Inside xs q)) (sym h) tt;
-  apart = λ p q i at_p at_q. absurd (none_at m p i h at_p);
-  clear = λ p q i j at_p at_q less. absurd (none_at m p i h at_p);
-  bytes = small;
-}
-
-pub EndBy-empty : (m : BTreeMap ℕ ℕ) (end : ℕ) → m.entries ≡ [] → EndBy m end
-EndBy-empty m end h = λ q k e. absurd (none_at m q k h e)
+pub IsTable-empty : (xs : List ℕ) (m : BTreeMap ℕ ℕ) → IsBytes xs → length xs ≤ 16 → m.entries ≡ [] → IsTable xs m
+IsTable-empty xs m small head h =
+    let nothing : length m.entries ≡ 0 = ap length h in
+    record {
+      inside = λ q. subst (λ es. IfSome (lookup (is_at (nat_cmp q)) es) (Inside xs q)) (sym h) tt;
+      apart = λ p q i at_p at_q. absurd (none_at m p i h at_p);
+      slots = λ q i at_q. absurd (none_at m q i h at_q);
+      full = omega (arith, nothing, head);
+      bytes = small;
+    }
 
 pub pages-empty : (xs : List ℕ) (m : BTreeMap ℕ ℕ) → m.entries ≡ [] → pages_in xs m ≡ empty
 pages-empty xs m h = ap (pages_by (frame_in xs)) h
 
-pub absent-empty : (xs : List ℕ) (m : BTreeMap ℕ ℕ) (q : ℕ) → m.entries ≡ [] → get (pages_in xs m) q ≡ None
-absent-empty xs m q h = ap (λ k. get k q) (pages-empty xs m h) ∙ get-empty nat_cmp q
+pub absent-empty : (m : BTreeMap ℕ ℕ) (q : ℕ) → m.entries ≡ [] → tree.get nat_cmp m q ≡ None
+absent-empty m q h = ap (lookup (is_at (nat_cmp q))) h
 
 -- whether a page is some bytes, then zeros
 drop_front : (xs rest : List ℕ) (n : ℕ) → length xs ≡ n → drop n (xs ++ rest) ≡ rest

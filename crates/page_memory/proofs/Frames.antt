@@ -1,5 +1,5 @@
 -- A frame that is written.
-use Rattle.std.proofs.Common.{◌≡◌, ◌≢◌, ℕ, ◌+◌, ◌-◌, ◌<◌, ◌≤◌, ◌^◌, List, ◌++◌, length, take, drop, Bool, true, false, cond, refl, sym, ap, ◌∙◌, subst, arith, Some, None, Option}
+use Rattle.std.proofs.Common.{◌≡◌, ◌≢◌, ℕ, ◌+◌, ◌-◌, ◌%◌, ◌<◌, ◌≤◌, ◌^◌, List, ◌++◌, length, take, drop, Bool, true, false, cond, refl, sym, ap, ◌∙◌, subst, arith, Some, None, Option}
 use Rattle.std.specs.Option.{option_map, IfSome}
 use Rattle.std.specs.Ordering.{nat_cmp}
 use Rattle.std.specs.Cmp.{nat_cmp_total, eq_by_cmp_equiv}
@@ -102,10 +102,17 @@ pages_by-written f g m p i ys at_p new others = same_map nat_cmp_total nat_cmp-I
 pub inside_found : (frames : List ℕ) (m : BTreeMap ℕ ℕ) (p i : ℕ) → IsTable frames m → Some i ≡ tree.get nat_cmp m p → (p < 2 ^ 34) × (i + 4096 ≤ length frames)
 inside_found frames m p i is e = subst (λ o. IfSome o (λ i. (p < 2 ^ 34) × (i + 4096 ≤ length frames))) (sym e) (is.inside p)
 
+slots_apart : (i j : ℕ) → i % 4104 ≡ 24 → j % 4104 ≡ 24 → i < j → i + 4096 ≤ j
+slots_apart i j at_i at_j less = omega (arith, at_i, at_j)
+
+-- a frame ends before the next one begins
+pub clear : (xs : List ℕ) (m : BTreeMap ℕ ℕ) (p q i j : ℕ) → IsTable xs m → tree.get nat_cmp m p ≡ Some i → tree.get nat_cmp m q ≡ Some j → i < j → i + 4096 ≤ j
+clear xs m p q i j is at_p at_q = slots_apart i j (is.slots p i at_p) (is.slots q j at_q)
+
 -- where the frame of one page is written, those of the others stay
 pub other_page : (xs : List ℕ) (m : BTreeMap ℕ ℕ) (p i : ℕ) (ys : List ℕ) → IsTable xs m → tree.get nat_cmp m p ≡ Some i → length ys ≡ 4096 → (q j : ℕ) → q ≢ p → tree.get nat_cmp m q ≡ Some j → frame_in (put_frame xs i ys) j ≡ frame_in xs j
 other_page xs m p i ys is at_p whole q j ne at_q =
-    frame_in-put_other xs i j ys (inside_found xs m p i is (sym at_p)).1 whole (λ same. ne (is.apart q p j at_q (at_p ∙ ap Some (sym same)))) (is.clear q p j i at_q at_p) (is.clear p q i j at_p at_q)
+    frame_in-put_other xs i j ys (inside_found xs m p i is (sym at_p)).1 whole (λ same. ne (is.apart q p j at_q (at_p ∙ ap Some (sym same)))) (clear xs m q p j i is at_q at_p) (clear xs m p q i j is at_p at_q)
 
 pub IsPageOfBytes-frame_in : (xs : List ℕ) (i : ℕ) → i + 4096 ≤ length xs → IsBytes xs → IsPageOfBytes (frame_in xs i)
 unfolding frame_in

@@ -2,6 +2,7 @@ pub mod Bytes
 pub mod Changes
 pub mod Frames
 pub mod Heads
+pub mod InPlace
 pub mod Moves
 pub mod Numbers
 pub mod Reading

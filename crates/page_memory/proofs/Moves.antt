@@ -17,11 +17,11 @@ unfolding frame_in
 length-frame_in xs i h = omega (arith, length-take 4096 (drop i xs), length-drop i xs)
 
 -- a frame of the front part
-frame_in-front : (xs : List ℕ) (n i : ℕ) → n ≤ length xs → i + 4096 ≤ n → frame_in (take n xs) i ≡ frame_in xs i
+pub frame_in-front : (xs : List ℕ) (n i : ℕ) → n ≤ length xs → i + 4096 ≤ n → frame_in (take n xs) i ≡ frame_in xs i
 frame_in-front xs n i h k =
     sym (frame_in-append (take n xs) (drop n xs) i (omega (arith, length-take n xs))) ∙ ap (λ ys. frame_in ys i) (take-append-drop n xs)
 
-put_frame-append : (xs ys bytes : List ℕ) (i : ℕ) → i + 4096 ≤ length xs → put_frame (xs ++ ys) i bytes ≡ put_frame xs i bytes ++ ys
+pub put_frame-append : (xs ys bytes : List ℕ) (i : ℕ) → i + 4096 ≤ length xs → put_frame (xs ++ ys) i bytes ≡ put_frame xs i bytes ++ ys
 unfolding put_frame
 put_frame-append xs ys bytes i h =
     let k = i in

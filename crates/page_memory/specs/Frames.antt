@@ -1,5 +1,5 @@
 -- A buffer with frames in it, and a table from pages to the places of their frames.
-use Rattle.std.specs.Prelude.{◌≡◌, ℕ, ◌+◌, ◌<◌, ◌≤◌, ◌^◌, ◌++◌, List, length, take, drop, map, filter, IfSome, Some, cond}
+use Rattle.std.specs.Prelude.{◌≡◌, ℕ, ◌+◌, ◌-◌, ◌*◌, ◌%◌, ◌<◌, ◌≤◌, ◌^◌, ◌++◌, List, length, take, drop, map, filter, IfSome, Some, cond}
 use Rattle.std.specs.Ordering.{nat_cmp}
 use Rattle.std.specs.BTreeMap as tree
 use Rattle.std.specs.BTreeMap.{is_at}
@@ -20,12 +20,13 @@ put_frame xs i ys = take i xs ++ (ys ++ drop 4096 (drop i xs))
 abbrev pub pages_in : List ℕ → tree.BTreeMap ℕ ℕ → finite.FinMap nat_cmp (List ℕ)
 pages_in frames table = pages_by (frame_in frames) table.entries
 
--- each frame lies in the buffer, and no two have a byte in common: two pages have two places, and a frame ends before the
--- next one begins
+-- behind a head of 16 bytes the buffer is a row of slots, one for each page of the table. A slot is 4,104 bytes: 8, in which
+-- a memory file has the page's number, and the page's frame. So the frames of two pages have no byte in common.
 pub record IsTable (frames : List ℕ) (table : tree.BTreeMap ℕ ℕ) : Type 0 where
   pub inside : (q : ℕ) → IfSome (tree.get nat_cmp table q) (λ i. (q < 2 ^ 34) × (i + 4096 ≤ length frames))
   pub apart : (p q i : ℕ) → tree.get nat_cmp table p ≡ Some i → tree.get nat_cmp table q ≡ Some i → p ≡ q
-  pub clear : (p q i j : ℕ) → tree.get nat_cmp table p ≡ Some i → tree.get nat_cmp table q ≡ Some j → i < j → i + 4096 ≤ j
+  pub slots : (q i : ℕ) → tree.get nat_cmp table q ≡ Some i → i % 4104 ≡ 24
+  pub full : length frames - 16 ≡ 4104 * length table.entries
   pub bytes : IsBytes frames
 
 -- n has v at k, and at each other key what m has

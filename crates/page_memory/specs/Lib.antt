@@ -5,3 +5,4 @@ pub mod Laws
 pub mod File
 pub mod Frames
 pub mod OneFile
+pub mod InPlace

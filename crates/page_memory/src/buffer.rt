@@ -1,9 +1,10 @@
 //! The buffer in which the frames lie, and the table from pages to the places of their frames.
 
-ghost use Rattle.std.specs.Prelude.{◌≡◌, ℕ, ◌+◌, ◌<◌, ◌≤◌, ◌≢◌, length, IsSome, OnOk, OnErr, List, None, Some};
+ghost use Rattle.std.specs.Prelude.{◌≡◌, ℕ, ◌+◌, ◌<◌, ◌≤◌, ◌≢◌, ◌++◌, length, IsSome, OnOk, OnErr, List, None, Some};
 ghost use Rattle.std.specs.FinMap as finite;
 ghost use Rattle.std.specs.Ordering.{nat_cmp};
 ghost use Rattle.std.specs.BTreeMap as tree;
+ghost use Rattle.std.specs.Vec.{vec_capacity};
 ghost use Rattle.page_memory.specs.Contents.{IsPageOfBytes, frame_at, page_of, page_with_word};
 ghost use Rattle.page_memory.specs.Frames.{frame_in, put_frame, pages_in, IsTable, Differs};
 
@@ -60,7 +61,8 @@ fn fill_word(frames: &mut [u8], start: usize, place: usize, v: u64)
     put_word(frame, place, v);
 }
 
-fn put_word(frame: &mut [u8], place: usize, v: u64)
+/// Writes a word at a place.
+pub fn put_word(frame: &mut [u8], place: usize, v: u64)
     requires { place + 8 ≤ length frame.old }
     ensures { frame.new ≡ page_with_word frame.old place v }
 {
@@ -126,7 +128,10 @@ pub fn copy_frame(frames: &mut Vec<u8>, table: &Table, d: Page, s: Page)
     }
 }
 
-/// Adds a page. Room is made first, so that a refusal leaves both as they were.
+// What a slot, and the buffer's head before the first slot, have in front of a frame until a file is made in the buffer.
+static HEADS: [u8; 24] = [0; 24];
+
+/// Adds a page, in a slot of its own behind the others. Room is made first, so that a refusal leaves both as they were.
 pub fn add_frame(
     frames: &mut Vec<u8>,
     table: &mut Table,
@@ -141,11 +146,23 @@ pub fn add_frame(
     ensures table { IsTable frames.new.items table.new }
 {
     let _number = p.number();
-    let place = frames.len();
-    frames.reserve(4096)?;
+    let place = 24 + 4104 * table.len();
+    let heads = &HEADS[..place - frames.len()];
+    frames.reserve(heads.len() + 4096)?;
     table.insert(p, place)?;
+    append(frames, heads);
+    append(frames, bytes);
+    Ok(())
+}
+
+// Appends bytes for which room was made.
+fn append(frames: &mut Vec<u8>, bytes: &[u8])
+    requires { length frames.old.items + length bytes.now ≤ vec_capacity frames.old }
+    ensures items { frames.new.items ≡ frames.old.items ++ bytes.now }
+    ensures capacity { vec_capacity frames.old ≤ vec_capacity frames.new }
+{
     match frames.extend_from_slice(bytes) {
-        Ok(()) => Ok(()),
+        Ok(()) => (),
         Err(_) => unreachable!(),
     }
 }
@@ -163,7 +180,8 @@ fn entry_of(table: &Table, p: Page) -> usize
 
 fn set_entry(table: &mut Table, p: Page, i: usize)
     requires { IsSome (tree.get nat_cmp table.old p) }
-    ensures { Differs table.old table.new p i }
+    ensures differs { Differs table.old table.new p i }
+    ensures length { length table.new.entries ≡ length table.old.entries }
 {
     match table.get_mut(&p) {
         Some(entry) => *entry = i,

@@ -10,6 +10,7 @@ ghost use Rattle.std.specs.Ordering.{nat_cmp};
 ghost use Rattle.byteorder.specs.Endian.{little_bytes};
 ghost use Rattle.page_memory.specs.File.{magic, text_of, page_text, Gives, le64, pages_read, entry_at, pages_onto, is_all_zeros};
 ghost use Rattle.page_memory.specs.Frames.{pages_in, IsTable, stored_in, frame_entries};
+ghost use Rattle.page_memory.specs.InPlace.{AreInSlots};
 
 use crate::buffer::{Table, frame};
 use crate::fault::{HeavyFault, MemFault};
@@ -49,8 +50,8 @@ fn count_at(bytes: &[u8]) -> Option<u64>
     Some(head.get_u64(8))
 }
 
-// The head of a file with so many pages.
-fn head_of(count: u64) -> Block<16>
+/// The head of a file with so many pages.
+pub fn head_of(count: u64) -> Block<16>
     ensures { result ≡ magic ++ little_bytes 8 count }
 {
     let mut head = Block::zeros();
@@ -88,6 +89,7 @@ fn next_page(
     ensures exact { Gives (λ x. (x.0, x.1.now, x.2.now)) result (entry_at total place low bytes.now) }
     ensures cut { IfOk result (λ x. (4104 ≤ length bytes.now) × (x.1.now ≡ take 4096 (drop 8 bytes.now)) × (x.2.now ≡ drop 4096 (drop 8 bytes.now))) }
     ensures page { IfOk result (λ x. x.0 < 2 ^ 34) }
+    ensures rises { IfOk result (λ x. low ≤ x.0) }
 {
     if bytes.len() < 4104 {
         return Err(MemFault::Truncated { at: total });
@@ -172,7 +174,8 @@ fn stored_frames(
 ) -> Result<Vec<(Page, usize)>, AllocError>
     requires { IsTable frames.now table.now }
     ensures stored { IfOk result (λ v. frame_entries frames.now v.items ≡ stored_in frames.now table.now) }
-    ensures inside { IfOk result (λ v. AllByRecursion (λ e. e.1 + 4096 ≤ length frames.now) v.items) }
+    ensures slots { IfOk result (λ v. AreInSlots frames.now v.items) }
+    ensures few { IfOk result (λ v. length v.items ≤ length table.now.entries) }
     ensures ordered { IsOrdered nat_cmp table.now }
 {
     let entries = table.iter();
@@ -205,10 +208,17 @@ fn text_of_pages(
     Ok(out)
 }
 
-/// The file of the pages that are not all zeros.
-pub fn file_of(alloc: Global, frames: &[u8], table: &Table) -> Result<Vec<u8>, HeavyFault>
+/// The pages that the file of a memory has, each with the place of its frame.
+pub fn file_pages(
+    alloc: Global,
+    frames: &[u8],
+    table: &Table,
+) -> Result<Vec<(Page, usize)>, HeavyFault>
     requires { IsTable frames.now table.now }
-    ensures file { IfOk result (λ v. (length (stored_in frames.now table.now) ≤ 131072) × (v.items ≡ text_of (stored_in frames.now table.now))) }
+    ensures stored { IfOk result (λ v. frame_entries frames.now v.items ≡ stored_in frames.now table.now) }
+    ensures limit { IfOk result (λ v. length v.items ≤ 131072) }
+    ensures slots { IfOk result (λ v. AreInSlots frames.now v.items) }
+    ensures few { IfOk result (λ v. length v.items ≤ length table.now.entries) }
     ensures ordered { IsOrdered nat_cmp table.now }
     ensures heavy { IfErr result (λ e. e ≢ HeavyFault.Memory → (131072 < length (stored_in frames.now table.now)) × (e ≡ HeavyFault.TooMany (length (stored_in frames.now table.now)))) }
 {
@@ -218,5 +228,16 @@ pub fn file_of(alloc: Global, frames: &[u8], table: &Table) -> Result<Vec<u8>, H
             count: pages.len() as u64,
         });
     }
+    Ok(pages)
+}
+
+/// The file of the pages that are not all zeros.
+pub fn file_of(alloc: Global, frames: &[u8], table: &Table) -> Result<Vec<u8>, HeavyFault>
+    requires { IsTable frames.now table.now }
+    ensures file { IfOk result (λ v. (length (stored_in frames.now table.now) ≤ 131072) × (v.items ≡ text_of (stored_in frames.now table.now))) }
+    ensures ordered { IsOrdered nat_cmp table.now }
+    ensures heavy { IfErr result (λ e. e ≢ HeavyFault.Memory → (131072 < length (stored_in frames.now table.now)) × (e ≡ HeavyFault.TooMany (length (stored_in frames.now table.now)))) }
+{
+    let pages = file_pages(alloc, frames, table)?;
     Ok(text_of_pages(alloc, frames, &pages)?)
 }

@@ -1,8 +1,9 @@
 //! Memory images: what each page holds, by its number, and the memory file.
 //!
 //! A page has 4,096 bytes. A page that is not held reads as zeros. The bytes lie in one buffer, each page in a frame of its
-//! own; an ordered table says at which place the frame of a page begins. The buffer of a memory that was read is its
-//! file, so that no page is copied, and pages that are held later stand after it. No contract tells this: a memory is
+//! own; an ordered table says at which place the frame of a page begins. The buffer is laid out as a memory file all the
+//! time, with pages in the order in which they came to be held: so the buffer of a memory that was read is its file, and
+//! a file can be made in the buffer, and neither needs room for the pages twice. No contract tells this: a memory is
 //! seen as a map from held pages to their bytes, and a number of sets, which only `set` and `set_word` raise.
 #![tactic(auto)]
 
@@ -17,11 +18,13 @@ ghost use Rattle.page_memory.specs.Frames.{frame_in, put_frame, pages_in, IsTabl
 mod buffer;
 mod fault;
 mod file;
+mod in_place;
 #[cfg(test)]
 mod tests;
 
 use crate::buffer::{Table, add_frame, copy_frame, exchange, frame, write_frame, write_word};
 use crate::file::{file_of, file_table};
+use crate::in_place::file_in_place;
 use byteorder::{ByteOrder, LittleEndian};
 pub use fault::{HeavyFault, MemFault};
 use kx_pages::{PAGE_SIZE, Page};
@@ -114,7 +117,8 @@ impl Memory {
     pub fn reserve(&mut self, pages: usize) -> Result<(), AllocError>
         ensures same { self.new ≡ self.old }
     {
-        self.frames.reserve_exact(pages.saturating_mul(4096))
+        self.frames
+            .reserve_exact(pages.saturating_mul(4104).saturating_add(16))
     }
 
     /// The page, which is held, becomes these at most 4,096 bytes, then zeros.
@@ -291,6 +295,21 @@ impl Memory {
         ensures heavy { IfErr result (λ e. e ≢ HeavyFault.Memory → (131072 < length (stored self.now)) × (e ≡ HeavyFault.TooMany (length (stored self.now)))) }
     {
         file_of(self.alloc, &self.frames, &self.table)
+    }
+
+    /// As `write`, of a memory that is given up: the file is made in the memory's own buffer, so that the bytes of the
+    /// pages never lie in memory twice. After a refusal the memory is gone. This project's own.
+    pub fn into_file(self) -> Result<Vec<u8>, HeavyFault>
+        ensures file { IfOk result (λ v. (length (stored self) ≤ 131072) × (v.items ≡ file self)) }
+        ensures heavy { IfErr result (λ e. e ≢ HeavyFault.Memory → (131072 < length (stored self)) × (e ≡ HeavyFault.TooMany (length (stored self)))) }
+    {
+        let Memory {
+            frames,
+            table,
+            sets: _,
+            alloc,
+        } = self;
+        file_in_place(alloc, frames, &table)
     }
 }
 

@@ -1,17 +1,39 @@
-use Rattle.std.proofs.Common.{◌≡◌, ◌++◌, ap, ◌∙◌, length, arith, List, ℕ}
-use Rattle.page_memory.proofs.Changes.{pages-added, IsTable-added}
+use Rattle.std.proofs.Common.{◌≡◌, ◌≤◌, ◌+◌, ◌*◌, ◌-◌, ◌++◌, length, take, ap, ◌∙◌, arith, List, ℕ}
+use Rattle.std.specs.Prelude.{replicate, is_some, if◌then◌else◌}
+use Rattle.std.proofs.lemmas.List.{length-take, length-append, length-replicate}
+use Rattle.page_memory.proofs.Bytes.{IsBytes-take, IsBytes-zeros}
+use Rattle.page_memory.proofs.Changes.{none_in, pages-added, IsTable-added}
 use Rattle.page_memory.proofs.buffer.add_frame.Goals as goal
+
+-- the heads in front of a frame behind n bytes, which end where slot m begins
+length-heads : (n m : ℕ) (xs : List ℕ) → length xs ≡ n → n - 16 ≡ 4104 * m → length (xs ++ take (24 + 4104 * m - n) (replicate 24 0)) ≡ 24 + 4104 * m
+length-heads n m xs long full =
+    let zeros : List ℕ = replicate 24 0 in
+    let gap = 24 + 4104 * m - n in
+    let few : gap ≤ 24 = omega (arith, full) in
+    omega (arith, few, full, long, length-append xs (take gap zeros), length-take gap zeros, length-replicate {A = ℕ} 24 0)
 
 pub returns-clause-ok : goal.returns-clause-ok
 returns-clause-ok c =
     let xs = c.args.frames.now.items in
-    let grown : c.extend_from_slice.new.self.items ≡ xs ++ c.args.bytes.now = c.in-Ok.ensures.items ∙ ap (λ (ys : List ℕ). ys ++ c.args.bytes.now) c.reserve.ensures.items in
-    let long : c.len-place.result ≡ length xs = omega (arith, c.args.frames.now.ok.0, c.len-place.ensures) in
-    rw grown (pages-added xs c.args.bytes.now c.args.table.now c.insert.new.self c.args.p c.len-place.result c.requires.old long c.requires.bytes.whole c.in_ok-insert.ensures.updates.0)
+    let m = c.len.result in
+    let n = c.len-2.result in
+    let heads : List ℕ = take (24 + 4104 * m - n) (replicate 24 0) in
+    let grown : c.append-2.new.frames.items ≡ xs ++ heads ++ c.args.bytes.now = c.append-2.ensures.items ∙ ap (λ (ys : List ℕ). ys ++ c.args.bytes.now) (c.append.ensures.items ∙ ap (λ (ys : List ℕ). ys ++ heads) c.reserve.ensures.items) in
+    let long : length xs ≡ n = omega (arith, c.args.frames.now.ok.0, c.len-2.ensures) in
+    let full : n - 16 ≡ 4104 * m = omega (arith, c.requires.old.full, long, c.len.ensures.len) in
+    rw grown (pages-added xs heads c.args.bytes.now c.args.table.now c.insert.new.self c.args.p (24 + 4104 * m) c.requires.old (length-heads n m xs long full) c.requires.bytes.whole c.in_ok-insert.ensures.updates.0)
 
 pub returns-clause-table : goal.returns-clause-table
 returns-clause-table c =
     let xs = c.args.frames.now.items in
-    let grown : c.extend_from_slice.new.self.items ≡ xs ++ c.args.bytes.now = c.in-Ok.ensures.items ∙ ap (λ (ys : List ℕ). ys ++ c.args.bytes.now) c.reserve.ensures.items in
-    let long : c.len-place.result ≡ length xs = omega (arith, c.args.frames.now.ok.0, c.len-place.ensures) in
-    rw grown (IsTable-added xs c.args.bytes.now c.args.table.now c.insert.new.self c.args.p c.len-place.result c.requires.old long c.requires.bytes c.number-number.ensures.valid c.in_ok-insert.ensures.updates.0)
+    let m = c.len.result in
+    let n = c.len-2.result in
+    let heads : List ℕ = take (24 + 4104 * m - n) (replicate 24 0) in
+    let grown : c.append-2.new.frames.items ≡ xs ++ heads ++ c.args.bytes.now = c.append-2.ensures.items ∙ ap (λ (ys : List ℕ). ys ++ c.args.bytes.now) (c.append.ensures.items ∙ ap (λ (ys : List ℕ). ys ++ heads) c.reserve.ensures.items) in
+    let long : length xs ≡ n = omega (arith, c.args.frames.now.ok.0, c.len-2.ensures) in
+    let full : n - 16 ≡ 4104 * m = omega (arith, c.requires.old.full, long, c.len.ensures.len) in
+    let slot : 24 + 4104 * m ≡ 24 + 4104 * length c.args.table.now.entries = ap (λ k. 24 + 4104 * k) c.len.ensures.len in
+    let new = c.in_ok-insert.ensures.old ∙ none_in xs c.args.table.now c.args.p c.requires.absent in
+    let more : length c.insert.new.self.entries ≡ length c.args.table.now.entries + 1 = c.in_ok-insert.ensures.len ∙ ap (λ o. length c.args.table.now.entries + (if is_some o then 0 else 1)) new in
+    rw grown (IsTable-added xs heads c.args.bytes.now c.args.table.now c.insert.new.self c.args.p (24 + 4104 * m) c.requires.old (length-heads n m xs long full) slot (IsBytes-take _ (replicate 24 0) (IsBytes-zeros 24)) c.requires.bytes c.number-number.ensures.valid c.in_ok-insert.ensures.updates.0 more)

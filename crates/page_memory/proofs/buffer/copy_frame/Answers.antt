@@ -6,7 +6,7 @@ use Rattle.page_memory.specs.Frames.{frame_in, put_frame, pages_in}
 use Rattle.page_memory.proofs.Changes.{some_in}
 use Rattle.page_memory.proofs.Moves.{length-frame_in, page_of-nothing}
 use Rattle.page_memory.proofs.Tables.{none_held, some_held}
-use Rattle.page_memory.proofs.Frames.{inside_found, frame_in-put_same, other_page, pages_by-written, vec_back}
+use Rattle.page_memory.proofs.Frames.{clear, inside_found, frame_in-put_same, other_page, pages_by-written, vec_back}
 use Rattle.page_memory.proofs.buffer.copy_frame.Goals as goal
 
 pub entry_of-requires : goal.entry_of-requires
@@ -16,10 +16,10 @@ pub move_frame-requires-clause-from : goal.move_frame-requires-clause-from
 move_frame-requires-clause-from c = rw c.deref_mut.ensures.value (inside_found c.args.frames.now.items c.args.table.now c.args.s c.in-Some.from.now c.requires.old c.in-Some.ensures.value).1
 
 pub move_frame-requires-clause-up : goal.move_frame-requires-clause-up
-move_frame-requires-clause-up c = c.requires.old.clear c.args.s c.args.d c.in-Some.from.now c.entry_of.result (sym c.in-Some.ensures.value) c.entry_of.ensures
+move_frame-requires-clause-up c = clear c.args.frames.now.items c.args.table.now c.args.s c.args.d c.in-Some.from.now c.entry_of.result c.requires.old (sym c.in-Some.ensures.value) c.entry_of.ensures
 
 pub move_frame-requires-clause-down : goal.move_frame-requires-clause-down
-move_frame-requires-clause-down c = c.requires.old.clear c.args.d c.args.s c.entry_of.result c.in-Some.from.now c.entry_of.ensures (sym c.in-Some.ensures.value)
+move_frame-requires-clause-down c = clear c.args.frames.now.items c.args.table.now c.args.d c.args.s c.entry_of.result c.in-Some.from.now c.requires.old c.entry_of.ensures (sym c.in-Some.ensures.value)
 
 pub returns-in-Some-clause-value : goal.returns-in-Some-clause-value
 returns-in-Some-clause-value c =

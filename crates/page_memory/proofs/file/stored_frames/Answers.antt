@@ -1,8 +1,8 @@
-use Rattle.std.proofs.Common.{ap, ◌∙◌, ◌++◌}
-use Rattle.std.specs.Prelude.{filter}
-use Rattle.page_memory.specs.File.{is_stored}
+use Rattle.std.proofs.Common.{◌≡◌, ◌≤◌, ap, ◌∙◌, ◌++◌, sym, length, subst}
+use Rattle.page_memory.specs.InPlace.{AreInSlots}
 use Rattle.page_memory.specs.Frames.{frame_entries}
-use Rattle.page_memory.proofs.Changes.{all_inside}
+use Rattle.page_memory.proofs.Changes.{all_inside, AreInSlots-kept}
+use Rattle.page_memory.proofs.Stored.{frame_entries-kept, kept_in, length-kept, none_left}
 use Rattle.page_memory.proofs.file.stored_frames.Goals as goal
 
 pub loop-p-init : goal.loop-p-init
@@ -10,7 +10,21 @@ loop-p-init c =
     let none = c.in_ok-reserve_exact.ensures.items ∙ c.new-stored.ensures.items in
     let given = c.into_iter-p-iterator.ensures.into_iter_gives ∙ c.iter-entries.ensures.rest in
     record {
-      inside = rw given (all_inside c.args.frames.now c.args.table.now.entries c.iter-entries.ensures.ordered c.requires.inside);
-      kept = rw none tt;
-      all = ap (λ es. frame_entries c.args.frames.now es ++ filter is_stored (frame_entries c.args.frames.now c.into_iter-p-iterator.result)) none ∙ ap (λ es. filter is_stored (frame_entries c.args.frames.now es)) given;
+      inside = rw given (all_inside c.args.frames.now c.args.table.now c.iter-entries.ensures.ordered c.requires);
+      kept = ap (λ es. es ++ kept_in c.args.frames.now c.into_iter-p-iterator.result) none ∙ ap (kept_in c.args.frames.now) given;
     }
+
+pub returns-clause-stored : goal.returns-clause-stored
+returns-clause-stored c =
+    let all = none_left c.args.frames.now c.loop-p.stored.items c.loop-p.p-iterator c.args.table.now.entries c.in-None.ensures.steps.0 c.loop-p.invariant.kept in
+    ap (frame_entries c.args.frames.now) all ∙ frame_entries-kept c.args.frames.now c.args.table.now.entries
+
+pub returns-clause-slots : goal.returns-clause-slots
+returns-clause-slots c =
+    let all = none_left c.args.frames.now c.loop-p.stored.items c.loop-p.p-iterator c.args.table.now.entries c.in-None.ensures.steps.0 c.loop-p.invariant.kept in
+    subst (AreInSlots c.args.frames.now) (sym all) (AreInSlots-kept c.args.frames.now c.args.table.now c.iter-entries.ensures.ordered c.requires)
+
+pub returns-clause-few : goal.returns-clause-few
+returns-clause-few c =
+    let all = none_left c.args.frames.now c.loop-p.stored.items c.loop-p.p-iterator c.args.table.now.entries c.in-None.ensures.steps.0 c.loop-p.invariant.kept in
+    subst (λ es. length es ≤ length c.args.table.now.entries) (sym all) (length-kept c.args.frames.now c.args.table.now.entries)

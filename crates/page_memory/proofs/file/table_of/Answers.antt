@@ -1,50 +1,108 @@
-use Rattle.std.proofs.Common.{◌≡◌, ℕ, List, suc, ◌+◌, ◌-◌, ◌*◌, ◌≤◌, take, drop, length, ap, sym, ◌∙◌, subst, arith, Err}
-use Rattle.std.proofs.lemmas.List.{drop-drop, length-drop}
+use Rattle.std.proofs.Common.{◌≡◌, ◌++◌, append_assoc, ℕ, List, suc, ◌+◌, ◌-◌, ◌*◌, ◌≤◌, take, drop, length, ap, sym, ◌∙◌, subst, arith, true, Err, Ok}
+use Rattle.std.specs.Prelude.{◌==◌, is_some, if◌then◌else◌}
+use Rattle.std.proofs.lemmas.Bool.Decides.{nat_tests}
+use Rattle.std.proofs.Math.Seq.{take-add}
+use Rattle.std.proofs.lemmas.List.{take_all, drop-drop, length-drop, length-take, length-append}
 use Rattle.page_memory.specs.declared.fault.MemFault.TheVariants.{Trailing}
-use Rattle.page_memory.specs.File.{Fails}
+use Rattle.page_memory.specs.File.{Fails, pages_onto}
 use Rattle.std.specs.FinMap as finite
-use Rattle.page_memory.specs.Frames.{pages_in, frame_in}
+use Rattle.page_memory.specs.Frames.{pages_in, IsTable}
+use Rattle.page_memory.proofs.Bytes.{IsBytes-take, IsBytes-drop}
 use Rattle.page_memory.proofs.Reading.{pages_onto-ok, pages_onto-fails, pages_onto-end, pages_onto-trailing}
-use Rattle.page_memory.proofs.Changes.{EndBy, IsTable-inserted, EndBy-inserted, EndBy-later, pages-inserted}
+use Rattle.page_memory.specs.Contents.{IsBytes, IsPageOfBytes}
+use Rattle.page_memory.proofs.Changes.{IsTable-empty, pages-empty, absent-empty, IsTable-added, pages-added, absent-added}
 use Rattle.page_memory.proofs.file.table_of.Goals as goal
 
 pub returns-in-Err-clause-exact : goal.returns-in-Err-clause-exact
 returns-in-Err-clause-exact c =
     let more : c.args.count - c.loop-i.i ≡ suc (c.args.count - (c.loop-i.i + 1)) = omega arith in
-    subst (Fails c.in-Err.e) c.loop-i.invariant.same (pages_onto-fails (length c.args.bytes.now) (16 + 4104 * c.loop-i.i) c.loop-i.low (pages_in c.args.bytes.now c.loop-i.table) _ _ c.loop-i.rest.now c.in-Err.e more c.in-Err.ensures.exact)
+    subst (Fails c.in-Err.e) c.loop-i.invariant.same (pages_onto-fails (length c.args.bytes.now) (16 + 4104 * c.loop-i.i) c.loop-i.low (pages_in (take (16 + 4104 * c.loop-i.i) c.args.bytes.now) c.loop-i.table) _ _ c.loop-i.rest.now c.in-Err.e more c.in-Err.ensures.exact)
 
--- the frame of the page that was cut off the rest
-frame_cut : (bytes rest frame : List ℕ) (n : ℕ) → rest ≡ drop n bytes → frame ≡ take 4096 (drop 8 rest) → frame_in bytes (n + 8) ≡ frame
-unfolding frame_in
-frame_cut bytes rest frame n at_n is = ap (take 4096) (sym (drop-drop 8 n bytes)) ∙ ap (λ t. take 4096 (drop 8 t)) (sym at_n) ∙ sym is
+-- the bytes up to the end of the page that was cut off the rest
+slot_more : (bytes rest frame : List ℕ) (n m : ℕ) → rest ≡ drop n bytes → frame ≡ take 4096 (drop 8 rest) → m ≡ n + 4104 → take m bytes ≡ take n bytes ++ take 8 (drop n bytes) ++ frame
+slot_more bytes rest frame n m at_n is end =
+    ap (λ k. take k bytes) end
+    ∙ take-add n 4104 bytes
+    ∙ ap (λ t. take n bytes ++ t) (take-add 8 4096 (drop n bytes))
+    ∙ sym (append_assoc (take n bytes) (take 8 (drop n bytes)) (take 4096 (drop 8 (drop n bytes))))
+    ∙ ap (λ t. take n bytes ++ take 8 (drop n bytes) ++ take 4096 (drop 8 t)) (sym at_n)
+    ∙ ap (λ t. take n bytes ++ take 8 (drop n bytes) ++ t) (sym is)
+
+length-slot_head : (bytes : List ℕ) (n : ℕ) → n + 8 ≤ length bytes → length (take n bytes ++ take 8 (drop n bytes)) ≡ n + 8
+length-slot_head bytes n h = omega (arith, length-append (take n bytes) (take 8 (drop n bytes)), length-take n bytes, length-take 8 (drop n bytes), length-drop n bytes)
 
 after_cut : (bytes rest after : List ℕ) (n : ℕ) → rest ≡ drop n bytes → after ≡ drop 4096 (drop 8 rest) → after ≡ drop (n + 8 + 4096) bytes
 after_cut bytes rest after n at_n is = is ∙ ap (λ t. drop 4096 (drop 8 t)) at_n ∙ ap (drop 4096) (drop-drop 8 n bytes) ∙ drop-drop 4096 (n + 8) bytes
 
+-- the frame of the page that was cut off
+is_page : (bytes rest frame : List ℕ) (n : ℕ) → IsBytes bytes → rest ≡ drop n bytes → 4104 ≤ length rest → frame ≡ take 4096 (drop 8 rest) → IsPageOfBytes frame
+is_page bytes rest frame n small at_n long is =
+    let rest_small : IsBytes rest = subst IsBytes (sym at_n) (IsBytes-drop n bytes small) in
+    subst IsPageOfBytes (sym is) (record {
+      whole = omega (arith, long, length-take 4096 (drop 8 rest), length-drop 8 rest);
+      small = IsBytes-take 4096 (drop 8 rest) (IsBytes-drop 8 rest rest_small);
+    })
+
+pub loop-i-init : goal.loop-i-init
+loop-i-init c =
+    let bytes = c.args.bytes.now in
+    let none = c.new-table.ensures.empty in
+    let all : c.args.count - 0 ≡ c.args.count = omega arith in
+    let head : length (take 16 bytes) ≤ 16 = omega (arith, length-take 16 bytes) in
+    record {
+      table = IsTable-empty (take 16 bytes) c.new-table.result (IsBytes-take 16 bytes (λ k. omega (arith, c.type_inv.bytes k))) head none;
+      new = λ q le. absent-empty c.new-table.result q none;
+      count = c.new-table.ensures.len;
+      room = c.requires.headed;
+      rest = c.split_at.ensures.back;
+      same = ap (λ n. pages_onto (length bytes) 16 0 (pages_in (take 16 bytes) c.new-table.result) n c.split_at.result.1.now) all ∙ ap (λ m. pages_onto (length bytes) 16 0 m c.args.count c.split_at.result.1.now) (pages-empty (take 16 bytes) c.new-table.result none) ∙ ap (pages_onto (length bytes) 16 0 finite.empty c.args.count) (c.split_at.ensures.back ∙ sym (drop-drop 8 8 bytes));
+    }
+
 pub loop-i-preserved : goal.loop-i-preserved
 loop-i-preserved c =
     let bytes = c.args.bytes.now in
+    let rest = c.loop-i.rest.now in
+    let m = c.loop-i.table in
+    let t = c.insert.new.self in
     let i = c.loop-i.i in
-    let here = 24 + 4104 * i in
+    let n = 16 + 4104 * i in
+    let place = 24 + 4104 * i in
+    let xs = take n bytes in
+    let heads = take 8 (drop n bytes) in
     let page = c.in-Ok.next.0 in
     let frame = c.in-Ok.next.1.now in
+    let at_n = c.loop-i.invariant.rest in
+    let cut = c.in-Ok.ensures.cut in
     let differs = c.in_ok-insert.ensures.updates.0 in
     let more : c.args.count - i ≡ suc (c.args.count - (i + 1)) = omega arith in
-    let next : 16 + 4104 * (i + 1) ≡ 16 + 4104 * i + 4104 = omega arith in
-    let long : 4104 ≤ length c.loop-i.rest.now = c.in-Ok.ensures.cut.0 in
-    let fits : here + 4096 ≤ length bytes = omega (arith, long, ap length c.loop-i.invariant.rest, length-drop (16 + 4104 * i) bytes) in
-    let before : EndBy c.loop-i.table here = EndBy-later c.loop-i.table (16 + 4104 * i) here c.loop-i.invariant.ends (omega arith) in
-    let at_here : 16 + 4104 * i + 8 ≡ here = omega arith in
-    let cut : frame_in bytes here ≡ frame = ap (frame_in bytes) (sym at_here) ∙ frame_cut bytes c.loop-i.rest.now frame (16 + 4104 * i) c.loop-i.invariant.rest c.in-Ok.ensures.cut.1 in
-    let at_next : 16 + 4104 * i + 8 + 4096 ≡ 16 + 4104 * (i + 1) = omega arith in
-    let pages = pages-inserted bytes c.loop-i.table c.insert.new.self page here differs ∙ ap (finite.insert (pages_in bytes c.loop-i.table) page) cut in
-    let step = pages_onto-ok (length bytes) (16 + 4104 * i) c.loop-i.low (pages_in bytes c.loop-i.table) _ _ c.loop-i.rest.now (page, frame, c.in-Ok.next.2.now) more c.in-Ok.ensures.exact in
+    let next : 16 + 4104 * (i + 1) ≡ n + 4104 = omega arith in
+    let all : n + 4104 ≤ length bytes = omega (arith, cut.0, ap length at_n, length-drop n bytes) in
+    let small : IsBytes bytes = λ k. omega (arith, c.type_inv.bytes k) in
+    let grown = slot_more bytes rest frame n (16 + 4104 * (i + 1)) at_n cut.1 next in
+    let is_frame = is_page bytes rest frame n small at_n cut.0 cut.1 in
+    let at_place : n + 8 ≡ place = omega arith in
+    let headed : length (xs ++ heads) ≡ place = length-slot_head bytes n (omega (arith, all)) ∙ at_place in
+    let slot : place ≡ 24 + 4104 * length m.entries = ap (λ k. 24 + 4104 * k) (sym c.loop-i.invariant.count) in
+    let new = c.in_ok-insert.ensures.old ∙ c.loop-i.invariant.new page c.in-Ok.ensures.rises in
+    let counted : length t.entries ≡ length m.entries + 1 = c.in_ok-insert.ensures.len ∙ ap (λ o. length m.entries + (if is_some o then 0 else 1)) new in
+    let pages : pages_in (take (16 + 4104 * (i + 1)) bytes) t ≡ finite.insert (pages_in xs m) page frame =
+    ap (λ zs. pages_in zs t) grown ∙ pages-added xs heads frame m t page place c.loop-i.invariant.table headed is_frame.whole differs in
+    let step = pages_onto-ok (length bytes) n c.loop-i.low (pages_in xs m) _ _ rest (page, frame, c.in-Ok.next.2.now) more c.in-Ok.ensures.exact in
+    let at_next : n + 8 + 4096 ≡ 16 + 4104 * (i + 1) = omega arith in
     record {
-      table = IsTable-inserted bytes c.loop-i.table c.insert.new.self page here c.loop-i.invariant.table fits before c.in-Ok.ensures.page differs;
-      ends = EndBy-inserted c.loop-i.table c.insert.new.self page here (16 + 4104 * (i + 1)) before (omega arith) differs;
-      rest = after_cut bytes c.loop-i.rest.now c.in-Ok.next.2.now (16 + 4104 * i) c.loop-i.invariant.rest c.in-Ok.ensures.cut.2 ∙ ap (λ n. drop n bytes) at_next;
-      same = rw (next, c.number-low.ensures.value, pages) (sym step ∙ c.loop-i.invariant.same);
+      table = rw grown (IsTable-added xs heads frame m t page place c.loop-i.invariant.table headed slot (IsBytes-take 8 (drop n bytes) (IsBytes-drop n bytes small)) is_frame c.in-Ok.ensures.page differs counted);
+      new = rw c.number-low.ensures.value (absent-added m t page place c.loop-i.low differs c.in-Ok.ensures.rises c.loop-i.invariant.new);
+      count = omega (arith, counted, c.loop-i.invariant.count);
+      room = omega (arith, all);
+      rest = after_cut bytes rest c.in-Ok.next.2.now n at_n cut.2 ∙ ap (λ k. drop k bytes) at_next;
+      same = rw (c.number-low.ensures.value, pages) (ap (λ k. pages_onto (length bytes) k (page + 1) (finite.insert (pages_in xs m) page frame) (c.args.count - (i + 1)) c.in-Ok.next.2.now) next ∙ sym step ∙ c.loop-i.invariant.same);
     }
+
+-- where nothing is left, all bytes were read
+all_read : (bytes rest : List ℕ) (n : ℕ) → rest ≡ drop n bytes → (length rest == 0) ≡ true → take n bytes ≡ bytes
+all_read bytes rest n at_n none =
+    let nothing : length rest ≡ 0 = grind (arith, nat_tests, none) in
+    take_all n bytes (omega (arith, nothing, ap length at_n, length-drop n bytes))
 
 pub returns-then-not-is_empty-clause-exact : goal.returns-then-not-is_empty-clause-exact
 returns-then-not-is_empty-clause-exact c =
@@ -55,4 +113,10 @@ returns-then-not-is_empty-clause-exact c =
 pub returns-clause-exact : goal.returns-clause-exact
 returns-clause-exact c =
     let none : c.args.count - c.loop-i.i ≡ 0 = omega arith in
-    sym c.loop-i.invariant.same ∙ pages_onto-end (length c.args.bytes.now) _ _ _ _ _ none (sym c.is_empty.ensures ∙ c.if-not-is_empty.false)
+    let empty = sym c.is_empty.ensures ∙ c.if-not-is_empty.false in
+    sym c.loop-i.invariant.same ∙ pages_onto-end (length c.args.bytes.now) _ _ _ _ _ none empty ∙ ap (λ zs. Ok (pages_in zs c.loop-i.table)) (all_read c.args.bytes.now c.loop-i.rest.now (16 + 4104 * c.loop-i.i) c.loop-i.invariant.rest empty)
+
+pub returns-clause-table : goal.returns-clause-table
+returns-clause-table c =
+    let empty = sym c.is_empty.ensures ∙ c.if-not-is_empty.false in
+    subst (λ zs. IsTable zs c.loop-i.table) (all_read c.args.bytes.now c.loop-i.rest.now (16 + 4104 * c.loop-i.i) c.loop-i.invariant.rest empty) c.loop-i.invariant.table

@@ -1,0 +1,172 @@
+//! The memory file, made in the buffer in which the frames lie.
+//!
+//! The buffer is laid out as a file: a head of 16 bytes, and slots of 4,104 bytes, each 8 bytes and a frame. So the
+//! frame of each page that the file has is brought into the slot that it has there, by exchanges of two frames; then
+//! the numbers and the head are written, and what lies behind is cut off.
+//!
+//! While frames are exchanged, `slots` says in which slot the frame of each page lies, and `owners` says of each slot
+//! whose frame it has: both are kept, so that an exchange is never preceded by a search.
+
+ghost use Rattle.std.specs.Prelude.{◌≡◌, ◌≢◌, ◌≤◌, ◌<◌, ◌+◌, ◌-◌, ◌*◌, ◌++◌, ℕ, List, length, take, drop, set, eqb, slice_index, IfOk, IfErr, OnOk};
+ghost use Rattle.std.specs.BTreeMap.{IsOrdered};
+ghost use Rattle.std.specs.List.{flat_map, IsDistinct};
+ghost use Rattle.std.specs.Ordering.{nat_cmp};
+ghost use Rattle.page_memory.specs.File.{text_of, page_text};
+ghost use Rattle.page_memory.specs.Frames.{IsTable, frame_in, put_frame, stored_in};
+ghost use Rattle.page_memory.specs.InPlace.{AreGathered, AreInSlots, AreOwned, Holds, place, slot_entries, slots_of};
+
+use crate::buffer::{Table, put_word};
+use crate::fault::HeavyFault;
+use crate::file::{file_pages, head_of};
+use kx_pages::Page;
+use std::alloc::{AllocError, Global};
+
+// A frame of the buffer and 4,096 bytes that lie elsewhere change places.
+#[tactic(auto, unfolding(crate::specs::Frames::put_frame, crate::specs::Frames::frame_in))]
+fn trade(frames: &mut [u8], place: usize, other: &mut [u8])
+    requires inside { place + 4096 ≤ length frames.old }
+    requires whole { length other.old ≡ 4096 }
+    ensures frames { frames.new ≡ put_frame frames.old place other.old }
+    ensures other { other.new ≡ frame_in frames.old place }
+{
+    let (_, rest) = frames.split_at_mut(place);
+    let (frame, _) = rest.split_at_mut(4096);
+    frame.swap_with_slice(other);
+}
+
+// Two frames change places.
+fn exchange(frames: &mut [u8], low: usize, high: usize)
+    requires apart { low + 4096 ≤ high }
+    requires inside { high + 4096 ≤ length frames.old }
+    ensures { frames.new ≡ put_frame (put_frame frames.old high (frame_in frames.old low)) low (frame_in frames.old high) }
+{
+    let (front, back) = frames.split_at_mut(high);
+    let (frame, _) = back.split_at_mut(4096);
+    trade(front, low, frame);
+}
+
+// Notes the slot of a page; nothing, where this is no page of the file.
+fn note(slots: &mut [usize], page: usize, slot: usize)
+    ensures { slots.new ≡ set slots.old page slot }
+{
+    if page < slots.len() {
+        slots[page] = slot;
+    }
+}
+
+// Brings the frame of page k into slot k. The frame that lay there goes where that of page k was.
+fn settle(frames: &mut [u8], slots: &mut [usize], owners: &mut [usize], k: usize)
+    requires page { k < length slots.old }
+    requires few { length slots.old ≤ length owners.old }
+    requires room { 4104 * length owners.old ≤ length frames.old - 16 }
+    requires owned { AreOwned slots.old owners.old k }
+    ensures owned { AreOwned slots.new owners.new (k + 1) }
+    ensures holds { (frame_of : ℕ → List ℕ) → Holds frame_of frames.old owners.old (length slots.old) → Holds frame_of frames.new owners.new (length slots.old) }
+{
+    let from = slots[k];
+    if k < from {
+        exchange(frames, 24 + 4104 * k, 24 + 4104 * from);
+        note(slots, owners[k], from);
+        note(slots, k, k);
+        owners.swap(k, from);
+    }
+}
+
+// Brings the frame of each page into its slot.
+fn arrange(frames: &mut [u8], slots: &mut [usize], owners: &mut [usize])
+    requires few { length slots.old ≤ length owners.old }
+    requires room { 4104 * length owners.old ≤ length frames.old - 16 }
+    requires owned { AreOwned slots.old owners.old 0 }
+    ensures { (frame_of : ℕ → List ℕ) → Holds frame_of frames.old owners.old (length slots.old) → (j : ℕ) → j < length slots.old → frame_in frames.new (place j) ≡ frame_of j }
+{
+    for k in 0..slots.len() {
+        settle(frames, slots, owners, k);
+    }
+}
+
+// In which slots the frames of these pages lie.
+fn slots_of(alloc: Global, pages: &[(Page, usize)]) -> Result<Vec<usize>, AllocError>
+    ensures { IfOk result (λ v. v.items ≡ slots_of pages.now) }
+{
+    let mut slots = Vec::new(alloc);
+    slots.reserve_exact(pages.len())?;
+    for (_, place) in pages {
+        slots.push(place / 4104)?;
+    }
+    Ok(slots)
+}
+
+// Whose frame lies in each slot: the number of pages, where none of theirs does.
+fn owners_of(alloc: Global, slots: &[usize], count: usize) -> Result<Vec<usize>, AllocError>
+    requires inside { (j : ℕ) → j < length slots.now → slice_index slots.now j < count }
+    requires apart { IsDistinct eqb slots.now }
+    ensures owned { IfOk result (λ v. AreOwned slots.now v.items 0) }
+    ensures back { IfOk result (λ v. (i : ℕ) → i < length v.items → slice_index v.items i < length slots.now → slice_index slots.now (slice_index v.items i) ≡ i) }
+    ensures length { IfOk result (λ v. length v.items ≡ count) }
+{
+    let mut owners = vec![in alloc; slots.len(); count]?;
+    for j in 0..slots.len() {
+        owners[slots[j]] = j;
+    }
+    Ok(owners)
+}
+
+// Brings the frames of these pages into the first slots, in their order. `count` is the number of all slots.
+fn gather(
+    alloc: Global,
+    frames: &mut [u8],
+    pages: &[(Page, usize)],
+    count: usize,
+) -> Result<(), AllocError>
+    requires slots { AreInSlots frames.old pages.now }
+    requires few { length pages.now ≤ count }
+    requires room { length frames.old - 16 ≡ 4104 * count }
+    ensures { OnOk result (AreGathered frames.old frames.new pages.now) }
+{
+    let mut slots = slots_of(alloc, pages)?;
+    let mut owners = owners_of(alloc, &slots, count)?;
+    arrange(frames, &mut slots, &mut owners);
+    Ok(())
+}
+
+// Writes in front of each slot's frame the number of its page.
+fn write_numbers(frames: &mut [u8], pages: &[(Page, usize)])
+    requires { length frames.old ≡ 16 + 4104 * length pages.now }
+    ensures { frames.new ≡ take 16 frames.old ++ flat_map page_text (slot_entries frames.old 0 pages.now) }
+{
+    let mut at = 16;
+    for (p, _) in pages {
+        put_word(frames, at, p.number());
+        at += 4104;
+    }
+}
+
+// Makes a file of slots that have the frames of these pages.
+fn write_heads(frames: &mut [u8], pages: &[(Page, usize)])
+    requires long { length frames.old ≡ 16 + 4104 * length pages.now }
+    requires few { length pages.now ≤ 131072 }
+    ensures { frames.new ≡ text_of (slot_entries frames.old 0 pages.now) }
+{
+    write_numbers(frames, pages);
+    let (head, _) = frames.split_at_mut(16);
+    head.copy_from_slice(head_of(pages.len() as u64).bytes());
+}
+
+/// The file of the pages that are not all zeros, made in the buffer of their frames. It takes no memory but some bytes a
+/// page.
+pub fn file_in_place(
+    alloc: Global,
+    mut frames: Vec<u8>,
+    table: &Table,
+) -> Result<Vec<u8>, HeavyFault>
+    requires { IsTable frames.items table.now }
+    ensures file { IfOk result (λ v. (length (stored_in frames.items table.now) ≤ 131072) × (v.items ≡ text_of (stored_in frames.items table.now))) }
+    ensures ordered { IsOrdered nat_cmp table.now }
+    ensures heavy { IfErr result (λ e. e ≢ HeavyFault.Memory → (131072 < length (stored_in frames.items table.now)) × (e ≡ HeavyFault.TooMany (length (stored_in frames.items table.now)))) }
+{
+    let pages = file_pages(alloc, &frames, table)?;
+    gather(alloc, &mut frames, &pages, table.len())?;
+    frames.resize(16 + 4104 * pages.len(), 0)?;
+    write_heads(&mut frames, &pages);
+    Ok(frames)
+}
