@@ -99,7 +99,7 @@ fn boot_raw(
 {
     let loaded = load_raw(alloc, taken, raw.at, wish_of(runs))?;
     let ran = run_loaded(alloc, loaded, runs, &start_at(raw.entry))?;
-    let outputs = memory_output(alloc, &ran.memory, out)?;
+    let outputs = memory_output(alloc, ran.memory, out)?;
     Ok(Goods {
         outputs,
         text: ran.text,
@@ -168,7 +168,7 @@ fn load_goods(
     let start = start_at(raw.entry);
     let text = loaded_text(alloc, &loaded, &start)?;
     let (memory, record) = record_output(alloc, loaded, start, load_record)?;
-    let mut outputs = memory_output(alloc, &memory, out)?;
+    let mut outputs = memory_output(alloc, memory, out)?;
     outputs.push(record)?;
     Ok(Goods {
         outputs,

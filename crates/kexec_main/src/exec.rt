@@ -57,7 +57,7 @@ fn run_goods(
     ensures { (s : LoadOf) → IsAcceptedAs s accepted → Makes (runs_list (string_bytes out) runs start.now) s result }
 {
     let ran = run_accepted(alloc, accepted, runs, start)?;
-    let outputs = memory_output(alloc, &ran.memory, out)?;
+    let outputs = memory_output(alloc, ran.memory, out)?;
     Ok(Goods {
         outputs,
         text: ran.text,

@@ -29,16 +29,16 @@ fn refused(fault: HeavyFault) -> Status
     }
 }
 
-/// The file of a memory, as the one output, of this name.
+/// The file of a memory that is used no more, as the one output, of this name.
 pub(crate) fn memory_output(
     alloc: Global,
-    memory: &Memory,
+    memory: Memory,
     name: String,
 ) -> Result<Vec<Output>, Status>
-    ensures { Writes (string_bytes name) (at memory.now) result }
+    ensures { Writes (string_bytes name) (at memory) result }
 {
     let _sets = memory.sets();
-    match memory.write() {
+    match memory.into_file() {
         Ok(bytes) => Ok(one(alloc, Output { name, bytes })?),
         Err(fault) => Err(refused(fault)),
     }

@@ -57,7 +57,7 @@ fn trace_goods(
     ensures { Makes (traces (string_bytes out) head swap limit) memory result }
 {
     let outcome = run(&mut memory, head, mode_by(swap), limit)?;
-    let outputs = memory_output(alloc, &memory, out)?;
+    let outputs = memory_output(alloc, memory, out)?;
     Ok(Goods {
         outputs,
         text: outcome_line(alloc, outcome)?,

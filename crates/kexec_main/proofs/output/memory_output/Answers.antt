@@ -19,8 +19,8 @@ no_file m (TooMany n) valid f = let h = f (not_memory n) in (m, valid, λ p. ref
 
 pub returns-in_ok-one-in-Ok : goal.returns-in_ok-one-in-Ok
 returns-in_ok-one-in-Ok c =
-    (c.in-Ok.bytes.items, ap (map output_of) c.in_ok-one-in-Ok.ensures, (c.args.memory.now, c.sets-sets.ensures.valid, λ p. refl, c.in-Ok.ensures.file.0, c.in-Ok.ensures.file.1))
+    (c.in-Ok.bytes.items, ap (map output_of) c.in_ok-one-in-Ok.ensures, (c.args.memory, c.sets-sets.ensures.valid, λ p. refl, c.in-Ok.ensures.file.0, c.in-Ok.ensures.file.1))
 
 pub returns-in-Err : goal.returns-in-Err
 returns-in-Err c =
-    subst (WritesNot (at c.args.memory.now)) (sym c.refused.ensures) (no_file c.args.memory.now c.in-Err.fault c.sets-sets.ensures.valid c.in-Err.ensures.heavy)
+    subst (WritesNot (at c.args.memory)) (sym c.refused.ensures) (no_file c.args.memory c.in-Err.fault c.sets-sets.ensures.valid c.in-Err.ensures.heavy)
