@@ -55,7 +55,7 @@ unfolding parts_read
 end_trailing total n bytes made all none t h =
     sym h ∙ ap (λ n. onto made (parts_read total n bytes)) none ∙ ap (λ b. onto made (cond b (Ok []) (Err (faults.Trailing (total - length bytes))))) t
 
-drop_at : (xs : List Part) (i : ℕ) (s : Part) → slice_get xs i ≡ Some s → drop i xs ≡ s ∷ drop (i + 1) xs
+pub drop_at : (xs : List Part) (i : ℕ) (s : Part) → slice_get xs i ≡ Some s → drop i xs ≡ s ∷ drop (i + 1) xs
 drop_at xs i s e = drop_more xs i s (slice_get_within xs i s e) ∙ ap (λ x. x ∷ drop (i + 1) xs) (get_or_from_slice_get xs i s s e)
 
 -- one more segment was written

@@ -72,7 +72,7 @@ impl LoadRecord {
         ensures read_back { IfOk result (λ v. record_reading v.items ≡ Ok self.now) }
     {
         let mut out = Vec::new(alloc);
-        out.reserve_exact(room_of(&self.segments))?;
+        out.reserve_exact(room_of(self))?;
         out.extend_from_slice(Head::of(self).block().bytes())?;
         put_segments(&mut out, &self.segments)?;
         Ok(out)

@@ -3,8 +3,9 @@
 ghost use Rattle.std.specs.Prelude.{◌≡◌, ◌≤◌, ◌++◌, drop, length, IfOk, OnOk};
 ghost use Rattle.std.specs.List.{flat_map};
 ghost use Rattle.byteorder.specs.Endian.{little_bytes};
-ghost use Rattle.load_record.specs.File.{GivesBy, part_at, parts_read, part_text};
+ghost use Rattle.load_record.specs.File.{GivesBy, part_at, parts_read, part_text, record_file};
 
+use crate::LoadRecord;
 use crate::fault::RecFault;
 use kx_fields::Block;
 use segments::{Segment, Segments};
@@ -124,11 +125,14 @@ pub fn put_segments(out: &mut Vec<u8>, segments: &Segments) -> Result<(), AllocE
     Ok(())
 }
 
-/// How many bytes a record's file with these segments has, or the greatest number where that is more.
-pub fn room_of(segments: &Segments) -> usize {
-    let mut room = 96usize;
+/// How many bytes the file of a record has.
+pub fn room_of(of: &LoadRecord) -> usize
+    ensures { result ≡ length (record_file of.now) }
+{
+    let segments = &of.segments;
+    let mut room = 96;
     for i in 0..segments.count() {
-        room = room.saturating_add(24 + segments.segment(i).bytes.len());
+        room += 24 + segments.segment(i).bytes.len();
     }
     room
 }
