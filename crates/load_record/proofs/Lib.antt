@@ -1,3 +1,4 @@
 pub mod Tables
 pub mod Walking
 pub mod Reading
+pub mod Room

@@ -11,6 +11,7 @@ use Rattle.segments.specs.declared.fault.SegFault.{SegFault}
 use Rattle.load_record.specs.declared.fault.RecFault.{RecFault}
 use Rattle.load_record.specs.declared.fault.RecFault.TheVariants as faults
 use Rattle.load_record.specs.declared.head.Head.{Head}
+use Rattle.load_record.specs.declared.parts.PartHead.{PartHead}
 use Rattle.load_record.specs.declared.LoadRecord.{LoadRecord}
 use Rattle.load_record.specs.Head.{magic, head_at, head_text, head_fault, mode_of}
 
@@ -78,6 +79,10 @@ head_read bytes =
     if not (starts_with nat_eq bytes magic) then Err faults.BadMagic
     else if nat_lt (length bytes) 96 then Err (faults.Truncated (length bytes))
     else Ok (head_at (take 96 bytes))
+
+-- the segment of a head and bytes
+abbrev pub part_of : PartHead → List ℕ → Part
+part_of h bytes = record { bytes = bytes; mem = h.mem; memsz = h.memsz }
 
 -- how many bytes the segment has that these begin with
 abbrev pub bufsz_at : List ℕ → ℕ

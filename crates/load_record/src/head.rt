@@ -1,6 +1,7 @@
 //! The head of a record's file.
 
 ghost use Rattle.std.specs.Prelude.{◌≡◌, ◌<◌, ◌^◌, ◌/◌, None, List};
+ghost use Rattle.kx_fields.specs.Fields.{AreBytes};
 ghost use Rattle.segments.specs.Parts.{Part};
 ghost use Rattle.load_record.specs.Head.{head_text, head_fault, mode_of, is_page_address};
 ghost use Rattle.load_record.specs.Laws.{IsInRange, HasPages};
@@ -123,7 +124,9 @@ impl Head {
 
     /// The head that a file begins with, tested.
     pub fn read_tested(bytes: &[u8]) -> Result<Head, RecFault>
-        ensures { result ≡ head_tested bytes.now }
+        ensures value { result ≡ head_tested bytes.now }
+        // As their type says. A caller that has handed them on knows it no more.
+        ensures bytes { AreBytes bytes.now }
     {
         match Head::read(bytes) {
             Ok(head) => match head.test() {

@@ -6,8 +6,10 @@
 //! one record.
 #![tactic(auto)]
 
-ghost use Rattle.std.specs.Prelude.{◌≡◌, Ok, IfOk};
-ghost use Rattle.load_record.specs.File.{Gives, IsWritable, record_reading, record_file};
+ghost use Rattle.std.specs.Prelude.{◌≡◌, None, Ok, IfOk};
+ghost use Rattle.segments.specs.Rules.{bare_refusal};
+ghost use Rattle.load_record.specs.Head.{head_fault};
+ghost use Rattle.load_record.specs.File.{Gives, IsWritable, record_reading, record_file, ruled};
 
 mod fault;
 mod head;
@@ -18,8 +20,8 @@ mod tests;
 pub use fault::RecFault;
 use head::Head;
 use kx_pages::{Image, Start};
-use parts::{put_segments, read_segments, room_of};
-use segments::Segments;
+use parts::{put_segments, read_segments, room_of, take_segments};
+use segments::{Segment, Segments};
 use std::alloc::{AllocError, Global};
 
 /// A load record. This project's own.
@@ -56,11 +58,25 @@ impl LoadRecord {
             Ok(list) => list,
             Err(fault) => return Err(fault),
         };
-        let segments = match Segments::bare(alloc, list) {
-            Ok(segments) => segments,
-            Err(fault) => return Err(RecFault::from(fault)),
+        record_with(alloc, head, list)
+    }
+
+    /// As `read`, of a file that is handed in: its buffer becomes that of the first segment's bytes, so that these are
+    /// not copied.
+    pub fn from_file(alloc: Global, bytes: Vec<u8>) -> Result<LoadRecord, RecFault>
+        ensures exact { Gives result (record_reading bytes.items) }
+        ensures found { IfOk result (λ r. record_file r ≡ bytes.items) }
+        ensures writable { IfOk result IsWritable }
+    {
+        let head = match Head::read_tested(&bytes) {
+            Ok(head) => head,
+            Err(fault) => return Err(fault),
         };
-        Ok(head.record(segments))
+        let list = match take_segments(alloc, head.segments, bytes) {
+            Ok(list) => list,
+            Err(fault) => return Err(fault),
+        };
+        record_with(alloc, head, list)
     }
 
     /// The file of the record. A crash record is plain, and its control page is page 0, as in each record that was
@@ -72,9 +88,20 @@ impl LoadRecord {
         ensures read_back { IfOk result (λ v. record_reading v.items ≡ Ok self.now) }
     {
         let mut out = Vec::new(alloc);
-        out.reserve_exact(room_of(&self.segments))?;
+        out.reserve_exact(room_of(self))?;
         out.extend_from_slice(Head::of(self).block().bytes())?;
         put_segments(&mut out, &self.segments)?;
         Ok(out)
+    }
+}
+
+// The record of a tested head and these segments, which are tested by the rules.
+fn record_with(alloc: Global, head: Head, list: Vec<Segment>) -> Result<LoadRecord, RecFault>
+    requires { head_fault head ≡ None }
+    ensures { Gives result (ruled head list.items (bare_refusal list.items)) }
+{
+    match Segments::bare(alloc, list) {
+        Ok(segments) => Ok(head.record(segments)),
+        Err(fault) => Err(RecFault::from(fault)),
     }
 }

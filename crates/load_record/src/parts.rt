@@ -1,10 +1,11 @@
 //! The segments in a record's file.
 
-ghost use Rattle.std.specs.Prelude.{◌≡◌, ◌≤◌, ◌++◌, drop, length, IfOk, OnOk};
+ghost use Rattle.std.specs.Prelude.{◌≡◌, ◌+◌, ◌<◌, ◌≤◌, ◌++◌, take, drop, length, IfOk, OnOk};
 ghost use Rattle.std.specs.List.{flat_map};
 ghost use Rattle.byteorder.specs.Endian.{little_bytes};
-ghost use Rattle.load_record.specs.File.{GivesBy, part_at, parts_read, part_text};
+ghost use Rattle.load_record.specs.File.{GivesBy, part_of, part_at, parts_read, part_text, record_file};
 
+use crate::LoadRecord;
 use crate::fault::RecFault;
 use kx_fields::Block;
 use segments::{Segment, Segments};
@@ -39,6 +40,17 @@ impl PartHead {
         part_table!(put block, head);
         block
     }
+
+    // The segment with this head and these bytes.
+    fn segment(self, bytes: Vec<u8>) -> Segment
+        ensures { result ≡ part_of self bytes.items }
+    {
+        Segment {
+            bytes,
+            mem: self.mem,
+            memsz: self.memsz,
+        }
+    }
 }
 
 // A copy of the bytes, its room made at once.
@@ -51,11 +63,12 @@ fn copy_of(alloc: Global, bytes: &[u8]) -> Result<Vec<u8>, AllocError>
     Ok(copy)
 }
 
-// The segment that the bytes begin with, and what follows it. The file has `total` bytes.
+// The head of the segment that the bytes begin with, its bytes, and what follows it. The file has `total` bytes.
 #[tactic(auto, unfolding(crate::specs::File::part_at))]
-fn next_segment(alloc: Global, total: u64, bytes: &[u8]) -> Result<(Segment, &[u8]), RecFault>
-    ensures exact { GivesBy (λ x. (x.0, x.1.now)) result (part_at total bytes.now) }
-    ensures shorter { IfOk result (λ x. length x.1.now ≤ length bytes.now) }
+fn cut_segment(total: u64, bytes: &[u8]) -> Result<(PartHead, &[u8], &[u8]), RecFault>
+    ensures exact { GivesBy (λ x. (part_of x.0 x.1.now, x.2.now)) result (part_at total bytes.now) }
+    ensures place { IfOk result (λ x. x.1.now ≡ take x.0.bufsz (drop 24 bytes.now)) }
+    ensures inside { IfOk result (λ x. 24 + x.0.bufsz + length x.2.now ≡ length bytes.now) }
 {
     let head = match Block::<24>::cut(bytes, 0) {
         Some(block) => part_table!(get block, PartHead),
@@ -66,12 +79,37 @@ fn next_segment(alloc: Global, total: u64, bytes: &[u8]) -> Result<(Segment, &[u
         return Err(RecFault::Truncated { at: total });
     }
     let (bytes, after) = rest.split_at(head.bufsz as usize);
-    let segment = Segment {
-        bytes: copy_of(alloc, bytes)?,
-        mem: head.mem,
-        memsz: head.memsz,
-    };
-    Ok((segment, after))
+    Ok((head, bytes, after))
+}
+
+// The segments that the bytes spell, so many, and nothing after them: the last bytes of a file that has `total`.
+fn copied_segments(
+    alloc: Global,
+    total: u64,
+    count: u64,
+    bytes: &[u8],
+) -> Result<Vec<Segment>, RecFault>
+    requires last { length bytes.now ≤ total }
+    requires few { count ≤ 16 }
+    ensures { GivesBy (λ v. v.items) result (parts_read total count bytes.now) }
+{
+    let mut rest = bytes;
+    let mut list = Vec::new(alloc);
+    list.reserve_exact(count as usize)?;
+    for _ in 0..count {
+        let (head, bytes, after) = match cut_segment(total, rest) {
+            Ok(cut) => cut,
+            Err(fault) => return Err(fault),
+        };
+        list.push(head.segment(copy_of(alloc, bytes)?))?;
+        rest = after;
+    }
+    if !rest.is_empty() {
+        return Err(RecFault::Trailing {
+            at: total - rest.len() as u64,
+        });
+    }
+    Ok(list)
 }
 
 /// The segments that follow the head of a whole file, so many, and nothing after them.
@@ -80,23 +118,42 @@ pub fn read_segments(alloc: Global, count: u64, file: &[u8]) -> Result<Vec<Segme
     requires few { count ≤ 16 }
     ensures { GivesBy (λ v. v.items) result (parts_read (length file.now) count (drop 96 file.now)) }
 {
+    let (_, body) = file.split_at(96);
+    copied_segments(alloc, file.len() as u64, count, body)
+}
+
+// So many bytes from a place on, in the buffer that they lie in.
+fn narrowed(mut buffer: Vec<u8>, from: usize, count: usize) -> Vec<u8>
+    requires { from + count ≤ length buffer.items }
+    ensures { result.items ≡ take count (drop from buffer.items) }
+{
+    buffer.truncate(from + count);
+    drop(buffer.drain(..from));
+    buffer
+}
+
+/// As `read_segments`, of a file that is handed in: the first segment, mostly by far the largest, keeps its buffer.
+pub fn take_segments(alloc: Global, count: u64, file: Vec<u8>) -> Result<Vec<Segment>, RecFault>
+    requires whole { 96 ≤ length file.items }
+    requires some { 0 < count }
+    requires few { count ≤ 16 }
+    ensures { GivesBy (λ v. v.items) result (parts_read (length file.items) count (drop 96 file.items)) }
+{
     let total = file.len() as u64;
-    let (_, mut rest) = file.split_at(96);
+    let (_, body) = file.split_at(96);
+    let (head, _, rest) = match cut_segment(total, body) {
+        Ok(cut) => cut,
+        Err(fault) => return Err(fault),
+    };
+    let mut others = match copied_segments(alloc, total, count - 1, rest) {
+        Ok(others) => others,
+        Err(fault) => return Err(fault),
+    };
     let mut list = Vec::new(alloc);
     list.reserve_exact(count as usize)?;
-    for _ in 0..count {
-        let (segment, after) = match next_segment(alloc, total, rest) {
-            Ok(next) => next,
-            Err(fault) => return Err(fault),
-        };
-        list.push(segment)?;
-        rest = after;
-    }
-    if !rest.is_empty() {
-        return Err(RecFault::Trailing {
-            at: total - rest.len() as u64,
-        });
-    }
+    // Its bytes stand behind the file's head, of 96 bytes, and its own, of 24.
+    list.push(head.segment(narrowed(file, 120, head.bufsz as usize)))?;
+    list.append(&mut others)?;
     Ok(list)
 }
 
@@ -124,11 +181,14 @@ pub fn put_segments(out: &mut Vec<u8>, segments: &Segments) -> Result<(), AllocE
     Ok(())
 }
 
-/// How many bytes a record's file with these segments has, or the greatest number where that is more.
-pub fn room_of(segments: &Segments) -> usize {
-    let mut room = 96usize;
+/// How many bytes the file of a record has.
+pub fn room_of(of: &LoadRecord) -> usize
+    ensures { result ≡ length (record_file of.now) }
+{
+    let segments = &of.segments;
+    let mut room = 96;
     for i in 0..segments.count() {
-        room = room.saturating_add(24 + segments.segment(i).bytes.len());
+        room += 24 + segments.segment(i).bytes.len();
     }
     room
 }

@@ -21,6 +21,16 @@ fn file_with(rt: &HostRuntime, place: usize, number: u64) -> Result<Vec<u8>, Fai
     Ok(file)
 }
 
+// The file of a record with this segment, and one of `defg` at 3000 (hexadecimal) behind it.
+fn file_of_two(rt: &HostRuntime) -> Result<Vec<u8>, Fail> {
+    let mut file = file_with(rt, 10, 2)?;
+    for number in [0x3000u64, 0x1000, 4] {
+        file.extend_from_slice(&number.to_le_bytes())?;
+    }
+    file.extend_from_slice(b"defg")?;
+    Ok(file)
+}
+
 fn fault(rt: &HostRuntime, file: &[u8]) -> Option<RecFault> {
     LoadRecord::read(rt.alloc(), file).err()
 }
@@ -93,5 +103,45 @@ fn the_numbers_of_the_head_are_tested(rt: HostRuntime) -> Result<(), Fail> {
         let file = file_with(&rt, place, number)?;
         assert_eq!(rt; fault(&rt, &file), Some(wanted));
     }
+    Ok(())
+}
+
+#[test]
+fn the_first_segment_keeps_the_buffer_of_its_file(rt: HostRuntime) -> Result<(), Fail> {
+    let file = file_of_two(&rt)?;
+    let record = LoadRecord::read(rt.alloc(), &file).ok().ok_or("a record")?;
+    let written = record.write(rt.alloc())?;
+    assert!(rt; written == file);
+    let room = written.capacity();
+    let again = LoadRecord::from_file(rt.alloc(), written)
+        .ok()
+        .ok_or("the record again")?;
+    assert!(rt; again.write(rt.alloc())? == file);
+    let segments = again.segments;
+    assert_eq!(rt; segments.count(), 2);
+    let first = segments.segment(0);
+    assert!(rt; first.bytes.as_slice() == b"abc".as_slice());
+    assert_eq!(rt; (first.mem, first.memsz), (0x2000, 0x1000));
+    assert_eq!(rt; first.bytes.capacity(), room);
+    let second = segments.segment(1);
+    assert!(rt; second.bytes.as_slice() == b"defg".as_slice());
+    assert_eq!(rt; (second.mem, second.memsz), (0x3000, 0x1000));
+    Ok(())
+}
+
+// A file that is cut off in either segment tells its length, and one that goes on tells where.
+#[test]
+fn each_prefix_of_a_file_that_is_handed_in_is_refused(rt: HostRuntime) -> Result<(), Fail> {
+    let mut file = file_of_two(&rt)?;
+    let end = file.len();
+    assert_eq!(rt; end, 151);
+    for at in 8..end {
+        let cut = file[..at].to_vec(rt.alloc())?;
+        let found = LoadRecord::from_file(rt.alloc(), cut).err();
+        assert_eq!(rt; found, Some(RecFault::Truncated { at: at as u64 }));
+    }
+    file.push(0)?;
+    let found = LoadRecord::from_file(rt.alloc(), file).err();
+    assert_eq!(rt; found, Some(RecFault::Trailing { at: 151 }));
     Ok(())
 }

@@ -1,6 +1,6 @@
 use Rattle.std.proofs.Common.{◌≡◌, ◌+◌, ◌-◌, suc, arith, sym, ◌∙◌}
 use Rattle.load_record.proofs.Walking.{step_ok, step_fails, end_ok, end_trailing}
-use Rattle.load_record.proofs.parts.read_segments.Goals as goal
+use Rattle.load_record.proofs.parts.copied_segments.Goals as goal
 
 pub returns-in-Err : goal.returns-in-Err
 returns-in-Err c =
@@ -10,10 +10,10 @@ returns-in-Err c =
 pub loop-preserved : goal.loop-preserved
 loop-preserved c =
     let more : c.args.count - c.loop.counter ≡ suc (c.args.count - (c.loop.counter + 1)) = omega arith in
-    let shorter = c.in-Ok.ensures.shorter in
+    let inside = c.in-Ok.ensures.inside in
     record {
-      within = omega (arith, c.loop.invariant.within, shorter);
-      same = rw c.in_ok-push.ensures.items (step_ok _ _ _ c.loop.rest.now _ _ c.loop.list.items _ more c.in-Ok.ensures.exact c.loop.invariant.same);
+      within = omega (arith, c.loop.invariant.within, inside);
+      same = rw (c.in_ok-push.ensures.items, c.segment.ensures, c.in_ok-copy_of.ensures) (step_ok _ _ _ c.loop.rest.now _ _ c.loop.list.items _ more c.in-Ok.ensures.exact c.loop.invariant.same);
     }
 
 pub returns-then-not-is_empty : goal.returns-then-not-is_empty
