@@ -77,7 +77,7 @@ pub(crate) fn take_record<S: Shelf>(
     ensures { Takes (λ r. r) (string_bytes name ∷ []) (load_record_file (string_bytes name)) (S.files shelf.old) (S.files shelf.new) (S.faults shelf.old) (S.faults shelf.new) result }
 {
     let bytes = take_file(alloc, name, RECORD_LIMIT, shelf)?;
-    match LoadRecord::read(alloc, &bytes) {
+    match LoadRecord::from_file(alloc, bytes) {
         Ok(load_record) => Ok(load_record),
         Err(RecFault::Memory) => Err(Status::Memory),
         Err(fault) => Err(Status::Input {
