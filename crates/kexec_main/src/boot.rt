@@ -129,12 +129,7 @@ fn loaded_text(alloc: Global, loaded: &Loaded, start: &Start) -> Result<String, 
 }
 
 // The record of a load, as a file of this name, and the memory that it was of.
-fn record_output(
-    alloc: Global,
-    loaded: Loaded,
-    start: Start,
-    name: String,
-) -> Result<(Memory, Output), AllocError>
+fn record_output(loaded: Loaded, start: Start, name: String) -> Result<(Memory, Output), AllocError>
     ensures memory { IfOk result (λ r. r.0 ≡ loaded.memory) }
     ensures record { IfOk result (λ r. output_of r.1 ≡ (string_bytes name, record_file (record_of_load loaded start))) }
 {
@@ -147,7 +142,7 @@ fn record_output(
         digest: 0,
         segments,
     };
-    let bytes = record.write(alloc)?;
+    let bytes = record.into_file()?;
     Ok((memory, Output { name, bytes }))
 }
 
@@ -167,7 +162,7 @@ fn load_goods(
     let loaded = load_raw(alloc, taken, raw.at, wish)?;
     let start = start_at(raw.entry);
     let text = loaded_text(alloc, &loaded, &start)?;
-    let (memory, record) = record_output(alloc, loaded, start, load_record)?;
+    let (memory, record) = record_output(loaded, start, load_record)?;
     let mut outputs = memory_output(alloc, memory, out)?;
     outputs.push(record)?;
     Ok(Goods {

@@ -20,7 +20,7 @@ mod tests;
 pub use fault::RecFault;
 use head::Head;
 use kx_pages::{Image, Start};
-use parts::{put_segments, read_segments, room_of, take_segments};
+use parts::{give_segments, put_segments, read_segments, room_of, take_segments};
 use segments::{Segment, Segments};
 use std::alloc::{AllocError, Global};
 
@@ -92,6 +92,22 @@ impl LoadRecord {
         out.extend_from_slice(Head::of(self).block().bytes())?;
         put_segments(&mut out, &self.segments)?;
         Ok(out)
+    }
+}
+
+impl LoadRecord {
+    /// As `write`, of a record that is given up: its file is made in the buffer of the first segment's bytes, so that
+    /// these never lie in memory twice.
+    pub fn into_file(self) -> Result<Vec<u8>, AllocError>
+        requires { IsWritable self }
+        ensures file { IfOk result (λ v. v.items ≡ record_file self) }
+        ensures read_back { IfOk result (λ v. record_reading v.items ≡ Ok self) }
+    {
+        let room = room_of(&self);
+        let head = Head::of(&self).block();
+        let list = self.segments.into_list();
+        let file = give_segments(head.bytes(), list, room)?;
+        Ok(file)
     }
 }
 

@@ -157,16 +157,23 @@ pub fn take_segments(alloc: Global, count: u64, file: Vec<u8>) -> Result<Vec<Seg
     Ok(list)
 }
 
-// Puts one segment behind the bytes.
-fn put_segment(out: &mut Vec<u8>, segment: &Segment) -> Result<(), AllocError>
-    ensures { OnOk result (out.new.items ≡ out.old.items ++ part_text segment.now) }
+// What stands before the bytes of a segment.
+fn head_of(segment: &Segment) -> Block<24>
+    ensures { result ++ segment.now.bytes ≡ part_text segment.now }
 {
     let head = PartHead {
         mem: segment.mem,
         memsz: segment.memsz,
         bufsz: segment.bytes.len() as u64,
     };
-    out.extend_from_slice(head.block().bytes())?;
+    head.block()
+}
+
+// Puts one segment behind the bytes.
+fn put_segment(out: &mut Vec<u8>, segment: &Segment) -> Result<(), AllocError>
+    ensures { OnOk result (out.new.items ≡ out.old.items ++ part_text segment.now) }
+{
+    out.extend_from_slice(head_of(segment).bytes())?;
     out.extend_from_slice(&segment.bytes)?;
     Ok(())
 }
@@ -179,6 +186,36 @@ pub fn put_segments(out: &mut Vec<u8>, segments: &Segments) -> Result<(), AllocE
         put_segment(out, segments.segment(i))?;
     }
     Ok(())
+}
+
+// The bytes and then the segment, in the segment's buffer, which gets room for `room` bytes.
+fn put_before(bytes: &[u8], segment: Segment, room: usize) -> Result<Vec<u8>, AllocError>
+    ensures { IfOk result (λ v. v.items ≡ bytes.now ++ part_text segment) }
+{
+    let head = head_of(&segment);
+    let mut out = segment.bytes;
+    out.reserve_exact(room.saturating_sub(out.len()))?;
+    out.extend_from_slice(bytes)?;
+    out.extend_from_slice(head.bytes())?;
+    out.rotate_right(bytes.len() + 24);
+    Ok(out)
+}
+
+/// The bytes and then the segments, in the first segment's buffer, which gets room for `room` bytes.
+pub fn give_segments(
+    bytes: &[u8],
+    mut list: Vec<Segment>,
+    room: usize,
+) -> Result<Vec<u8>, AllocError>
+    requires { 0 < length list.items }
+    ensures { IfOk result (λ v. v.items ≡ bytes.now ++ flat_map part_text list.items) }
+{
+    let first = list.remove(0);
+    let mut out = put_before(bytes, first, room)?;
+    for segment in &list {
+        put_segment(&mut out, segment)?;
+    }
+    Ok(out)
 }
 
 /// How many bytes the file of a record has.

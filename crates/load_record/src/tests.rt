@@ -112,6 +112,7 @@ fn the_first_segment_keeps_the_buffer_of_its_file(rt: HostRuntime) -> Result<(),
     let record = LoadRecord::read(rt.alloc(), &file).ok().ok_or("a record")?;
     let written = record.write(rt.alloc())?;
     assert!(rt; written == file);
+    assert!(rt; record.into_file()? == file);
     let room = written.capacity();
     let again = LoadRecord::from_file(rt.alloc(), written)
         .ok()

@@ -92,6 +92,14 @@ impl Segments {
         &self.list[i]
     }
 
+    /// The segments, as the list that they were made of. This project's own.
+    pub fn into_list(self) -> Vec<Segment>
+        ensures value { result.items ≡ self }
+        ensures valid { IsBare self }
+    {
+        self.list
+    }
+
     /// How many pages there are, at most 65,536.
     pub fn pages(&self) -> u64
         ensures value { result ≡ length (pages self.now) }
