@@ -15,10 +15,10 @@ use Rattle.std.proofs.lemmas.Bool.{ne_eqb}
 use Rattle.std.specs.List.Sorted.{IsStrictlySortedBy}
 use Rattle.std.specs.BTreeMap.{IsOrdered, is_at, BTreeMap}
 use Rattle.std.specs.BTreeMap as tree
-use Rattle.std.specs.FinMap.{FinMap, get, insert, same_map, empty, get-empty, nat_cmp-IsAntisymmetric}
+use Rattle.std.specs.FinMap.{FinMap, get, insert, same_map, empty, nat_cmp-IsAntisymmetric}
 use Rattle.std.proofs.lemmas.List.{length-append, length-drop, take-append-drop}
 use Rattle.page_memory.specs.View.{pages_by, AreFrames}
-use Rattle.page_memory.specs.Laws.{frame_at-found, frame_at-insert_other, frame_at-insert_same, get-insert_other, page_of-fits}
+use Rattle.page_memory.specs.Laws.{frame_at-found, frame_at-insert_other, frame_at-insert_same, page_of-fits}
 use Rattle.page_memory.specs.OneFile.{list_zeros, zeros_are}
 use Rattle.page_memory.specs.Contents.{IsBytes, IsPageOfBytes, frame_at, page_of}
 use Rattle.page_memory.specs.Frames.{frame_in, IsTable, pages_in, Differs}

@@ -1,4 +1,4 @@
-use Rattle.std.proofs.Common.{◌≡◌, ◌≤◌, ap, ◌∙◌, ◌++◌, sym, length, subst}
+use Rattle.std.proofs.Common.{◌≤◌, ap, ◌∙◌, ◌++◌, sym, length, subst}
 use Rattle.page_memory.specs.InPlace.{AreInSlots}
 use Rattle.page_memory.specs.Frames.{frame_entries}
 use Rattle.page_memory.proofs.Changes.{all_inside, AreInSlots-kept}

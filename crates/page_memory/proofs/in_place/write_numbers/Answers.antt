@@ -1,4 +1,4 @@
-use Rattle.std.proofs.Common.{◌≡◌, ◌≤◌, ◌+◌, ◌*◌, length, arith}
+use Rattle.std.proofs.Common.{arith}
 use Rattle.page_memory.proofs.InPlace.{numbered, numbers_more}
 use Rattle.page_memory.proofs.in_place.write_numbers.Goals as goal
 
