@@ -41,7 +41,7 @@ pub enum Part {
 /// Why a request has no plan.
 #[derive(Clone, Copy, Debug, PartialEq, Eq, Error)]
 pub enum PlanFault {
-    #[error("{fault}")]
+    #[error("the kernel cannot be placed: {fault}")]
     Segments { fault: SegFault },
     #[error("{part} is given, and a kernel of this type takes none")]
     Unused { part: Part },
@@ -50,11 +50,11 @@ pub enum PlanFault {
 /// What the program does not do yet.
 #[derive(Clone, Copy, Debug, PartialEq, Eq, Error)]
 pub enum NotBuilt {
-    #[error("this command is not built yet")]
+    #[error("this command is not served yet: boot, load, check, dump, exec and trace are")]
     Command,
     #[error("only raw kernels are served yet: give --type raw and --at")]
     Format,
-    #[error("--purgatory is not built yet")]
+    #[error("--purgatory is not served yet")]
     Purgatory,
     #[error("crash records are not served yet")]
     Crash,
@@ -67,22 +67,22 @@ pub enum Status {
     #[error("done")]
     Done,
     /// The list is not accepted. Its first fault was said, and no output was written.
-    #[error("the list is not accepted: {fault}")]
+    #[error("the list is not accepted: {fault}, since {cause}", cause = .fault.cause())]
     NotAccepted { fault: ListFault },
     /// The words are refused.
     #[error("{why}")]
     Usage { why: UsageWhy },
     /// The file could not be read.
-    #[error("{name} cannot be read: it has to exist and to be readable to its end")]
+    #[error("{name:?} cannot be read: it has to be a file that exists and is readable to its end")]
     Unread { name: String },
     /// The file could not be written. The outputs before it are whole, and it has a prefix of its bytes.
-    #[error("{name} cannot be written: its folder has to exist and have room")]
+    #[error("{name:?} cannot be written: it has to be the name of a file, in a folder that exists and has room")]
     Unwritten { name: String },
     /// The text could not be written whole. The outputs are whole.
     #[error("standard output cannot be written: it has to be open and to have room")]
     Unsaid,
     /// The file is longer than such a file can be.
-    #[error("{name} is longer than {limit} bytes, which is the most that it can have here")]
+    #[error("{name:?} is longer than {limit} bytes, which is the most that it can have here")]
     TooLong { name: String, limit: u64 },
     /// The reader of an input file refused it.
     #[error("{fault}")]

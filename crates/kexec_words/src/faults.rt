@@ -50,7 +50,7 @@ pub enum UsageWhy {
     #[error("--type raw needs --at ADDRESS, the address of the kernel")]
     NeedsAt,
     /// `--map` is not given, and the command is `load-panic`, the type is not raw, or there is a purgatory.
-    #[error("--map FILE is needed: only a raw kernel without a purgatory is loaded without a memory map")]
+    #[error("--map FILE is needed: only boot and load with --type raw, and without --purgatory, go without a memory map")]
     NeedsMap,
 }
 

@@ -14,12 +14,12 @@ kernel's kexec core do, checks the list of page moves, and runs it.
 Commands:
   boot        load a kernel and run it
   load        load a kernel and write its load record
-  load-panic  load a crash kernel and write its load record
+  load-panic  load a crash kernel and write its load record (not served yet)
   check       say whether the list of a load record is accepted
   dump        print the words and the segments of a load record
   exec        check the list of a load record and run it
   trace       run a list for some steps, whether it is accepted or not
-  sample      load and run what is made from a number
+  sample      load and run what is made from a number (not served yet)
 
 Files:
   memory file  KXMEM001, the number of pages, and each page that is not all zero
@@ -51,7 +51,7 @@ Options:
   --map FILE        file to read: the memory map, as /proc/iomem prints it;
                     needed for each type but raw, and for --purgatory
   --type TYPE       raw, elf, bzimage or multiboot; default: what the file's own
-                    header tells
+                    header tells; raw alone is served yet
   --at ADDRESS      the address of a raw kernel; needed for it, and without
                     effect for the other types
   --entry ADDRESS   the address where a raw kernel is entered; default: that of
@@ -59,7 +59,7 @@ Options:
   --command TEXT    the kernel's command line; default: none
   --initrd FILE     file to read: the initial RAM disk; default: none
   --purgatory FILE  file to read: the purgatory, an ELF64 object for x86-64 that
-                    runs before the kernel; default: none
+                    runs before the kernel; default: none; not served yet
 
 ADDRESS is a hexadecimal number of 1 to 16 digits, without 0x. OUT is none of
 the files that are read. An option is given at most once, as --at 2000 or
@@ -88,7 +88,7 @@ Options:
   --map FILE        file to read: the memory map, as /proc/iomem prints it;
                     needed for each type but raw, and for --purgatory
   --type TYPE       raw, elf, bzimage or multiboot; default: what the file's own
-                    header tells
+                    header tells; raw alone is served yet
   --at ADDRESS      the address of a raw kernel; needed for it, and without
                     effect for the other types
   --entry ADDRESS   the address where a raw kernel is entered; default: that of
@@ -96,7 +96,7 @@ Options:
   --command TEXT    the kernel's command line; default: none
   --initrd FILE     file to read: the initial RAM disk; default: none
   --purgatory FILE  file to read: the purgatory, an ELF64 object for x86-64 that
-                    runs before the kernel; default: none
+                    runs before the kernel; default: none; not served yet
 
 ADDRESS is a hexadecimal number of 1 to 16 digits, without 0x. OUT and RECORD
 are two files, and none of those that are read. An option is given at most once,
@@ -107,7 +107,7 @@ one of the words above.
 const LOAD_PANIC: &str = "\
 Usage: kexec load-panic --map FILE [OPTIONS] MEMORY OUT RECORD KERNEL
 
-Loads a crash kernel, a bzImage, into the area that the memory map names
+Not served yet. Loads a crash kernel, a bzImage, into the area that the memory map names
 Crash kernel, and writes the memory after the load and the load record, which
 check, dump and exec read.
 
@@ -194,7 +194,7 @@ Options:
 const SAMPLE: &str = "\
 Usage: kexec sample NUMBER
 
-Makes a memory, a pool and segments from a number, loads and runs them, and
+Not served yet. Makes a memory, a pool and segments from a number, loads and runs them, and
 prints the SHA-256 of the memory after the run. It reads and writes no file.
 
 Words:

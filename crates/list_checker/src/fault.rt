@@ -1,6 +1,7 @@
 //! Why a list is not accepted.
 
 ghost use Rattle.std.specs.Prelude.{◌≡◌};
+ghost use Rattle.list_checker.specs.Texts.{cause_text};
 
 use kx_pages::Page;
 use std::alloc::{AllocError, AllocFailed};
@@ -93,6 +94,32 @@ impl Display for ListFault {
 }
 
 impl std::error::Error for ListFault {}
+
+impl ListFault {
+    /// What is wrong with the word, for people: the end of a sentence that names the word and the reason.
+    pub fn cause(&self) -> &'static str
+        ensures { result.now ≡ cause_text self.now.why }
+    {
+        match self.why {
+            Why::Flags => "its low twelve bits are not exactly one of the flags 1, 2, 4 and 8",
+            Why::HeadKind => "a head links to a page or is the done word",
+            Why::LinkAgain => "it links to a page that is already a link page",
+            Why::RunsOff => "the last slot of a page has to link on",
+            Why::NoDestination => "no destination word comes before it",
+            Why::NotWanted => "its destination is no page of the segments",
+            Why::TwiceWritten => "its destination was written by an earlier word",
+            Why::SourceSpoiled => "its source was written by an earlier word",
+            Why::LinkSpoiled => "a link page of the list is written by the list",
+            Why::ControlTouched => "it names the control page",
+            Why::PairsMeet =>
+                "one of its pages is the source of an earlier word, which context preserved forbids",
+            Why::SwapTouched => "it names the swap page, or the swap page is the control page",
+            Why::WrongBytes => "its source does not hold what its destination is to have",
+            Why::Missing { .. } => "the list ends before this page of the segments was written",
+            Why::PastLimit => "its address is not below 0x400000000000",
+        }
+    }
+}
 
 /// Why a list was not found to be accepted.
 #[derive(Clone, Copy, Debug, PartialEq, Eq, Error)]

@@ -31,7 +31,7 @@ pub enum MemFault {
     #[error("the memory file counts {count} pages, and at most 131072 are allowed")]
     TooMany { count: u64 },
     /// A page number is 2^34 or more; `at` is its place.
-    #[error("the page number at byte {at} of the memory file is not below 400000000 (hexadecimal)")]
+    #[error("the page number at byte {at} of the memory file is not below 0x400000000")]
     PastLimit { at: u64 },
 }
 

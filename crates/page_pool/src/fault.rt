@@ -15,11 +15,11 @@ pub enum PoolFault {
     BadLine { line: u64 },
     #[error("the last page of line {line} of the pool file is below its first page")]
     Backwards { line: u64 },
-    #[error("line {line} of the pool file names a page that is not below 400000000 (hexadecimal)")]
+    #[error("line {line} of the pool file names a page that is not below 0x400000000")]
     PastLimit { line: u64 },
     #[error("the pool file has more than 262144 pages by line {line}, and at most that many are allowed")]
     TooMany { line: u64 },
-    #[error("page {:x} stands twice in the pool, and each page may stand once", .page.number())]
+    #[error("page 0x{:x} stands twice in the pool, and each page may stand once", .page.number())]
     Repeats { page: Page },
 }
 

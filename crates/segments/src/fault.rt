@@ -30,7 +30,7 @@ pub enum SegFault {
     #[error("there are more than 16 segments")]
     TooMany,
     /// The memory of a segment does not begin and end at a multiple of 4,096, or does not end below 2^46.
-    #[error("the memory of segment {i} does not begin and end at a multiple of 1000 (hexadecimal) below 400000000000")]
+    #[error("the memory of segment {i} does not begin and end at a multiple of 0x1000 below 0x400000000000")]
     BadAddress { i: usize },
     /// Segment `i` overlaps the earlier segment `j`.
     #[error("the memory of segment {i} overlaps that of segment {j}")]
@@ -39,13 +39,13 @@ pub enum SegFault {
     #[error("segment {i} has more bytes than memory to put them in")]
     TooFull { i: usize },
     /// The segments take more than half of memory.
-    #[error("a segment, or all together, takes more than half of the machine's memory")]
+    #[error("a segment, or all together, takes more than half of the System RAM of the memory map")]
     HalfOfMemory,
     /// A segment of a crash kernel leaves the reserved area.
     #[error("segment {i} of the crash kernel leaves the reserved area")]
     OutsideReserved { i: usize },
     /// A page of a segment is no memory.
-    #[error("segment {i} has a page that is no System RAM")]
+    #[error("segment {i} has a page that is no System RAM of the memory map")]
     NotRam { i: usize },
     /// More than 65,536 pages.
     #[error("the segments have {pages} pages together, and at most 65536 are allowed")]
