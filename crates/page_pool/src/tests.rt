@@ -68,7 +68,7 @@ fn says_what_is_wrong(rt: HostRuntime) -> Result<(), Fail> {
     let page = Page::new(0x3a).ok_or("a page")?;
     assert_eq!(rt;
         PoolFault::Repeats { page }.to_string(rt.alloc())?.as_str(),
-        "page 3a stands twice in the pool, and each page may stand once"
+        "page 0x3a stands twice in the pool, and each page may stand once"
     );
     Ok(())
 }
