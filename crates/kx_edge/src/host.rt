@@ -7,7 +7,7 @@ ghost use Rattle.kx_edge.specs.Edge.{Rose, raised, read_of, PutFile, PutPrefix, 
 
 use crate::{PutFailed, SayFailed, Shelf, ShelfFault, Sink};
 use std::alloc::Global;
-use std::fs;
+use std::fs::{self, OpenFile};
 use std::io::{self, Read, Write};
 use std::marker::Model;
 use std::rt::Files;
@@ -44,15 +44,30 @@ impl<'a, R: Files> HostShelf<'a, R> {
     }
 }
 
-/// Reads the first `most` bytes of a file, or all of it where it is not longer. Each turn gets at least
-/// one byte or ends it, and the buffer grows by doubling at most.
-fn read_most<F: Read>(alloc: Global, file: &mut F, most: usize) -> Result<Vec<u8>, ShelfFault>
+/// How many bytes an open file is said to have: 0 where the system does not tell, as of a pipe.
+fn said_length<F: OpenFile>(file: &F) -> usize {
+    match file.metadata() {
+        Ok(metadata) => usize::try_from(metadata.len()).unwrap_or(0),
+        Err(_) => 0,
+    }
+}
+
+/// Reads the first `most` bytes of a file, or all of it where it is not longer. Room is made at once for as many bytes
+/// as the file is said to have: a buffer that grows is moved by the system, and its huge pages are split. Each turn gets
+/// at least one byte or ends it.
+fn read_most<F: Read>(
+    alloc: Global,
+    file: &mut F,
+    said: usize,
+    most: usize,
+) -> Result<Vec<u8>, ShelfFault>
     ensures within { IfOk result (λ bytes. length bytes.items ≤ most) }
 
     // Where a reader's bytes are known, as those of one over memory are, these are the first of them.
     ensures first { IfOk result (λ bytes. IfSome (F.remaining file.old) (λ all. bytes.items ≡ take most all)) }
 {
     let mut bytes = Vec::new(alloc);
+    bytes.reserve_exact(said.min(most))?;
     let mut piece = [0u8; PIECE];
     while bytes.len() < most {
         let want = (most - bytes.len()).min(PIECE);
@@ -100,7 +115,10 @@ impl<R: Files> Shelf for HostShelf<'_, R> {
         ensures after_failed { IsErrOf result ShelfFault.Failed → self.new ≡ raised self.old }
     {
         let answer = match fs::open(self.rt, name) {
-            Ok(mut file) => read_most(alloc, &mut file, most),
+            Ok(mut file) => {
+                let said = said_length(&file);
+                read_most(alloc, &mut file, said, most)
+            }
             Err(_) => Err(ShelfFault::Failed),
         };
         if let Err(ShelfFault::Failed) = &answer {
