@@ -19,8 +19,11 @@ use kx_pages::Page;
 use std::alloc::{AllocError, Global};
 use std::collections::BTreeMap;
 
-/// Whether all bytes are zero: all are looked at, which is faster than to stop at the first that is not.
-pub fn is_zero(bytes: &[u8]) -> bool
+// How many bytes of a page tell most pages apart from one of zeros: a line of the processor's cache.
+const FIRST: usize = 64;
+
+// Whether all bytes are zero: all are looked at, which is faster than to stop at the first that is not.
+fn has_no_bit(bytes: &[u8]) -> bool
     ensures { result ≡ is_all_zeros bytes.now }
 {
     let mut bits = 0;
@@ -28,6 +31,14 @@ pub fn is_zero(bytes: &[u8]) -> bool
         bits |= *b;
     }
     bits == 0
+}
+
+/// Whether all bytes are zero. Those behind the first ones are looked at only where the first ones are all zero.
+pub fn is_zero(bytes: &[u8]) -> bool
+    ensures { result ≡ is_all_zeros bytes.now }
+{
+    let (first, rest) = bytes.split_at(bytes.len().min(FIRST));
+    has_no_bit(first) && has_no_bit(rest)
 }
 
 // The number that the bytes begin with.

@@ -1,7 +1,7 @@
 use Rattle.std.proofs.Common.{refl, get_or}
 use Rattle.page_memory.specs.File.{is_all_zeros}
 use Rattle.page_memory.proofs.Zeros.{zeros_step}
-use Rattle.page_memory.proofs.file.is_zero.Goals as goal
+use Rattle.page_memory.proofs.file.has_no_bit.Goals as goal
 
 pub loop-b-preserved : goal.loop-b-preserved
 loop-b-preserved c =
