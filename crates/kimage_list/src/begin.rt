@@ -1,6 +1,7 @@
 //! What is made before a list is written.
 
-ghost use Rattle.std.specs.Prelude.{◌≡◌, ℕ, ◌≤◌, ◌<◌, ◌+◌, ◌^◌, ◌||◌, length, slice_index, OnOk, IfOk, Some, None, cond};
+ghost use Rattle.std.specs.Prelude.{◌≡◌, ℕ, ◌≤◌, ◌<◌, ◌+◌, ◌^◌, ◌||◌, length, slice_index, take, OnOk, IfOk, Some, None, cond};
+ghost use Rattle.std.specs.List.Sorted.{IsPermutation};
 ghost use Rattle.page_memory.specs.Contents.{at, IsHeld};
 ghost use Rattle.kx_pages.specs.Spans.{AreApart, in_spans, in_span};
 ghost use Rattle.kimage_list.specs.Load.{need_of, first_count};
@@ -48,7 +49,7 @@ pub fn prepare(
     ensures stay { (q : ℕ) → IsHeld memory.old q → IsHeld memory.new q }
 {
     memory.reserve(need as usize)?;
-    hold_first(memory, pool, need)?;
+    hold_first(alloc, memory, pool, need)?;
     table_of(alloc, wanted)
 }
 
@@ -80,18 +81,43 @@ pub fn page_of_number(number: u64) -> Page
     Page::new(number).unwrap()
 }
 
-// Holds the first n pages of the pool.
-fn hold_first(memory: &mut Memory, pool: &Pool, n: u64) -> Result<(), AllocError>
+// The first n pages of the pool, in rising order.
+fn first_in_order(alloc: Global, pool: &Pool, n: u64) -> Result<Vec<Page>, AllocError>
+    requires { n ≤ length pool.now.left }
+    ensures { IfOk result (λ pages. IsPermutation (take n pool.now.left) pages.items) }
+{
+    let mut pages = Vec::new(alloc);
+    pages.reserve_exact(n as usize)?;
+    for i in 0..n {
+        pages.push(pool.page(i))?;
+    }
+    pages.sort_unstable();
+    Ok(pages)
+}
+
+// Holds these pages.
+fn hold_pages(memory: &mut Memory, pages: &[Page]) -> Result<(), AllocError>
+    ensures held { OnOk result (AreHeld (length pages.now) pages.now memory.new) }
+    ensures same { (q : ℕ) → at memory.new q ≡ at memory.old q }
+    ensures sets { memory.new.sets ≡ memory.old.sets }
+    ensures stay { (q : ℕ) → IsHeld memory.old q → IsHeld memory.new q }
+{
+    for page in pages {
+        let _number = page.number();
+        memory.hold(*page)?;
+    }
+    Ok(())
+}
+
+// Holds the first n pages of the pool, in rising order: so the frames of those that were not held lie in the order in
+// which a memory file has them.
+fn hold_first(alloc: Global, memory: &mut Memory, pool: &Pool, n: u64) -> Result<(), AllocError>
     requires { n ≤ length pool.now.left }
     ensures held { OnOk result (AreHeld n pool.now.left memory.new) }
     ensures same { (q : ℕ) → at memory.new q ≡ at memory.old q }
     ensures sets { memory.new.sets ≡ memory.old.sets }
     ensures stay { (q : ℕ) → IsHeld memory.old q → IsHeld memory.new q }
 {
-    for i in 0..n {
-        let page = pool.page(i);
-        let _number = page.number();
-        memory.hold(page)?;
-    }
-    Ok(())
+    let pages = first_in_order(alloc, pool, n)?;
+    hold_pages(memory, &pages)
 }
