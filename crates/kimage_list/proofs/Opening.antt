@@ -12,7 +12,7 @@ use Rattle.std.specs.Prelude.{◌||◌}
 use Rattle.std.specs.Prelude.{◌^◌, Result, Ok, Err, OnOk, All}
 use Rattle.std.specs.List.Sorted.{IsPermutation}
 use Rattle.std.proofs.lemmas.List.{take_more, get_or-take, length-take-le}
-use Rattle.std.proofs.lemmas.List.Elements.{All-from_get_or, All-get_or}
+use Rattle.std.proofs.lemmas.List.Elements.{All-get_or}
 use Rattle.std.proofs.lemmas.List.Sorted.{All-permutation, IsPermutation-sym}
 use Rattle.std.proofs.lemmas.List.Folds.{list_any-append}
 use Rattle.std.proofs.lemmas.Option.{slice_get_within, get_or_from_slice_get}
@@ -117,19 +117,16 @@ fresh_more wanted i r m n e f h = record { each = λ q. h q ∙ ap (cond (in_spa
     either false true = refl
     either false false = refl
 
--- the first n are held, where pages are that are these in some order
-pub held_in_order : {T E : Type 0} (r : Result T E) (n : ℕ) (left pages : List ℕ) (m : Contents) → n ≤ length left → IsPermutation (take n left) pages → OnOk r (AreHeld (length pages) pages m) → OnOk r (AreHeld n left m)
-held_in_order (Err e) n left pages m l order held = held
-held_in_order (Ok x) n left pages m l order held = record {
-  held = λ k below. (each k below).0;
-  below = λ k below. (each k below).1;
+-- the first n are held, where pages are held that are these in some order
+pub held_in_order : {T E : Type 0} (r : Result T E) (n : ℕ) (left pages : List ℕ) (m : Contents) → n ≤ length left → IsPermutation (take n left) pages → All (λ p. p < 2 ^ 34) pages → OnOk r (All (λ p. IsHeld m p) pages) → OnOk r (AreHeld n left m)
+held_in_order (Err e) n left pages m l order below held = held
+held_in_order (Ok x) n left pages m l order below held = record {
+  held = each (λ p. IsHeld m p) held;
+  below = each (λ p. p < 2 ^ 34) below;
 }
   where
-    IsGood : ℕ → Type 0
-    IsGood p = IsHeld m p × (p < 2 ^ 34)
-
-    first : All IsGood (take n left)
-    first = All-permutation IsGood pages (take n left) (IsPermutation-sym (take n left) pages order) (All-from_get_or IsGood pages 0 (λ i below. (held.held i below, held.below i below)))
-
-    each : (k : ℕ) → k < n → IsGood (slice_index left k)
-    each k below = subst IsGood (get_or-take n left k 0 below) (All-get_or IsGood (take n left) k 0 (subst (λ c. k < c) (sym (length-take-le n left l)) below) first)
+    each : (P : ℕ → Type 0) → All P pages → (k : ℕ) → k < n → P (slice_index left k)
+    each P all k inside =
+        subst P (get_or-take n left k 0 inside)
+        (All-get_or P (take n left) k 0 (subst (λ c. k < c) (sym (length-take-le n left l)) inside)
+        (All-permutation P pages (take n left) (IsPermutation-sym (take n left) pages order) all))

@@ -48,7 +48,6 @@ pub fn prepare(
     ensures sets { memory.new.sets ≡ memory.old.sets }
     ensures stay { (q : ℕ) → IsHeld memory.old q → IsHeld memory.new q }
 {
-    memory.reserve(need as usize)?;
     hold_first(alloc, memory, pool, need)?;
     table_of(alloc, wanted)
 }
@@ -95,20 +94,6 @@ fn first_in_order(alloc: Global, pool: &Pool, n: u64) -> Result<Vec<Page>, Alloc
     Ok(pages)
 }
 
-// Holds these pages.
-fn hold_pages(memory: &mut Memory, pages: &[Page]) -> Result<(), AllocError>
-    ensures held { OnOk result (AreHeld (length pages.now) pages.now memory.new) }
-    ensures same { (q : ℕ) → at memory.new q ≡ at memory.old q }
-    ensures sets { memory.new.sets ≡ memory.old.sets }
-    ensures stay { (q : ℕ) → IsHeld memory.old q → IsHeld memory.new q }
-{
-    for page in pages {
-        let _number = page.number();
-        memory.hold(*page)?;
-    }
-    Ok(())
-}
-
 // Holds the first n pages of the pool, in rising order: so the frames of those that were not held lie in the order in
 // which a memory file has them.
 fn hold_first(alloc: Global, memory: &mut Memory, pool: &Pool, n: u64) -> Result<(), AllocError>
@@ -119,5 +104,5 @@ fn hold_first(alloc: Global, memory: &mut Memory, pool: &Pool, n: u64) -> Result
     ensures stay { (q : ℕ) → IsHeld memory.old q → IsHeld memory.new q }
 {
     let pages = first_in_order(alloc, pool, n)?;
-    hold_pages(memory, &pages)
+    memory.hold_all(&pages)
 }

@@ -1,34 +1,37 @@
--- Holding the pages of pairs one after another.
-use Rattle.std.proofs.Common.{◌≡◌, ℕ, ◌+◌, ◌<◌, ◌≤◌, ◌++◌, List, [], ◌∷◌, ap, ◌∙◌, subst, sym, arith, length, take, get_or}
-use Rattle.std.specs.Prelude.{map}
-use Rattle.std.proofs.lemmas.Grind.{common_steps}
-use Rattle.std.proofs.lemmas.List.{map-append, take_all}
+-- Holding the pages that pairs' moves write.
+use Rattle.std.proofs.Common.{◌≡◌, ℕ, suc, ◌++◌, List, [], ◌∷◌, subst, arith}
+use Rattle.std.specs.Prelude.{All, Result, Ok, Err, OnOk}
 use Rattle.kx_pages.specs.declared.image.Mode.{Mode}
 use Rattle.kx_pages.specs.declared.image.Mode.TheVariants.{Plain, Kept}
-use Rattle.kx_pages.specs.Lists.{Each}
+use Rattle.kx_pages.specs.Lists.{Each, destinations, sources}
 use Rattle.page_memory.specs.Contents.{Contents, IsHeld}
 use Rattle.relocate_machine.specs.Machine.{AreHeld, move_writes}
-use Rattle.segments.specs.Elements.{Each-map, Each-append}
-use Rattle.list_checker.specs.declared.earlier.Pair.{Pair}
-use Rattle.list_checker.specs.Checked.{as_pair}
+use Rattle.segments.specs.Elements.{Each-left, Each-right}
+use Rattle.load_states.specs.Ready.{written_pages}
 
 -- the pages of the pairs' moves are held
 abbrev pub Holds : Contents → Mode → List (ℕ × ℕ) → Type 0
 Holds m mode qs = Each (λ q. AreHeld m (move_writes mode q.0 q.1)) qs
 
-pub still_held : (mode : Mode) (m n : Contents) (d s : ℕ) → ((q : ℕ) → IsHeld m q → IsHeld n q) → AreHeld m (move_writes mode d s) → AreHeld n (move_writes mode d s)
-still_held Plain m n d s stay h = (stay d h.0, tt, tt)
-still_held (Kept w) m n d s stay h = (stay d h.0, stay s h.1, stay w h.2)
+each_of_all : (P : ℕ → Type 0) (xs : List ℕ) → All P xs → Each P xs
+each_of_all P [] all = tt
+each_of_all P (x ∷ xs) all = (all 0 x (omega arith), each_of_all P xs (λ k d inside. all (suc k) d (omega (arith, inside))))
 
--- one more pair
-pub holds_more : (mode : Mode) (m n : Contents) (ps : List Pair) (i : ℕ) (p : Pair) → i < length ps → p ≡ get_or ps i p → ((q : ℕ) → IsHeld m q → IsHeld n q) → Holds m mode (map as_pair (take i ps)) → AreHeld n (move_writes mode p.destination p.source) → Holds n mode (map as_pair (take (i + 1) ps))
-holds_more mode m n ps i p l e stay h k =
-    subst (Holds n mode) (sym (ap (map as_pair) (longer ps i p l e) ∙ map-append as_pair (take i ps) (p ∷ [])))
-    (Each-append (λ q. AreHeld n (move_writes mode q.0 q.1)) (map as_pair (take i ps)) ((p.destination, p.source) ∷ [])
-    (Each-map (map as_pair (take i ps)) (λ q x. still_held mode m n q.0 q.1 stay x) h) (k, tt))
-  where
-    longer : (ps : List Pair) (i : ℕ) (p : Pair) → i < length ps → p ≡ get_or ps i p → take (i + 1) ps ≡ take i ps ++ p ∷ []
-    longer ps i p l e = grind (arith, common_steps)
+held_plain : (m : Contents) (qs : List (ℕ × ℕ)) → Each (λ p. IsHeld m p) (destinations qs) → Holds m Plain qs
+held_plain m [] h = tt
+held_plain m (q ∷ qs) h = ((h.0, tt, tt), held_plain m qs h.1)
 
-pub holds_all : (mode : Mode) (m : Contents) (ps : List Pair) (i : ℕ) → length ps ≤ i → Holds m mode (map as_pair (take i ps)) → Holds m mode (map as_pair ps)
-holds_all mode m ps i l h = subst (λ xs. Holds m mode (map as_pair xs)) (take_all i ps l) h
+held_kept : (m : Contents) (swap : ℕ) (qs : List (ℕ × ℕ)) → IsHeld m swap → Each (λ p. IsHeld m p) (destinations qs) → Each (λ p. IsHeld m p) (sources qs) → Holds m (Kept swap) qs
+held_kept m swap [] w d s = tt
+held_kept m swap (q ∷ qs) w d s = ((d.0, s.0, w), held_kept m swap qs w d.1 s.1)
+
+held_written : (mode : Mode) (m : Contents) (qs : List (ℕ × ℕ)) → Each (λ p. IsHeld m p) (written_pages mode qs) → Holds m mode qs
+held_written Plain m qs h = held_plain m qs h
+held_written (Kept swap) m qs h =
+    let rest = Each-right (λ p. IsHeld m p) (destinations qs) (sources qs ++ swap ∷ []) h in
+    held_kept m swap qs (Each-right (λ p. IsHeld m p) (sources qs) (swap ∷ []) rest).0 (Each-left (λ p. IsHeld m p) (destinations qs) (sources qs ++ swap ∷ []) h) (Each-left (λ p. IsHeld m p) (sources qs) (swap ∷ []) rest)
+
+-- where the pages that the moves write are held, the moves' pages are
+pub holds_written : {T E : Type 0} (r : Result T E) (mode : Mode) (m : Contents) (qs : List (ℕ × ℕ)) (pages : List ℕ) → pages ≡ written_pages mode qs → OnOk r (All (λ p. IsHeld m p) pages) → OnOk r (Holds m mode qs)
+holds_written (Err e) mode m qs pages same held = held
+holds_written (Ok x) mode m qs pages same held = held_written mode m qs (subst (Each (λ p. IsHeld m p)) same (each_of_all (λ p. IsHeld m p) pages held))

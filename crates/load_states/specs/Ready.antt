@@ -1,9 +1,9 @@
 -- Accepted lists in the memory that a state owns.
-use Rattle.std.specs.Prelude.{◌≡◌, ℕ, ◌<◌, ◌^◌, List, length}
+use Rattle.std.specs.Prelude.{◌≡◌, ℕ, ◌<◌, ◌^◌, ◌++◌, List, [], ◌∷◌, length}
 use Rattle.kx_pages.specs.declared.item.Item.{Item}
 use Rattle.kx_pages.specs.declared.image.Mode.{Mode}
 use Rattle.kx_pages.specs.declared.image.Mode.TheVariants.{Plain, Kept}
-use Rattle.kx_pages.specs.Lists.{Each, Has}
+use Rattle.kx_pages.specs.Lists.{Each, Has, destinations, sources}
 use Rattle.page_memory.specs.Contents.{Contents, at}
 use Rattle.page_memory.specs.Memory.{Mem}
 use Rattle.relocate_machine.specs.Machine.{AreHeld, move_writes}
@@ -19,6 +19,12 @@ pub record Told (s : Load) (words link_count : ℕ) (qs : List (ℕ × ℕ)) : T
   pub count : length items ≡ words
   pub link_pages : length (links items) ≡ link_count
   pub same_pairs : pairs items ≡ qs
+
+-- the pages that the pairs' moves write: their destinations, and with context preserved also their sources and the swap
+-- page
+abbrev pub written_pages : Mode → List (ℕ × ℕ) → List ℕ
+written_pages Plain qs = destinations qs
+written_pages (Kept swap) qs = destinations qs ++ (sources qs ++ swap ∷ [])
 
 -- each page that the pairs' moves write is held
 abbrev pub HoldsPairs : Contents → Mode → List (ℕ × ℕ) → Type 0

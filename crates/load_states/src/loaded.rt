@@ -97,12 +97,11 @@ impl Loaded {
     }
 
     // Holds each page that the pairs' moves write.
-    fn hold(&mut self, pairs: &[Pair]) -> Result<(), AllocError>
+    fn hold(&mut self, alloc: Global, pairs: &[Pair]) -> Result<(), AllocError>
         ensures held { OnOk result (Each (λ q. AreHeld self.new.memory (move_writes self.new.image.mode q.0 q.1)) (map as_pair pairs.now)) }
         ensures same { IsLeftAs self.old self.new }
     {
-        self.memory.reserve(pairs.len())?;
-        hold_pairs(&mut self.memory, &self.image.mode, pairs)
+        hold_pairs(alloc, &mut self.memory, &self.image.mode, pairs)
     }
 
     // The page, which is held, becomes these bytes, then zeros.
@@ -122,20 +121,20 @@ impl Loaded {
         ensures given_back { IfErr result (λ e. IsLeftAs self e.loaded) }
     {
         match check(alloc, &self.memory, &self.image, &self.segments) {
-            Ok(accept) => hold_all(self, accept),
+            Ok(accept) => hold_all(alloc, self, accept),
             Err(why) => Err(NotAccepted { loaded: self, why }),
         }
     }
 }
 
 // Holds each page that the run of an accepted list writes.
-fn hold_all(mut loaded: Loaded, accept: Accept) -> Result<Accepted, NotAccepted>
+fn hold_all(alloc: Global, mut loaded: Loaded, accept: Accept) -> Result<Accepted, NotAccepted>
     requires told { IsAccept loaded.memory loaded.segments loaded.image accept }
     requires bare { IsBare loaded.segments }
     ensures accepted { IfOk result (λ a. IsAcceptedAs loaded a) }
     ensures refused { IfErr result (λ e. (e.why ≡ CheckFault.Memory) × IsLeftAs loaded e.loaded) }
 {
-    match loaded.hold(&accept.pairs) {
+    match loaded.hold(alloc, &accept.pairs) {
         Ok(()) => Ok(of_mode(loaded, accept)),
         Err(_) => Err(NotAccepted {
             loaded,

@@ -7,7 +7,7 @@
 //! pages to their bytes, and a number of sets, which only `set` and `set_word` raise.
 #![tactic(auto)]
 
-ghost use Rattle.std.specs.Prelude.{◌≡◌, ℕ, ◌+◌, ◌*◌, ◌/◌, ◌%◌, ◌<◌, ◌≤◌, ◌^◌, ◌≢◌, ◌↔◌, length, slice_index, IsTrue, IfSome, IsSome, OnOk, OnErr, IfOk, IfErr};
+ghost use Rattle.std.specs.Prelude.{◌≡◌, ℕ, ◌+◌, ◌*◌, ◌/◌, ◌%◌, ◌<◌, ◌≤◌, ◌^◌, ◌≢◌, ◌↔◌, length, slice_index, IsTrue, IfSome, IsSome, All, OnOk, OnErr, IfOk, IfErr};
 ghost use Rattle.std.specs.FinMap as finite;
 ghost use Rattle.std.specs.Option.{option_map};
 ghost use Rattle.page_memory.specs.File.{Gives, IsReadAgain, reading, stored, file};
@@ -112,9 +112,40 @@ impl Memory {
         Ok(())
     }
 
-    /// Makes room at once for so many pages more to be held. Nothing that can be seen changes, after want of memory
-    /// too. This project's own.
-    pub fn reserve(&mut self, pages: usize) -> Result<(), AllocError>
+    /// Each of these pages is held; room is made at once for those that were not. What each page reads as is unchanged.
+    /// After want of memory too, and then some of them may be held. This project's own.
+    pub fn hold_all(&mut self, pages: &[Page]) -> Result<(), AllocError>
+        ensures held { OnOk result (All (λ p. IsHeld self.new p) pages.now) }
+        ensures same { (q : ℕ) → at self.new q ≡ at self.old q }
+        ensures sets { self.new.sets ≡ self.old.sets }
+        ensures stay { (q : ℕ) → IsHeld self.old q → IsHeld self.new q }
+        // As their type says.
+        ensures pages { All (λ p. p < 2 ^ 34) pages.now }
+    {
+        let missing = self.missing(pages);
+        self.reserve(missing)?;
+        for page in pages {
+            self.hold(*page)?;
+        }
+        Ok(())
+    }
+
+    // How many of the pages are not held.
+    fn missing(&self, pages: &[Page]) -> usize
+        ensures pages { All (λ p. p < 2 ^ 34) pages.now }
+    {
+        let mut missing = 0;
+        for page in pages {
+            let _number = page.number();
+            if !self.held(*page) {
+                missing += 1;
+            }
+        }
+        missing
+    }
+
+    // Makes room for so many pages more to be held. Nothing that can be seen changes, after want of memory too.
+    fn reserve(&mut self, pages: usize) -> Result<(), AllocError>
         ensures same { self.new ≡ self.old }
     {
         self.frames
