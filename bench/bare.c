@@ -1,0 +1,91 @@
+/* What the measured boot and exec have to do with their bytes, and nothing else: what a loader can hope for.
+
+       bare boot|exec OUT SIZE PAGES HEAD FILE..
+
+   Reads each FILE into a buffer of its own, the first with room for SIZE bytes, laid out as a memory file. The last FILE has
+   HEAD bytes and then the PAGES pages of the new kernel. boot copies these to the last frames that SIZE has room for,
+   compares, and moves these frames to the first ones. exec compares the pages with the last frames that were read; in the
+   measured exec each is its own source already, and nothing moves. The first SIZE bytes of the first buffer are written to
+   OUT. There is no list, no table and no test of a rule. */
+#include <fcntl.h>
+#include <stdio.h>
+#include <stdlib.h>
+#include <string.h>
+#include <sys/stat.h>
+#include <unistd.h>
+
+enum { PAGE = 4096, SLOT = 4104, HEAD = 24, PIECE = 65536 };
+
+struct bytes {
+    char *at;
+    size_t count;
+};
+
+static void fail(const char *what) {
+    perror(what);
+    exit(1);
+}
+
+static struct bytes read_file(const char *name, size_t room) {
+    struct stat status;
+    int file = open(name, O_RDONLY);
+    if (file < 0 || fstat(file, &status))
+        fail(name);
+    size_t size = (size_t)status.st_size > room ? (size_t)status.st_size : room;
+    struct bytes bytes = {malloc(size + PIECE), 0};
+    if (!bytes.at)
+        fail("malloc");
+    ssize_t count;
+    while ((count = read(file, bytes.at + bytes.count, PIECE)) > 0)
+        bytes.count += (size_t)count;
+    if (count < 0)
+        fail(name);
+    close(file);
+    return bytes;
+}
+
+static void write_file(const char *name, const char *at, size_t size) {
+    int file = open(name, O_WRONLY | O_CREAT | O_TRUNC, 0644);
+    if (file < 0)
+        fail(name);
+    while (size > 0) {
+        ssize_t count = write(file, at, size);
+        if (count <= 0)
+            fail(name);
+        at += count;
+        size -= (size_t)count;
+    }
+    close(file);
+}
+
+int main(int count, char **words) {
+    if (count < 7) {
+        fputs("usage: bare boot|exec OUT SIZE PAGES HEAD FILE..\n", stderr);
+        return 2;
+    }
+    int loads = !strcmp(words[1], "boot");
+    size_t size = strtoull(words[3], 0, 10), pages = strtoull(words[4], 0, 10), head = strtoull(words[5], 0, 10);
+    struct bytes memory = read_file(words[6], size), last = memory;
+    for (int k = 7; k < count; k++)
+        last = read_file(words[k], 0);
+    size_t frames = (loads ? size : memory.count) / SLOT;
+    if (frames < pages || last.count < head + pages * PAGE) {
+        fputs("bare: too few bytes for so many pages\n", stderr);
+        return 1;
+    }
+    const char *wanted = last.at + head;
+    char *sources = memory.at + HEAD + (frames - pages) * SLOT;
+    if (loads)
+        for (size_t i = 0; i < pages; i++)
+            memcpy(sources + i * SLOT, wanted + i * PAGE, PAGE);
+    for (size_t i = 0; i < pages; i++)
+        if (memcmp(sources + i * SLOT, wanted + i * PAGE, PAGE)) {
+            fprintf(stderr, "bare: page %zu differs\n", i);
+            return 1;
+        }
+    if (loads)
+        for (size_t i = 0; i < pages; i++)
+            memmove(memory.at + HEAD + i * SLOT, sources + i * SLOT, PAGE);
+    write_file(words[2], memory.at, size);
+    return 0;
+}
