@@ -12,13 +12,12 @@ use Rattle.segments.specs.declared.fault.SegFault.{SegFault}
 use Rattle.segments.specs.declared.fault.Kind.TheVariants.{Normal}
 use Rattle.kexec_words.specs.declared.faults.UsageWhy.{UsageWhy}
 use Rattle.kexec_words.specs.Values.{CommandValue, BootValue, LoadValue, boot, load}
-use Rattle.kexec_words.specs.Meaning.{files_of}
 use Rattle.kexec_main.specs.declared.status.Part.{Part as UnusedPart}
 use Rattle.kexec_main.specs.declared.status.PlanFault.{PlanFault}
 use Rattle.kexec_main.specs.declared.status.PlanFault.TheVariants as plans
-use Rattle.kexec_main.specs.Answers.{Answer, Goods, IsOut, Moment, Meets, done, not_accepted, usage, unread, unwritten, unsaid, too_long, input, plan, no_pages, heavy, not_kept, not_built, memory}
+use Rattle.kexec_main.specs.Answers.{Answer, Goods, IsOut, Moment, TakeOrder, Meets, done, not_accepted, usage, unread, unwritten, unsaid, too_long, input, plan, no_pages, heavy, not_kept, not_built, memory}
 use Rattle.kexec_main.specs.Boot.{RefusesLoad, boots, boots_segments, loads, loads_segments, or_unused}
-use Rattle.kexec_main.specs.Files.{Inputs, input_files}
+use Rattle.kexec_main.specs.Files.{Inputs, input_files, input_order}
 use Rattle.kexec_main.specs.Planning.{IsRefusal, unused_part, wish_of}
 use Rattle.kexec_main.specs.Run.{Answers, Runs, Boots, Loads, IsInOrder, boot_leaves, load_leaves, address_of, entry_of, segments_of, load_wish}
 
@@ -58,7 +57,7 @@ plans_not : (wish : Wish) (ss : List Part) (i : Inputs) (fault : PlanFault) → 
 plans_not wish ss i (plans.Segments f) ruled h = one_refusal i.map ss f ruled h
 plans_not wish ss i (plans.Unused part) ruled h = h
 
-module _ (names : List (List ℕ)) (reads : Files → Result Inputs Answer) (makes : Inputs → Result Goods Answer → Type 0) (before after : Moment) (held : Files) (i : Inputs)
+module _ (order : TakeOrder) (reads : Files → Result Inputs Answer) (makes : Inputs → Result Goods Answer → Type 0) (before after : Moment) (held : Files) (i : Inputs)
     (told : before.files ≡ Some held) (read : reads held ≡ Ok i)
     (shelf : Rose before.shelf_faults after.shelf_faults → ⊥) (sink : Rose before.sink_faults after.sink_faults → ⊥)
     (whole : (goods : Goods) → makes i (Ok goods) → goods.fault ≡ None)
@@ -76,7 +75,7 @@ module _ (names : List (List ℕ)) (reads : Files → Result Inputs Answer) (mak
       go : (x : Inputs) × (goods : Goods) × (reads held ≡ Ok x) × makes x (Ok goods) × (goods.fault ≡ Some f) → ⊥
       go k = told_none f (sym (whole k.1 (subst (λ x. makes x (Ok k.1)) (same_read k.0 i (sym k.2 ∙ read)) k.3)) ∙ k.4)
 
-  pub meets_ends : (a : Answer) → Meets names reads makes before after a → Ends a
+  pub meets_ends : (a : Answer) → Meets order reads makes before after a → Ends a
   meets_ends done h = inl refl
   meets_ends memory h = inr refl
   meets_ends (not_accepted f) h = absurd (fault_none f (weaker before.files h.1))
@@ -143,7 +142,7 @@ boot_complete r b before after a e h = go before.files refl
         let runs : Runs (boot b) before after a = subst (λ x. Answers x before after a) e h in
         let k : Boots None b before after a = subst (λ u. Boots u b before after a) o.served runs in
         let ss = segments_of b.image o.inputs.kernel in
-        meets_ends (files_of b.inputs) (input_files b.inputs) (boots (address_of b.image) (entry_of b.image) b) before after held o.inputs told o.reads shelf sink
+        meets_ends (input_order b.inputs) (input_files b.inputs) (boots (address_of b.image) (entry_of b.image) b) before after held o.inputs told o.reads shelf sink
         (λ goods m. (unrefused (unused_part b.inputs) (boots_segments ss (entry_of b.image) b.kept (wish_of b.kept) b.out o.inputs) (Ok goods) o.used m).3)
         (λ x m. boots_not b held o x (unrefused (unused_part b.inputs) (boots_segments ss (entry_of b.image) b.kept (wish_of b.kept) b.out o.inputs) (Err x) o.used m))
         a k
@@ -176,7 +175,7 @@ load_complete r l before after a e h = go before.files refl
         let runs : Runs (load l) before after a = subst (λ x. Answers x before after a) e h in
         let k : Loads None l before after a = subst (λ u. Loads u l before after a) o.served runs in
         let ss = segments_of l.image o.inputs.kernel in
-        meets_ends (files_of l.inputs) (input_files l.inputs) (loads (address_of l.image) (entry_of l.image) l) before after held o.inputs told o.reads shelf sink
+        meets_ends (input_order l.inputs) (input_files l.inputs) (loads (address_of l.image) (entry_of l.image) l) before after held o.inputs told o.reads shelf sink
         (λ goods m. (unrefused (unused_part l.inputs) (loads_segments ss (entry_of l.image) (load_wish l) l.out l.load_record o.inputs) (Ok goods) o.used m).3)
         (λ x m. loads_segments_not l held o x (unrefused (unused_part l.inputs) (loads_segments ss (entry_of l.image) (load_wish l) l.out l.load_record o.inputs) (Err x) o.used m))
         a k

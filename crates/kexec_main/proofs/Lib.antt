@@ -9,3 +9,4 @@ pub mod Unused
 pub mod Leaving
 pub mod Headline
 pub mod Complete
+pub mod Coming

@@ -2,10 +2,10 @@
 use Rattle.std.proofs.Common.{◌≡◌, ℕ, List, Option, Some, None, Result, Ok, Err, ap, ◌∙◌, inl, inr, ⊎_elim}
 use Rattle.std.specs.Prelude.{IfSome}
 use Rattle.kx_edge.specs.Edge.{Files}
-use Rattle.kexec_main.specs.Answers.{IsAmong, Answer, done, not_accepted, usage, unread, unwritten, unsaid, too_long, input, plan, no_pages, heavy, not_kept, not_built, memory, answer_of}
+use Rattle.kexec_main.specs.Answers.{IsAmong, TakeOrder, Answer, done, not_accepted, usage, unread, unwritten, unsaid, too_long, input, plan, no_pages, heavy, not_kept, not_built, memory, answer_of}
 use Rattle.kexec_main.specs.declared.status.Status.{Status}
 use Rattle.kexec_words.specs.Meaning.{given}
-use Rattle.kexec_main.specs.Files.{as_list, TakesNot, Takes, ◌>>=◌}
+use Rattle.kexec_main.specs.Files.{as_list, OrNext, TakesNot, Takes, ◌>>=◌}
 
 -- what refuses a part refuses the whole
 bound : {X Y : Type 0} (what : Files → Result X Answer) (more : Files → X → Result Y Answer) (old : Option Files) (a : Answer)
@@ -19,61 +19,74 @@ later : {X Y : Type 0} (what : Files → Result X Answer) (more : Files → X �
 later what more x None a h k = tt
 later what more x (Some held) a h k = ap (λ r. r >>= more held) h ∙ k
 
-pub refused_here : {X Y : Type 0} (names : List (List ℕ)) (what : Files → Result X Answer) (more : Files → X → Result Y Answer) (old : Option Files) (before after : ℕ) (a : Answer)
-    → TakesNot names what old before after a → TakesNot names (λ held. what held >>= more held) old before after a
-refused_here names what more old before after (unread n) h = h
-refused_here names what more old before after memory h = h
-refused_here names what more old before after done h = absurd h
-refused_here names what more old before after (unwritten n) h = absurd h
-refused_here names what more old before after unsaid h = absurd h
-refused_here names what more old before after (too_long n l) h = (h.0, bound what more old _ h.1)
-refused_here names what more old before after (input f) h = (h.0, bound what more old _ h.1)
-refused_here names what more old before after (no_pages p n) h = (h.0, bound what more old _ h.1)
-refused_here names what more old before after (heavy n) h = (h.0, bound what more old _ h.1)
-refused_here names what more old before after (usage w) h = (h.0, bound what more old _ h.1)
-refused_here names what more old before after (not_accepted v) h = absurd h
-refused_here names what more old before after (plan x) h = (h.0, bound what more old _ h.1)
-refused_here names what more old before after (not_built w) h = (h.0, bound what more old _ h.1)
-refused_here names what more old before after not_kept h = (h.0, bound what more old _ h.1)
+pub refused_here : {X Y : Type 0} (order : TakeOrder) (what : Files → Result X Answer) (more : Files → X → Result Y Answer) (old : Option Files) (before after : ℕ) (a : Answer)
+    → TakesNot order what old before after a → TakesNot order (λ held. what held >>= more held) old before after a
+refused_here order what more old before after (unread n) h = h
+refused_here order what more old before after memory h = h
+refused_here order what more old before after done h = absurd h
+refused_here order what more old before after (unwritten n) h = absurd h
+refused_here order what more old before after unsaid h = absurd h
+refused_here order what more old before after (too_long n l) h = (h.0, bound what more old _ h.1)
+refused_here order what more old before after (input f) h = (h.0, bound what more old _ h.1)
+refused_here order what more old before after (no_pages p n) h = (h.0, bound what more old _ h.1)
+refused_here order what more old before after (heavy n) h = (h.0, bound what more old _ h.1)
+refused_here order what more old before after (usage w) h = (h.0, bound what more old _ h.1)
+refused_here order what more old before after (not_accepted v) h = absurd h
+refused_here order what more old before after (plan x) h = (h.0, bound what more old _ h.1)
+refused_here order what more old before after (not_built w) h = (h.0, bound what more old _ h.1)
+refused_here order what more old before after not_kept h = (h.0, bound what more old _ h.1)
 
-pub refused_later : {X Y : Type 0} (names : List (List ℕ)) (what : Files → Result X Answer) (more : Files → X → Result Y Answer) (x : X) (old : Option Files) (before after : ℕ) (a : Answer)
-    → IfSome old (λ held. what held ≡ Ok x) → TakesNot names (λ held. more held x) old before after a → TakesNot names (λ held. what held >>= more held) old before after a
-refused_later names what more x old before after (unread n) k h = h
-refused_later names what more x old before after memory k h = h
-refused_later names what more x old before after done k h = absurd h
-refused_later names what more x old before after (unwritten n) k h = absurd h
-refused_later names what more x old before after unsaid k h = absurd h
-refused_later names what more x old before after (too_long n l) k h = (h.0, later what more x old _ k h.1)
-refused_later names what more x old before after (input f) k h = (h.0, later what more x old _ k h.1)
-refused_later names what more x old before after (no_pages p n) k h = (h.0, later what more x old _ k h.1)
-refused_later names what more x old before after (heavy n) k h = (h.0, later what more x old _ k h.1)
-refused_later names what more x old before after (usage w) k h = (h.0, later what more x old _ k h.1)
-refused_later names what more x old before after (not_accepted v) k h = absurd h
-refused_later names what more x old before after (plan f) k h = (h.0, later what more x old _ k h.1)
-refused_later names what more x old before after (not_built w) k h = (h.0, later what more x old _ k h.1)
-refused_later names what more x old before after not_kept k h = (h.0, later what more x old _ k h.1)
+pub refused_later : {X Y : Type 0} (order : TakeOrder) (what : Files → Result X Answer) (more : Files → X → Result Y Answer) (x : X) (old : Option Files) (before after : ℕ) (a : Answer)
+    → IfSome old (λ held. what held ≡ Ok x) → TakesNot order (λ held. more held x) old before after a → TakesNot order (λ held. what held >>= more held) old before after a
+refused_later order what more x old before after (unread n) k h = h
+refused_later order what more x old before after memory k h = h
+refused_later order what more x old before after done k h = absurd h
+refused_later order what more x old before after (unwritten n) k h = absurd h
+refused_later order what more x old before after unsaid k h = absurd h
+refused_later order what more x old before after (too_long n l) k h = (h.0, later what more x old _ k h.1)
+refused_later order what more x old before after (input f) k h = (h.0, later what more x old _ k h.1)
+refused_later order what more x old before after (no_pages p n) k h = (h.0, later what more x old _ k h.1)
+refused_later order what more x old before after (heavy n) k h = (h.0, later what more x old _ k h.1)
+refused_later order what more x old before after (usage w) k h = (h.0, later what more x old _ k h.1)
+refused_later order what more x old before after (not_accepted v) k h = absurd h
+refused_later order what more x old before after (plan f) k h = (h.0, later what more x old _ k h.1)
+refused_later order what more x old before after (not_built w) k h = (h.0, later what more x old _ k h.1)
+refused_later order what more x old before after not_kept k h = (h.0, later what more x old _ k h.1)
 
-pub more_names : {X : Type 0} (few many : List (List ℕ)) (what : Files → Result X Answer) (old : Option Files) (before after : ℕ) (a : Answer)
-    → ((n : List ℕ) → IsAmong few n → IsAmong many n) → TakesNot few what old before after a → TakesNot many what old before after a
-more_names few many what old before after (unread n) f h = (h.0, f n h.1)
-more_names few many what old before after memory f h = h
-more_names few many what old before after done f h = h
-more_names few many what old before after (unwritten n) f h = h
-more_names few many what old before after unsaid f h = h
-more_names few many what old before after (too_long n l) f h = h
-more_names few many what old before after (input x) f h = h
-more_names few many what old before after (no_pages p n) f h = h
-more_names few many what old before after (heavy n) f h = h
-more_names few many what old before after (usage w) f h = h
-more_names few many what old before after (not_accepted v) f h = h
-more_names few many what old before after (plan x) f h = h
-more_names few many what old before after (not_built w) f h = h
-more_names few many what old before after not_kept f h = h
+pub more_files : {X : Type 0} (few many : TakeOrder) (what : Files → Result X Answer) (old : Option Files) (before after : ℕ) (a : Answer)
+    → ((n : List ℕ) → IsAmong few.names n → IsAmong many.names n) → ((n : List ℕ) → IfSome old (few.comes_to n) → IfSome old (many.comes_to n))
+    → TakesNot few what old before after a → TakesNot many what old before after a
+more_files few many what old before after (unread n) f g h = (h.0, f n h.1, g n h.2)
+more_files few many what old before after memory f g h = h
+more_files few many what old before after done f g h = h
+more_files few many what old before after (unwritten n) f g h = h
+more_files few many what old before after unsaid f g h = h
+more_files few many what old before after (too_long n l) f g h = h
+more_files few many what old before after (input x) f g h = h
+more_files few many what old before after (no_pages p n) f g h = h
+more_files few many what old before after (heavy n) f g h = h
+more_files few many what old before after (usage w) f g h = h
+more_files few many what old before after (not_accepted v) f g h = h
+more_files few many what old before after (plan x) f g h = h
+more_files few many what old before after (not_built w) f g h = h
+more_files few many what old before after not_kept f g h = h
+
+-- what is come to first
+pub come_here : {X : Type 0} (old : Option Files) (this : Files → Type 0) (read : Files → Result X Answer) (next : X → Files → Type 0)
+    → IfSome old this → IfSome old (OrNext this read next)
+come_here None this read next h = tt
+come_here (Some held) this read next h = inl h
+
+-- what is come to where the first is read
+pub come_later : {X : Type 0} (old : Option Files) (this : Files → Type 0) (read : Files → Result X Answer) (x : X) (next : X → Files → Type 0)
+    → IfSome old (λ held. read held ≡ Ok x) → IfSome old (next x) → IfSome old (OrNext this read next)
+come_later None this read x next h k = tt
+come_later (Some held) this read x next h k = inr (x, h, k)
 
 -- the answer of a call that `?` hands on
-pub handed_on : {Y T : Type 0} (view : T → Y) (names : List (List ℕ)) (what : Files → Result Y Answer) (old now : Option Files) (before after : ℕ) (result : Result T Status) (e : Status)
-    → result ≡ Err e → now ≡ old → TakesNot names what old before after (answer_of e) → Takes view names what old now before after result
-handed_on view names what old now before after result e is same h = rw is (same, h)
+pub handed_on : {Y T : Type 0} (view : T → Y) (order : TakeOrder) (what : Files → Result Y Answer) (old now : Option Files) (before after : ℕ) (result : Result T Status) (e : Status)
+    → result ≡ Err e → now ≡ old → TakesNot order what old before after (answer_of e) → Takes view order what old now before after result
+handed_on view order what old now before after result e is same h = rw is (same, h)
 
 -- a name among names is among them with one more before them, where one is given
 pub among_given : (o : Option (List ℕ)) (names : List (List ℕ)) (n : List ℕ) → IsAmong names n → IsAmong (given o names) n

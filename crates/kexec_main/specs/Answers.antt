@@ -81,7 +81,7 @@ pub record Moment : Type 0 where
 abbrev pub moment : Option Files → ℕ → Option (List ℕ) → ℕ → Moment
 moment files shelf_faults said sink_faults = record { files = files; shelf_faults = shelf_faults; said = said; sink_faults = sink_faults }
 
--- neither count of faults rose
+-- both counts of faults are as they were
 pub record Calm (before after : Moment) : Type 0 where
   pub shelf : after.shelf_faults ≡ before.shelf_faults
   pub sink : after.sink_faults ≡ before.sink_faults
@@ -150,21 +150,28 @@ Delivers goods before after (unwritten name) = ShelfFailed before after × IsUnw
 Delivers goods before after unsaid = SinkFailed before after × IsUnsaid goods before after
 Delivers goods before after other = ⊥
 
--- What an answer says of a command that reads so much of its files and then makes goods of it. `names` are the files
--- that it reads, `reads` is what it reads of them or the first refusal, and `makes` says what it makes of that.
-abbrev pub Meets : {X : Type 0} → List (List ℕ) → (Files → Result X Answer) → (X → Result Goods Answer → Type 0) → Moment → Moment → Answer → Type 0
-Meets {X} names reads makes before after done =
+-- The files that are taken, in their order: their names, and which of them are come to over the files that are held,
+-- since those before them are read and none is refused.
+pub record TakeOrder : Type 1 where
+  pub names : List (List ℕ)
+  pub comes_to : List ℕ → Files → Type 0
+
+-- What an answer says of a command that reads so much of its files and then makes goods of it. `order` has the files
+-- that it takes, `reads` is what it reads of them or the first refusal, and `makes` says what it makes of that.
+abbrev pub Meets : {X : Type 0} → TakeOrder → (Files → Result X Answer) → (X → Result Goods Answer → Type 0) → Moment → Moment → Answer → Type 0
+Meets {X} order reads makes before after done =
     Calm before after × IfSome before.files (λ held. (x : X) × (goods : Goods) × (reads held ≡ Ok x) × makes x (Ok goods) × (goods.fault ≡ None) × IsOut goods before after)
-Meets {X} names reads makes before after (not_accepted fault) =
+Meets {X} order reads makes before after (not_accepted fault) =
     Calm before after × IfSome before.files (λ held. (x : X) × (goods : Goods) × (reads held ≡ Ok x) × makes x (Ok goods) × (goods.fault ≡ Some fault) × IsOut goods before after)
-Meets {X} names reads makes before after (unread name) = Untouched before after × Rose before.shelf_faults after.shelf_faults × IsAmong names name
-Meets {X} names reads makes before after (unwritten name) =
+Meets {X} order reads makes before after (unread name) =
+    Untouched before after × Rose before.shelf_faults after.shelf_faults × IsAmong order.names name × IfSome before.files (order.comes_to name)
+Meets {X} order reads makes before after (unwritten name) =
     ShelfFailed before after × (after.said ≡ before.said)
     × IfSome before.files (λ held. (x : X) × (goods : Goods) × (reads held ≡ Ok x) × makes x (Ok goods) × IsUnwritten goods name before after)
-Meets {X} names reads makes before after unsaid =
+Meets {X} order reads makes before after unsaid =
     SinkFailed before after
     × IfSome before.files (λ held. (x : X) × (goods : Goods) × (reads held ≡ Ok x) × makes x (Ok goods) × IsUnsaid goods before after)
-Meets {X} names reads makes before after memory = Untouched before after × Calm before after
-Meets {X} names reads makes before after other =
+Meets {X} order reads makes before after memory = Untouched before after × Calm before after
+Meets {X} order reads makes before after other =
     Untouched before after × Calm before after
     × IfSome before.files (λ held. (reads held ≡ Err other) ⊎ ((x : X) × (reads held ≡ Ok x) × makes x (Err other)))

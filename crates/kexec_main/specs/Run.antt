@@ -4,7 +4,6 @@ use Rattle.kexec_words.specs.declared.faults.UsageWhy.{UsageWhy}
 use Rattle.kexec_words.specs.declared.commands.ImageType.{ImageType}
 use Rattle.kexec_words.specs.declared.commands.ImageType.TheVariants as image
 use Rattle.kexec_words.specs.Values.{CommandValue, InputsValue, BootValue, ExecValue, LoadValue, boot, load, load_panic, check, dump, exec, trace, sample}
-use Rattle.kexec_words.specs.Meaning.{files_of}
 use Rattle.kexec_main.specs.declared.boot.Raw.{Raw}
 use Rattle.kexec_main.specs.declared.status.NotBuilt.{NotBuilt}
 use Rattle.kexec_main.specs.declared.status.NotBuilt.TheVariants.{Command, Format, Purgatory}
@@ -25,11 +24,11 @@ use Rattle.kexec_main.specs.Boot.{IsLoaded, boots, loads, record_of_load, start_
 use Rattle.kexec_main.specs.Check.{checks}
 use Rattle.kexec_main.specs.Dump.{dumps}
 use Rattle.kexec_main.specs.Exec.{executes, load_of, runs_of}
-use Rattle.kexec_main.specs.Files.{Inputs, input_files, memory_file}
+use Rattle.kexec_main.specs.Files.{Inputs, input_files, input_order, memory_file, named}
 use Rattle.kexec_main.specs.Makes.{IsFileOf, IsTooHeavy}
 use Rattle.kexec_main.specs.Planning.{IsRefusal, raw_segment, unused_part, wish_of}
 use Rattle.kexec_main.specs.Runs.{Leaves, after_runs, list_text, run_text}
-use Rattle.kexec_main.specs.Loads.{load_files}
+use Rattle.kexec_main.specs.Loads.{load_files, load_order}
 use Rattle.kexec_main.specs.Trace.{traces}
 
 -- what of a request for a load is not built yet: only raw kernels without a purgatory are served
@@ -58,20 +57,20 @@ IsNotBuilt what before after other = ⊥
 
 abbrev pub Boots : Option NotBuilt → BootValue → Moment → Moment → Answer → Type 0
 Boots (Some what) b before after a = IsNotBuilt what before after a
-Boots None b before after a = Meets (files_of b.inputs) (input_files b.inputs) (boots (address_of b.image) (entry_of b.image) b) before after a
+Boots None b before after a = Meets (input_order b.inputs) (input_files b.inputs) (boots (address_of b.image) (entry_of b.image) b) before after a
 
 abbrev pub Loads : Option NotBuilt → LoadValue → Moment → Moment → Answer → Type 0
 Loads (Some what) l before after a = IsNotBuilt what before after a
-Loads None l before after a = Meets (files_of l.inputs) (input_files l.inputs) (loads (address_of l.image) (entry_of l.image) l) before after a
+Loads None l before after a = Meets (input_order l.inputs) (input_files l.inputs) (loads (address_of l.image) (entry_of l.image) l) before after a
 
 -- what an answer says of a command
 abbrev pub Runs : CommandValue → Moment → Moment → Answer → Type 0
 Runs (boot b) before after a = Boots (unserved b.image b.inputs) b before after a
 Runs (load l) before after a = Loads (unserved l.image l.inputs) l before after a
-Runs (check w) before after a = Meets (w.memory ∷ w.load_record ∷ []) (load_files w.memory w.load_record) checks before after a
-Runs (dump w) before after a = Meets (w.memory ∷ w.load_record ∷ []) (load_files w.memory w.load_record) dumps before after a
-Runs (exec w) before after a = Meets (w.memory ∷ w.load_record ∷ []) (load_files w.memory w.load_record) (executes w.out w.twice) before after a
-Runs (trace t) before after a = Meets (t.memory ∷ []) (memory_file t.memory) (traces t.out t.head t.swap t.limit) before after a
+Runs (check w) before after a = Meets (load_order w.memory w.load_record) (load_files w.memory w.load_record) checks before after a
+Runs (dump w) before after a = Meets (load_order w.memory w.load_record) (load_files w.memory w.load_record) dumps before after a
+Runs (exec w) before after a = Meets (load_order w.memory w.load_record) (load_files w.memory w.load_record) (executes w.out w.twice) before after a
+Runs (trace t) before after a = Meets (named (t.memory ∷ [])) (memory_file t.memory) (traces t.out t.head t.swap t.limit) before after a
 Runs (load_panic l) before after a = IsNotBuilt Command before after a
 Runs (sample n) before after a = IsNotBuilt Command before after a
 

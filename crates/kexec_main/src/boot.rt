@@ -9,10 +9,9 @@ ghost use Rattle.page_memory.specs.Contents.{at};
 ghost use Rattle.load_record.specs.File.{record_file};
 ghost use Rattle.page_pool.specs.Pages.{is_filed};
 ghost use Rattle.kexec_words.specs.Values.{boot_value, load_value};
-ghost use Rattle.kexec_words.specs.Meaning.{files_of};
 ghost use Rattle.kexec_main.specs.Answers.{Meets, answer_of, ended, memory, moment};
 ghost use Rattle.kexec_main.specs.Boot.{IsToldText, IsUnused, LoadsRaw, boots, boots_segments, loads, loads_segments, record_of_load, start_at};
-ghost use Rattle.kexec_main.specs.Files.{input_files};
+ghost use Rattle.kexec_main.specs.Files.{input_files, input_order};
 ghost use Rattle.kexec_main.specs.Planning.{raw_segment, wish_of};
 ghost use Rattle.kexec_main.specs.Makes.{Makes};
 ghost use Rattle.kexec_main.specs.Values.{inputs_of, output_of};
@@ -193,7 +192,7 @@ pub(crate) fn boot<S: Shelf, O: Sink>(
     shelf: &mut S,
     out: &mut O,
 ) -> Result<(), Status>
-    ensures { Meets (files_of (boot_value boot).inputs) (input_files (boot_value boot).inputs) (boots raw.at raw.entry (boot_value boot))
+    ensures { Meets (input_order (boot_value boot).inputs) (input_files (boot_value boot).inputs) (boots raw.at raw.entry (boot_value boot))
         (moment (S.files shelf.old) (S.faults shelf.old) (O.said out.old) (O.faults out.old))
         (moment (S.files shelf.new) (S.faults shelf.new) (O.said out.new) (O.faults out.new))
         (ended result) }
@@ -220,7 +219,7 @@ pub(crate) fn load_command<S: Shelf, O: Sink>(
     shelf: &mut S,
     out: &mut O,
 ) -> Result<(), Status>
-    ensures { Meets (files_of (load_value words).inputs) (input_files (load_value words).inputs) (loads raw.at raw.entry (load_value words))
+    ensures { Meets (input_order (load_value words).inputs) (input_files (load_value words).inputs) (loads raw.at raw.entry (load_value words))
         (moment (S.files shelf.old) (S.faults shelf.old) (O.said out.old) (O.faults out.old))
         (moment (S.files shelf.new) (S.faults shelf.new) (O.said out.new) (O.faults out.new))
         (ended result) }

@@ -6,7 +6,7 @@ ghost use Rattle.list_checker.specs.declared.fault.CheckFault.TheVariants as fau
 ghost use Rattle.kexec_words.specs.Values.{loaded_value};
 ghost use Rattle.kexec_main.specs.Answers.{Meets, answer_of, ended, memory, moment};
 ghost use Rattle.kexec_main.specs.Check.{IsFaultLine, checks};
-ghost use Rattle.kexec_main.specs.Loads.{load_files};
+ghost use Rattle.kexec_main.specs.Loads.{load_files, load_order};
 ghost use Rattle.kexec_main.specs.Makes.{Makes};
 ghost use Rattle.kexec_main.specs.Texts.{accepted_line};
 ghost use Rattle.kexec_main.specs.Values.{goods_of};
@@ -68,7 +68,7 @@ pub(crate) fn check<S: Shelf, O: Sink>(
     shelf: &mut S,
     out: &mut O,
 ) -> Result<(), Status>
-    ensures { Meets (string_bytes loaded.memory ∷ string_bytes loaded.load_record ∷ []) (load_files (string_bytes loaded.memory) (string_bytes loaded.load_record)) checks
+    ensures { Meets (load_order (string_bytes loaded.memory) (string_bytes loaded.load_record)) (load_files (string_bytes loaded.memory) (string_bytes loaded.load_record)) checks
         (moment (S.files shelf.old) (S.faults shelf.old) (O.said out.old) (O.faults out.old))
         (moment (S.files shelf.new) (S.faults shelf.new) (O.said out.new) (O.faults out.new))
         (ended result) }

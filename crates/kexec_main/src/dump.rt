@@ -5,7 +5,7 @@ ghost use Rattle.std.specs.List.{flat_map};
 ghost use Rattle.kexec_words.specs.Values.{loaded_value};
 ghost use Rattle.kexec_main.specs.Answers.{Meets, ended, moment};
 ghost use Rattle.kexec_main.specs.Dump.{dumps, segment_line, walk_text, word_line, word_lines};
-ghost use Rattle.kexec_main.specs.Loads.{load_files};
+ghost use Rattle.kexec_main.specs.Loads.{load_files, load_order};
 ghost use Rattle.kexec_main.specs.Makes.{Makes};
 
 use crate::deliver::{Goods, deliver};
@@ -115,7 +115,7 @@ pub(crate) fn dump<S: Shelf, O: Sink>(
     shelf: &mut S,
     out: &mut O,
 ) -> Result<(), Status>
-    ensures { Meets (string_bytes loaded.memory ∷ string_bytes loaded.load_record ∷ []) (load_files (string_bytes loaded.memory) (string_bytes loaded.load_record)) dumps
+    ensures { Meets (load_order (string_bytes loaded.memory) (string_bytes loaded.load_record)) (load_files (string_bytes loaded.memory) (string_bytes loaded.load_record)) dumps
         (moment (S.files shelf.old) (S.faults shelf.old) (O.said out.old) (O.faults out.old))
         (moment (S.files shelf.new) (S.faults shelf.new) (O.said out.new) (O.faults out.new))
         (ended result) }

@@ -7,7 +7,7 @@ ghost use Rattle.kexec_words.specs.Values.{exec_value};
 ghost use Rattle.kexec_main.specs.Answers.{Meets, ended, moment};
 ghost use Rattle.kexec_main.specs.Boot.{HasMode};
 ghost use Rattle.kexec_main.specs.Exec.{executes, runs_list, runs_of};
-ghost use Rattle.kexec_main.specs.Loads.{lacks_swap_page, load_files};
+ghost use Rattle.kexec_main.specs.Loads.{lacks_swap_page, load_files, load_order};
 ghost use Rattle.kexec_main.specs.Makes.{Makes};
 
 use crate::check::fault_goods;
@@ -103,7 +103,7 @@ pub(crate) fn exec<S: Shelf, O: Sink>(
     shelf: &mut S,
     out: &mut O,
 ) -> Result<(), Status>
-    ensures { Meets (string_bytes exec.memory ∷ string_bytes exec.load_record ∷ []) (load_files (string_bytes exec.memory) (string_bytes exec.load_record)) (executes (string_bytes exec.out) exec.twice)
+    ensures { Meets (load_order (string_bytes exec.memory) (string_bytes exec.load_record)) (load_files (string_bytes exec.memory) (string_bytes exec.load_record)) (executes (string_bytes exec.out) exec.twice)
         (moment (S.files shelf.old) (S.faults shelf.old) (O.said out.old) (O.faults out.old))
         (moment (S.files shelf.new) (S.faults shelf.new) (O.said out.new) (O.faults out.new))
         (ended result) }

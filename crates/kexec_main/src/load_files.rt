@@ -2,7 +2,7 @@
 
 ghost use Rattle.std.specs.Prelude.{◌∷◌, [], string_bytes};
 ghost use Rattle.kexec_main.specs.Files.{Takes};
-ghost use Rattle.kexec_main.specs.Loads.{load_files};
+ghost use Rattle.kexec_main.specs.Loads.{load_files, load_order};
 
 use crate::status::Status;
 use crate::take::{take_memory, take_record};
@@ -25,7 +25,7 @@ pub(crate) fn take_load_files<S: Shelf>(
     load_record: String,
     shelf: &mut S,
 ) -> Result<LoadFiles, Status>
-    ensures { Takes (λ f. f) (string_bytes memory ∷ string_bytes load_record ∷ []) (load_files (string_bytes memory) (string_bytes load_record)) (S.files shelf.old) (S.files shelf.new) (S.faults shelf.old) (S.faults shelf.new) result }
+    ensures { Takes (λ f. f) (load_order (string_bytes memory) (string_bytes load_record)) (load_files (string_bytes memory) (string_bytes load_record)) (S.files shelf.old) (S.files shelf.new) (S.faults shelf.old) (S.faults shelf.new) result }
 {
     let memory = take_memory(alloc, memory, shelf)?;
     let load_record = take_record(alloc, load_record, shelf)?;

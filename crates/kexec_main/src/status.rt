@@ -91,7 +91,7 @@ pub enum Status {
     #[error("{fault}")]
     Plan { fault: PlanFault },
     /// The pool has fewer pages than the load takes.
-    #[error("the pool has {pool} pages and the load takes {need}: give the pool at least {} more", need.saturating_sub(*pool))]
+    #[error("the pool has too few pages: {pool} where the load takes {need}; give it at least {} more", need.saturating_sub(*pool))]
     NoPages { pool: u64, need: u64 },
     /// The memory to write has more pages that are not all zeros than a memory file can have.
     #[error("{count} pages of the memory are not all zeros, and a memory file has at most 131072")]
@@ -103,7 +103,7 @@ pub enum Status {
     #[error("{what}")]
     NotBuilt { what: NotBuilt },
     /// There was not enough memory for the work.
-    #[error("there is not enough memory for the work")]
+    #[error("there is not enough memory for the work: free some and try again")]
     Memory,
 }
 

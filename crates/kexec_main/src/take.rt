@@ -1,10 +1,9 @@
 //! Files are taken in their turn, measured, and read.
 
 ghost use Rattle.std.specs.Prelude.{◌≡◌, ◌<◌, ◌≤◌, ◌∷◌, [], ℕ, length, false, map, option_map, string_bytes, IfOk};
-ghost use Rattle.kexec_main.specs.Files.{Takes, measured, memory_file, load_record_file, pool_file, map_file, map_given, left_after, input_files, as_list};
+ghost use Rattle.kexec_main.specs.Files.{Takes, named, left_order, input_order, measured, memory_file, load_record_file, pool_file, map_file, map_given, left_after, input_files, as_list};
 ghost use Rattle.kexec_main.specs.Values.{inputs_of};
 ghost use Rattle.kexec_words.specs.Values.{inputs_value};
-ghost use Rattle.kexec_words.specs.Meaning.{files_of};
 ghost use Rattle.page_pool.specs.Pages.{is_filed};
 
 use crate::status::{InputFault, Status};
@@ -16,7 +15,7 @@ use page_memory::{MemFault, Memory};
 use page_pool::{Pool, PoolFault};
 use std::alloc::{AllocError, Global};
 
-/// The most bytes of a pool file, a memory map and a note file.
+/// The most bytes of a pool file and of a memory map.
 const TEXT_LIMIT: usize = 1_048_576;
 
 /// The most bytes of a load record: its head, sixteen segments' heads, and the bytes of 65,536 pages.
@@ -36,7 +35,7 @@ pub(crate) fn take_file<S: Shelf>(
     shelf: &mut S,
 ) -> Result<Vec<u8>, Status>
     requires { limit < 4294967296 }
-    ensures takes { Takes (λ bytes. bytes.items) (string_bytes name ∷ []) (measured limit (string_bytes name)) (S.files shelf.old) (S.files shelf.new) (S.faults shelf.old) (S.faults shelf.new) result }
+    ensures takes { Takes (λ bytes. bytes.items) (named (string_bytes name ∷ [])) (measured limit (string_bytes name)) (S.files shelf.old) (S.files shelf.new) (S.faults shelf.old) (S.faults shelf.new) result }
     ensures within { IfOk result (λ bytes. length bytes.items ≤ limit) }
 {
     match shelf.take(alloc, &name, limit + 1) {
@@ -56,7 +55,7 @@ pub(crate) fn take_memory<S: Shelf>(
     name: String,
     shelf: &mut S,
 ) -> Result<Memory, Status>
-    ensures { Takes (λ m. m) (string_bytes name ∷ []) (memory_file (string_bytes name)) (S.files shelf.old) (S.files shelf.new) (S.faults shelf.old) (S.faults shelf.new) result }
+    ensures { Takes (λ m. m) (named (string_bytes name ∷ [])) (memory_file (string_bytes name)) (S.files shelf.old) (S.files shelf.new) (S.faults shelf.old) (S.faults shelf.new) result }
 {
     let bytes = take_file(alloc, name, MEMORY_LIMIT, shelf)?;
     match Memory::from_file(alloc, bytes) {
@@ -74,7 +73,7 @@ pub(crate) fn take_record<S: Shelf>(
     name: String,
     shelf: &mut S,
 ) -> Result<LoadRecord, Status>
-    ensures { Takes (λ r. r) (string_bytes name ∷ []) (load_record_file (string_bytes name)) (S.files shelf.old) (S.files shelf.new) (S.faults shelf.old) (S.faults shelf.new) result }
+    ensures { Takes (λ r. r) (named (string_bytes name ∷ [])) (load_record_file (string_bytes name)) (S.files shelf.old) (S.files shelf.new) (S.faults shelf.old) (S.faults shelf.new) result }
 {
     let bytes = take_file(alloc, name, RECORD_LIMIT, shelf)?;
     match LoadRecord::from_file(alloc, bytes) {
@@ -92,7 +91,7 @@ pub(crate) fn take_pool<S: Shelf>(
     name: String,
     shelf: &mut S,
 ) -> Result<Pool, Status>
-    ensures takes { Takes (λ p. p.left) (string_bytes name ∷ []) (pool_file (string_bytes name)) (S.files shelf.old) (S.files shelf.new) (S.faults shelf.old) (S.faults shelf.new) result }
+    ensures takes { Takes (λ p. p.left) (named (string_bytes name ∷ [])) (pool_file (string_bytes name)) (S.files shelf.old) (S.files shelf.new) (S.faults shelf.old) (S.faults shelf.new) result }
     ensures unfiled { IfOk result (λ p. (q : ℕ) → is_filed p q ≡ false) }
 {
     let bytes = take_file(alloc, name, TEXT_LIMIT, shelf)?;
@@ -107,7 +106,7 @@ pub(crate) fn take_pool<S: Shelf>(
 
 // Takes a memory map and reads it.
 fn take_map_file<S: Shelf>(alloc: Global, name: String, shelf: &mut S) -> Result<Map, Status>
-    ensures { Takes (λ m. m) (string_bytes name ∷ []) (map_file (string_bytes name)) (S.files shelf.old) (S.files shelf.new) (S.faults shelf.old) (S.faults shelf.new) result }
+    ensures { Takes (λ m. m) (named (string_bytes name ∷ [])) (map_file (string_bytes name)) (S.files shelf.old) (S.files shelf.new) (S.faults shelf.old) (S.faults shelf.new) result }
 {
     let bytes = take_file(alloc, name, TEXT_LIMIT, shelf)?;
     match Map::read(alloc, &bytes) {
@@ -125,7 +124,7 @@ pub(crate) fn take_map<S: Shelf>(
     name: Option<String>,
     shelf: &mut S,
 ) -> Result<Option<Map>, Status>
-    ensures { Takes (λ m. m) (as_list (option_map string_bytes name)) (map_given (option_map string_bytes name)) (S.files shelf.old) (S.files shelf.new) (S.faults shelf.old) (S.faults shelf.new) result }
+    ensures { Takes (λ m. m) (named (as_list (option_map string_bytes name))) (map_given (option_map string_bytes name)) (S.files shelf.old) (S.files shelf.new) (S.faults shelf.old) (S.faults shelf.new) result }
 {
     match name {
         Some(name) => Ok(Some(take_map_file(alloc, name, shelf)?)),
@@ -141,7 +140,7 @@ pub(crate) fn measure_all<S: Shelf>(
     shelf: &mut S,
 ) -> Result<usize, Status>
     requires { budget < 4294967296 }
-    ensures takes { Takes (λ left. left) (map string_bytes names.items) (left_after budget (map string_bytes names.items)) (S.files shelf.old) (S.files shelf.new) (S.faults shelf.old) (S.faults shelf.new) result }
+    ensures takes { Takes (λ left. left) (left_order budget (map string_bytes names.items)) (left_after budget (map string_bytes names.items)) (S.files shelf.old) (S.files shelf.new) (S.faults shelf.old) (S.faults shelf.new) result }
     ensures fewer { IfOk result (λ left. left ≤ budget) }
 {
     let mut left = budget;
@@ -177,7 +176,7 @@ pub(crate) fn take_inputs<S: Shelf>(
     inputs: Inputs,
     shelf: &mut S,
 ) -> Result<Taken, Status>
-    ensures takes { Takes inputs_of (files_of (inputs_value inputs)) (input_files (inputs_value inputs)) (S.files shelf.old) (S.files shelf.new) (S.faults shelf.old) (S.faults shelf.new) result }
+    ensures takes { Takes inputs_of (input_order (inputs_value inputs)) (input_files (inputs_value inputs)) (S.files shelf.old) (S.files shelf.new) (S.faults shelf.old) (S.faults shelf.new) result }
     ensures unfiled { IfOk result (λ t. (q : ℕ) → is_filed t.pool q ≡ false) }
     ensures within { IfOk result (λ t. length t.kernel.items ≤ 268435456) }
 {

@@ -5,7 +5,7 @@ ghost use Rattle.page_memory.specs.Contents.{at};
 ghost use Rattle.kexec_words.specs.Values.{trace_value};
 ghost use Rattle.kexec_words.specs.Limits.{HasRange};
 ghost use Rattle.kexec_main.specs.Answers.{Meets, ended, moment};
-ghost use Rattle.kexec_main.specs.Files.{memory_file};
+ghost use Rattle.kexec_main.specs.Files.{memory_file, named};
 ghost use Rattle.kexec_main.specs.Makes.{Makes};
 ghost use Rattle.kexec_main.specs.Trace.{outcome_line, mode_by, traces};
 
@@ -73,7 +73,7 @@ pub(crate) fn trace<S: Shelf, O: Sink>(
     out: &mut O,
 ) -> Result<(), Status>
     requires { HasRange (trace_value trace) }
-    ensures { Meets (string_bytes trace.memory ∷ []) (memory_file (string_bytes trace.memory)) (traces (string_bytes trace.out) trace.head trace.swap trace.limit)
+    ensures { Meets (named (string_bytes trace.memory ∷ [])) (memory_file (string_bytes trace.memory)) (traces (string_bytes trace.out) trace.head trace.swap trace.limit)
         (moment (S.files shelf.old) (S.faults shelf.old) (O.said out.old) (O.faults out.old))
         (moment (S.files shelf.new) (S.faults shelf.new) (O.said out.new) (O.faults out.new))
         (ended result) }

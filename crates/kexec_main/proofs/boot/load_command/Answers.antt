@@ -2,9 +2,8 @@ use Rattle.std.proofs.Common.{rules, ◌≡◌, ◌∙◌, ◌∷◌, [], Err, r
 use Rattle.kexec_words.specs.Values.{load_value}
 use Rattle.std.specs.Prelude.{cond}
 use Rattle.kx_pages.specs.declared.image.Wish.TheVariants.{Plain, Kept}
-use Rattle.kexec_words.specs.Meaning.{files_of}
 use Rattle.kexec_main.specs.Boot.{loads, loads_segments}
-use Rattle.kexec_main.specs.Files.{Inputs, input_files}
+use Rattle.kexec_main.specs.Files.{Inputs, input_files, input_order}
 use Rattle.kexec_main.specs.Planning.{raw_segment, unused_part}
 use Rattle.kexec_main.specs.Values.{goods_of, inputs_of}
 use Rattle.kexec_main.proofs.Meeting.{meets_made, meets_delivered, meets_handed_on}
@@ -19,8 +18,8 @@ returns-in_err-refuse_unused g c =
     let x = inputs_of c.in_ok-taken.taken in
     let e : c.from_residual-in_err-refuse_unused.result ≡ Err c.in_err-refuse_unused.field-0.0 = search rules in
     let u = rw c.unused_part-unused.ensures at c.in_err-refuse_unused.ensures in
-    meets_handed_on (files_of b.inputs) (input_files b.inputs) (loads raw.at raw.entry b) _ _ _ _ e
-    (meets_made (files_of b.inputs) (input_files b.inputs) (loads raw.at raw.entry b) _ _ x _ k.2
+    meets_handed_on (input_order b.inputs) (input_files b.inputs) (loads raw.at raw.entry b) _ _ _ _ e
+    (meets_made (input_order b.inputs) (input_files b.inputs) (loads raw.at raw.entry b) _ _ x _ k.2
     (part_refused (unused_part b.inputs) (λ (i : Inputs). loads_segments (raw_segment raw.at i.kernel ∷ []) raw.entry (cond b.kept Kept Plain) b.out b.load_record i) x _ u)
     (record { files = k.0; said = refl; sink = refl }) (record { shelf = k.1; sink = refl }))
 
@@ -32,8 +31,8 @@ returns-in_err-goods g c =
     let x = inputs_of c.in_ok-taken.taken in
     let e : c.from_residual-in_err-goods.result ≡ Err c.in_err-goods.field-0.0 = search rules in
     let u = sym c.unused_part-unused.ensures ∙ c.in_ok-refuse_unused.ensures in
-    meets_handed_on (files_of b.inputs) (input_files b.inputs) (loads raw.at raw.entry b) _ _ _ _ e
-    (meets_made (files_of b.inputs) (input_files b.inputs) (loads raw.at raw.entry b) _ _ x _ k.2
+    meets_handed_on (input_order b.inputs) (input_files b.inputs) (loads raw.at raw.entry b) _ _ _ _ e
+    (meets_made (input_order b.inputs) (input_files b.inputs) (loads raw.at raw.entry b) _ _ x _ k.2
     (without_part (unused_part b.inputs) (λ (i : Inputs). loads_segments (raw_segment raw.at i.kernel ∷ []) raw.entry (cond b.kept Kept Plain) b.out b.load_record i) x _ u (rw c.kept_wish-wish.ensures at c.in_err-goods.ensures))
     (record { files = k.0; said = refl; sink = refl }) (record { shelf = k.1; sink = refl }))
 
@@ -44,6 +43,6 @@ returns g c =
     let k = c.in_ok-taken.ensures.takes in
     let x = inputs_of c.in_ok-taken.taken in
     let u = sym c.unused_part-unused.ensures ∙ c.in_ok-refuse_unused.ensures in
-    meets_delivered (files_of b.inputs) (input_files b.inputs) (loads raw.at raw.entry b) _ _ x (goods_of c.in_ok-goods.goods) _ k.2
+    meets_delivered (input_order b.inputs) (input_files b.inputs) (loads raw.at raw.entry b) _ _ x (goods_of c.in_ok-goods.goods) _ k.2
     (made_without_part (unused_part b.inputs) (λ (i : Inputs). loads_segments (raw_segment raw.at i.kernel ∷ []) raw.entry (cond b.kept Kept Plain) b.out b.load_record i) x _ u (rw c.kept_wish-wish.ensures at c.in_ok-goods.ensures))
     (rw (k.0, k.1) at c.deliver.ensures)
