@@ -19,7 +19,7 @@ use Rattle.kexec_main.specs.Answers.{Answer, Goods, IsOut, Moment, TakeOrder, Me
 use Rattle.kexec_main.specs.Boot.{RefusesLoad, boots, boots_segments, loads, loads_segments, or_unused}
 use Rattle.kexec_main.specs.Files.{Inputs, input_files, input_order}
 use Rattle.kexec_main.specs.Planning.{IsRefusal, unused_part, wish_of}
-use Rattle.kexec_main.specs.Run.{Answers, Runs, Boots, Loads, IsInOrder, boot_leaves, load_leaves, address_of, entry_of, segments_of, load_wish}
+use Rattle.kexec_main.specs.Call.{Answers, AnswersCommand, AnswersBoot, AnswersLoad, IsInOrder, boot_leaves, load_leaves, address_of, entry_of, segments_of, load_wish}
 
 -- done, or want of memory
 abbrev Ends : Answer → Type 0
@@ -139,8 +139,8 @@ boot_complete r b before after a e h = go before.files refl
     go : (files : Option Files) → before.files ≡ files → IfSome files (λ held. IsInOrder b.image b.inputs (wish_of b.kept) (boot_leaves b) held → (Rose before.shelf_faults after.shelf_faults → ⊥) → (Rose before.sink_faults after.sink_faults → ⊥) → Ends a)
     go None told = tt
     go (Some held) told = λ o shelf sink.
-        let runs : Runs (boot b) before after a = subst (λ x. Answers x before after a) e h in
-        let k : Boots None b before after a = subst (λ u. Boots u b before after a) o.served runs in
+        let runs : AnswersCommand (boot b) before after a = subst (λ x. Answers x before after a) e h in
+        let k : AnswersBoot None b before after a = subst (λ u. AnswersBoot u b before after a) o.served runs in
         let ss = segments_of b.image o.inputs.kernel in
         meets_ends (input_order b.inputs) (input_files b.inputs) (boots (address_of b.image) (entry_of b.image) b) before after held o.inputs told o.reads shelf sink
         (λ goods m. (unrefused (unused_part b.inputs) (boots_segments ss (entry_of b.image) b.kept (wish_of b.kept) b.out o.inputs) (Ok goods) o.used m).3)
@@ -172,8 +172,8 @@ load_complete r l before after a e h = go before.files refl
     go : (files : Option Files) → before.files ≡ files → IfSome files (λ held. IsInOrder l.image l.inputs (load_wish l) load_leaves held → (Rose before.shelf_faults after.shelf_faults → ⊥) → (Rose before.sink_faults after.sink_faults → ⊥) → Ends a)
     go None told = tt
     go (Some held) told = λ o shelf sink.
-        let runs : Runs (load l) before after a = subst (λ x. Answers x before after a) e h in
-        let k : Loads None l before after a = subst (λ u. Loads u l before after a) o.served runs in
+        let runs : AnswersCommand (load l) before after a = subst (λ x. Answers x before after a) e h in
+        let k : AnswersLoad None l before after a = subst (λ u. AnswersLoad u l before after a) o.served runs in
         let ss = segments_of l.image o.inputs.kernel in
         meets_ends (input_order l.inputs) (input_files l.inputs) (loads (address_of l.image) (entry_of l.image) l) before after held o.inputs told o.reads shelf sink
         (λ goods m. (unrefused (unused_part l.inputs) (loads_segments ss (entry_of l.image) (load_wish l) l.out l.load_record o.inputs) (Ok goods) o.used m).3)

@@ -10,7 +10,7 @@ use Rattle.kexec_main.specs.Answers.{Answer, Goods, Moment, File, PutAll, done, 
 use Rattle.load_record.specs.File.{record_file}
 use Rattle.kexec_main.specs.Boot.{boots_segments, loads_segments, or_unused, record_of_load, start_at}
 use Rattle.kexec_main.specs.Planning.{raw_segment, unused_part, wish_of}
-use Rattle.kexec_main.specs.Run.{Answers, Runs, Boots, Loads, unserved, address_of, entry_of, segments_of, load_wish, HasBooted, HasLoaded, HasExecuted}
+use Rattle.kexec_main.specs.Call.{Answers, AnswersCommand, AnswersBoot, AnswersLoad, unserved, address_of, entry_of, segments_of, load_wish, HasBooted, HasLoaded, HasExecuted}
 use Rattle.load_states.specs.States.{Checked}
 use Rattle.kexec_main.specs.Exec.{executes_as, load_of, runs_of}
 use Rattle.kexec_main.specs.Runs.{after_runs}
@@ -31,7 +31,7 @@ put_one before after outputs f e h = subst (λ os. PutAll before os after) e h
 said_text : (before after : Option (List ℕ)) (t u : List ℕ) → t ≡ u → Said before t after → Said before u after
 said_text before after t u e h = subst (λ x. Said before x after) e h
 
-boots_done : (o : Option NotBuilt) (b : BootValue) (before after : Moment) → Boots o b before after done → IfSome before.files (λ held. HasBooted b held before after)
+boots_done : (o : Option NotBuilt) (b : BootValue) (before after : Moment) → AnswersBoot o b before after done → IfSome before.files (λ held. HasBooted b held before after)
 boots_done (Some what) b before after h = absurd h
 boots_done None b before after h = told before.files (λ held k.
     let m = made (unused_part b.inputs) (boots_segments (raw_segment (address_of b.image) k.0.kernel ∷ []) (entry_of b.image) b.kept (wish_of b.kept) b.out k.0) k.1 k.3 in
@@ -49,12 +49,12 @@ boots_done None b before after h = told before.files (λ held k.
 
 pub headline : (r : Result CommandValue UsageWhy) (b : BootValue) (before after : Moment) (a : Answer) → r ≡ Ok (boot b) → a ≡ done → Answers r before after a → IfSome before.files (λ held. HasBooted b held before after)
 headline r b before after a e f h =
-    boots_done (unserved b.image b.inputs) b before after (subst (λ x. Runs (boot b) before after x) f (subst (λ x. Answers x before after a) e h))
+    boots_done (unserved b.image b.inputs) b before after (subst (λ x. AnswersCommand (boot b) before after x) f (subst (λ x. Answers x before after a) e h))
 
 put_two : (before after : Option Files) (outputs : List File) (f g : File) → outputs ≡ f ∷ g ∷ [] → PutAll before outputs after → PutAll before (f ∷ g ∷ []) after
 put_two before after outputs f g e h = subst (λ os. PutAll before os after) e h
 
-loads_done : (o : Option NotBuilt) (l : LoadValue) (before after : Moment) → Loads o l before after done → IfSome before.files (λ held. HasLoaded l held before after)
+loads_done : (o : Option NotBuilt) (l : LoadValue) (before after : Moment) → AnswersLoad o l before after done → IfSome before.files (λ held. HasLoaded l held before after)
 loads_done (Some what) l before after h = absurd h
 loads_done None l before after h = told before.files (λ held k.
     let m = made (unused_part l.inputs) (loads_segments (segments_of l.image k.0.kernel) (entry_of l.image) (load_wish l) l.out l.load_record k.0) k.1 k.3 in
@@ -71,9 +71,9 @@ loads_done None l before after h = told before.files (λ held k.
 
 pub loaded : (r : Result CommandValue UsageWhy) (l : LoadValue) (before after : Moment) (a : Answer) → r ≡ Ok (load l) → a ≡ done → Answers r before after a → IfSome before.files (λ held. HasLoaded l held before after)
 loaded r l before after a e f h =
-    loads_done (unserved l.image l.inputs) l before after (subst (λ x. Runs (load l) before after x) f (subst (λ x. Answers x before after a) e h))
+    loads_done (unserved l.image l.inputs) l before after (subst (λ x. AnswersCommand (load l) before after x) f (subst (λ x. Answers x before after a) e h))
 
-executed_done : (e : ExecValue) (before after : Moment) → Runs (exec e) before after done → IfSome before.files (λ held. HasExecuted e held before after)
+executed_done : (e : ExecValue) (before after : Moment) → AnswersCommand (exec e) before after done → IfSome before.files (λ held. HasExecuted e held before after)
 executed_done e before after h = told before.files (λ held k.
     let x = k.0 in
     let runs = runs_of e.twice x.load_record.image.mode in
@@ -99,30 +99,30 @@ executed_done e before after h = told before.files (λ held k.
 
 pub executed : (r : Result CommandValue UsageWhy) (e : ExecValue) (before after : Moment) (a : Answer) → r ≡ Ok (exec e) → a ≡ done → Answers r before after a → IfSome before.files (λ held. HasExecuted e held before after)
 executed r e before after a is f h =
-    executed_done e before after (subst (λ x. Runs (exec e) before after x) f (subst (λ x. Answers x before after a) is h))
+    executed_done e before after (subst (λ x. AnswersCommand (exec e) before after x) f (subst (λ x. Answers x before after a) is h))
 
 -- the causes of the answers that tell of a device
-boots_unread : (o : Option NotBuilt) (b : BootValue) (before after : Moment) (n : List ℕ) → Boots o b before after (unread n) → Rose before.shelf_faults after.shelf_faults
+boots_unread : (o : Option NotBuilt) (b : BootValue) (before after : Moment) (n : List ℕ) → AnswersBoot o b before after (unread n) → Rose before.shelf_faults after.shelf_faults
 boots_unread (Some what) b before after n h = absurd h
 boots_unread None b before after n h = h.1
 
-boots_unwritten : (o : Option NotBuilt) (b : BootValue) (before after : Moment) (n : List ℕ) → Boots o b before after (unwritten n) → Rose before.shelf_faults after.shelf_faults
+boots_unwritten : (o : Option NotBuilt) (b : BootValue) (before after : Moment) (n : List ℕ) → AnswersBoot o b before after (unwritten n) → Rose before.shelf_faults after.shelf_faults
 boots_unwritten (Some what) b before after n h = absurd h
 boots_unwritten None b before after n h = h.0.shelf
 
-boots_unsaid : (o : Option NotBuilt) (b : BootValue) (before after : Moment) → Boots o b before after unsaid → Rose before.sink_faults after.sink_faults
+boots_unsaid : (o : Option NotBuilt) (b : BootValue) (before after : Moment) → AnswersBoot o b before after unsaid → Rose before.sink_faults after.sink_faults
 boots_unsaid (Some what) b before after h = absurd h
 boots_unsaid None b before after h = h.0.sink
 
-loads_unread : (o : Option NotBuilt) (l : LoadValue) (before after : Moment) (n : List ℕ) → Loads o l before after (unread n) → Rose before.shelf_faults after.shelf_faults
+loads_unread : (o : Option NotBuilt) (l : LoadValue) (before after : Moment) (n : List ℕ) → AnswersLoad o l before after (unread n) → Rose before.shelf_faults after.shelf_faults
 loads_unread (Some what) l before after n h = absurd h
 loads_unread None l before after n h = h.1
 
-loads_unwritten : (o : Option NotBuilt) (l : LoadValue) (before after : Moment) (n : List ℕ) → Loads o l before after (unwritten n) → Rose before.shelf_faults after.shelf_faults
+loads_unwritten : (o : Option NotBuilt) (l : LoadValue) (before after : Moment) (n : List ℕ) → AnswersLoad o l before after (unwritten n) → Rose before.shelf_faults after.shelf_faults
 loads_unwritten (Some what) l before after n h = absurd h
 loads_unwritten None l before after n h = h.0.shelf
 
-loads_unsaid : (o : Option NotBuilt) (l : LoadValue) (before after : Moment) → Loads o l before after unsaid → Rose before.sink_faults after.sink_faults
+loads_unsaid : (o : Option NotBuilt) (l : LoadValue) (before after : Moment) → AnswersLoad o l before after unsaid → Rose before.sink_faults after.sink_faults
 loads_unsaid (Some what) l before after h = absurd h
 loads_unsaid None l before after h = h.0.sink
 

@@ -9,7 +9,7 @@ use Rattle.kexec_main.specs.declared.status.Status.{Status}
 use Rattle.kexec_main.specs.Answers.{Answer, Goods, answer_of, done, not_accepted, usage, unread, unwritten, unsaid, too_long, input, plan, no_pages, heavy, not_kept, not_built, memory}
 use Rattle.kexec_main.specs.Boot.{HasMode}
 use Rattle.kexec_main.specs.Exec.{executes_as, executes, load_of, runs_list, runs_of}
-use Rattle.kexec_main.specs.Loads.{lacks_swap_page}
+use Rattle.kexec_main.specs.LoadedFiles.{lacks_swap_page}
 use Rattle.kexec_main.specs.Makes.{Makes, MakesNot}
 use Rattle.kexec_main.specs.Values.{goods_of}
 

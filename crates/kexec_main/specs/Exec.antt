@@ -14,7 +14,7 @@ use Rattle.kexec_main.specs.declared.status.NotBuilt.TheVariants.{Crash}
 use Rattle.kexec_main.specs.Answers.{Answer, Goods, heavy, not_kept, not_built}
 use Rattle.kexec_main.specs.Boot.{RunsLoaded}
 use Rattle.kexec_main.specs.Check.{IsFaultIn, IsFaultLine}
-use Rattle.kexec_main.specs.Loads.{lacks_swap_page}
+use Rattle.kexec_main.specs.LoadedFiles.{lacks_swap_page}
 use Rattle.kexec_main.specs.Makes.{IsOneFile, IsTooHeavy}
 
 -- the runs of a list in this mode: a plain list runs once, and with context preserved the list may run once more

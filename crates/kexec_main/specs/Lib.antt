@@ -6,9 +6,9 @@ pub mod Makes
 pub mod Trace
 pub mod Runs
 pub mod Planning
-pub mod Loads
+pub mod LoadedFiles
 pub mod Check
 pub mod Exec
 pub mod Dump
 pub mod Boot
-pub mod Run
+pub mod Call

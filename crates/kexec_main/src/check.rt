@@ -6,7 +6,7 @@ ghost use Rattle.list_checker.specs.declared.fault.CheckFault.TheVariants as fau
 ghost use Rattle.kexec_words.specs.Values.{loaded_value};
 ghost use Rattle.kexec_main.specs.Answers.{Meets, answer_of, ended, memory, moment};
 ghost use Rattle.kexec_main.specs.Check.{IsFaultLine, checks};
-ghost use Rattle.kexec_main.specs.Loads.{load_files, load_order};
+ghost use Rattle.kexec_main.specs.LoadedFiles.{load_files, load_order};
 ghost use Rattle.kexec_main.specs.Makes.{Makes};
 ghost use Rattle.kexec_main.specs.Texts.{accepted_line};
 ghost use Rattle.kexec_main.specs.Values.{goods_of};

@@ -5,7 +5,7 @@ ghost use Rattle.std.specs.List.{flat_map};
 ghost use Rattle.kexec_words.specs.Values.{loaded_value};
 ghost use Rattle.kexec_main.specs.Answers.{Meets, ended, moment};
 ghost use Rattle.kexec_main.specs.Dump.{dumps, segment_line, walk_text, word_line, word_lines};
-ghost use Rattle.kexec_main.specs.Loads.{load_files, load_order};
+ghost use Rattle.kexec_main.specs.LoadedFiles.{load_files, load_order};
 ghost use Rattle.kexec_main.specs.Makes.{Makes};
 
 use crate::deliver::{Goods, deliver};

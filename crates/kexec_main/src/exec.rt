@@ -7,7 +7,7 @@ ghost use Rattle.kexec_words.specs.Values.{exec_value};
 ghost use Rattle.kexec_main.specs.Answers.{Meets, ended, moment};
 ghost use Rattle.kexec_main.specs.Boot.{HasMode};
 ghost use Rattle.kexec_main.specs.Exec.{executes, runs_list, runs_of};
-ghost use Rattle.kexec_main.specs.Loads.{lacks_swap_page, load_files, load_order};
+ghost use Rattle.kexec_main.specs.LoadedFiles.{lacks_swap_page, load_files, load_order};
 ghost use Rattle.kexec_main.specs.Makes.{Makes};
 
 use crate::check::fault_goods;

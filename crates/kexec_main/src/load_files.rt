@@ -2,7 +2,7 @@
 
 ghost use Rattle.std.specs.Prelude.{◌∷◌, [], string_bytes};
 ghost use Rattle.kexec_main.specs.Files.{Takes};
-ghost use Rattle.kexec_main.specs.Loads.{load_files, load_order};
+ghost use Rattle.kexec_main.specs.LoadedFiles.{load_files, load_order};
 
 use crate::status::Status;
 use crate::take::{take_memory, take_record};

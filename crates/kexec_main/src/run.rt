@@ -4,7 +4,7 @@ ghost use Rattle.std.specs.Prelude.{◌≡◌, ◌⊎◌, ℕ, List, map, string
 ghost use Rattle.kx_edge.specs.Edge.{Rose};
 ghost use Rattle.kexec_main.specs.Answers.{answer_of, done, ended, memory, unread, unsaid, unwritten, moment};
 ghost use Rattle.kexec_main.specs.Planning.{wish_of};
-ghost use Rattle.kexec_main.specs.Run.{Answers, HasBooted, HasExecuted, HasLoaded, IsInOrder, Serves, Runs, boot_leaves, load_leaves, load_wish};
+ghost use Rattle.kexec_main.specs.Call.{Answers, HasBooted, HasExecuted, HasLoaded, IsInOrder, Serves, AnswersCommand, boot_leaves, load_leaves, load_wish};
 ghost use Rattle.kexec_words.specs.Limits.{IsWithinLimits};
 ghost use Rattle.kexec_words.specs.Meaning.{command_of};
 ghost use Rattle.kexec_words.specs.Values as values;
@@ -43,7 +43,7 @@ fn run_boot<S: Shelf, O: Sink>(
     shelf: &mut S,
     out: &mut O,
 ) -> Result<(), Status>
-    ensures { Runs (values.boot (boot_value words))
+    ensures { AnswersCommand (values.boot (boot_value words))
         (moment (S.files shelf.old) (S.faults shelf.old) (O.said out.old) (O.faults out.old))
         (moment (S.files shelf.new) (S.faults shelf.new) (O.said out.new) (O.faults out.new))
         (ended result) }
@@ -58,7 +58,7 @@ fn run_load<S: Shelf, O: Sink>(
     shelf: &mut S,
     out: &mut O,
 ) -> Result<(), Status>
-    ensures { Runs (values.load (load_value words))
+    ensures { AnswersCommand (values.load (load_value words))
         (moment (S.files shelf.old) (S.faults shelf.old) (O.said out.old) (O.faults out.old))
         (moment (S.files shelf.new) (S.faults shelf.new) (O.said out.new) (O.faults out.new))
         (ended result) }
@@ -75,7 +75,7 @@ fn run<S: Shelf, O: Sink>(
     out: &mut O,
 ) -> Result<(), Status>
     requires { IsWithinLimits (command_value command) }
-    ensures { Runs (command_value command)
+    ensures { AnswersCommand (command_value command)
         (moment (S.files shelf.old) (S.faults shelf.old) (O.said out.old) (O.faults out.old))
         (moment (S.files shelf.new) (S.faults shelf.new) (O.said out.new) (O.faults out.new))
         (ended result) }

@@ -1,7 +1,7 @@
 use Rattle.std.proofs.Common.{rules, ◌≡◌, Err, refl}
 use Rattle.kexec_words.specs.Values.{exec_value}
 use Rattle.kexec_main.specs.Exec.{executes}
-use Rattle.kexec_main.specs.Loads.{load_files, load_order}
+use Rattle.kexec_main.specs.LoadedFiles.{load_files, load_order}
 use Rattle.kexec_main.specs.Values.{goods_of}
 use Rattle.kexec_main.proofs.Meeting.{meets_taken, meets_made, meets_delivered, meets_handed_on}
 use Rattle.kexec_main.proofs.exec.exec.Goals as goal

@@ -2,7 +2,7 @@ use Rattle.std.proofs.Common.{rules, ◌≡◌, ◌∷◌, [], ◌∙◌, Err, i
 use Rattle.std.specs.Prelude.{string_bytes}
 use Rattle.kexec_main.specs.Answers.{IsAmong}
 use Rattle.kexec_main.specs.Files.{memory_file, load_record_file, named}
-use Rattle.kexec_main.specs.Loads.{load_files, load_order}
+use Rattle.kexec_main.specs.LoadedFiles.{load_files, load_order}
 use Rattle.kexec_main.proofs.Taking.{come_here, come_later, refused_here, refused_later, more_files, handed_on}
 use Rattle.kexec_main.proofs.load_files.take_load_files.Goals as goal
 

@@ -28,7 +28,7 @@ use Rattle.kexec_main.specs.Files.{Inputs, input_files, input_order, memory_file
 use Rattle.kexec_main.specs.Makes.{IsFileOf, IsTooHeavy}
 use Rattle.kexec_main.specs.Planning.{IsRefusal, raw_segment, unused_part, wish_of}
 use Rattle.kexec_main.specs.Runs.{Leaves, after_runs, list_text, run_text}
-use Rattle.kexec_main.specs.Loads.{load_files, load_order}
+use Rattle.kexec_main.specs.LoadedFiles.{load_files, load_order}
 use Rattle.kexec_main.specs.Trace.{traces}
 
 -- what of a request for a load is not built yet: only raw kernels without a purgatory are served
@@ -55,28 +55,28 @@ IsNotBuilt what before after memory = Untouched before after × Calm before afte
 IsNotBuilt what before after (not_built w) = (w ≡ what) × Untouched before after × Calm before after
 IsNotBuilt what before after other = ⊥
 
-abbrev pub Boots : Option NotBuilt → BootValue → Moment → Moment → Answer → Type 0
-Boots (Some what) b before after a = IsNotBuilt what before after a
-Boots None b before after a = Meets (input_order b.inputs) (input_files b.inputs) (boots (address_of b.image) (entry_of b.image) b) before after a
+abbrev pub AnswersBoot : Option NotBuilt → BootValue → Moment → Moment → Answer → Type 0
+AnswersBoot (Some what) b before after a = IsNotBuilt what before after a
+AnswersBoot None b before after a = Meets (input_order b.inputs) (input_files b.inputs) (boots (address_of b.image) (entry_of b.image) b) before after a
 
-abbrev pub Loads : Option NotBuilt → LoadValue → Moment → Moment → Answer → Type 0
-Loads (Some what) l before after a = IsNotBuilt what before after a
-Loads None l before after a = Meets (input_order l.inputs) (input_files l.inputs) (loads (address_of l.image) (entry_of l.image) l) before after a
+abbrev pub AnswersLoad : Option NotBuilt → LoadValue → Moment → Moment → Answer → Type 0
+AnswersLoad (Some what) l before after a = IsNotBuilt what before after a
+AnswersLoad None l before after a = Meets (input_order l.inputs) (input_files l.inputs) (loads (address_of l.image) (entry_of l.image) l) before after a
 
 -- what an answer says of a command
-abbrev pub Runs : CommandValue → Moment → Moment → Answer → Type 0
-Runs (boot b) before after a = Boots (unserved b.image b.inputs) b before after a
-Runs (load l) before after a = Loads (unserved l.image l.inputs) l before after a
-Runs (check w) before after a = Meets (load_order w.memory w.load_record) (load_files w.memory w.load_record) checks before after a
-Runs (dump w) before after a = Meets (load_order w.memory w.load_record) (load_files w.memory w.load_record) dumps before after a
-Runs (exec w) before after a = Meets (load_order w.memory w.load_record) (load_files w.memory w.load_record) (executes w.out w.twice) before after a
-Runs (trace t) before after a = Meets (named (t.memory ∷ [])) (memory_file t.memory) (traces t.out t.head t.swap t.limit) before after a
-Runs (load_panic l) before after a = IsNotBuilt Command before after a
-Runs (sample n) before after a = IsNotBuilt Command before after a
+abbrev pub AnswersCommand : CommandValue → Moment → Moment → Answer → Type 0
+AnswersCommand (boot b) before after a = AnswersBoot (unserved b.image b.inputs) b before after a
+AnswersCommand (load l) before after a = AnswersLoad (unserved l.image l.inputs) l before after a
+AnswersCommand (check w) before after a = Meets (load_order w.memory w.load_record) (load_files w.memory w.load_record) checks before after a
+AnswersCommand (dump w) before after a = Meets (load_order w.memory w.load_record) (load_files w.memory w.load_record) dumps before after a
+AnswersCommand (exec w) before after a = Meets (load_order w.memory w.load_record) (load_files w.memory w.load_record) (executes w.out w.twice) before after a
+AnswersCommand (trace t) before after a = Meets (named (t.memory ∷ [])) (memory_file t.memory) (traces t.out t.head t.swap t.limit) before after a
+AnswersCommand (load_panic l) before after a = IsNotBuilt Command before after a
+AnswersCommand (sample n) before after a = IsNotBuilt Command before after a
 
 -- what an answer says of the words: those that are refused, and those of a command
 abbrev pub Answers : Result CommandValue UsageWhy → Moment → Moment → Answer → Type 0
-Answers (Ok command) before after a = Runs command before after a
+Answers (Ok command) before after a = AnswersCommand command before after a
 Answers (Err why) before after (usage w) = (w ≡ why) × Untouched before after × Calm before after
 Answers (Err why) before after memory = Untouched before after × Calm before after
 Answers (Err why) before after other = ⊥
