@@ -6,7 +6,7 @@ mod check;
 mod deliver;
 mod dump;
 #[cfg(test)]
-mod each_command;
+mod each_command_tests;
 mod exec;
 #[cfg(test)]
 mod first_example;
@@ -14,7 +14,7 @@ mod load_files;
 mod loading;
 mod output;
 #[cfg(test)]
-mod refused_memory;
+mod refused_memory_tests;
 mod run;
 mod running;
 mod status;

@@ -16,7 +16,7 @@ pub enum MapFault {
     Backwards { line: u64 },
     #[error("the System RAM of line {line} of the memory map meets that of an earlier line (is the map read as root?)")]
     RamOverlaps { line: u64 },
-    #[error("the memory map has no whole page of System RAM that nothing else takes")]
+    #[error("the memory map has no whole page of System RAM that nothing else takes (is the map read as root?)")]
     NoRam,
 }
 
