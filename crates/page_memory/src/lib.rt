@@ -20,12 +20,14 @@ mod buffer;
 mod fault;
 mod file;
 mod in_place;
+mod layout;
 #[cfg(test)]
 mod tests;
 
 use crate::buffer::{Table, add_frame, copy_frame, exchange, frame, write_frame, write_word};
 use crate::file::{file_of, file_table};
 use crate::in_place::file_in_place;
+use crate::layout::{FRAME_SIZE, HEAD, SLOT};
 use byteorder::{ByteOrder, LittleEndian};
 pub use fault::{HeavyFault, MemFault};
 use kx_pages::{PAGE_SIZE, Page};
@@ -34,7 +36,7 @@ use std::collections::BTreeMap;
 use std::marker::Model;
 
 // What a page that is not held reads as.
-static ZEROS: [u8; 4096] = [0; 4096];
+static ZEROS: [u8; FRAME_SIZE] = [0; FRAME_SIZE];
 
 /// A memory image. A page that is held stays held in every call, after a refusal too.
 #[derive(Drop)]
@@ -152,7 +154,7 @@ impl Memory {
         ensures same { self.new ≡ self.old }
     {
         self.frames
-            .reserve_exact(pages.saturating_mul(4104).saturating_add(16))
+            .reserve_exact(pages.saturating_mul(SLOT).saturating_add(HEAD))
     }
 
     /// The page, which is held, becomes these at most 4,096 bytes, then zeros.
