@@ -6,13 +6,10 @@ ghost use Rattle.relocate_machine.specs.Machine.{State, Stays, start_of, fetched
 ghost use Rattle.relocate_machine.specs.Run.{HeldFrom, Agree, run_of};
 
 use crate::word::{Kind, address, first_bit};
-use kx_pages::{Mode, PAGE_SIZE, Page};
+use kx_pages::{ADDRESS_LIMIT, Mode, PAGE_SIZE, Page};
 use page_memory::Memory;
 use std::alloc::AllocError;
 use std::marker::Model;
-
-/// Addresses lie below this, 2^46 (this project's own).
-const ADDRESS_LIMIT: u64 = 0x4000_0000_0000;
 
 /// What a step did. This project's own.
 #[derive(Clone, Copy, Debug, PartialEq, Eq)]
