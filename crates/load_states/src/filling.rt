@@ -138,6 +138,7 @@ fn pages_of(segments: &Segments) -> &PageSet
     ensures apart { AreApart 0 result.now }
 {
     let pages = segments.spans();
+    // for its clause: what every value of the type keeps
     let _spans = pages.spans();
     pages
 }

@@ -146,6 +146,7 @@ pub fn add_frame(
     ensures err { OnErr result (pages_in frames.new.items table.new ≡ pages_in frames.old.items table.old) }
     ensures table { IsTable frames.new.items table.new }
 {
+    // for its clause: what every value of the type keeps
     let _number = p.number();
     let place = FIRST_FRAME + SLOT * table.len();
     let heads = &HEADS[..place - frames.len()];

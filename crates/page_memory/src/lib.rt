@@ -116,8 +116,8 @@ impl Memory {
         Ok(())
     }
 
-    /// Each of these pages is held, and no other becomes so; room is made at once for those that were not. What each page
-    /// reads as is unchanged, after want of memory too: some of the pages may be held then. This project's own.
+    /// Each of these pages is held, and no other becomes so; room is made at once for those that were not. What each
+    /// page reads as is unchanged, after want of memory too: some of the pages may be held then. This project's own.
     pub fn hold_all(&mut self, pages: &[Page]) -> Result<(), AllocError>
         ensures held { OnOk result (All (λ p. IsHeld self.new p) pages.now) }
         ensures same { (q : ℕ) → at self.new q ≡ at self.old q }
@@ -141,6 +141,7 @@ impl Memory {
     {
         let mut missing = 0;
         for page in pages {
+            // for its clause: what every value of the type keeps
             let _number = page.number();
             if !self.held(*page) {
                 missing += 1;

@@ -12,8 +12,12 @@ use std::marker::Model;
 /// memory it takes from there on. What lies behind the bytes is filled with zeros.
 #[derive(Debug, Drop)]
 pub struct Segment {
+    /// The bytes; in [`Segments`](crate::Segments) at most `memsz`.
     pub bytes: Vec<u8>,
+    /// The address that the first byte goes to; in [`Segments`](crate::Segments) that of a page.
     pub mem: u64,
+    /// How many bytes of memory it takes, from `mem` on; in [`Segments`](crate::Segments) whole pages, which end below
+    /// 2^46.
     pub memsz: u64,
 }
 
