@@ -1,4 +1,4 @@
-// The words and options of each command.
+//! The words and options of each command.
 
 // How an argument is given.
 #[derive(Clone, Copy)]

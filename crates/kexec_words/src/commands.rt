@@ -1,4 +1,4 @@
-// The commands, as their words say.
+//! The commands, as their words say.
 
 /// How often the list is run in kept mode: once, into the new kernel, or twice, and back into the old one.
 #[derive(Clone, Copy, Debug, PartialEq, Eq)]

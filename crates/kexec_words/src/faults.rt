@@ -1,4 +1,5 @@
-// Why words are refused.
+//! Why words are refused.
+
 ghost use Rattle.std.specs.Prelude.{◌≡◌};
 ghost use Rattle.kexec_words.specs.declared.faults.WordsFault.TheVariants.{Memory, Usage};
 ghost use Rattle.kexec_words.specs.declared.faults.UsageWhy.TheVariants.{Number};

@@ -1,4 +1,4 @@
-// What the commands and their words mean, for people.
+//! What the commands and their words mean, for people.
 
 ghost use Rattle.std.specs.Prelude.{◌≡◌, map, string_bytes};
 ghost use Rattle.kexec_words.specs.Texts.{first_named, help_text};

@@ -1,4 +1,5 @@
-// The names of the commands, and names of files.
+//! The names of the commands, and names of files.
+
 ghost use Rattle.std.specs.Prelude.{◌≡◌, option_map, string_bytes, map, [], ◌∷◌};
 ghost use Rattle.kexec_words.specs.Meaning.{named, is_among, given, files_of, crash_files_of, has_same_name};
 ghost use Rattle.kexec_words.specs.Values.{inputs_value, crash_inputs_value};

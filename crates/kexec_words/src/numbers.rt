@@ -1,4 +1,5 @@
-// Numbers and types in words.
+//! Numbers and types in words.
+
 ghost use Rattle.std.specs.Prelude.{◌≡◌, ◌≤◌, ◌<◌, ◌^◌};
 ghost use Rattle.kexec_words.specs.Found.{text_in};
 ghost use Rattle.kexec_words.specs.Numbers.{number_of, hex_of, type_of, kept_of, address_of, page_address_of, swap_of, head_of, limit_of, sample_of, plan_numbers_of, trace_numbers_of};

@@ -1,4 +1,5 @@
-// What `clap` finds in the words.
+//! What `clap` finds in the words.
+
 ghost use Rattle.std.specs.Prelude.{◌≡◌, IfOk, map, option_map, string_bytes, true, false};
 ghost use Rattle.clap.specs.Words.{app_of, rule_of, rows_of, found_of, is_simple_and_free, first_of};
 ghost use Rattle.kexec_words.specs.Apps.{rule_by, rules_of, app_with};

@@ -1,4 +1,5 @@
-// The words of `boot` and `load`.
+//! The words of `boot` and `load`.
+
 ghost use Rattle.std.specs.Prelude.{◌≡◌, IfOk, map, string_bytes};
 ghost use Rattle.clap.specs.Words.{rows_of, found_of};
 ghost use Rattle.kexec_words.specs.Apps.{boot_app, load_app};

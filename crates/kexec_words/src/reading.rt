@@ -1,4 +1,5 @@
-// All commands.
+//! All commands.
+
 ghost use Rattle.std.specs.Prelude.{◌≡◌, IfOk, map, string_bytes, Some};
 ghost use Rattle.kexec_words.specs.Meaning.{Answers, command_of, command_named};
 ghost use Rattle.kexec_words.specs.Limits.{IsWithinLimits, HasOutputsApart};

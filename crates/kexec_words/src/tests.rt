@@ -1,4 +1,4 @@
-// What no clause says: the meaning of the table, on words as people write them.
+//! What no clause says: the meaning of the table, on words as people write them.
 
 use crate::{Command, ImageType, Runs, UsageWhy, Which, WordsFault, help_of, read};
 use std::alloc::Global;

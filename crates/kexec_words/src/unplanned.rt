@@ -1,4 +1,5 @@
-// The words of `load-panic`, `check`, `dump`, `exec`, `trace` and `sample`.
+//! The words of `load-panic`, `check`, `dump`, `exec`, `trace` and `sample`.
+
 ghost use Rattle.std.specs.Prelude.{◌≡◌, IfOk, map, option_map, string_bytes, codes};
 ghost use Rattle.clap.specs.Words.{rows_of, found_of};
 ghost use Rattle.kexec_words.specs.Apps.{load_panic_app, check_app, dump_app, exec_app, trace_app, sample_app};

@@ -48,7 +48,7 @@ pub record IsWritten (h : Load) (w : Written) : Type 0 where
   pub image : w.image ≡ image_of h.wish loading
   -- the list over the link pages, the bytes given at the sources, and every other page as before
   pub memory : (p : ℕ) → at w.memory p ≡ laid h.before h.bytes h.wish h.entries loading p
-  -- exactly the first pages of the pool are drawn, as many as the load takes, and they are the pages in use
+  -- the pool has left what follows its first pages, as many as the load takes, and these are the pages in use
   pub drawn : w.pool.left ≡ drop (need h) h.pool
   pub in_use : (x : ℕ) → count x loading.spare + count x (sources loading.pairs) ≡ count x (take (need h) h.pool)
   pub unfiled : (p : ℕ) → is_filed w.pool p ≡ false

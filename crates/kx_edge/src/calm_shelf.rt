@@ -1,4 +1,5 @@
-// A shelf in memory that never fails.
+//! A shelf in memory that never fails.
+
 ghost use Rattle.std.specs.Prelude.{◌≡◌, ◌≢◌, ◌≤◌, ◌<◌, ◌^◌, length, OnOk, OnErr, IfOk, IfSome, IsErrOf, IsOk, Err};
 ghost use Rattle.std.specs.declared.option.Option.TheVariants.{Some};
 ghost use Rattle.std.specs.FinMap.{empty};

@@ -1,4 +1,5 @@
-// Shelf and sink, as the program sees them.
+//! Shelf and sink, as the program sees them.
+
 ghost use Rattle.std.specs.Prelude.{◌≡◌, ◌≤◌, ◌<◌, ◌^◌, List, ℕ, length, IfOk, IfSome, OnOk, OnErr, IsErrOf};
 ghost use Rattle.std.specs.declared.option.Option.{Option};
 ghost use Rattle.kx_edge.specs.Edge.{Files, Rose, read_of, PutFile, PutPrefix, Said, SaidPrefix};

@@ -1,4 +1,5 @@
-// The real files and the standard output. What they hold is not known here.
+//! The real files and the standard output. What they hold is not known here.
+
 ghost use Rattle.std.specs.Prelude.{◌≡◌, ◌≤◌, ◌<◌, ◌^◌, length, take, IfOk, IfSome, OnErr, OnOk, IsErrOf};
 ghost use Rattle.std.specs.declared.option.Option.TheVariants.{None};
 ghost use Rattle.std.specs.Io.KnownBytes.{Appends};

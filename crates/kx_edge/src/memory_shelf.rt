@@ -1,4 +1,5 @@
-// A shelf in memory, which fails by a list.
+//! A shelf in memory, which fails by a list.
+
 ghost use Rattle.std.specs.Prelude.{◌≡◌, ◌≤◌, ◌<◌, ◌^◌, length, vec_capacity, string_bytes, max, unwrap_or, MatchOption, IfOk, IfSome, true, false, OnOk, OnErr, IsErrOf, option_map, take};
 ghost use Rattle.std.specs.declared.option.Option.TheVariants.{Some, None};
 ghost use Rattle.std.specs.FinMap.{get, insert, empty};

@@ -1,4 +1,5 @@
-// A sink in memory, which fails by a list.
+//! A sink in memory, which fails by a list.
+
 ghost use Rattle.std.specs.Prelude.{◌≡◌, ◌≤◌, ◌<◌, ◌^◌, [], max, OnOk, OnErr};
 ghost use Rattle.std.specs.declared.option.Option.TheVariants.{Some};
 ghost use Rattle.kx_edge.specs.Edge.{Said, SaidPrefix, Rose};

@@ -1,4 +1,5 @@
-// A block of N bytes with fields.
+//! A block of N bytes with fields.
+
 ghost use Rattle.std.specs.Prelude.{◌≡◌, ◌+◌, ◌≤◌, ◌↔◌, ℕ, length, take, drop, replicate, IsSome, IfSome};
 ghost use Rattle.kx_fields.specs.Fields.{AreBytes, IsBlock, field, with_field, bytes_at, with_bytes, IsApart};
 

@@ -5,14 +5,18 @@ use crate::page::Page;
 /// What a load asks for: plain, or with context preserved (`KEXEC_PRESERVE_CONTEXT` of kexec_load(2)).
 #[derive(Clone, Copy, Debug, PartialEq, Eq)]
 pub enum Wish {
+    /// The list is to be run by plain moves.
     Plain,
+    /// The list is to be run by kept moves, by way of a swap page that the load takes from the pool.
     Kept,
 }
 
 /// How a list is run: plain moves copy a page, kept moves exchange two pages by way of the swap page.
 #[derive(Clone, Copy, Debug, PartialEq, Eq)]
 pub enum Mode {
+    /// A move copies the source page to the destination page.
     Plain,
+    /// A move exchanges the source page and the destination page, by way of the page `swap`.
     Kept { swap: Page },
 }
 
@@ -20,8 +24,11 @@ pub enum Mode {
 /// that runs the list.
 #[derive(Clone, Copy, Debug, PartialEq, Eq)]
 pub struct Image {
+    /// The head word, which a run handles first.
     pub head: u64,
+    /// How the list's moves are run.
     pub mode: Mode,
+    /// The control page.
     pub control: Page,
 }
 

@@ -14,6 +14,6 @@ mod span;
 
 pub use image::{Image, Mode, Start, Wish};
 pub use item::Item;
-pub use page::{PAGE_LIMIT, PAGE_SIZE, Page};
+pub use page::{ADDRESS_LIMIT, PAGE_LIMIT, PAGE_SIZE, Page};
 pub use page_set::{PageSet, have_one_form};
 pub use span::Span;

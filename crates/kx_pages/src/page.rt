@@ -8,6 +8,9 @@ use std::marker::Model;
 /// How many pages there are: 2^34, as addresses lie below 2^46.
 pub const PAGE_LIMIT: u64 = 0x4_0000_0000;
 
+/// Addresses of memory lie below this, 2^46 (this project's own limit).
+pub const ADDRESS_LIMIT: u64 = 0x4000_0000_0000;
+
 /// The bytes of a page.
 pub const PAGE_SIZE: u64 = 4096;
 

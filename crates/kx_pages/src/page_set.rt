@@ -12,7 +12,7 @@ use std::alloc::{AllocError, Global};
 use std::marker::Model;
 
 /// A set of pages, kept as sorted spans that neither meet nor touch: the maximal runs of the set, in rising order.
-/// Contracts see the list of these spans, and speak of single pages by `has`.
+/// Contracts see the list of these spans, and speak of single pages by `in_spans`.
 #[derive(Drop)]
 pub struct PageSet {
     spans: Vec<Span>,
@@ -139,6 +139,7 @@ impl PageSet {
 pub fn have_one_form(a: &PageSet, b: &PageSet)
     ensures { ((q : ℕ) → in_spans a.now q ≡ in_spans b.now q) → a.now ≡ b.now }
 {
+    // for its clause: what every value of the type keeps
     let _ = a.spans();
     let _ = b.spans();
 }

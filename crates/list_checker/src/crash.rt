@@ -29,6 +29,7 @@ fn crash_refusal(memory: &Memory, head: u64, segments: &Segments) -> Option<Why>
     ensures value { result ≡ crash_reason (at memory.now) (want segments.now) (pages segments.now) (decode head) }
     ensures valid { IsBare segments.now }
 {
+    // for its clause: what every value of the type keeps
     let _known = segments.count();
     match Item::of_word(head) {
         None => Some(Why::Flags),

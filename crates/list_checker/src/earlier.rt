@@ -19,7 +19,9 @@ use std::collections::BTreeSet;
 /// A source word's move: the source page's bytes go to the destination page.
 #[derive(Clone, Copy, Debug, PartialEq, Eq)]
 pub struct Pair {
+    /// The page that gets the bytes.
     pub destination: Page,
+    /// The page whose bytes they are.
     pub source: Page,
 }
 
@@ -27,8 +29,11 @@ pub struct Pair {
 /// pairs in order.
 #[derive(Debug, Drop)]
 pub struct Accept {
+    /// How many words the walk has, head word and done word counted.
     pub words: u64,
+    /// How many link pages the walk has.
     pub links: u64,
+    /// A pair for each source word, in the walk's order.
     pub pairs: Vec<Pair>,
 }
 

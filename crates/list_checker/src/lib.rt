@@ -15,7 +15,7 @@ mod missing;
 mod reading;
 mod reasons;
 #[cfg(test)]
-mod refused;
+mod refused_tests;
 #[cfg(test)]
 mod tests;
 mod walked;

@@ -186,6 +186,7 @@ fn past_the_pages(segments: &Segments) -> Option<Why>
     ensures value { result ≡ Some Why.NotWanted }
     ensures valid { IsBare segments.now }
 {
+    // for its clause: what every value of the type keeps
     let _known = segments.count();
     Some(Why::NotWanted)
 }
@@ -252,6 +253,7 @@ pub(crate) fn judged(
     ensures exact { (s : spec.Earlier) → Shows earlier.now s → IsJudged memory.now segments.now image.now place s w result }
     ensures valid { IsBare segments.now }
 {
+    // for its clause: what every value of the type keeps
     let _known = segments.count();
     match Item::of_word(w) {
         None => Err(Why::Flags),

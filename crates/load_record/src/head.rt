@@ -10,7 +10,7 @@ ghost use Rattle.load_record.specs.File.{head_read, head_tested, head_of_record,
 use crate::LoadRecord;
 use crate::fault::RecFault;
 use kx_fields::Block;
-use kx_pages::{Image, Mode, PAGE_SIZE, Page, Start};
+use kx_pages::{ADDRESS_LIMIT, Image, Mode, PAGE_SIZE, Page, Start};
 use segments::{SegFault, Segments};
 
 /// The magic of a record's file.
@@ -18,9 +18,6 @@ const MAGIC: &[u8; 8] = b"KXREC001";
 
 /// The number of segments that a load can have (`KEXEC_SEGMENT_MAX` of kexec_load(2)).
 const MOST_SEGMENTS: u64 = 16;
-
-/// Addresses lie below this, 2^46.
-const ADDRESS_LIMIT: u64 = 0x4000_0000_0000;
 
 /// The numbers of the head, as they stand in the file.
 #[derive(Clone, Copy)]

@@ -12,7 +12,7 @@ abbrev pub last_source : List (ℕ × ℕ) → ℕ → ℕ
 last_source [] swap = swap
 last_source (q ∷ qs) swap = last_source qs q.1
 
--- the exchange: each destination has what its source had, each source what its destination had, the swap page what the
--- last pair's source had, and every other page what it had
+-- the exchange, for pairs that share no page and a swap page in none of them: each destination has what its source had,
+-- each source what its destination had, the swap page what the last pair's source had, and every other page what it had
 abbrev pub exchange : Mem → List (ℕ × ℕ) → ℕ → Mem
 exchange M qs swap p = M (cond (eqb p swap) (last_source qs swap) (partner qs p))

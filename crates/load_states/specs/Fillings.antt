@@ -56,7 +56,7 @@ pub record IsSealed (M : Mem) (pool : List ℕ) (wish : Wish) (ss : List Part) (
   pub image : r.image ≡ image_of wish loading
   pub memory : (p : ℕ) → at r.memory p ≡ memory_of M wish ss loading p
   pub segments : r.segments ≡ ss
-  -- exactly the first pages of the pool are drawn, as many as the load takes: the pages in use
+  -- the pool has left what follows its first pages, as many as the load takes: these are the pages in use
   pub drawn : r.pool.left ≡ drop (need wish ss) pool
   pub in_use : (x : ℕ) → count x loading.spare + count x (sources loading.pairs) ≡ count x (take (need wish ss) pool)
   pub unfiled : (p : ℕ) → is_filed r.pool p ≡ false

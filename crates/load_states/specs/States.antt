@@ -5,7 +5,7 @@ use Rattle.std.specs.Coded.{Coded, code_by, coded×, coded_ℕ, coded_list, code
 use Rattle.kx_pages.specs.declared.image.Image.{Image}
 use Rattle.kx_pages.specs.declared.image.Mode.{Mode}
 use Rattle.kx_pages.specs.declared.image.Mode.TheVariants.{Plain, Kept}
-use Rattle.page_memory.specs.Contents.{Contents, contents_code, at}
+use Rattle.page_memory.specs.Contents.{Contents, contents_code, at, IsHeld}
 use Rattle.page_pool.specs.Pages.{Pages, pages_code}
 use Rattle.segments.specs.Parts.{Part}
 use Rattle.list_checker.specs.Walk.{swap_page}
@@ -91,9 +91,10 @@ checked_of s a = record { load = s; words = a.words; links = a.links; pairs = ma
 abbrev pub with_memory : Load → Contents → Load
 with_memory s m = record s { memory = m }
 
--- nothing has changed, but for which pages are held
+-- nothing has changed, but that more pages may be held
 pub record IsLeftAs (old new : Load) : Type 0 where
   pub reads : (q : ℕ) → at new.memory q ≡ at old.memory q
+  pub held : (q : ℕ) → IsHeld old.memory q → IsHeld new.memory q
   pub sets : new.memory.sets ≡ old.memory.sets
   pub pool : new.pool ≡ old.pool
   pub image : new.image ≡ old.image

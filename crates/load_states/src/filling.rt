@@ -63,7 +63,7 @@ impl Model for Filling {
 
 impl Filling {
     /// Begins a load of the segments. Refuses where the pool has fewer pages left than the load takes, or for want of
-    /// memory: nothing has changed then, but for which pages are held. Nothing is filed.
+    /// memory: nothing has changed then, but that more pages may be held. Nothing is filed.
     pub fn begin(
         alloc: Global,
         memory: Memory,
@@ -138,6 +138,7 @@ fn pages_of(segments: &Segments) -> &PageSet
     ensures apart { AreApart 0 result.now }
 {
     let pages = segments.spans();
+    // for its clause: what every value of the type keeps
     let _spans = pages.spans();
     pages
 }

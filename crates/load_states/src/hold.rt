@@ -2,7 +2,7 @@
 
 ghost use Rattle.std.specs.Prelude.{◌≡◌, ℕ, ◌++◌, map, IfOk, OnOk};
 ghost use Rattle.kx_pages.specs.Lists.{Each, destinations, sources};
-ghost use Rattle.page_memory.specs.Contents.{at};
+ghost use Rattle.page_memory.specs.Contents.{at, IsHeld};
 ghost use Rattle.relocate_machine.specs.Machine.{AreHeld, move_writes};
 ghost use Rattle.list_checker.specs.Checked.{as_pair};
 ghost use Rattle.load_states.specs.Ready.{written_pages};
@@ -45,7 +45,8 @@ fn written_pages(alloc: Global, mode: &Mode, pairs: &[Pair]) -> Result<Vec<Page>
     Ok(pages)
 }
 
-/// Each page that the pairs' moves write is held. What memory reads as stays, after want of memory too.
+/// Each page that the pairs' moves write is held, and what was held stays so. What memory reads as stays, after want of
+/// memory too.
 pub(crate) fn hold_pairs(
     alloc: Global,
     memory: &mut Memory,
@@ -55,6 +56,7 @@ pub(crate) fn hold_pairs(
     ensures held { OnOk result (Each (λ q. AreHeld memory.new (move_writes mode.now q.0 q.1)) (map as_pair pairs.now)) }
     ensures same { (q : ℕ) → at memory.new q ≡ at memory.old q }
     ensures sets { memory.new.sets ≡ memory.old.sets }
+    ensures stay { (q : ℕ) → IsHeld memory.old q → IsHeld memory.new q }
 {
     let pages = written_pages(alloc, mode, pairs)?;
     memory.hold_all(&pages)

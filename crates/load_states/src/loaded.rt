@@ -114,7 +114,7 @@ impl Loaded {
     }
 
     /// Tests the list in the memory for the segments. Ok exactly where it is accepted, in the image's mode, want of memory
-    /// aside. The load is as it was, but for which pages are held, on Ok and after a refusal.
+    /// aside. The load is as it was, but that more pages may be held, on Ok and after a refusal.
     pub fn accept(self, alloc: Global) -> Result<Accepted, NotAccepted>
         ensures accepted { IfOk result (λ a. IsAcceptedAs self a) }
         ensures refused { IfErr result (λ e. IsCheckFault self.memory self.segments self.image e.why) }

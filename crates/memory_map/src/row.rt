@@ -3,8 +3,7 @@
 ghost use Rattle.std.specs.Prelude.{◌≡◌, ◌<◌, ◌≤◌, ◌^◌};
 ghost use Rattle.memory_map.specs.Text.{class_of, below_limit};
 
-/// Addresses lie below 2^46 (this project's own limit).
-pub(crate) const ADDRESS_LIMIT: u64 = 0x4000_0000_0000;
+use kx_pages::ADDRESS_LIMIT;
 
 /// A range of `size` bytes from address `start` on, and its kind: a row of the firmware's memory map (E820) as the
 /// Linux/x86 boot protocol has it. Kind 1 is RAM, 2 reserved, 3 ACPI tables, 4 ACPI storage that lasts.

@@ -51,7 +51,7 @@ copied m d s = with_page m d (at m s)
 abbrev pub swapped : Contents → ℕ → ℕ → ℕ → Contents
 swapped m d s w = copied (copied (copied m w s) s d) d w
 
--- the same where the number of sets goes on
+-- with_page, where the number of sets goes on
 abbrev pub after_set : Contents → ℕ → List ℕ → Contents
 after_set m p bytes = record { pages = finite.insert m.pages p bytes; sets = one_more_set m.sets }
 

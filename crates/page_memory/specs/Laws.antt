@@ -56,6 +56,14 @@ held-insert m k v q h = rw (get-insert nat_cmp_total m k v q) (held_either _ v (
 pub held-insert_same : (m : FinMap nat_cmp (List ℕ)) (k : ℕ) (v : List ℕ) → IsSome (get (insert m k v) k)
 held-insert_same m k v = ap is_some (get-insert_same m k v)
 
+-- and what is held was held, or is the page that was written
+pub held-insert_only : (m : FinMap nat_cmp (List ℕ)) (k : ℕ) (v : List ℕ) (q : ℕ) → IsSome (get (insert m k v) q) → IsSome (get m q) ⊎ (q ≡ k)
+held-insert_only m k v q h = go (eqb_tells q k)
+  where
+    go : ((eqb q k ≡ true) × (q ≡ k)) ⊎ ((eqb q k ≡ false) × (q ≢ k)) → IsSome (get m q) ⊎ (q ≡ k)
+    go (inl t) = inr t.1
+    go (inr t) = inl (rw (← get-insert_other m k v q t.1) h)
+
 not_some : (o : Option (List ℕ)) → is_some o ≡ false → None ≡ o
 not_some None e = refl
 not_some (Some x) e = cc

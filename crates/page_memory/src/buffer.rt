@@ -8,6 +8,7 @@ ghost use Rattle.std.specs.Vec.{vec_capacity};
 ghost use Rattle.page_memory.specs.Contents.{IsPageOfBytes, frame_at, page_of, page_with_word};
 ghost use Rattle.page_memory.specs.Frames.{frame_in, put_frame, pages_in, IsTable, Differs};
 
+use crate::layout::{FIRST_FRAME, FRAME_SIZE, SLOT};
 use byteorder::{ByteOrder, LittleEndian};
 use kx_pages::Page;
 use std::alloc::AllocError;
@@ -23,7 +24,7 @@ pub fn frame(frames: &[u8], place: usize) -> &[u8]
     ensures { result.now ≡ frame_in frames.now place }
 {
     let (_, rest) = frames.split_at(place);
-    let (frame, _) = rest.split_at(4096);
+    let (frame, _) = rest.split_at(FRAME_SIZE);
     frame
 }
 
@@ -35,7 +36,7 @@ fn fill(frames: &mut [u8], place: usize, bytes: &[u8])
     ensures { frames.new ≡ put_frame frames.old place (page_of bytes.now) }
 {
     let (_, rest) = frames.split_at_mut(place);
-    let (frame, _) = rest.split_at_mut(4096);
+    let (frame, _) = rest.split_at_mut(FRAME_SIZE);
     fill_frame(frame, bytes);
 }
 
@@ -57,7 +58,7 @@ fn fill_word(frames: &mut [u8], start: usize, place: usize, v: u64)
     ensures { frames.new ≡ put_frame frames.old start (page_with_word (frame_in frames.old start) place v) }
 {
     let (_, rest) = frames.split_at_mut(start);
-    let (frame, _) = rest.split_at_mut(4096);
+    let (frame, _) = rest.split_at_mut(FRAME_SIZE);
     put_word(frame, place, v);
 }
 
@@ -129,7 +130,7 @@ pub fn copy_frame(frames: &mut Vec<u8>, table: &Table, d: Page, s: Page)
 }
 
 // What a slot, and the buffer's head before the first slot, have in front of a frame until a file is made in the buffer.
-static HEADS: [u8; 24] = [0; 24];
+static HEADS: [u8; FIRST_FRAME] = [0; FIRST_FRAME];
 
 /// Adds a page, in a slot of its own behind the others. Room is made first, so that a refusal leaves both as they were.
 pub fn add_frame(
@@ -145,10 +146,11 @@ pub fn add_frame(
     ensures err { OnErr result (pages_in frames.new.items table.new ≡ pages_in frames.old.items table.old) }
     ensures table { IsTable frames.new.items table.new }
 {
+    // for its clause: what every value of the type keeps
     let _number = p.number();
-    let place = 24 + 4104 * table.len();
+    let place = FIRST_FRAME + SLOT * table.len();
     let heads = &HEADS[..place - frames.len()];
-    frames.reserve(heads.len() + 4096)?;
+    frames.reserve(heads.len() + FRAME_SIZE)?;
     table.insert(p, place)?;
     append(frames, heads);
     append(frames, bytes);

@@ -14,6 +14,7 @@ ghost use Rattle.page_memory.specs.InPlace.{AreInSlots};
 
 use crate::buffer::{Table, frame};
 use crate::fault::{HeavyFault, MemFault};
+use crate::layout::{FIRST_FRAME, FRAME_SIZE, HEAD, MOST_PAGES, SLOT};
 use kx_fields::Block;
 use kx_pages::Page;
 use std::alloc::{AllocError, Global};
@@ -102,7 +103,7 @@ fn next_page(
     ensures page { IfOk result (λ x. x.0 < 2 ^ 34) }
     ensures rises { IfOk result (λ x. low ≤ x.0) }
 {
-    if bytes.len() < 4104 {
+    if bytes.len() < SLOT {
         return Err(MemFault::Truncated { at: total });
     }
     let number = number_at(bytes);
@@ -111,7 +112,7 @@ fn next_page(
         return Err(MemFault::NotRising { at: place });
     }
     let (_, rest) = bytes.split_at(8);
-    let (frame, after) = rest.split_at(4096);
+    let (frame, after) = rest.split_at(FRAME_SIZE);
     if is_zero(frame) {
         return Err(MemFault::ZeroPage { at: place });
     }
@@ -128,19 +129,19 @@ fn table_of(alloc: Global, count: u64, bytes: &[u8]) -> Result<Table, MemFault>
     let total = bytes.len() as u64;
     let mut table = BTreeMap::new(alloc);
     let mut low = 0;
-    let (_, mut rest) = bytes.split_at(16);
+    let (_, mut rest) = bytes.split_at(HEAD);
     for i in 0..count {
-        let (page, _, after) = match next_page(total, 16 + 4104 * i, low, rest) {
+        let (page, _, after) = match next_page(total, HEAD as u64 + SLOT as u64 * i, low, rest) {
             Ok(next) => next,
             Err(e) => return Err(e),
         };
-        table.insert(page, (24 + 4104 * i) as usize)?;
+        table.insert(page, (FIRST_FRAME as u64 + SLOT as u64 * i) as usize)?;
         low = page.number() + 1;
         rest = after;
     }
     if !rest.is_empty() {
         return Err(MemFault::Trailing {
-            at: 16 + 4104 * count,
+            at: HEAD as u64 + SLOT as u64 * count,
         });
     }
     Ok(table)
@@ -163,7 +164,7 @@ pub fn file_table(alloc: Global, bytes: &[u8]) -> Result<Table, MemFault>
             });
         }
     };
-    if count > 131072 {
+    if count > MOST_PAGES {
         return Err(MemFault::TooMany { count });
     }
     table_of(alloc, count, bytes)
@@ -211,7 +212,7 @@ fn text_of_pages(
     ensures { IfOk result (λ v. v.items ≡ text_of (frame_entries frames.now pages.now)) }
 {
     let mut out = Vec::new(alloc);
-    out.reserve_exact(16 + 4104 * pages.len())?;
+    out.reserve_exact(HEAD + SLOT * pages.len())?;
     out.extend_from_slice(head_of(pages.len() as u64).bytes())?;
     for (p, place) in pages {
         put_page(&mut out, *p, frame(frames, *place))?;
@@ -234,7 +235,7 @@ pub fn file_pages(
     ensures heavy { IfErr result (λ e. e ≢ HeavyFault.Memory → (131072 < length (stored_in frames.now table.now)) × (e ≡ HeavyFault.TooMany (length (stored_in frames.now table.now)))) }
 {
     let pages = stored_frames(alloc, frames, table)?;
-    if pages.len() > 131072 {
+    if pages.len() as u64 > MOST_PAGES {
         return Err(HeavyFault::TooMany {
             count: pages.len() as u64,
         });

@@ -18,6 +18,7 @@ ghost use Rattle.page_memory.specs.InPlace.{AreGathered, AreInSlots, AreOwned, H
 use crate::buffer::{Table, put_word};
 use crate::fault::HeavyFault;
 use crate::file::{file_pages, head_of};
+use crate::layout::{FIRST_FRAME, FRAME_SIZE, HEAD, SLOT};
 use kx_pages::Page;
 use std::alloc::{AllocError, Global};
 
@@ -30,7 +31,7 @@ fn trade(frames: &mut [u8], place: usize, other: &mut [u8])
     ensures other { other.new ≡ frame_in frames.old place }
 {
     let (_, rest) = frames.split_at_mut(place);
-    let (frame, _) = rest.split_at_mut(4096);
+    let (frame, _) = rest.split_at_mut(FRAME_SIZE);
     frame.swap_with_slice(other);
 }
 
@@ -41,7 +42,7 @@ fn exchange(frames: &mut [u8], low: usize, high: usize)
     ensures { frames.new ≡ put_frame (put_frame frames.old high (frame_in frames.old low)) low (frame_in frames.old high) }
 {
     let (front, back) = frames.split_at_mut(high);
-    let (frame, _) = back.split_at_mut(4096);
+    let (frame, _) = back.split_at_mut(FRAME_SIZE);
     trade(front, low, frame);
 }
 
@@ -65,7 +66,7 @@ fn settle(frames: &mut [u8], slots: &mut [usize], owners: &mut [usize], k: usize
 {
     let from = slots[k];
     if k < from {
-        exchange(frames, 24 + 4104 * k, 24 + 4104 * from);
+        exchange(frames, FIRST_FRAME + SLOT * k, FIRST_FRAME + SLOT * from);
         note(slots, owners[k], from);
         note(slots, k, k);
         owners.swap(k, from);
@@ -91,7 +92,7 @@ fn slots_of(alloc: Global, pages: &[(Page, usize)]) -> Result<Vec<usize>, AllocE
     let mut slots = Vec::new(alloc);
     slots.reserve_exact(pages.len())?;
     for (_, place) in pages {
-        slots.push(place / 4104)?;
+        slots.push(place / SLOT)?;
     }
     Ok(slots)
 }
@@ -134,10 +135,10 @@ fn write_numbers(frames: &mut [u8], pages: &[(Page, usize)])
     requires { length frames.old ≡ 16 + 4104 * length pages.now }
     ensures { frames.new ≡ take 16 frames.old ++ flat_map page_text (slot_entries frames.old 0 pages.now) }
 {
-    let mut at = 16;
+    let mut at = HEAD;
     for (p, _) in pages {
         put_word(frames, at, p.number());
-        at += 4104;
+        at += SLOT;
     }
 }
 
@@ -148,7 +149,7 @@ fn write_heads(frames: &mut [u8], pages: &[(Page, usize)])
     ensures { frames.new ≡ text_of (slot_entries frames.old 0 pages.now) }
 {
     write_numbers(frames, pages);
-    let (head, _) = frames.split_at_mut(16);
+    let (head, _) = frames.split_at_mut(HEAD);
     head.copy_from_slice(head_of(pages.len() as u64).bytes());
 }
 
@@ -166,7 +167,7 @@ pub fn file_in_place(
 {
     let pages = file_pages(alloc, &frames, table)?;
     gather(alloc, &mut frames, &pages, table.len())?;
-    frames.resize(16 + 4104 * pages.len(), 0)?;
+    frames.resize(HEAD + SLOT * pages.len(), 0)?;
     write_heads(&mut frames, &pages);
     Ok(frames)
 }

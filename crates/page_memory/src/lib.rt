@@ -7,9 +7,10 @@
 //! pages to their bytes, and a number of sets, which only `set` and `set_word` raise.
 #![tactic(auto)]
 
-ghost use Rattle.std.specs.Prelude.{◌≡◌, ℕ, ◌+◌, ◌*◌, ◌/◌, ◌%◌, ◌<◌, ◌≤◌, ◌^◌, ◌≢◌, ◌↔◌, length, slice_index, IsTrue, IfSome, IsSome, All, OnOk, OnErr, IfOk, IfErr};
+ghost use Rattle.std.specs.Prelude.{◌≡◌, ℕ, ◌+◌, ◌*◌, ◌/◌, ◌%◌, ◌<◌, ◌≤◌, ◌^◌, ◌≢◌, ◌⊎◌, ◌↔◌, length, slice_index, IsTrue, IfSome, IsSome, All, OnOk, OnErr, IfOk, IfErr};
 ghost use Rattle.std.specs.FinMap as finite;
 ghost use Rattle.std.specs.Option.{option_map};
+ghost use Rattle.kx_pages.specs.Lists.{Has};
 ghost use Rattle.page_memory.specs.File.{Gives, IsReadAgain, reading, stored, file};
 ghost use Rattle.page_memory.specs.Contents.{IsMemory, Contents, IsPageOfBytes, at, IsHeld, page_of, with_page, with_word, after_set, swapped};
 ghost use Rattle.page_memory.specs.Memory.{word, Agree};
@@ -19,12 +20,14 @@ mod buffer;
 mod fault;
 mod file;
 mod in_place;
+mod layout;
 #[cfg(test)]
 mod tests;
 
 use crate::buffer::{Table, add_frame, copy_frame, exchange, frame, write_frame, write_word};
 use crate::file::{file_of, file_table};
 use crate::in_place::file_in_place;
+use crate::layout::{FRAME_SIZE, HEAD, SLOT};
 use byteorder::{ByteOrder, LittleEndian};
 pub use fault::{HeavyFault, MemFault};
 use kx_pages::{PAGE_SIZE, Page};
@@ -33,7 +36,7 @@ use std::collections::BTreeMap;
 use std::marker::Model;
 
 // What a page that is not held reads as.
-static ZEROS: [u8; 4096] = [0; 4096];
+static ZEROS: [u8; FRAME_SIZE] = [0; FRAME_SIZE];
 
 /// A memory image. A page that is held stays held in every call, after a refusal too.
 #[derive(Drop)]
@@ -99,12 +102,13 @@ impl Memory {
         }
     }
 
-    /// The page is held. What each page reads as is unchanged, after want of memory too.
+    /// The page is held, and no other becomes so. What each page reads as is unchanged, after want of memory too.
     pub fn hold(&mut self, p: Page) -> Result<(), AllocError>
         ensures held { OnOk result (IsHeld self.new p) }
         ensures same { (q : ℕ) → at self.new q ≡ at self.old q }
         ensures sets { self.new.sets ≡ self.old.sets }
         ensures stay { (q : ℕ) → IsHeld self.old q → IsHeld self.new q }
+        ensures only { (q : ℕ) → IsHeld self.new q → IsHeld self.old q ⊎ (q ≡ p) }
     {
         if !self.table.contains_key(&p) {
             add_frame(&mut self.frames, &mut self.table, p, &ZEROS)?;
@@ -112,13 +116,14 @@ impl Memory {
         Ok(())
     }
 
-    /// Each of these pages is held; room is made at once for those that were not. What each page reads as is unchanged.
-    /// After want of memory too, and then some of them may be held. This project's own.
+    /// Each of these pages is held, and no other becomes so; room is made at once for those that were not. What each
+    /// page reads as is unchanged, after want of memory too: some of the pages may be held then. This project's own.
     pub fn hold_all(&mut self, pages: &[Page]) -> Result<(), AllocError>
         ensures held { OnOk result (All (λ p. IsHeld self.new p) pages.now) }
         ensures same { (q : ℕ) → at self.new q ≡ at self.old q }
         ensures sets { self.new.sets ≡ self.old.sets }
         ensures stay { (q : ℕ) → IsHeld self.old q → IsHeld self.new q }
+        ensures only { (q : ℕ) → IsHeld self.new q → IsHeld self.old q ⊎ Has q pages.now }
         // As their type says.
         ensures pages { All (λ p. p < 2 ^ 34) pages.now }
     {
@@ -136,6 +141,7 @@ impl Memory {
     {
         let mut missing = 0;
         for page in pages {
+            // for its clause: what every value of the type keeps
             let _number = page.number();
             if !self.held(*page) {
                 missing += 1;
@@ -149,7 +155,7 @@ impl Memory {
         ensures same { self.new ≡ self.old }
     {
         self.frames
-            .reserve_exact(pages.saturating_mul(4104).saturating_add(16))
+            .reserve_exact(pages.saturating_mul(SLOT).saturating_add(HEAD))
     }
 
     /// The page, which is held, becomes these at most 4,096 bytes, then zeros.

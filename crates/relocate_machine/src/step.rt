@@ -2,17 +2,14 @@
 
 ghost use Rattle.std.specs.Prelude.{◌≡◌, ℕ, ◌+◌, ◌*◌, ◌/◌, ◌%◌, ◌<◌, ◌≤◌, ◌^◌, IsTrue, false, IsNone, IfSome, IfOk, OnOk, OnErr};
 ghost use Rattle.page_memory.specs.Contents.{IsHeld};
-ghost use Rattle.relocate_machine.specs.Machine.{State, Stays, start_of, fetched, advanced, moved, step_of, AreHeld, move_writes, word_writes, writes_of, HoldsWrites};
+ghost use Rattle.relocate_machine.specs.Machine.{State, Stays, start_of, fetched, advanced, handled, moved, step_of, AreHeld, move_writes, word_writes, writes_of, HoldsWrites};
 ghost use Rattle.relocate_machine.specs.Run.{HeldFrom, Agree, run_of};
 
 use crate::word::{Kind, address, first_bit};
-use kx_pages::{Mode, PAGE_SIZE, Page};
+use kx_pages::{ADDRESS_LIMIT, Mode, PAGE_SIZE, Page};
 use page_memory::Memory;
 use std::alloc::AllocError;
 use std::marker::Model;
-
-/// Addresses lie below this, 2^46 (this project's own).
-const ADDRESS_LIMIT: u64 = 0x4000_0000_0000;
 
 /// What a step did. This project's own.
 #[derive(Clone, Copy, Debug, PartialEq, Eq)]
@@ -155,25 +152,33 @@ impl Machine {
                 self.ended = true;
                 Step::Ended
             }
-            Kind::Source => {
-                if to >= ADDRESS_LIMIT {
-                    return Step::Off { address: to };
-                }
-                if self.destination >= ADDRESS_LIMIT {
-                    return Step::Off {
-                        address: self.destination,
-                    };
-                }
-                move_page(memory, self.mode, page_of(self.destination), page_of(to));
-                self.advance();
-                self.destination += PAGE_SIZE;
-                Step::Went
-            }
+            Kind::Source => self.take_source(memory, to),
             Kind::Nothing => {
                 self.advance();
                 Step::Went
             }
         }
+    }
+
+    // Handles a source word with this address: off where it or the destination is 2^46 or more, and nothing has changed
+    // then; otherwise the page there is moved to the destination, which goes on by a page.
+    fn take_source(&mut self, memory: &mut Memory, from: u64) -> Step
+        requires cursor { IsNone self.old.first → self.old.cursor < 2 ^ 46 }
+        requires held { AreHeld memory.old (word_writes self.old Kind.Source from) }
+        ensures { (record { machine = self.new; memory = memory.new }, result) ≡ handled (record { machine = self.old; memory = memory.old }) (advanced self.old.first self.old) Kind.Source from }
+    {
+        if from >= ADDRESS_LIMIT {
+            return Step::Off { address: from };
+        }
+        if self.destination >= ADDRESS_LIMIT {
+            return Step::Off {
+                address: self.destination,
+            };
+        }
+        move_page(memory, self.mode, page_of(self.destination), page_of(from));
+        self.advance();
+        self.destination += PAGE_SIZE;
+        Step::Went
     }
 
     // The word was taken.

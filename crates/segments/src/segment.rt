@@ -5,18 +5,19 @@ ghost use Rattle.kx_pages.specs.Spans.{Run, in_span};
 ghost use Rattle.segments.specs.Parts.{Part, stop, is_page_of_part, page_count, bytes_from};
 ghost use Rattle.segments.specs.Rules.{is_bad_address, overlap_each_other, is_too_full, leaves};
 
-use kx_pages::{PAGE_SIZE, Span};
+use kx_pages::{ADDRESS_LIMIT, PAGE_SIZE, Span};
 use std::marker::Model;
-
-/// Addresses lie below 2^46.
-const ADDRESS_LIMIT: u128 = 0x4000_0000_0000;
 
 /// A segment of the new kernel, as in kexec_load(2): its bytes, the address that they go to, and how many bytes of
 /// memory it takes from there on. What lies behind the bytes is filled with zeros.
 #[derive(Debug, Drop)]
 pub struct Segment {
+    /// The bytes; in [`Segments`](crate::Segments) at most `memsz`.
     pub bytes: Vec<u8>,
+    /// The address that the first byte goes to; in [`Segments`](crate::Segments) that of a page.
     pub mem: u64,
+    /// How many bytes of memory it takes, from `mem` on; in [`Segments`](crate::Segments) whole pages, which end below
+    /// 2^46.
     pub memsz: u64,
 }
 
@@ -58,7 +59,7 @@ impl Segment {
     {
         !self.mem.is_multiple_of(PAGE_SIZE)
             || !self.stop().is_multiple_of(u128::from(PAGE_SIZE))
-            || self.stop() >= ADDRESS_LIMIT
+            || self.stop() >= u128::from(ADDRESS_LIMIT)
     }
 
     // The two overlap.

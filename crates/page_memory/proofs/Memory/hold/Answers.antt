@@ -1,6 +1,8 @@
-use Rattle.std.proofs.Common.{ap, ◌∙◌}
-use Rattle.page_memory.specs.Contents.{frame_at, zero_page}
-use Rattle.page_memory.specs.Laws.{held-insert, held-insert_same, frame_at-insert_zeros}
+use Rattle.std.proofs.Common.{ap, ◌∙◌, subst, ◌≡◌, ◌⊎◌}
+use Rattle.std.specs.Prelude.{IsSome}
+use Rattle.std.specs.FinMap as finite
+use Rattle.page_memory.specs.Contents.{IsHeld, frame_at, zero_page}
+use Rattle.page_memory.specs.Laws.{held-insert, held-insert_same, held-insert_only, frame_at-insert_zeros}
 use Rattle.page_memory.specs.Frames.{frame_in}
 use Rattle.page_memory.proofs.Bytes.{IsPageOfBytes-zero_page}
 use Rattle.page_memory.proofs.Tables.{get-shown, IsSome-option_map, not_held}
@@ -31,3 +33,7 @@ pub returns-else-not-contains_key-clause-held : goal.returns-else-not-contains_k
 returns-else-not-contains_key-clause-held c =
     let shown = get-shown (frame_in c.self.inside.frames.items) c.self.inside.table.entries c.args.self.now.pages c.args.p (ap (λ m. m.pages) c.self.view_is) in
     rw shown ((IsSome-option_map _ _).0 (rw (← c.contains_key.ensures) c.if-not-contains_key.false))
+
+pub returns-in_ok-add_frame-clause-only : goal.returns-in_ok-add_frame-clause-only
+returns-in_ok-add_frame-clause-only c = λ q h.
+    subst (λ m. IsHeld m q ⊎ (q ≡ c.args.p)) c.self.view_is (held-insert_only _ c.args.p _ q (subst (λ t. IsSome (finite.get t q)) (c.in_ok-add_frame.ensures.ok) h))

@@ -1,9 +1,16 @@
-use Rattle.std.proofs.Common.{◌≡◌, ℕ, ◌<◌}
+use Rattle.std.proofs.Common.{◌≡◌, ℕ, ◌<◌, ◌⊎◌, List}
 use Rattle.std.specs.Prelude.{slice_index_or}
-use Rattle.page_memory.specs.Contents.{at, IsHeld}
+use Rattle.kx_pages.specs.Lists.{Has}
+use Rattle.page_memory.specs.Contents.{Contents, at, IsHeld}
 use Rattle.page_memory.proofs.Memory.hold_all.Given as goal
 
+-- the pages before this one are held, and no page beside them that was not
+pub record Held (old new : Contents) (pages : List ℕ) (index : ℕ) : Type 0 where
+  pub held : (k d : ℕ) → k < index → IsHeld new (slice_index_or pages k d)
+  pub same : (q : ℕ) → at new q ≡ at old q
+  pub sets : new.sets ≡ old.sets
+  pub stay : (q : ℕ) → IsHeld old q → IsHeld new q
+  pub only : (q : ℕ) → IsHeld new q → IsHeld old q ⊎ Has q pages
+
 abbrev pub invariant-loop-page : goal.invariant-loop-page
-invariant-loop-page l =
-    ((k : ℕ) (d : ℕ) → k < l.page-index → IsHeld l.self (slice_index_or l.pages k d)) × ((q : ℕ) → at l.self q ≡ at l.fn.self q) × (l.self.sets ≡ l.fn.self.sets)
-    × ((q : ℕ) → IsHeld l.fn.self q → IsHeld l.self q)
+invariant-loop-page l = Held l.fn.self l.self l.pages l.page-index
