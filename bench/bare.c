@@ -14,7 +14,7 @@
 #include <sys/stat.h>
 #include <unistd.h>
 
-enum { PAGE = 4096, SLOT = 4104, HEAD = 24, PIECE = 65536 };
+enum { PAGE = 4096, SLOT = 4104, HEAD = 24, PIECE = 65536, HUGE_PAGE = 2097152 };
 
 struct bytes {
     char *at;
@@ -26,13 +26,18 @@ static void fail(const char *what) {
     exit(1);
 }
 
+/* As the program does: whole huge pages, less one page for the allocator. */
+static size_t room_for(size_t bytes) {
+    return bytes < HUGE_PAGE ? bytes : (bytes + PAGE + HUGE_PAGE - 1) / HUGE_PAGE * HUGE_PAGE - PAGE;
+}
+
 static struct bytes read_file(const char *name, size_t room) {
     struct stat status;
     int file = open(name, O_RDONLY);
     if (file < 0 || fstat(file, &status))
         fail(name);
     size_t size = (size_t)status.st_size > room ? (size_t)status.st_size : room;
-    struct bytes bytes = {malloc(size + PIECE), 0};
+    struct bytes bytes = {malloc(room_for(size + PIECE)), 0};
     if (!bytes.at)
         fail("malloc");
     ssize_t count;

@@ -7,6 +7,7 @@ ghost use Rattle.kx_edge.specs.Transfers.{AppendsPrefix};
 ghost use Rattle.kx_edge.specs.Edge.{Rose, raised, read_of, PutFile, PutPrefix, Said, SaidPrefix};
 
 use crate::{PutFailed, SayFailed, Shelf, ShelfFault, Sink};
+use kx_pages::room_for;
 use std::alloc::Global;
 use std::fs::{self, OpenFile};
 use std::io::{self, Read, Write};
@@ -14,7 +15,7 @@ use std::marker::Model;
 use std::rt::Files;
 
 /// How many bytes of a file one read asks for.
-const PIECE: usize = 65536;
+const PIECE: usize = 16384;
 
 /// The files of the system, by their paths. It tells no contents, and contracts see its count of faults.
 ///
@@ -68,7 +69,7 @@ fn read_most<F: Read>(
     ensures first { IfOk result (λ bytes. IfSome (F.remaining file.old) (λ all. bytes.items ≡ take most all)) }
 {
     let mut bytes = Vec::new(alloc);
-    bytes.reserve_exact(said.min(most))?;
+    bytes.reserve_exact(room_for(said.min(most)))?;
     let mut piece = [0u8; PIECE];
     while bytes.len() < most {
         let want = (most - bytes.len()).min(PIECE);

@@ -9,6 +9,7 @@ mod image;
 mod item;
 mod page;
 mod page_set;
+mod room;
 mod search;
 mod span;
 
@@ -16,4 +17,5 @@ pub use image::{Image, Mode, Start, Wish};
 pub use item::Item;
 pub use page::{ADDRESS_LIMIT, PAGE_LIMIT, PAGE_SIZE, Page};
 pub use page_set::{PageSet, have_one_form};
+pub use room::room_for;
 pub use span::Span;

@@ -30,7 +30,7 @@ use crate::in_place::file_in_place;
 use crate::layout::{FRAME_SIZE, HEAD, SLOT};
 use byteorder::{ByteOrder, LittleEndian};
 pub use fault::{HeavyFault, MemFault};
-use kx_pages::{PAGE_SIZE, Page};
+use kx_pages::{PAGE_SIZE, Page, room_for};
 use std::alloc::{AllocError, Global};
 use std::collections::BTreeMap;
 use std::marker::Model;
@@ -154,8 +154,10 @@ impl Memory {
     fn reserve(&mut self, pages: usize) -> Result<(), AllocError>
         ensures same { self.new ≡ self.old }
     {
+        let held = self.frames.len();
+        let more = pages.saturating_mul(SLOT).saturating_add(HEAD);
         self.frames
-            .reserve_exact(pages.saturating_mul(SLOT).saturating_add(HEAD))
+            .reserve_exact(room_for(held.saturating_add(more)) - held)
     }
 
     /// The page, which is held, becomes these at most 4,096 bytes, then zeros.
