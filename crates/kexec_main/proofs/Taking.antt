@@ -1,11 +1,30 @@
 -- Files that are taken one after the other.
-use Rattle.std.proofs.Common.{◌≡◌, ℕ, List, Option, Some, None, Result, Ok, Err, ap, ◌∙◌, inl, inr, ⊎_elim}
+use Rattle.std.proofs.Common.{◌≡◌, ℕ, ◌+◌, ◌≤◌, ◌++◌, List, length, take, Option, Some, None, Result, Ok, Err, false, nat_lt, ap, sym, ◌∙◌, inl, inr, ⊎_elim, arith, length-append, length-take, if◌then◌else◌}
+use Rattle.std.proofs.lemmas.List.{take_all}
+use Rattle.std.proofs.lemmas.Bool.Decides.{nat_tests}
 use Rattle.std.specs.Prelude.{IfSome}
-use Rattle.kx_edge.specs.Edge.{Files}
+use Rattle.kx_edge.specs.Edge.{Files, read_of}
 use Rattle.kexec_main.specs.Answers.{IsAmong, TakeOrder, Answer, done, not_accepted, usage, unread, unwritten, unsaid, too_long, input, plan, no_pages, heavy, not_kept, not_built, memory, answer_of}
 use Rattle.kexec_main.specs.declared.status.Status.{Status}
 use Rattle.kexec_words.specs.Meaning.{given}
-use Rattle.kexec_main.specs.Files.{as_list, OrNext, TakesNot, Takes, ◌>>=◌}
+use Rattle.kexec_main.specs.Files.{file_at, measured, as_list, OrNext, TakesNot, Takes, ◌>>=◌}
+
+-- two parts of a file that was read up to one byte past its limit, and that has no such byte, are the whole file
+measured_parts : (limit : ℕ) (name : List ℕ) (held : Files) (front rest : List ℕ) → front ++ rest ≡ read_of held name (limit + 1) → length front + length rest ≤ limit
+    → measured limit name held ≡ Ok (front ++ rest)
+measured_parts limit name held front rest e h =
+    let file = file_at held name in
+    let some : length front + length rest ≡ length (take (limit + 1) file) = sym (length-append front rest) ∙ ap length e in
+    let short = length-take (limit + 1) file in
+    let fits : length file ≤ limit = omega (arith, some, short, h) in
+    let within : nat_lt limit (length file) ≡ false = grind (arith, nat_tests) in
+    let whole : front ++ rest ≡ file = e ∙ take_all (limit + 1) file (omega (arith, fits)) in
+    ap (λ b. if b then Err (too_long name limit) else Ok file) within ∙ ap Ok (sym whole)
+
+pub measured_apart : (limit : ℕ) (name : List ℕ) (old : Option Files) (front rest : List ℕ) → IfSome old (λ held. front ++ rest ≡ read_of held name (limit + 1)) → length front + length rest ≤ limit
+    → IfSome old (λ held. measured limit name held ≡ Ok (front ++ rest))
+measured_apart limit name None front rest e h = tt
+measured_apart limit name (Some held) front rest e h = measured_parts limit name held front rest e h
 
 -- what refuses a part refuses the whole
 bound : {X Y : Type 0} (what : Files → Result X Answer) (more : Files → X → Result Y Answer) (old : Option Files) (a : Answer)

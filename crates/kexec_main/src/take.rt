@@ -1,9 +1,10 @@
 //! Files are taken in their turn, measured, and read.
 
-ghost use Rattle.std.specs.Prelude.{◌≡◌, ◌<◌, ◌≤◌, ◌∷◌, [], ℕ, length, false, map, option_map, string_bytes, IfOk};
+ghost use Rattle.std.specs.Prelude.{◌≡◌, ◌+◌, ◌<◌, ◌≤◌, ◌++◌, ◌∷◌, [], ℕ, length, false, map, option_map, string_bytes, IfOk};
 ghost use Rattle.kexec_main.specs.Files.{Takes, named, left_order, input_order, measured, memory_file, load_record_file, pool_file, map_file, map_given, left_after, input_files, as_list};
 ghost use Rattle.kexec_main.specs.Values.{inputs_of};
 ghost use Rattle.kexec_words.specs.Values.{inputs_value};
+ghost use Rattle.kx_edge.specs.Edge.{IsCutAt};
 ghost use Rattle.page_pool.specs.Pages.{is_filed};
 
 use crate::status::{InputFault, Status};
@@ -27,6 +28,30 @@ const KERNEL_LIMIT: usize = 268_435_456;
 /// The most bytes of a memory file: 16 and 4,104 for each of 131,072 pages.
 const MEMORY_LIMIT: usize = 537_919_504;
 
+/// Takes a file, its first `at` bytes apart from the others, and measures it: it has at most `limit` bytes.
+fn take_apart<S: Shelf>(
+    alloc: Global,
+    name: String,
+    at: usize,
+    limit: usize,
+    shelf: &mut S,
+) -> Result<(Vec<u8>, Vec<u8>), Status>
+    requires { limit < 4294967296 }
+    ensures takes { Takes (λ r. r.0.items ++ r.1.items) (named (string_bytes name ∷ [])) (measured limit (string_bytes name)) (S.files shelf.old) (S.files shelf.new) (S.faults shelf.old) (S.faults shelf.new) result }
+    ensures apart { IfOk result (λ r. IsCutAt at r.0.items r.1.items) }
+    ensures within { IfOk result (λ r. length r.0.items + length r.1.items ≤ limit) }
+{
+    match shelf.take_apart(alloc, &name, at, limit + 1) {
+        Ok((front, rest)) if front.len() + rest.len() <= limit => Ok((front, rest)),
+        Ok(_) => Err(Status::TooLong {
+            name,
+            limit: limit as u64,
+        }),
+        Err(ShelfFault::Memory) => Err(Status::Memory),
+        Err(ShelfFault::Failed) => Err(Status::Unread { name }),
+    }
+}
+
 /// Takes a file and measures it: it has at most `limit` bytes.
 pub(crate) fn take_file<S: Shelf>(
     alloc: Global,
@@ -38,15 +63,8 @@ pub(crate) fn take_file<S: Shelf>(
     ensures takes { Takes (λ bytes. bytes.items) (named (string_bytes name ∷ [])) (measured limit (string_bytes name)) (S.files shelf.old) (S.files shelf.new) (S.faults shelf.old) (S.faults shelf.new) result }
     ensures within { IfOk result (λ bytes. length bytes.items ≤ limit) }
 {
-    match shelf.take(alloc, &name, limit + 1) {
-        Ok(bytes) if bytes.len() <= limit => Ok(bytes),
-        Ok(_) => Err(Status::TooLong {
-            name,
-            limit: limit as u64,
-        }),
-        Err(ShelfFault::Memory) => Err(Status::Memory),
-        Err(ShelfFault::Failed) => Err(Status::Unread { name }),
-    }
+    let (_, bytes) = take_apart(alloc, name, 0, limit, shelf)?;
+    Ok(bytes)
 }
 
 /// Takes a memory file and reads it.

@@ -1,8 +1,8 @@
 //! Shelf and sink, as the program sees them.
 
-ghost use Rattle.std.specs.Prelude.{◌≡◌, ◌≤◌, ◌<◌, ◌^◌, List, ℕ, length, IfOk, IfSome, OnOk, OnErr, IsErrOf};
+ghost use Rattle.std.specs.Prelude.{◌≡◌, ◌+◌, ◌≤◌, ◌<◌, ◌^◌, ◌++◌, List, ℕ, length, IfOk, IfSome, OnOk, OnErr, IsErrOf};
 ghost use Rattle.std.specs.declared.option.Option.{Option};
-ghost use Rattle.kx_edge.specs.Edge.{Files, Rose, read_of, PutFile, PutPrefix, Said, SaidPrefix};
+ghost use Rattle.kx_edge.specs.Edge.{Files, Rose, read_of, IsCutAt, PutFile, PutPrefix, Said, SaidPrefix};
 ghost use Rattle.kx_edge.specs.declared.edge.ShelfFault.TheVariants.{Memory};
 
 use std::alloc::{AllocError, AllocFailed, Global};
@@ -72,6 +72,32 @@ pub trait Shelf {
         ensures calm { OnOk result (faults self.new ≡ faults self.old) }
         ensures memory { IsErrOf result ShelfFault.Memory → faults self.new ≡ faults self.old }
         ensures failed { IsErrOf result ShelfFault.Failed → Rose (faults self.old) (faults self.new) };
+
+    /// Takes the file as `take` does, its first `at` bytes apart from the others.
+    fn take_apart(
+        &mut self,
+        alloc: Global,
+        name: &str,
+        at: usize,
+        most: usize,
+    ) -> Result<(Vec<u8>, Vec<u8>), ShelfFault>
+        ensures bytes { IfOk result (λ r. IfSome (files self.old) (λ held. r.0.items ++ r.1.items ≡ read_of held name.now most)) }
+        ensures apart { IfOk result (λ r. IsCutAt at r.0.items r.1.items) }
+        ensures within { IfOk result (λ r. length r.0.items + length r.1.items ≤ most) }
+
+        // As for `take`.
+        ensures files { files self.new ≡ files self.old }
+        ensures later { faults self.old ≤ faults self.new }
+        ensures counted { faults self.new < 2 ^ 64 }
+        ensures calm { OnOk result (faults self.new ≡ faults self.old) }
+        ensures memory { IsErrOf result ShelfFault.Memory → faults self.new ≡ faults self.old }
+        ensures failed { IsErrOf result ShelfFault.Failed → Rose (faults self.old) (faults self.new) }
+    {
+        let mut front = self.take(alloc, name, most)?;
+        let rest = front[front.len().min(at)..].to_vec(alloc)?;
+        front.truncate(at);
+        Ok((front, rest))
+    }
 
     /// Makes the file these bytes. After `PutFailed` the file is some prefix of them. All other files
     /// stay, after either answer.

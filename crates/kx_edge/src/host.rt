@@ -1,10 +1,10 @@
 //! The real files and the standard output. What they hold is not known here.
 
-ghost use Rattle.std.specs.Prelude.{◌≡◌, ◌≤◌, ◌<◌, ◌^◌, length, take, IfOk, IfSome, OnErr, OnOk, IsErrOf};
+ghost use Rattle.std.specs.Prelude.{◌≡◌, ◌+◌, ◌≤◌, ◌<◌, ◌^◌, ◌++◌, length, take, IfOk, IfSome, OnErr, OnOk, IsErrOf};
 ghost use Rattle.std.specs.declared.option.Option.TheVariants.{None};
-ghost use Rattle.std.specs.Io.KnownBytes.{Appends};
+ghost use Rattle.std.specs.Io.KnownBytes.{Appends, Consumes};
 ghost use Rattle.kx_edge.specs.Transfers.{AppendsPrefix};
-ghost use Rattle.kx_edge.specs.Edge.{Rose, raised, read_of, PutFile, PutPrefix, Said, SaidPrefix};
+ghost use Rattle.kx_edge.specs.Edge.{Rose, raised, read_of, IsCutAt, PutFile, PutPrefix, Said, SaidPrefix};
 
 use crate::{PutFailed, SayFailed, Shelf, ShelfFault, Sink};
 use kx_pages::room_for;
@@ -67,6 +67,7 @@ fn read_most<F: Read>(
 
     // Where a reader's bytes are known, as those of one over memory are, these are the first of them.
     ensures first { IfOk result (λ bytes. IfSome (F.remaining file.old) (λ all. bytes.items ≡ take most all)) }
+    ensures rest { IfOk result (λ bytes. Consumes (F.remaining file.old) (F.remaining file.new) bytes.items) }
 {
     let mut bytes = Vec::new(alloc);
     bytes.reserve_exact(room_for(said.min(most)))?;
@@ -80,6 +81,26 @@ fn read_most<F: Read>(
         }
     }
     Ok(bytes)
+}
+
+/// Reads as `read_most` does, the first `at` bytes into a buffer of their own.
+fn read_apart<F: Read>(
+    alloc: Global,
+    file: &mut F,
+    said: usize,
+    at: usize,
+    most: usize,
+) -> Result<(Vec<u8>, Vec<u8>), ShelfFault>
+    ensures apart { IfOk result (λ r. IsCutAt at r.0.items r.1.items) }
+    ensures within { IfOk result (λ r. length r.0.items + length r.1.items ≤ most) }
+    ensures first { IfOk result (λ r. IfSome (F.remaining file.old) (λ all. r.0.items ++ r.1.items ≡ take most all)) }
+{
+    let front = read_most(alloc, file, said, at.min(most))?;
+    if front.len() < at {
+        return Ok((front, Vec::new(alloc)));
+    }
+    let rest = read_most(alloc, file, said.saturating_sub(at), most - at)?;
+    Ok((front, rest))
 }
 
 /// Writes all of the bytes. A write that takes nothing of a piece that is not empty is a failure.
@@ -116,10 +137,34 @@ impl<R: Files> Shelf for HostShelf<'_, R> {
         ensures memory { IsErrOf result ShelfFault.Memory → self.new ≡ self.old }
         ensures after_failed { IsErrOf result ShelfFault.Failed → self.new ≡ raised self.old }
     {
+        let (_, bytes) = self.take_apart(alloc, name, 0, most)?;
+        Ok(bytes)
+    }
+
+    /// A name that cannot be opened fails. Each part is read into its own buffer, and no byte is moved.
+    fn take_apart(
+        &mut self,
+        alloc: Global,
+        name: &str,
+        at: usize,
+        most: usize,
+    ) -> Result<(Vec<u8>, Vec<u8>), ShelfFault>
+        ensures bytes { IfOk result (λ r. IfSome None (λ held. r.0.items ++ r.1.items ≡ read_of held name.now most)) }
+        ensures apart { IfOk result (λ r. IsCutAt at r.0.items r.1.items) }
+        ensures within { IfOk result (λ r. length r.0.items + length r.1.items ≤ most) }
+        ensures later { self.old ≤ self.new }
+        ensures counted { self.new < 2 ^ 64 }
+        ensures failed { IsErrOf result ShelfFault.Failed → Rose self.old self.new }
+
+        // The count rises by one at each failure, up to its last value, and else stays.
+        ensures calm { OnOk result (self.new ≡ self.old) }
+        ensures memory { IsErrOf result ShelfFault.Memory → self.new ≡ self.old }
+        ensures after_failed { IsErrOf result ShelfFault.Failed → self.new ≡ raised self.old }
+    {
         let answer = match fs::open(self.rt, name) {
             Ok(mut file) => {
                 let said = said_length(&file);
-                read_most(alloc, &mut file, said, most)
+                read_apart(alloc, &mut file, said, at, most)
             }
             Err(_) => Err(ShelfFault::Failed),
         };

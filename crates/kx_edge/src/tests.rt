@@ -23,7 +23,8 @@ fn a_memory_shelf_fails_where_its_list_says(rt: HostRuntime) -> Result<(), Fail>
     assert!(rt; shelf.put("o", b"12345").is_ok());
     assert!(rt; shelf.put("o", b"vwxyz").is_err());
     assert_eq!(rt; shelf.take(alloc, "o", 9)?.as_slice(), b"vw".as_slice());
-    assert_eq!(rt; shelf.take(alloc, "b", 9)?.as_slice(), b"xyz".as_slice());
+    let (front, rest) = shelf.take_apart(alloc, "b", 1, 9)?;
+    assert!(rt; front.as_slice() == b"x" && rest.as_slice() == b"yz");
     assert!(rt; matches!(shelf.take(alloc, "none", 9), Err(ShelfFault::Failed)));
     assert!(rt; shelf.put("o", b"123456").is_err());
     Ok(())
@@ -37,6 +38,8 @@ fn a_calm_shelf_never_fails(rt: HostRuntime) -> Result<(), Fail> {
     assert!(rt; shelf.put("a", b"12").is_ok());
     assert_eq!(rt; shelf.take(alloc, "a", 9)?.as_slice(), b"12".as_slice());
     assert!(rt; shelf.take(alloc, "none", 9)?.is_empty());
+    let (front, rest) = shelf.take_apart(alloc, "b", 4, 9)?;
+    assert!(rt; front.as_slice() == b"xyz" && rest.is_empty());
     assert!(rt; shelf.put("none", b"12").is_ok());
     Ok(())
 }
@@ -69,6 +72,12 @@ fn a_host_shelf_takes_and_puts_real_files(rt: HostRuntime) -> Result<(), Fail> {
     let first = shelf.take(alloc, "given", 100_000)?;
     assert_eq!(rt; first.len(), 100_000);
     assert!(rt; bytes.starts_with(&first));
+    let (front, rest) = shelf.take_apart(alloc, "given", 120, 1_000_000)?;
+    assert!(rt; front.as_slice() == &bytes[..120] && rest.as_slice() == &bytes[120..]);
+    let (front, rest) = shelf.take_apart(alloc, "given", 200_000, 1_000_000)?;
+    assert!(rt; front.as_slice() == bytes.as_slice() && rest.is_empty());
+    let (front, rest) = shelf.take_apart(alloc, "given", 120, 70)?;
+    assert!(rt; front.as_slice() == &bytes[..70] && rest.is_empty());
     assert!(rt; shelf.put("put", bytes.as_slice()).is_ok());
     assert!(rt; fs::read(&rt, "put")?.as_slice() == bytes.as_slice());
     assert!(rt; matches!(shelf.take(alloc, "missing", 9), Err(ShelfFault::Failed)));

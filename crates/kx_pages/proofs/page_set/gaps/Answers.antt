@@ -1,5 +1,5 @@
 use Rattle.std.proofs.Common.{arith}
-use Rattle.kx_pages.proofs.Gathered.{gaps_from, gaps_step, gaps_end, in_gaps, are_gaps_apart}
+use Rattle.kx_pages.proofs.Gathered.{gaps_step, gaps_end, in_gaps, are_gaps_apart}
 use Rattle.kx_pages.proofs.page_set.gaps.Goals as goal
 
 pub loop-s-preserved : goal.loop-s-preserved

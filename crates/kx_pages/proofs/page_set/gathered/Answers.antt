@@ -1,5 +1,4 @@
-use Rattle.std.proofs.Common.{arith, ◌||◌, sym}
-use Rattle.kx_pages.specs.Spans.{in_span, in_spans}
+use Rattle.std.proofs.Common.{arith}
 use Rattle.kx_pages.proofs.Gathered.{gather_step, gather_end}
 use Rattle.kx_pages.proofs.page_set.gathered.Goals as goal
 
