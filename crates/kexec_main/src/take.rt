@@ -10,7 +10,7 @@ ghost use Rattle.page_pool.specs.Pages.{is_filed};
 use crate::status::{InputFault, Status};
 use kexec_words::Inputs;
 use kx_edge::{Shelf, ShelfFault};
-use load_record::{LoadRecord, RecFault};
+use load_record::{FIRST_BYTES, LoadRecord, RecFault};
 use memory_map::{Map, MapFault};
 use page_memory::{MemFault, Memory};
 use page_pool::{Pool, PoolFault};
@@ -85,7 +85,8 @@ pub(crate) fn take_memory<S: Shelf>(
     }
 }
 
-/// Takes the file of a load record and reads it.
+/// Takes the file of a load record and reads it: what follows its front is taken into the buffer that becomes its first
+/// segment's.
 pub(crate) fn take_record<S: Shelf>(
     alloc: Global,
     name: String,
@@ -93,8 +94,8 @@ pub(crate) fn take_record<S: Shelf>(
 ) -> Result<LoadRecord, Status>
     ensures { Takes (λ r. r) (named (string_bytes name ∷ [])) (load_record_file (string_bytes name)) (S.files shelf.old) (S.files shelf.new) (S.faults shelf.old) (S.faults shelf.new) result }
 {
-    let bytes = take_file(alloc, name, RECORD_LIMIT, shelf)?;
-    match LoadRecord::from_file(alloc, bytes) {
+    let (front, rest) = take_apart(alloc, name, FIRST_BYTES, RECORD_LIMIT, shelf)?;
+    match LoadRecord::from_file(alloc, &front, rest) {
         Ok(load_record) => Ok(load_record),
         Err(RecFault::Memory) => Err(Status::Memory),
         Err(fault) => Err(Status::Input {
