@@ -1,6 +1,6 @@
 //! The segments in a record's file.
 
-ghost use Rattle.std.specs.Prelude.{◌≡◌, ◌+◌, ◌<◌, ◌≤◌, ◌++◌, take, drop, length, IfOk, OnOk};
+ghost use Rattle.std.specs.Prelude.{◌≡◌, ◌+◌, ◌<◌, ◌≤◌, ◌++◌, ◌⊎◌, [], take, drop, length, IfOk, OnOk};
 ghost use Rattle.std.specs.List.{flat_map};
 ghost use Rattle.byteorder.specs.Endian.{little_bytes};
 ghost use Rattle.load_record.specs.File.{GivesBy, part_of, part_at, parts_read, part_text, record_file};
@@ -63,22 +63,26 @@ fn copy_of(alloc: Global, bytes: &[u8]) -> Result<Vec<u8>, AllocError>
     Ok(copy)
 }
 
-// The head of the segment that the bytes begin with, its bytes, and what follows it. The file has `total` bytes.
-#[tactic(auto, unfolding(crate::specs::File::part_at))]
-fn cut_segment(total: u64, bytes: &[u8]) -> Result<(PartHead, &[u8], &[u8]), RecFault>
-    ensures exact { GivesBy (λ x. (part_of x.0 x.1.now, x.2.now)) result (part_at total bytes.now) }
-    ensures place { IfOk result (λ x. x.1.now ≡ take x.0.bufsz (drop 24 bytes.now)) }
-    ensures inside { IfOk result (λ x. 24 + x.0.bufsz + length x.2.now ≡ length bytes.now) }
+// The head of a segment, its bytes, and what follows it. Its own head stands apart from the bytes behind it, and the file
+// has `total` bytes.
+fn cut_segment<'a>(
+    total: u64,
+    own: &[u8],
+    behind: &'a [u8],
+) -> Result<(PartHead, &'a [u8], &'a [u8]), RecFault>
+    requires apart { (length own.now ≡ 24) ⊎ ((length own.now < 24) × (behind.now ≡ [])) }
+    ensures exact { GivesBy (λ x. (part_of x.0 x.1.now, x.2.now)) result (part_at total (own.now ++ behind.now)) }
+    ensures place { IfOk result (λ x. x.1.now ≡ take x.0.bufsz behind.now) }
+    ensures inside { IfOk result (λ x. x.0.bufsz + length x.2.now ≡ length behind.now) }
 {
-    let head = match Block::<24>::cut(bytes, 0) {
+    let head = match Block::<24>::cut(own, 0) {
         Some(block) => part_table!(get block, PartHead),
         None => return Err(RecFault::Truncated { at: total }),
     };
-    let (_, rest) = bytes.split_at(24);
-    if head.bufsz > rest.len() as u64 {
+    if head.bufsz > behind.len() as u64 {
         return Err(RecFault::Truncated { at: total });
     }
-    let (bytes, after) = rest.split_at(head.bufsz as usize);
+    let (bytes, after) = behind.split_at(head.bufsz as usize);
     Ok((head, bytes, after))
 }
 
@@ -97,7 +101,8 @@ fn copied_segments(
     let mut list = Vec::new(alloc);
     list.reserve_exact(count as usize)?;
     for _ in 0..count {
-        let (head, bytes, after) = match cut_segment(total, rest) {
+        let (own, behind) = rest.split_at(rest.len().min(24));
+        let (head, bytes, after) = match cut_segment(total, own, behind) {
             Ok(cut) => cut,
             Err(fault) => return Err(fault),
         };
@@ -122,37 +127,33 @@ pub fn read_segments(alloc: Global, count: u64, file: &[u8]) -> Result<Vec<Segme
     copied_segments(alloc, file.len() as u64, count, body)
 }
 
-// So many bytes from a place on, in the buffer that they lie in.
-fn narrowed(mut buffer: Vec<u8>, from: usize, count: usize) -> Vec<u8>
-    requires { from + count ≤ length buffer.items }
-    ensures { result.items ≡ take count (drop from buffer.items) }
-{
-    buffer.truncate(from + count);
-    drop(buffer.drain(..from));
-    buffer
-}
-
-/// As `read_segments`, of a file that is handed in: the first segment, mostly by far the largest, keeps its buffer.
-pub fn take_segments(alloc: Global, count: u64, file: Vec<u8>) -> Result<Vec<Segment>, RecFault>
-    requires whole { 96 ≤ length file.items }
+/// The segments that the bytes spell, so many, and nothing after them: the last bytes of a file that has `total`. Those
+/// behind the first segment's own head are handed in: the first segment, mostly by far the largest, keeps their buffer.
+pub fn take_segments(
+    alloc: Global,
+    total: u64,
+    count: u64,
+    own: &[u8],
+    mut rest: Vec<u8>,
+) -> Result<Vec<Segment>, RecFault>
+    requires apart { (length own.now ≡ 24) ⊎ ((length own.now < 24) × (rest.items ≡ [])) }
+    requires last { length own.now + length rest.items ≤ total }
     requires some { 0 < count }
     requires few { count ≤ 16 }
-    ensures { GivesBy (λ v. v.items) result (parts_read (length file.items) count (drop 96 file.items)) }
+    ensures { GivesBy (λ v. v.items) result (parts_read total count (own.now ++ rest.items)) }
 {
-    let total = file.len() as u64;
-    let (_, body) = file.split_at(96);
-    let (head, _, rest) = match cut_segment(total, body) {
+    let (head, _, after) = match cut_segment(total, own, &rest) {
         Ok(cut) => cut,
         Err(fault) => return Err(fault),
     };
-    let mut others = match copied_segments(alloc, total, count - 1, rest) {
+    let mut others = match copied_segments(alloc, total, count - 1, after) {
         Ok(others) => others,
         Err(fault) => return Err(fault),
     };
     let mut list = Vec::new(alloc);
     list.reserve_exact(count as usize)?;
-    // Its bytes stand behind the file's head, of 96 bytes, and its own, of 24.
-    list.push(head.segment(narrowed(file, 120, head.bufsz as usize)))?;
+    rest.truncate(head.bufsz as usize);
+    list.push(head.segment(rest))?;
     list.append(&mut others)?;
     Ok(list)
 }

@@ -1,6 +1,19 @@
-use Rattle.std.proofs.Common.{rules}
-use Rattle.load_record.proofs.Tables.{part_got}
+use Rattle.std.proofs.Common.{◌<◌, ◌≤◌, length, rules, false, refl, inl, inr}
+use Rattle.std.proofs.lemmas.Bool.{cases_lt, both_ways}
+use Rattle.load_record.proofs.Tables.{part_short, part_cut, part_got}
 use Rattle.load_record.proofs.parts.cut_segment.Goals as goal
 
+pub returns-in-None-clause-exact : goal.returns-in-None-clause-exact
+returns-in-None-clause-exact c =
+    let short : length c.args.own.now < 24 = elim (cases_lt (length c.args.own.now) 24) [ inl h ↦ h | inr h ↦ absurd (both_ways false refl (c.in-None.ensures.found.1 h)) ] in
+    part_short _ c.args.own.now c.args.behind.now c.requires.apart short
+
+pub returns-then-head-behind-clause-exact : goal.returns-then-head-behind-clause-exact
+returns-then-head-behind-clause-exact c =
+    let long : 24 ≤ length c.args.own.now = c.in-Some.ensures.found.0 refl in
+    part_cut _ c.args.own.now c.args.behind.now c.in-Some.block c.requires.apart long c.in-Some.ensures.value (search rules)
+
 pub returns-clause-exact : goal.returns-clause-exact
-returns-clause-exact c = search (rules, part_got)
+returns-clause-exact c =
+    let long : 24 ≤ length c.args.own.now = c.in-Some.ensures.found.0 refl in
+    part_got _ c.args.own.now c.args.behind.now c.in-Some.block _ _ _ _ c.requires.apart long c.in-Some.ensures.value (search rules) (search rules) (search rules) (search rules) (search rules)
