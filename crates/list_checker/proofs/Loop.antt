@@ -44,14 +44,14 @@ module _ (m : Contents) (S : List Part) (im : Image) where
   -- what holds after so many words, where word w comes next
   pub record Reached (words : ℕ) (place : Option ℕ) (c : Sets) (w : ℕ) : Type 0 where
     pub s : Earlier
-    pub shows : Shows c s
+    pub shows : Shows (swap_page im.mode) c s
     pub whole : (n : ℕ) (last : Earlier) → FaultlessIn place s w n last → FaultlessIn None nothing_earlier im.head (words + n) last
     pub fault : (n : ℕ) (why : Why) → FaultyIn place s w n why → FaultyIn None nothing_earlier im.head (words + n) why
     pub linked : Linked s.links
     pub placed : (a : ℕ) → place ≡ Some a → IsPlace a
     pub far : words + reach (2 ^ 34) place (length s.links) ≤ reach (2 ^ 34) None 0
 
-  pub reached_first : (c : Sets) → Shows c nothing_earlier → Reached 0 None c im.head
+  pub reached_first : (c : Sets) → Shows (swap_page im.mode) c nothing_earlier → Reached 0 None c im.head
   reached_first c h = record {
     s = nothing_earlier;
     shows = h;
@@ -116,7 +116,7 @@ module _ (m : Contents) (S : List Part) (im : Image) where
       }
 
   pub reached_next : IsBare S → (words : ℕ) (place : Option ℕ) (c c' : Sets) (w w' next : ℕ) (i : Item) → (x : Reached words place c w) → decode w ≡ Some i → why_refused m S im place x.s (Some i) ≡ None → ((p : ℕ) → i ≡ Done p → ⊥)
-      → (Shows c x.s → Fits x.s i → Shows c' (with_item x.s i)) → next ≡ following place i → IsPlace next → w' ≡ word (at m) next → Reached (words + 1) (Some next) c' w'
+      → (Shows (swap_page im.mode) c x.s → Fits x.s i → Shows (swap_page im.mode) c' (with_item x.s i)) → next ≡ following place i → IsPlace next → w' ≡ word (at m) next → Reached (words + 1) (Some next) c' w'
   reached_next k words place c c' w w' next i x e r d shows n is v =
       let y = next_of k place x.s i r d x.linked x.placed in
       let there : w' ≡ word (at m) (following place i) = v ∙ refl ∙ ap (word (at m)) n in
@@ -139,7 +139,7 @@ module _ (m : Contents) (S : List Part) (im : Image) where
       }
 
   pub reached_nearer : IsBare S → (words : ℕ) (place : Option ℕ) (c c' : Sets) (w next : ℕ) (i : Item) → (x : Reached words place c w) → why_refused m S im place x.s (Some i) ≡ None → ((p : ℕ) → i ≡ Done p → ⊥)
-      → (Shows c x.s → Fits x.s i → Shows c' (with_item x.s i)) → next ≡ following place i → reach (2 ^ 34) (Some next) (btree_set_len c'.links) < reach (2 ^ 34) place (btree_set_len c.links)
+      → (Shows (swap_page im.mode) c x.s → Fits x.s i → Shows (swap_page im.mode) c' (with_item x.s i)) → next ≡ following place i → reach (2 ^ 34) (Some next) (btree_set_len c'.links) < reach (2 ^ 34) place (btree_set_len c.links)
   reached_nearer k words place c c' w next i x r d shows n =
       let y = next_of k place x.s i r d x.linked x.placed in
       let q = subst (λ u. reach (2 ^ 34) (Some u) (length (with_item x.s i).links) < reach (2 ^ 34) place (length x.s.links)) (sym n) y.nearer in

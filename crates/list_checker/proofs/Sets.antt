@@ -1,6 +1,6 @@
 -- Sets of pages beside the lists that they show.
-use Rattle.std.proofs.Common.{◌≡◌, ℕ, ◌++◌, List, [], ◌∷◌, Bool, true, false, refl, sym, ap, ◌∙◌, subst, ⊎_elim}
-use Rattle.std.specs.Prelude.{eqb, ◌||◌, map}
+use Rattle.std.proofs.Common.{◌≡◌, ℕ, ◌++◌, List, [], ◌∷◌, Option, Bool, true, false, refl, sym, ap, ◌∙◌, subst, ⊎_elim}
+use Rattle.std.specs.Prelude.{eqb, ◌||◌, ◌&&◌, is_some, map}
 use Rattle.std.specs.Ordering.{nat_cmp, is_eq}
 use Rattle.std.specs.declared.cmp.Ordering.{Ordering}
 use Rattle.std.specs.declared.cmp.Ordering.TheVariants.{Less, Equal, Greater}
@@ -9,6 +9,8 @@ use Rattle.std.specs.BTreeSet.{BTreeSet, contains, Updates}
 use Rattle.std.proofs.lemmas.Bool.{cases_eq, eq-eqb, ne_eqb}
 use Rattle.std.proofs.lemmas.List.{map-append}
 use Rattle.kx_pages.specs.Lists.{has}
+use Rattle.list_checker.specs.Faults.{is_kept}
+use Rattle.list_checker.specs.Checked.{is_among}
 
 or_last : (a b : Bool) → (a || (b || false)) ≡ (a || b)
 or_last true true = refl
@@ -43,6 +45,16 @@ inserted o n k xs u h q = ⊎_elim
     (λ e. subst (λ p. contains nat_cmp n p ≡ (has p xs || eqb k p)) e (u.1 ∙ or_true (has k xs) ∙ ap (λ b. has k xs || b) (sym (eq-eqb k k refl))) ∙ sym (has-push q k xs))
     (λ e. u.2 q (not_equal (nat_cmp k q) (λ z. e (nat_cmp-IsAntisymmetric k q z))) ∙ h q ∙ or_false (has q xs) ∙ ap (λ b. has q xs || b) (sym (ne_eqb k q e)) ∙ sym (has-push q k xs))
     (cases_eq k q)
+
+absorbed : (k b e : Bool) → (k && ((k && b) || e)) ≡ (k && (b || e))
+absorbed true b e = refl
+absorbed false b e = refl
+
+-- the same of the set of the sources, where there is one
+pub inserted_among : (swap : Option ℕ) (o n : Option (BTreeSet ℕ)) (k : ℕ) (xs : List ℕ) → is_some o ≡ is_kept swap → ((q : ℕ) → is_among o q ≡ (is_kept swap && has q xs)) → ((q : ℕ) → is_among n q ≡ (is_some o && (is_among o q || eqb k q)))
+    → (q : ℕ) → is_among n q ≡ (is_kept swap && has q (xs ++ k ∷ []))
+inserted_among swap o n k xs there h added q =
+    added q ∙ ap (λ b. b && (is_among o q || eqb k q)) there ∙ ap (λ b. is_kept swap && (b || eqb k q)) (h q) ∙ absorbed (is_kept swap) (has q xs) (eqb k q) ∙ ap (λ b. is_kept swap && b) (sym (has-push q k xs))
 
 pub map-push : {X Y : Type 0} (f : X → Y) (xs : List X) (x : X) → map f (xs ++ x ∷ []) ≡ map f xs ++ f x ∷ []
 map-push f xs x = map-append f xs (x ∷ [])

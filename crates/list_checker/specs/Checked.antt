@@ -1,7 +1,7 @@
 -- What the calls answer, by the memory, the segments and the image handed in.
-use Rattle.std.specs.Prelude.{◌≡◌, ℕ, ◌%◌, ◌^◌, ◌<◌, Bool, false, List, [], ◌∷◌, length, map, Option, Some, None, Result, Ok, Err}
+use Rattle.std.specs.Prelude.{◌≡◌, ℕ, ◌%◌, ◌^◌, ◌<◌, ◌&&◌, Bool, false, List, [], ◌∷◌, length, map, Option, Some, None, is_some, Result, Ok, Err}
 use Rattle.std.specs.Ordering.{nat_cmp}
-use Rattle.std.specs.BTreeSet.{contains, btree_set_len}
+use Rattle.std.specs.BTreeSet.{BTreeSet, contains, btree_set_len}
 use Rattle.kx_pages.specs.declared.image.Image.{Image}
 use Rattle.page_memory.specs.Contents.{Contents, at}
 use Rattle.segments.specs.Parts.{Part, want, pages}
@@ -16,18 +16,24 @@ use Rattle.list_checker.specs.declared.earlier.Earlier.{Earlier as Sets}
 use Rattle.kx_pages.specs.Items.{decode}
 use Rattle.kx_pages.specs.Lists.{destinations, sources, has}
 use Rattle.list_checker.specs.Walk.{links, pairs, swap_page, IsAccepted}
-use Rattle.list_checker.specs.Faults.{Earlier, nothing_earlier, is_head, in_last_slot, reason, link_reasons, pair_reasons, done_reasons, Faulty}
+use Rattle.list_checker.specs.Faults.{Earlier, nothing_earlier, is_head, is_kept, in_last_slot, reason, link_reasons, pair_reasons, done_reasons, Faulty}
 use Rattle.list_checker.specs.declared.fault.CheckFault.TheVariants as faults
 
 abbrev pub as_pair : Pair → ℕ × ℕ
 as_pair q = (q.destination, q.source)
 
--- the sets have what came earlier
-pub record Shows (c : Sets) (s : Earlier) : Type 0 where
+-- the page is in the set, where there is one
+abbrev pub is_among : Option (BTreeSet ℕ) → ℕ → Bool
+is_among None p = false
+is_among (Some t) p = contains nat_cmp t p
+
+-- the sets have what came earlier, and there is one of the sources with context preserved alone
+pub record Shows (swap : Option ℕ) (c : Sets) (s : Earlier) : Type 0 where
   pub links : (p : ℕ) → contains nat_cmp c.links p ≡ has p s.links
   pub count : btree_set_len c.links ≡ length s.links
   pub destinations : (p : ℕ) → contains nat_cmp c.destinations p ≡ has p (destinations s.pairs)
-  pub sources : (p : ℕ) → contains nat_cmp c.sources p ≡ has p (sources s.pairs)
+  pub kept : is_some c.sources ≡ is_kept swap
+  pub sources : (p : ℕ) → is_among c.sources p ≡ (is_kept swap && has p (sources s.pairs))
   pub pairs : map as_pair c.pairs.items ≡ s.pairs
   pub next : c.next ≡ s.next
 

@@ -1,6 +1,6 @@
 //! What came before a word.
 
-ghost use Rattle.std.specs.Prelude.{◌≡◌, ℕ, OnOk, not, false, Some};
+ghost use Rattle.std.specs.Prelude.{◌≡◌, ℕ, ◌&&◌, ◌||◌, OnOk, Option, Some, is_some, eqb, not, false};
 ghost use Rattle.std.specs.Ordering.{nat_cmp};
 ghost use Rattle.std.specs.BTreeSet.{contains, btree_set_len};
 ghost use Rattle.std.specs.List.{find};
@@ -8,10 +8,11 @@ ghost use Rattle.segments.specs.Parts.{pages};
 ghost use Rattle.kx_pages.specs.Lists.{has};
 ghost use Rattle.list_checker.specs.Faults as spec;
 ghost use Rattle.list_checker.specs.Faults.{nothing_earlier};
-ghost use Rattle.list_checker.specs.Checked.{Shows, Fits};
+ghost use Rattle.list_checker.specs.Walk.{swap_page};
+ghost use Rattle.list_checker.specs.Checked.{Shows, Fits, is_among};
 
 use crate::missing::first_outside;
-use kx_pages::{Item, Page};
+use kx_pages::{Item, Mode, Page};
 use segments::Segments;
 use std::alloc::{AllocError, Global};
 use std::collections::BTreeSet;
@@ -42,19 +43,35 @@ pub struct Accept {
 pub(crate) struct Earlier {
     links: BTreeSet<Page>,
     destinations: BTreeSet<Page>,
-    sources: BTreeSet<Page>,
+    // Kept with context preserved alone, where no page may be met again: in plain mode no page counts as an earlier
+    // source.
+    sources: Option<BTreeSet<Page>>,
     pairs: Vec<Pair>,
     next: Option<u64>,
 }
 
+// Nothing is added where no sources are kept.
+fn add_source_page(sources: &mut Option<BTreeSet<Page>>, p: Page) -> Result<(), AllocError>
+    ensures kept { is_some sources.new ≡ is_some sources.old }
+    ensures added { OnOk result ((q : ℕ) → is_among sources.new q ≡ (is_some sources.old && (is_among sources.old q || eqb p q))) }
+{
+    if let Some(kept) = sources {
+        kept.insert(p)?;
+    }
+    Ok(())
+}
+
 impl Earlier {
-    pub(crate) fn new(alloc: Global) -> Earlier
-        ensures { Shows result nothing_earlier }
+    pub(crate) fn new(alloc: Global, mode: Mode) -> Earlier
+        ensures { Shows (swap_page mode) result nothing_earlier }
     {
         Earlier {
             links: BTreeSet::new(alloc),
             destinations: BTreeSet::new(alloc),
-            sources: BTreeSet::new(alloc),
+            sources: match mode {
+                Mode::Plain => None,
+                Mode::Kept { swap: _ } => Some(BTreeSet::new(alloc)),
+            },
             pairs: Vec::new(alloc),
             next: None,
         }
@@ -72,10 +89,14 @@ impl Earlier {
         self.destinations.contains(&p)
     }
 
+    // An earlier pair's source, which no page counts as in plain mode.
     pub(crate) fn is_source(&self, p: Page) -> bool
-        ensures { result ≡ contains nat_cmp self.now.sources p }
+        ensures { result ≡ is_among self.now.sources p }
     {
-        self.sources.contains(&p)
+        match &self.sources {
+            Some(sources) => sources.contains(&p),
+            None => false,
+        }
     }
 
     // The first page of the segments that is no destination.
@@ -93,23 +114,23 @@ impl Earlier {
     }
 
     fn add_link(&mut self, p: Page) -> Result<(), AllocError>
-        ensures { OnOk result ((s : spec.Earlier) → Shows self.old s → has p s.links ≡ false → Shows self.new (spec.with_item s (Item.Link p))) }
+        ensures { OnOk result ((swap : Option ℕ) (s : spec.Earlier) → Shows swap self.old s → has p s.links ≡ false → Shows swap self.new (spec.with_item s (Item.Link p))) }
     {
         self.links.insert(p)?;
         Ok(())
     }
 
     fn add_destination(&mut self, n: u64)
-        ensures { (s : spec.Earlier) → Shows self.old s → Shows self.new (spec.with_item s (Item.Destination n)) }
+        ensures { (swap : Option ℕ) (s : spec.Earlier) → Shows swap self.old s → Shows swap self.new (spec.with_item s (Item.Destination n)) }
     {
         self.next = Some(n);
     }
 
     fn add_pair(&mut self, d: Page, p: Page) -> Result<(), AllocError>
-        ensures { OnOk result ((s : spec.Earlier) → Shows self.old s → s.next ≡ Some d → Shows self.new (spec.with_item s (Item.Source p))) }
+        ensures { OnOk result ((swap : Option ℕ) (s : spec.Earlier) → Shows swap self.old s → s.next ≡ Some d → Shows swap self.new (spec.with_item s (Item.Source p))) }
     {
         self.destinations.insert(d)?;
-        self.sources.insert(p)?;
+        add_source_page(&mut self.sources, p)?;
         self.pairs.push(Pair {
             destination: d,
             source: p,
@@ -119,7 +140,7 @@ impl Earlier {
     }
 
     fn add_source(&mut self, n: u64) -> Result<(), AllocError>
-        ensures { OnOk result ((s : spec.Earlier) → Shows self.old s → Fits s (Item.Source n) → Shows self.new (spec.with_item s (Item.Source n))) }
+        ensures { OnOk result ((swap : Option ℕ) (s : spec.Earlier) → Shows swap self.old s → Fits s (Item.Source n) → Shows swap self.new (spec.with_item s (Item.Source n))) }
     {
         match self.next {
             None => Ok(()),
@@ -135,7 +156,7 @@ impl Earlier {
 
     // Adds a word that fits what came before it.
     pub(crate) fn add(&mut self, item: Item) -> Result<(), AllocError>
-        ensures { OnOk result ((s : spec.Earlier) → Shows self.old s → Fits s item → Shows self.new (spec.with_item s item)) }
+        ensures { OnOk result ((swap : Option ℕ) (s : spec.Earlier) → Shows swap self.old s → Fits s item → Shows swap self.new (spec.with_item s item)) }
     {
         match item {
             Item::Link(n) => match Page::new(n) {

@@ -28,7 +28,7 @@ pub fn check(
     // The segments meet the rules.
     ensures valid { IsBare segments.now }
 {
-    let mut earlier = Earlier::new(alloc);
+    let mut earlier = Earlier::new(alloc, image.mode);
     let mut place: Option<u64> = None;
     let mut w = image.head;
     let mut words = 0;

@@ -64,24 +64,24 @@ pub(crate) fn has_its_bytes(memory: &Memory, segments: &Segments, d: Page, p: Pa
 }
 
 // A link page is an earlier pair's page.
-fn link_is_spoiled(image: &Image, earlier: &Earlier, p: Page) -> bool
-    ensures { (s : spec.Earlier) → Shows earlier.now s → result ≡ (has p (destinations s.pairs) || (spec.is_kept (swap_page image.now.mode) && has p (sources s.pairs))) }
+fn link_is_spoiled(earlier: &Earlier, p: Page) -> bool
+    ensures { (swap : Option ℕ) (s : spec.Earlier) → Shows swap earlier.now s → result ≡ (has p (destinations s.pairs) || (spec.is_kept swap && has p (sources s.pairs))) }
 {
-    earlier.is_destination(p) || is_kept(image) && earlier.is_source(p)
+    earlier.is_destination(p) || earlier.is_source(p)
 }
 
 // A pair's page is a link page.
 fn pair_spoils_link(image: &Image, earlier: &Earlier, d: Page, p: Page) -> bool
-    ensures { (s : spec.Earlier) → Shows earlier.now s → result ≡ (has d s.links || (spec.is_kept (swap_page image.now.mode) && has p s.links)) }
+    ensures { (s : spec.Earlier) → Shows (swap_page image.now.mode) earlier.now s → result ≡ (has d s.links || (spec.is_kept (swap_page image.now.mode) && has p s.links)) }
 {
     earlier.is_link(d) || is_kept(image) && earlier.is_link(p)
 }
 
 // A pair's page is an earlier pair's source.
-fn pairs_meet(image: &Image, earlier: &Earlier, d: Page, p: Page) -> bool
-    ensures { (s : spec.Earlier) → Shows earlier.now s → result ≡ (spec.is_kept (swap_page image.now.mode) && (has d (sources s.pairs) || has p (sources s.pairs))) }
+fn pairs_meet(earlier: &Earlier, d: Page, p: Page) -> bool
+    ensures { (swap : Option ℕ) (s : spec.Earlier) → Shows swap earlier.now s → result ≡ (spec.is_kept swap && (has d (sources s.pairs) || has p (sources s.pairs))) }
 {
-    is_kept(image) && (earlier.is_source(d) || earlier.is_source(p))
+    earlier.is_source(d) || earlier.is_source(p)
 }
 
 fn is_control(image: &Image, p: Page) -> bool
@@ -123,7 +123,7 @@ fn pair_reason(
     d: Page,
     p: Page,
 ) -> Option<Why>
-    ensures { (s : spec.Earlier) → Shows earlier.now s → result ≡ first_of (reasons_of_pair memory.now segments.now image.now s d p) }
+    ensures { (s : spec.Earlier) → Shows (swap_page image.now.mode) earlier.now s → result ≡ first_of (reasons_of_pair memory.now segments.now image.now s d p) }
 {
     first(&[
         (!is_wanted(segments, d), Why::NotWanted),
@@ -131,7 +131,7 @@ fn pair_reason(
         (earlier.is_destination(p), Why::SourceSpoiled),
         (pair_spoils_link(image, earlier, d, p), Why::LinkSpoiled),
         (pair_touches_control(image, d, p), Why::ControlTouched),
-        (pairs_meet(image, earlier, d, p), Why::PairsMeet),
+        (pairs_meet(earlier, d, p), Why::PairsMeet),
         (pair_touches_swap(image, d, p), Why::SwapTouched),
         (!has_its_bytes(memory, segments, d, p), Why::WrongBytes),
     ])
@@ -139,11 +139,11 @@ fn pair_reason(
 
 // Why a link to a page is refused.
 fn link_reason(image: &Image, earlier: &Earlier, place: Option<u64>, p: Page) -> Option<Why>
-    ensures { (s : spec.Earlier) → Shows earlier.now s → result ≡ first_of (reasons_of_link image.now place s p) }
+    ensures { (s : spec.Earlier) → Shows (swap_page image.now.mode) earlier.now s → result ≡ first_of (reasons_of_link image.now place s p) }
 {
     first(&[
         (earlier.is_link(p), Why::LinkAgain),
-        (link_is_spoiled(image, earlier, p), Why::LinkSpoiled),
+        (link_is_spoiled(earlier, p), Why::LinkSpoiled),
         (is_control(image, p), Why::ControlTouched),
         (link_touches_swap(image, place, p), Why::SwapTouched),
     ])
@@ -170,7 +170,7 @@ fn done_reason(
     earlier: &Earlier,
     place: Option<u64>,
 ) -> Option<Why>
-    ensures { (s : spec.Earlier) → Shows earlier.now s → result ≡ first_of (reasons_of_done segments.now image.now place s) }
+    ensures { (s : spec.Earlier) → Shows (swap_page image.now.mode) earlier.now s → result ≡ first_of (reasons_of_done segments.now image.now place s) }
 {
     if swap_meets_control(image, place) {
         return Some(Why::SwapTouched);
@@ -199,7 +199,7 @@ fn source_reason(
     earlier: &Earlier,
     p: Page,
 ) -> Option<Why>
-    ensures { (s : spec.Earlier) → Shows earlier.now s → result ≡ first_of (reasons_of_source memory.now segments.now image.now s p) }
+    ensures { (s : spec.Earlier) → Shows (swap_page image.now.mode) earlier.now s → result ≡ first_of (reasons_of_source memory.now segments.now image.now s p) }
 {
     match earlier.next() {
         None => Some(Why::NoDestination),
@@ -219,7 +219,7 @@ pub(crate) fn refusal(
     place: Option<u64>,
     item: Item,
 ) -> Option<Why>
-    ensures { (s : spec.Earlier) → Shows earlier.now s → result ≡ why_refused memory.now segments.now image.now place s (Some item) }
+    ensures { (s : spec.Earlier) → Shows (swap_page image.now.mode) earlier.now s → result ≡ why_refused memory.now segments.now image.now place s (Some item) }
 {
     match item {
         Item::Done(_) => done_reason(image, segments, earlier, place),
@@ -250,7 +250,7 @@ pub(crate) fn judged(
     place: Option<u64>,
     w: u64,
 ) -> Result<Item, Why>
-    ensures exact { (s : spec.Earlier) → Shows earlier.now s → IsJudged memory.now segments.now image.now place s w result }
+    ensures exact { (s : spec.Earlier) → Shows (swap_page image.now.mode) earlier.now s → IsJudged memory.now segments.now image.now place s w result }
     ensures valid { IsBare segments.now }
 {
     // for its clause: what every value of the type keeps

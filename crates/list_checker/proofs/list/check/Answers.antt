@@ -1,3 +1,4 @@
+use Rattle.list_checker.specs.Walk.{swap_page}
 use Rattle.list_checker.proofs.Loop.{reached_first, reached_next, reached_nearer, leads_on, first_fault, all_accepted}
 use Rattle.list_checker.proofs.list.check.Goals as goal
 
@@ -28,11 +29,11 @@ words-smaller c =
     let x = c.words.invariant in
     let j = c.in-Ok.ensures.exact x.s x.shows in
     reached_nearer c.args.memory.now c.args.segments.now c.args.image.now c.in-Ok.ensures.valid c.words.words c.words.place c.words.earlier c.add.new.self c.words.w c.following-next.result c.in-Ok.item x j.1 c.in_default.not-Done
-    (c.in_ok-add.ensures x.s) c.following-next.ensures.next
+    (c.in_ok-add.ensures (swap_page c.args.image.now.mode) x.s) c.following-next.ensures.next
 
 pub words-preserved : goal.words-preserved
 words-preserved c =
     let x = c.words.invariant in
     let j = c.in-Ok.ensures.exact x.s x.shows in
     reached_next c.args.memory.now c.args.segments.now c.args.image.now c.in-Ok.ensures.valid c.words.words c.words.place c.words.earlier c.add.new.self c.words.w c.word-w.result c.following-next.result c.in-Ok.item x j.0 j.1 c.in_default.not-Done
-    (c.in_ok-add.ensures x.s) c.following-next.ensures.next c.following-next.ensures.place c.word-w.ensures
+    (c.in_ok-add.ensures (swap_page c.args.image.now.mode) x.s) c.following-next.ensures.next c.following-next.ensures.place c.word-w.ensures
