@@ -1,4 +1,4 @@
-use Rattle.std.proofs.Common.{rules, ◌≡◌, ◌+◌, ◌≤◌, length, string_bytes, arith}
+use Rattle.std.proofs.Common.{rules, ◌+◌, ◌≤◌, length, string_bytes}
 use Rattle.kexec_main.proofs.Taking.{measured_apart}
 use Rattle.kexec_main.proofs.take.take_apart.Goals as goal
 
