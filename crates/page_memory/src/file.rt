@@ -63,6 +63,7 @@ fn count_at(bytes: &[u8]) -> Option<u64>
 }
 
 /// The head of a file with so many pages.
+#[tactic(auto, unfolding(kx_fields::specs::Fields::with_field, kx_fields::specs::Fields::zeros))]
 pub fn head_of(count: u64) -> Block<16>
     ensures { result ≡ magic ++ little_bytes 8 count }
 {
@@ -73,6 +74,7 @@ pub fn head_of(count: u64) -> Block<16>
 }
 
 // The head of a page.
+#[tactic(auto, unfolding(kx_fields::specs::Fields::with_field, kx_fields::specs::Fields::zeros))]
 fn page_head(p: Page) -> Block<8>
     ensures { result ≡ little_bytes 8 p }
 {

@@ -1,0 +1,4 @@
+pub mod Booleans
+pub mod Options
+pub mod Results
+pub mod Lists
