@@ -264,20 +264,21 @@ module _ (M : Mem) (D : ℕ → Bool) (W : Wants) (es : List Entry) (c : ℕ) (l
     );
   }
 
-served_well : (wish : Wish) (D : ℕ → Bool) (es : List Entry) (pool : List ℕ) (l : Loading) → ((x : ℕ) → count x pool ≤ 1) → loaded D wish es pool ≡ Some l
+-- the requests of a load: for its pages, for the pages before the link pages, and for the link pages
+pub wished_in : (w : Wish) (es : List Entry) → wished (requests w es) ≡ pages_of es
+wished_in Kept es = wished-requests 0 es
+wished_in Plain es = wished-requests 0 es
+
+pub others_in : (w : Wish) (es : List Entry) → others (requests w es) ≡ first_count w + (length es + 510) / 511
+others_in Kept es = let h = others-requests 0 es in omega (arith, h)
+others_in Plain es = let h = others-requests 0 es in omega (arith, h)
+
+pub served_well : (wish : Wish) (D : ℕ → Bool) (es : List Entry) (pool : List ℕ) (l : Loading) → ((x : ℕ) → count x pool ≤ 1) → loaded D wish es pool ≡ Some l
     → Sound D pool (pages_of es) (first_count wish + (length es + 510) / 511) l
 served_well wish D es pool l once e =
     let s = served_sound D pool [] 0 (requests wish es) (begun pool) l once (record { conserved = λ x. omega arith; homes = tt; order = refl; free = tt; many = refl }) e in
-    subst (λ ys. Sound D pool ys (first_count wish + (length es + 510) / 511) l) (pages wish)
-    (subst (λ n. Sound D pool (wished (requests wish es)) n l) (number wish) s)
-  where
-    pages : (w : Wish) → wished (requests w es) ≡ pages_of es
-    pages Kept = wished-requests 0 es
-    pages Plain = wished-requests 0 es
-
-    number : (w : Wish) → 0 + others (requests w es) ≡ first_count w + (length es + 510) / 511
-    number Kept = let h = others-requests 0 es in omega (arith, h)
-    number Plain = let h = others-requests 0 es in omega (arith, h)
+    subst (λ ys. Sound D pool ys (first_count wish + (length es + 510) / 511) l) (wished_in wish es)
+    (subst (λ n. Sound D pool (wished (requests wish es)) n l) (others_in wish es) s)
 
 lead_is : (ls : List ℕ) (is : List Item) → 1 ≤ length ls → lead (chained ls is) ≡ code (Link (slice_index ls 0))
 lead_is [] is n = absurd (omega (arith, n))

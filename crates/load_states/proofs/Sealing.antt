@@ -73,6 +73,7 @@ module _ (M : Mem) (pool : List ℕ) (wish : Wish) (f : Fill) (k : FillsFrom M p
       record {
         loading = l;
         requests = requests;
+        once = w.once;
         image = w.image;
         memory = w.memory;
         segments = refl;

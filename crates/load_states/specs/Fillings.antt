@@ -53,6 +53,7 @@ pub record FillsFrom (M : Mem) (pool : List ℕ) (wish : Wish) (f : Fill) : Type
 pub record IsSealed (M : Mem) (pool : List ℕ) (wish : Wish) (ss : List Part) (r : Load) : Type 0 where
   pub loading : Loading
   pub requests : loading_of wish ss pool ≡ Some loading
+  pub once : (x : ℕ) → count x pool ≤ 1
   pub image : r.image ≡ image_of wish loading
   pub memory : (p : ℕ) → at r.memory p ≡ memory_of M wish ss loading p
   pub segments : r.segments ≡ ss

@@ -1,11 +1,11 @@
 -- What a load of segments lays.
-use Rattle.std.specs.Prelude.{◌≡◌, ℕ, ◌+◌, ◌/◌, ◌<◌, ◌≤◌, ◌^◌, List, [], ◌∷◌, ◌++◌, Option, Some}
+use Rattle.std.specs.Prelude.{◌≡◌, ℕ, ◌+◌, ◌/◌, ◌<◌, ◌≤◌, ◌^◌, List, [], ◌∷◌, ◌++◌, length, Option, Some, IsSome, ◌↔◌}
 use Rattle.kx_pages.specs.Lists.{count, sources}
 use Rattle.kx_pages.specs.declared.image.Wish.{Wish}
 use Rattle.page_memory.specs.Memory.{Mem}
 use Rattle.kimage_list.specs.Load.{Loading, Entry, Start, page_entries, loaded}
 use Rattle.kimage_list.specs.Laying.{laid, head_of, control_of, mode_of, list_of}
-use Rattle.segments.specs.Parts.{Part, page_count, is_destination, want}
+use Rattle.segments.specs.Parts.{Part, page_count, is_destination, need, want}
 use Rattle.segments.specs.Laws.{AreSegments}
 use Rattle.list_checker.specs.Walk.{IsAccepted, swap_page}
 
@@ -17,6 +17,10 @@ entries_of (s ∷ ss) = Start (s.mem / 4096) ∷ page_entries (s.mem / 4096) (pa
 -- where a load of segments stands that has written all entries, over a pool of these pages
 abbrev pub loading_of : Wish → List Part → List ℕ → Option Loading
 loading_of wish ss pool = loaded (is_destination ss) wish (entries_of ss) pool
+
+-- A load of the segments comes to its end over a pool of these pages exactly where they are as many as it takes.
+abbrev pub LoadsExactly : Wish → List Part → List ℕ → Type 0
+LoadsExactly wish ss pool = IsSome (loading_of wish ss pool) ↔ (need wish ss ≤ length pool)
 
 -- the memory that it leaves: M, but for the list and the sources
 abbrev pub memory_of : Mem → Wish → List Part → Loading → Mem

@@ -6,7 +6,7 @@ use Rattle.kx_pages.specs.declared.image.Mode.TheVariants.{Plain, Kept}
 use Rattle.kx_pages.specs.Lists.{Each, Has, destinations, sources}
 use Rattle.page_memory.specs.Contents.{Contents, at}
 use Rattle.page_memory.specs.Memory.{Mem}
-use Rattle.relocate_machine.specs.Machine.{AreHeld, move_writes}
+use Rattle.relocate_machine.specs.Writes.{AreHeld, move_writes}
 use Rattle.segments.specs.Parts.{want}
 use Rattle.list_checker.specs.Walk.{AcceptedKept, IsAccepted, swap_page, links, pairs}
 use Rattle.load_states.specs.States.{Load, Checked}
