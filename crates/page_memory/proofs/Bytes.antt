@@ -3,8 +3,8 @@ use Rattle.std.proofs.Common.{◌≡◌, ◌∙◌, ℕ, ◌+◌, ◌-◌, ◌�
 use Rattle.std.specs.Prelude.{replicate}
 use Rattle.std.proofs.lemmas.List.{length-replicate, length-append}
 use Rattle.kx_fields.specs.Fields.{IsBlock, with_field, zeros}
-use Rattle.kx_fields.specs.Laws.{length-with_field}
-use Rattle.kx_fields.specs.FormatLaws.{AreBytes-zeros, AreBytes-with_field}
+use Rattle.kx_fields.proofs.Fields.{length-with_field}
+use Rattle.kx_fields.proofs.Bytes.{AreBytes-zeros, AreBytes-with_field}
 use Rattle.page_memory.specs.Contents.{page_of, page_with_word, zero_page}
 use Rattle.page_memory.proofs.Laws.{page_of-fits}
 

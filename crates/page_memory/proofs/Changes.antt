@@ -20,7 +20,7 @@ use Rattle.page_memory.specs.View.{pages_by, AreFrames}
 use Rattle.page_memory.proofs.Laws.{frame_at-found, frame_at-insert_other, frame_at-insert_same, page_of-fits}
 use Rattle.page_memory.proofs.OneFile.{list_zeros, zeros_are}
 use Rattle.kx_fields.specs.Fields.{AreBytes, IsBlock}
-use Rattle.kx_fields.specs.FormatLaws.{AreBytes-append}
+use Rattle.kx_fields.proofs.Bytes.{AreBytes-append}
 use Rattle.kx_laws.proofs.Booleans.{true_false}
 use Rattle.kx_laws.proofs.Lists.{take_front, drop_front}
 use Rattle.kx_laws.proofs.Options.{none_some, some_same}

@@ -14,8 +14,8 @@ use Rattle.std.proofs.Math.Seq.{drop-append-add}
 use Rattle.std.proofs.lemmas.List.{drop-append-le, take-append-le, take-take, drop-take, length-append, length-take, length-drop, drop-drop}
 use Rattle.page_memory.specs.View.{pages_by}
 use Rattle.kx_fields.specs.Fields.{AreBytes, IsBlock}
-use Rattle.kx_fields.specs.Laws.{AreBytes-drop}
-use Rattle.kx_fields.specs.FormatLaws.{AreBytes-take}
+use Rattle.kx_fields.proofs.Fields.{AreBytes-drop}
+use Rattle.kx_fields.proofs.Bytes.{AreBytes-take}
 use Rattle.kx_laws.proofs.Booleans.{true_false}
 use Rattle.kx_laws.proofs.Lists.{take_front, drop_front}
 use Rattle.page_memory.specs.Frames.{frame_in, put_frame, IsTable}

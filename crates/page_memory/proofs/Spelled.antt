@@ -11,7 +11,7 @@ use Rattle.std.proofs.lemmas.List.{length-drop, take-append-drop, append_assoc, 
 use Rattle.byteorder.specs.Endian.{little_bytes}
 use Rattle.page_memory.specs.declared.fault.MemFault.TheVariants as faults
 use Rattle.kx_fields.specs.Fields.{AreBytes, field}
-use Rattle.kx_fields.specs.Laws.{AreBytes-drop, little_bytes-little_number}
+use Rattle.kx_fields.proofs.Fields.{AreBytes-drop, little_bytes-little_number}
 use Rattle.kx_laws.proofs.Booleans.{not_false}
 use Rattle.kx_laws.proofs.Lists.{begins_with}
 use Rattle.kx_laws.proofs.Results.{bind_ok, choose_ok, guard_ok, ok_same}

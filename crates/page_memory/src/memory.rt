@@ -169,7 +169,7 @@ impl Memory {
         write_word(
             &mut self.frames,
             &self.table,
-            page_of_address(a),
+            Page::from_address(a),
             place_of_address(a),
             v,
         );
@@ -219,7 +219,7 @@ impl Memory {
         requires { a < 2 ^ 46 }
         ensures { result ≡ slice_index (at self.now (a / 4096)) (a % 4096) }
     {
-        self.bytes(page_of_address(a))[place_of_address(a)]
+        self.bytes(Page::from_address(a))[place_of_address(a)]
     }
 
     /// The little-endian number in the eight bytes at address `a`, a multiple of 8 below 2^46.
@@ -229,7 +229,7 @@ impl Memory {
         requires aligned { a % 8 ≡ 0 }
         ensures { result ≡ word (at self.now) a }
     {
-        LittleEndian::read_u64(&self.bytes(page_of_address(a))[place_of_address(a)..])
+        LittleEndian::read_u64(&self.bytes(Page::from_address(a))[place_of_address(a)..])
     }
 
     /// Whether the page is these at most 4,096 bytes, then zeros.
@@ -266,14 +266,6 @@ fn is_page_of(page: &[u8], bytes: &[u8]) -> bool
 {
     let (front, back) = page.split_at(bytes.len());
     front == bytes && is_zero(back)
-}
-
-// The page of an address.
-fn page_of_address(a: u64) -> Page
-    requires { a < 2 ^ 46 }
-    ensures { result ≡ a / 4096 }
-{
-    Page::new(a / PAGE_SIZE).unwrap()
 }
 
 // Where in its page an address is.

@@ -2,7 +2,7 @@ use Rattle.std.proofs.Common.{◌≡◌, ◌≤◌, ◌+◌, ◌*◌, ◌-◌, �
 use Rattle.std.specs.Prelude.{replicate, is_some, if◌then◌else◌}
 use Rattle.std.proofs.lemmas.List.{length-take, length-append, length-replicate}
 use Rattle.kx_fields.specs.Fields.{AreBytes, zeros}
-use Rattle.kx_fields.specs.FormatLaws.{AreBytes-take, AreBytes-zeros}
+use Rattle.kx_fields.proofs.Bytes.{AreBytes-take, AreBytes-zeros}
 use Rattle.page_memory.proofs.Changes.{none_in, pages-added, IsTable-added}
 use Rattle.page_memory.proofs.buffer.add_frame.Goals as goal
 

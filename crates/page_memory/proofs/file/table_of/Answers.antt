@@ -7,8 +7,8 @@ use Rattle.page_memory.specs.declared.fault.MemFault.TheVariants.{Memory, Traili
 use Rattle.page_memory.specs.File.{pages_onto}
 use Rattle.std.specs.FinMap as finite
 use Rattle.page_memory.specs.Frames.{pages_in, IsTable}
-use Rattle.kx_fields.specs.Laws.{AreBytes-drop}
-use Rattle.kx_fields.specs.FormatLaws.{AreBytes-take}
+use Rattle.kx_fields.proofs.Fields.{AreBytes-drop}
+use Rattle.kx_fields.proofs.Bytes.{AreBytes-take}
 use Rattle.page_memory.proofs.Reading.{pages_onto-ok, pages_onto-fails, pages_onto-end, pages_onto-trailing}
 use Rattle.kx_fields.specs.Fields.{AreBytes, IsBlock}
 use Rattle.page_memory.proofs.Changes.{IsTable-empty, pages-empty, absent-empty, IsTable-added, pages-added, absent-added}
