@@ -4,8 +4,8 @@ use Rattle.memory_map.specs.Named.{Named, reserved_area}
 use Rattle.kx_pages.specs.Spans.{Run}
 use Rattle.segments.specs.declared.fault.Kind.{Kind}
 use Rattle.segments.specs.declared.fault.Kind.TheVariants.{Normal, Crash}
-use Rattle.kexec_plan.specs.declared.image_type.ImageType.{ImageType}
-use Rattle.kexec_plan.specs.declared.image_type.ImageType.TheVariants as types
+use Rattle.kx_pages.specs.declared.image.ImageType.{ImageType}
+use Rattle.kx_pages.specs.declared.image.ImageType.TheVariants as types
 use Rattle.kexec_plan.specs.declared.fault.Part.{Part}
 use Rattle.kexec_plan.specs.declared.fault.Part.TheVariants as parts
 use Rattle.kexec_plan.specs.declared.fault.PlanFault.{PlanFault}

@@ -4,8 +4,8 @@ use Rattle.std.specs.Borrow.{Bor}
 use Rattle.kx_pages.specs.declared.image.Start.{Start}
 use Rattle.segments.specs.Parts.{Part}
 use Rattle.memory_map.specs.Named.{Named}
-use Rattle.kexec_plan.specs.declared.image_type.ImageType.{ImageType}
-use Rattle.kexec_plan.specs.declared.image_type.ImageType.TheVariants as types
+use Rattle.kx_pages.specs.declared.image.ImageType.{ImageType}
+use Rattle.kx_pages.specs.declared.image.ImageType.TheVariants as types
 use Rattle.kexec_plan.specs.Modules.{AskedModule}
 use Rattle.kexec_plan.specs.declared.request.Request.{Request}
 use Rattle.kexec_plan.specs.declared.request.Planned.{Planned}

@@ -6,7 +6,7 @@ ghost use Rattle.kexec_plan.specs.Formats.{format_of, unused_part};
 
 use crate::fault::{Part, PlanFault};
 use crate::request::Request;
-use crate::image_type::ImageType;
+use kx_pages::ImageType;
 
 /// The form of a kernel's file.
 #[derive(Clone, Copy, Debug, PartialEq, Eq)]

@@ -7,13 +7,11 @@
 
 mod fault;
 mod format;
-mod image_type;
 mod parts;
 mod planning;
 mod request;
 mod rules;
 
 pub use fault::{Part, PlanFault};
-pub use image_type::ImageType;
 pub use planning::plan;
 pub use request::{Module, Planned, Request};

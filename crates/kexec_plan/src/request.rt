@@ -1,7 +1,7 @@
 //! What is to be loaded, and the plan of it.
 
-use crate::image_type::ImageType;
-use kx_pages::Start;
+
+use kx_pages::{ImageType, Start};
 use segments::Segments;
 use std::marker::Model;
 
