@@ -5,7 +5,7 @@ use Rattle.kx_laws.proofs.Options.{some_same, none_some}
 use Rattle.kx_pages.specs.declared.image.Mode.{Mode}
 use Rattle.kx_pages.specs.declared.image.Mode.TheVariants.{Plain, Kept}
 use Rattle.page_memory.specs.Contents.{Contents, at, copied, IsHeld}
-use Rattle.page_memory.specs.Laws.{get-insert_other, held-insert, held-insert_same, held-insert_only}
+use Rattle.page_memory.proofs.Laws.{get-insert_other, held-insert, held-insert_same, held-insert_only}
 use Rattle.relocate_machine.specs.declared.step.Step.{Step}
 use Rattle.relocate_machine.specs.declared.step.Step.TheVariants as steps
 use Rattle.relocate_machine.specs.declared.step.Writes.{Writes}

@@ -10,7 +10,7 @@ use Rattle.kx_pages.specs.declared.image.Mode.{Mode}
 use Rattle.kx_pages.specs.declared.image.Mode.TheVariants.{Plain, Kept}
 use Rattle.page_memory.specs.Contents.{Contents, at, copied}
 use Rattle.page_memory.specs.Memory.{Agree}
-use Rattle.page_memory.specs.Laws.{word-same_page, frame_at-found, get-insert_same, get-insert_other, frame_at-insert_same, frame_at-insert_other}
+use Rattle.page_memory.proofs.Laws.{word-same_page, frame_at-found, get-insert_same, get-insert_other, frame_at-insert_same, frame_at-insert_other}
 use Rattle.relocate_machine.specs.declared.step.Step.{Step}
 use Rattle.relocate_machine.specs.declared.step.Step.TheVariants as steps
 use Rattle.relocate_machine.specs.declared.step.Writes.{Writes}
