@@ -3,7 +3,8 @@
 ghost use Rattle.std.specs.Prelude.{◌≡◌, ◌≤◌, ◌∷◌, [], ℕ, List, length, false, cond, string_bytes, IfOk, IfErr};
 ghost use Rattle.kx_pages.specs.declared.image.Wish.TheVariants.{Kept, Plain};
 ghost use Rattle.kx_pages.specs.declared.item.Item.{Item};
-ghost use Rattle.list_checker.specs.Walk.{IsAccepted, swap_page};
+ghost use Rattle.list_checker.specs.Walk.{IsAccepted};
+ghost use Rattle.kx_pages.specs.Modes.{swap_page};
 ghost use Rattle.segments.specs.Parts.{want};
 ghost use Rattle.page_memory.specs.Contents.{at};
 ghost use Rattle.load_record.specs.File.{record_file};

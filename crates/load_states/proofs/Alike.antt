@@ -6,7 +6,7 @@ use Rattle.kx_pages.specs.declared.item.Item.{Item}
 use Rattle.page_memory.specs.Contents.{at}
 use Rattle.page_memory.specs.Memory.{Mem}
 use Rattle.segments.specs.Parts.{Part, overlay, want}
-use Rattle.list_checker.specs.Walk.{IsAccepted, links, pairs, swap_page}
+use Rattle.list_checker.specs.Walk.{IsAccepted, links, pairs}
 use Rattle.list_checker.proofs.Unique.{walk_same}
 use Rattle.load_states.specs.Exchange.{exchange}
 use Rattle.load_states.specs.Ready.{Told}
@@ -16,6 +16,7 @@ use Rattle.load_states.specs.declared.accepted.Accepted.{Accepted}
 use Rattle.load_states.specs.declared.accepted.Accepted.TheVariants as variants
 use Rattle.load_states.specs.States.{Checked, IsLeftAs, Load, swap_of}
 use Rattle.load_states.proofs.Outside.{walk_in}
+use Rattle.kx_pages.specs.Modes.{swap_page}
 
 -- the memory, as a function
 same_memory : (M N : Mem) → ((p : ℕ) → M p ≡ N p) → M ≡ N

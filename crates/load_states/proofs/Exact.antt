@@ -6,19 +6,23 @@ use Rattle.kx_pages.specs.Lists.{Each, Has, count, destinations, sources}
 use Rattle.kx_pages.specs.declared.image.Wish.{Wish}
 use Rattle.segments.specs.Parts.{Part, is_destination, need, pages}
 use Rattle.segments.specs.Laws.{AreSegments, is_destination-from_Has, Has-from_is_destination, Distinct-pages}
-use Rattle.segments.specs.Elements.{Each-from_Has, Each-left, Each-right}
-use Rattle.kimage_list.specs.Load.{Entry, Start, Move, Loading, Request, begun, first_count, given, loaded, need_of, pages_of, requests, served, starts, taken}
+use Rattle.kimage_list.specs.Load.{Entry, Loading, Request, begun, given, loaded, pages_of, requests, served, starts, taken}
 use Rattle.kimage_list.specs.Counted.{Allowed}
-use Rattle.kimage_list.proofs.Counting.{Full, full_on, length-destinations, no_longer}
+use Rattle.kimage_list.proofs.Counting.{Full, full_on, counted_fit}
 use Rattle.kimage_list.proofs.Enough.{has_of_count, taken_some}
-use Rattle.kimage_list.proofs.Lists.{count-append, eqb-self}
+use Rattle.kimage_list.proofs.Lists.{eqb-self}
 use Rattle.kimage_list.proofs.Parts.{served-append}
-use Rattle.kimage_list.proofs.Standings.{one_served}
+use Rattle.kimage_list.proofs.Standings.{length-entries, one_served}
 use Rattle.kimage_list.proofs.Takes.{others, wished}
+use Rattle.kx_pages.proofs.Lists.{length-sources}
 use Rattle.load_states.specs.Loads.{LoadsExactly, entries_of, loading_of}
 use Rattle.load_states.proofs.FillSteps.{need_same, starts-entries_of}
-use Rattle.load_states.proofs.LaidAccepted.{each_of_count, others_in, served_well, wished_in}
-use Rattle.load_states.proofs.LaidPlan.{count-distinct, pages_of-entries_of}
+use Rattle.load_states.proofs.LaidAccepted.{others_in, served_well, wished_in}
+use Rattle.load_states.proofs.LaidPlan.{pages_of-entries_of}
+use Rattle.kx_pages.proofs.Lists.{Each-left, Each-right, Each-from_Has, length-destinations}
+use Rattle.kx_pages.proofs.Counting.{count-append, Each-from_count}
+use Rattle.kx_pages.specs.Needs.{first_count, need_of}
+use Rattle.kx_pages.proofs.Counting.{count-from_Distinct}
 
 wished-cons : (r : Request) (rs : List Request) → wished (r ∷ []) ++ wished rs ≡ wished (r ∷ rs)
 wished-cons None rs = refl
@@ -60,15 +64,6 @@ full_begun D pool = record {
   ends = ([], refl);
 }
 
-length-sources : (qs : List (ℕ × ℕ)) → length (sources qs) ≡ length qs
-length-sources [] = refl
-length-sources (q ∷ qs) = ap suc (length-sources qs)
-
-length-entries : (es : List Entry) → length es ≡ starts es + length (pages_of es)
-length-entries [] = refl
-length-entries (Start p ∷ es) = omega (arith, length-entries es)
-length-entries (Move p ∷ es) = omega (arith, length-entries es)
-
 module _ (wish : Wish) (ss : List Part) (pool : List ℕ) (k : AreSegments ss) (once : (x : ℕ) → count x pool ≤ 1) where
   spent : pages_of (entries_of ss) ≡ pages ss
   spent = pages_of-entries_of ss
@@ -77,7 +72,7 @@ module _ (wish : Wish) (ss : List Part) (pool : List ℕ) (k : AreSegments ss) (
   size = omega (arith, length-entries (entries_of ss), starts-entries_of ss, ap length spent)
 
   needs : length (pages ss) + (length ss + length (pages ss) + 510) / 511 + first_count wish ≡ need wish ss
-  needs = need_same wish ss (length (pages ss)) (length ss) refl refl
+  needs = need_same wish ss (length ss) (length (pages ss)) refl refl
 
   wishes : wished (requests wish (entries_of ss)) ≡ pages ss
   wishes = wished_in wish (entries_of ss) ∙ spent
@@ -86,15 +81,15 @@ module _ (wish : Wish) (ss : List Part) (pool : List ℕ) (k : AreSegments ss) (
   comes enough =
       serves (is_destination ss) pool (pages ss) (need wish ss) once (λ p h. Has-from_is_destination ss p k.placed h) enough (requests wish (entries_of ss)) [] 0 (begun pool) (full_begun (is_destination ss) pool)
       (subst (Each (λ p. Has p (pages ss))) (sym wishes) (Each-from_Has (λ p. Has p (pages ss)) (pages ss) (λ p h. h)))
-      (λ x. subst (λ ys. count x ys ≤ 1) (sym wishes) (count-distinct x (pages ss) (Distinct-pages ss k.placed k.apart)))
+      (λ x. subst (λ ys. count x ys ≤ 1) (sym wishes) (count-from_Distinct x (pages ss) (Distinct-pages ss k.placed k.apart)))
       (omega (arith, others_in wish (entries_of ss), needs, ap (λ n. (n + 510) / 511) size))
 
   takes : (l : Loading) → loading_of wish ss pool ≡ Some l → need wish ss ≤ length pool
   takes l e =
       let s = served_well wish (is_destination ss) (entries_of ss) pool l once e in
       let used = l.spare ++ sources l.pairs in
-      let few = no_longer (l.spare ++ sources l.pairs) pool (λ x. omega (arith, count-append x l.spare (sources l.pairs), s.conserved x, once x))
-      (each_of_count (λ x. Has x pool) (l.spare ++ sources l.pairs) (λ x n. has_of_count x pool (omega (arith, n, count-append x l.spare (sources l.pairs), s.conserved x)))) in
+      let few = counted_fit (l.spare ++ sources l.pairs) pool (λ x. omega (arith, count-append x l.spare (sources l.pairs), s.conserved x, once x))
+      (Each-from_count (λ x. Has x pool) (l.spare ++ sources l.pairs) (λ x n. has_of_count x pool (omega (arith, n, count-append x l.spare (sources l.pairs), s.conserved x)))) in
       omega (arith, few, length-append l.spare (sources l.pairs), length-sources l.pairs, length-destinations l.pairs, ap length s.order, ap length spent, s.many, needs, ap (λ n. (n + 510) / 511) size)
 
   pub loads_exactly : LoadsExactly wish ss pool

@@ -10,10 +10,10 @@ use Rattle.kx_pages.specs.declared.item.Item.{Item}
 use Rattle.page_memory.specs.Contents.{at}
 use Rattle.page_memory.specs.Memory.{Mem, Wants}
 use Rattle.segments.specs.Parts.{is_destination, need, want}
-use Rattle.kimage_list.specs.Load.{Entry, Loading, Move, Start, first_count}
-use Rattle.kimage_list.specs.Laying.{items, links_of, list_of, mode_of}
-use Rattle.kimage_list.proofs.Lists.{has_count, length-items}
-use Rattle.list_checker.specs.Walk.{Walk, IsAccepted, pairs, pairs_from, swap_page}
+use Rattle.kimage_list.specs.Load.{Entry, Loading, Move, Start}
+use Rattle.kimage_list.specs.Laying.{items, links_of, list_of, load_mode}
+use Rattle.kimage_list.proofs.Lists.{length-items}
+use Rattle.list_checker.specs.Walk.{Walk, IsAccepted, pairs, pairs_from}
 use Rattle.list_checker.proofs.Unique.{walk_same}
 use Rattle.load_states.specs.Exchange.{exchange}
 use Rattle.load_states.specs.Fillings.{IsSealed}
@@ -23,6 +23,9 @@ use Rattle.load_states.specs.Runs.{IsTouched, RestoresOthers}
 use Rattle.load_states.specs.States.{Checked, Load, Returned, swap_of}
 use Rattle.load_states.proofs.LaidAccepted.{pairs-chained, served_well}
 use Rattle.load_states.proofs.Ready.{Undoes, swap_is}
+use Rattle.kx_pages.proofs.Counting.{count-from_Has}
+use Rattle.kx_pages.specs.Needs.{first_count}
+use Rattle.kx_pages.specs.Modes.{swap_page}
 
 -- an accepted list is a walk
 pub walk_in : (M : Mem) (W : Wants) (head control : ℕ) (swap : Option ℕ) (is : List Item) → IsAccepted M W head control swap is → Walk M head is
@@ -59,14 +62,14 @@ module _ (M : Mem) (pool : List ℕ) (wish : Wish) (s : Load) (k : IsSealed M po
       (walk_in (at s.memory) (want s.segments) s.image.head s.image.control (swap_page s.image.mode) t.items t.accepted)
       (walk_in (at s.memory) (want s.segments) s.image.head s.image.control (swap_page s.image.mode) (list_of wish (entries_of s.segments) k.loading) k.accepted) in
       let pairs_are = sym t.same_pairs ∙ ap pairs same ∙ pairs-chained (links_of wish k.loading) 0 (items (entries_of s.segments) k.loading.pairs) room in
-      let used = has_count p (sources k.loading.pairs) (sources_items 0 (entries_of s.segments) k.loading.pairs p (subst (λ qs. Has p (sources qs)) pairs_are h)) in
+      let used = count-from_Has p (sources k.loading.pairs) (sources_items 0 (entries_of s.segments) k.loading.pairs p (subst (λ qs. Has p (sources qs)) pairs_are h)) in
       omega (arith, used, k.in_use p, z)
 
   -- nor the swap page
   pub no_swap : (swap p : ℕ) → swap_page s.image.mode ≡ Some swap → count p (take (need wish s.segments) pool) ≡ 0 → p ≢ swap
   no_swap swap p e z same = by_wish wish k.loading.spare spare_size (ap (λ i. swap_page i.mode) (sym k.image) ∙ e) (ap (λ q. count q (take (need wish s.segments) pool)) (sym same) ∙ z) (k.in_use swap)
     where
-      by_wish : (v : Wish) (xs : List ℕ) → length k.loading.spare ≡ first_count v + (length (entries_of s.segments) + 510) / 511 → swap_page (mode_of v k.loading) ≡ Some swap
+      by_wish : (v : Wish) (xs : List ℕ) → length k.loading.spare ≡ first_count v + (length (entries_of s.segments) + 510) / 511 → swap_page (load_mode v k.loading) ≡ Some swap
           → count swap (take (need wish s.segments) pool) ≡ 0 → count swap k.loading.spare + count swap (sources k.loading.pairs) ≡ count swap (take (need wish s.segments) pool) → ⊥
       by_wish Plain xs n e z u = none_some None swap (λ i. None) e
       by_wish Kept xs n e z u =

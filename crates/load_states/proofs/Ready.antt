@@ -11,9 +11,8 @@ use Rattle.page_memory.specs.Memory.{Mem}
 use Rattle.segments.specs.Parts.{Part, want, overlay}
 use Rattle.segments.specs.Rules.{IsBare}
 use Rattle.segments.specs.Laws.{AreSegments-from_IsBare, Has-from_want, pages_below}
-use Rattle.segments.specs.Elements.{Each-map, Each-both}
 use Rattle.list_checker.specs.declared.earlier.Accept.{Accept}
-use Rattle.list_checker.specs.Walk.{Accepted, AcceptedKept, PairsApart, IsAccepted, swap_page, links, pairs}
+use Rattle.list_checker.specs.Walk.{Accepted, AcceptedKept, PairsApart, IsAccepted, links, pairs}
 use Rattle.list_checker.specs.Checked.{as_pair, IsAccept}
 use Rattle.load_states.specs.States.{Load, Checked, checked_of, swap_of}
 use Rattle.load_states.specs.Exchange.{exchange, partner}
@@ -26,6 +25,9 @@ use Rattle.kx_pages.specs.declared.image.Image.{Image}
 use Rattle.relocate_machine.specs.Machine.{start_at}
 use Rattle.relocate_machine.specs.Run.{HeldFrom, run_of}
 use Rattle.relocate_machine.specs.declared.step.Outcome.TheVariants as outcomes
+use Rattle.kx_pages.proofs.Lists.{Each-map, Each-both}
+use Rattle.kx_pages.specs.Modes.{swap_page}
+use Rattle.kx_laws.proofs.Options.{some_of}
 
 -- each destination of an accepted list is a page
 below : (W : ℕ → Option (List ℕ)) (M : Mem) (qs : List (ℕ × ℕ)) → ((p : ℕ) (b : List ℕ) → W p ≡ Some b → p < 2 ^ 34) → Each (λ q. W q.0 ≡ Some (M q.1)) qs → Each (λ q. q.0 < 2 ^ 34) qs
@@ -194,10 +196,6 @@ undoes c r N leaves =
           (same (partner c.pairs p) (no_source_wanted (want c.load.segments) c.pairs (swap_of c.load) a.0 a.1 (at c.load.memory) N leaves whole p s));
       sources = sources_get (want c.load.segments) c.pairs (swap_of c.load) a.0 a.1 (at c.load.memory) N leaves;
     }
-
-some_of : (o : Option (List ℕ)) → IsSome o → (b : List ℕ) × (o ≡ Some b)
-some_of None h = absurd cc
-some_of (Some b) h = (b, refl)
 
 destination_held : (m : Contents) (swap p : ℕ) (qs : List (ℕ × ℕ)) → HoldsPairs m (Kept swap) qs → Has p (destinations qs) → IsHeld m p
 destination_held m swap p [] h i = absurd i

@@ -13,9 +13,10 @@ use Rattle.kimage_list.specs.Writers.{Writer, writer_code, StandsAt}
 use Rattle.kimage_list.specs.Writers as writers
 use Rattle.segments.specs.Parts.{Part, is_destination, want, need}
 use Rattle.segments.specs.Laws.{AreSegments}
-use Rattle.list_checker.specs.Walk.{IsAccepted, swap_page}
+use Rattle.list_checker.specs.Walk.{IsAccepted}
 use Rattle.load_states.specs.States.{Load, part_code}
 use Rattle.load_states.specs.Loads.{entries_of, loading_of, memory_of}
+use Rattle.kx_pages.specs.Modes.{swap_page}
 
 -- What a clause sees of a load while its segments are written.
 pub record Fill : Type 0 where
@@ -33,7 +34,7 @@ left f = length f.segments - f.written
 -- The writer stands behind these entries of a load of the segments, which began with memory M and a pool of these pages,
 -- and each destination so far was given what it is to have.
 pub record Fills (M : Mem) (pool : List ℕ) (wish : Wish) (ss : List Part) (es : List Entry) (w : Writer) : Type 0 where
-  pub load : writers.Load
+  pub load : writers.History
   pub stands : StandsAt load w
   pub from_memory : load.before ≡ M
   pub from_pool : load.pool ≡ pool

@@ -4,10 +4,11 @@ use Rattle.kx_pages.specs.Lists.{count, sources}
 use Rattle.kx_pages.specs.declared.image.Wish.{Wish}
 use Rattle.page_memory.specs.Memory.{Mem}
 use Rattle.kimage_list.specs.Load.{Loading, Entry, Start, page_entries, loaded}
-use Rattle.kimage_list.specs.Laying.{laid, head_of, control_of, mode_of, list_of}
+use Rattle.kimage_list.specs.Laying.{laid, head_of, control_of, load_mode, list_of}
 use Rattle.segments.specs.Parts.{Part, page_count, is_destination, need, want}
 use Rattle.segments.specs.Laws.{AreSegments}
-use Rattle.list_checker.specs.Walk.{IsAccepted, swap_page}
+use Rattle.list_checker.specs.Walk.{IsAccepted}
+use Rattle.kx_pages.specs.Modes.{swap_page}
 
 -- the entries of segments: of each its destination entry, and a source entry for each of its pages
 abbrev pub entries_of : List Part → List Entry
@@ -32,4 +33,4 @@ abbrev pub LoadIsAccepted : Type 0
 LoadIsAccepted =
     (M : Mem) (wish : Wish) (ss : List Part) (pool : List ℕ) (l : Loading) → AreSegments ss → ((x : ℕ) → count x pool ≤ 1) →
     ((x : ℕ) → 1 ≤ count x l.spare + count x (sources l.pairs) → x < 2 ^ 34) → loading_of wish ss pool ≡ Some l →
-    IsAccepted (memory_of M wish ss l) (want ss) (head_of wish l) (control_of l) (swap_page (mode_of wish l)) (list_of wish (entries_of ss) l)
+    IsAccepted (memory_of M wish ss l) (want ss) (head_of wish l) (control_of l) (swap_page (load_mode wish l)) (list_of wish (entries_of ss) l)

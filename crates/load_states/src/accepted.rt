@@ -6,7 +6,7 @@ ghost use Rattle.page_memory.specs.Contents.{at};
 ghost use Rattle.relocate_machine.specs.Writes.{AreHeld, move_writes};
 ghost use Rattle.segments.specs.Parts.{overlay, want};
 ghost use Rattle.segments.specs.Rules.{IsBare};
-ghost use Rattle.list_checker.specs.Walk.{swap_page};
+ghost use Rattle.kx_pages.specs.Modes.{swap_page};
 ghost use Rattle.list_checker.specs.Checked.{as_pair, IsAccept};
 ghost use Rattle.load_states.specs.Exchange.{exchange};
 ghost use Rattle.load_states.specs.States.{swap_of, with_memory, checked_of};
