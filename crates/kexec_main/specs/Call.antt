@@ -1,8 +1,8 @@
 -- What each answer of the top call says, by the words after the program's name.
 use Rattle.std.specs.Prelude.{◌≡◌, ◌≤◌, ℕ, Option, Some, None, is_some, if◌then◌else◌, cond, Result, Ok, Err, List, [], ◌∷◌, length}
 use Rattle.kexec_words.specs.declared.faults.UsageWhy.{UsageWhy}
-use Rattle.kexec_words.specs.declared.commands.ImageType.{ImageType}
-use Rattle.kexec_words.specs.declared.commands.ImageType.TheVariants as image
+use Rattle.kx_pages.specs.declared.image.ImageType.{ImageType}
+use Rattle.kx_pages.specs.declared.image.ImageType.TheVariants as image
 use Rattle.kexec_words.specs.Values.{CommandValue, InputsValue, BootValue, ExecValue, LoadValue, boot, load, load_panic, check, dump, exec, trace, sample}
 use Rattle.kexec_main.specs.declared.boot.Raw.{Raw}
 use Rattle.kexec_main.specs.declared.status.NotBuilt.{NotBuilt}

@@ -16,8 +16,9 @@ use crate::dump::dump;
 use crate::exec::exec;
 use crate::status::{NotBuilt, Status};
 use crate::trace::trace;
-use kexec_words::{Boot, Command, ImageType, Inputs, Load, WordsFault, read};
+use kexec_words::{Boot, Command, Inputs, Load, WordsFault, read};
 use kx_edge::{Shelf, Sink};
+use kx_pages::ImageType;
 use std::alloc::Global;
 
 // Where a raw kernel goes and is entered; or what of the request is not built yet.

@@ -15,7 +15,7 @@ use Rattle.kexec_words.specs.Apps.{boot_app, load_app, load_panic_app, check_app
 use Rattle.kexec_words.specs.declared.commands.Command.{Command}
 use Rattle.kexec_words.specs.declared.faults.WordsFault.{WordsFault}
 use Rattle.kexec_words.specs.Limits.{HasParts, IsWithinLimits, HasOutputsApart}
-use Rattle.kexec_words.specs.declared.commands.ImageType.{ImageType}
+use Rattle.kx_pages.specs.declared.image.ImageType.{ImageType}
 use Rattle.kexec_words.specs.declared.numbers.PlanNumbers.{PlanNumbers}
 use Rattle.kexec_words.specs.declared.numbers.TraceNumbers.{TraceNumbers}
 use Rattle.kexec_words.specs.declared.faults.Which.{Which}
