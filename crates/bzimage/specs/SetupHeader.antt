@@ -1,0 +1,26 @@
+-- The setup header of a bzImage (Linux/x86 boot protocol, "The Real-Mode Kernel Header"), as far as a loader of the 64-bit
+-- entry reads it. Places count bytes from the file's start.
+use Rattle.std.specs.Prelude.{[], ◌∷◌, refl}
+use Rattle.kx_fields.specs.Formats.{Format, IsFormat}
+use Rattle.bzimage.specs.declared.setup_header.SetupHeader.{SetupHeader}
+
+abbrev pub setup_header : Format SetupHeader
+setup_header = record {
+  layout = λ at. record {
+    setup_sects = at 0x1f1 1;
+    jump = at 0x201 1;
+    version = at 0x206 2;
+    loadflags = at 0x211 1;
+    initrd_addr_max = at 0x22c 4;
+    kernel_alignment = at 0x230 4;
+    relocatable_kernel = at 0x234 1;
+    xloadflags = at 0x236 2;
+    cmdline_size = at 0x238 4;
+    pref_address = at 0x258 8;
+    init_size = at 0x260 4;
+  };
+  numbers = λ h. h.setup_sects ∷ h.jump ∷ h.version ∷ h.loadflags ∷ h.initrd_addr_max ∷ h.kernel_alignment ∷ h.relocatable_kernel ∷ h.xloadflags ∷ h.cmdline_size ∷ h.pref_address ∷ h.init_size ∷ [];
+}
+
+pub setup_header_is : IsFormat 0x264 setup_header
+setup_header_is = record { numbered = λ at fits. refl; whole = λ at fits. refl; apart = refl }
