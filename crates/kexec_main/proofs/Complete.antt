@@ -6,13 +6,13 @@ use Rattle.kx_pages.proofs.Same.{same_spans}
 use Rattle.kx_edge.specs.Edge.{Files, Rose}
 use Rattle.list_checker.specs.declared.fault.ListFault.{ListFault}
 use Rattle.memory_map.specs.Named.{Named}
-use Rattle.segments.specs.Parts.{Part, need}
+use Rattle.segments.specs.Values.{SegmentValue, need}
 use Rattle.segments.specs.Rules.{refusal}
 use Rattle.segments.specs.declared.fault.SegFault.{SegFault}
 use Rattle.segments.specs.declared.fault.Kind.TheVariants.{Normal}
 use Rattle.kexec_words.specs.declared.faults.UsageWhy.{UsageWhy}
 use Rattle.kexec_words.specs.Values.{CommandValue, BootValue, LoadValue, boot, load}
-use Rattle.kexec_main.specs.declared.status.Part.{Part as UnusedPart}
+use Rattle.kexec_main.specs.declared.status.SegmentValue.{SegmentValue as UnusedPart}
 use Rattle.kexec_main.specs.declared.status.PlanFault.{PlanFault}
 use Rattle.kexec_main.specs.declared.status.PlanFault.TheVariants as plans
 use Rattle.kexec_main.specs.Answers.{Answer, Goods, IsOut, Moment, TakeOrder, Meets, done, not_accepted, usage, unread, unwritten, unsaid, too_long, input, plan, no_pages, heavy, not_kept, not_built, memory}
@@ -38,7 +38,7 @@ accepted_not : (f : SegFault) → ◌≡◌ {A = Option SegFault} None (Some f) 
 accepted_not f e = cc
 
 -- segments have one first refusal
-one_refusal : (map : Option Named) (ss : List Part) (f : SegFault) → IsRefusal map ss None → IsRefusal map ss (Some f) → ⊥
+one_refusal : (map : Option Named) (ss : List SegmentValue) (f : SegFault) → IsRefusal map ss None → IsRefusal map ss (Some f) → ⊥
 one_refusal None ss f a b = accepted_not f (sym a ∙ b)
 one_refusal (Some map) ss f a b =
     let same = same_spans 0 0 a.0 b.0 a.1 b.1 (λ q. a.2 q ∙ sym (b.2 q)) in
@@ -53,7 +53,7 @@ unrefused None makes r e h = h
 unrefused (Some part) makes r e h = absurd cc
 
 -- nothing refuses a load
-plans_not : (wish : Wish) (ss : List Part) (i : Inputs) (fault : PlanFault) → IsRefusal i.map ss None → RefusesLoad wish ss i (plan fault) → ⊥
+plans_not : (wish : Wish) (ss : List SegmentValue) (i : Inputs) (fault : PlanFault) → IsRefusal i.map ss None → RefusesLoad wish ss i (plan fault) → ⊥
 plans_not wish ss i (plans.Segments f) ruled h = one_refusal i.map ss f ruled h
 plans_not wish ss i (plans.Unused part) ruled h = h
 
@@ -97,7 +97,7 @@ module _ (order : TakeOrder) (reads : Files → Result Inputs Answer) (makes : I
   meets_ends (not_built w) h = absurd (refused_none (not_built w) h.2)
 
 -- nothing refuses what is in order
-module _ (wish : Wish) (ss : List Part) (i : Inputs) (ruled : IsRefusal i.map ss None) (enough : need wish ss ≤ length i.pool) where
+module _ (wish : Wish) (ss : List SegmentValue) (i : Inputs) (ruled : IsRefusal i.map ss None) (enough : need wish ss ≤ length i.pool) where
   loads_not : (a : Answer) → RefusesLoad wish ss i a → ⊥
   loads_not (plan f) h = plans_not wish ss i f ruled h
   loads_not (no_pages left n) h = too_few (length i.pool) (need wish ss) left n enough h.1.0 h.1.1 h.1.2

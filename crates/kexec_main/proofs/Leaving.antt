@@ -7,7 +7,7 @@ use Rattle.kexec_words.specs.declared.commands.Runs.{Runs}
 use Rattle.kexec_words.specs.declared.commands.Runs.TheVariants.{Once, Twice}
 use Rattle.kimage_list.specs.Laying.{mode_with, swap_of}
 use Rattle.page_memory.specs.Contents.{at}
-use Rattle.segments.specs.Parts.{Part}
+use Rattle.segments.specs.Values.{SegmentValue}
 use Rattle.load_states.specs.States.{Checked}
 use Rattle.load_states.specs.Ready.{Told}
 use Rattle.load_states.proofs.Ready.{once_arrives, twice_returns}
@@ -28,7 +28,7 @@ has_mode : (runs : Option Runs) (swap : ℕ) → HasMode runs (mode_with (wish_o
 has_mode None swap = tt
 has_mode (Some runs) swap = tt
 
-pub leaves_of : (runs : Option Runs) (ss : List Part) (i : Inputs) (c : Checked) → IsLoaded (wish_of runs) ss i c → Leaves runs c (after_runs runs c)
+pub leaves_of : (runs : Option Runs) (ss : List SegmentValue) (i : Inputs) (c : Checked) → IsLoaded (wish_of runs) ss i c → Leaves runs c (after_runs runs c)
 leaves_of runs ss i c l =
     leaves_by runs c (mode_with (wish_of runs) (swap_of l.laid.loading)) (ap (λ i. i.mode) l.laid.image) (has_mode runs (swap_of l.laid.loading)) l.told
 

@@ -8,12 +8,12 @@ use Rattle.kx_pages.specs.declared.image.Mode.TheVariants as modes
 use Rattle.kexec_words.specs.declared.commands.Runs.{Runs}
 use Rattle.page_memory.specs.Contents.{at}
 use Rattle.page_memory.specs.Memory.{Mem, Agree}
-use Rattle.segments.specs.Parts.{Part, need}
+use Rattle.segments.specs.Values.{SegmentValue, need}
 use Rattle.load_states.specs.States.{Load, Checked}
 use Rattle.load_states.specs.Ready.{Told}
 use Rattle.load_states.specs.Fillings.{IsSealed}
 use Rattle.load_record.specs.File.{Record, record_file}
-use Rattle.kexec_main.specs.declared.status.Part.{Part as UnusedPart}
+use Rattle.kexec_main.specs.declared.status.SegmentValue.{SegmentValue as UnusedPart}
 use Rattle.kexec_main.specs.declared.status.PlanFault.TheVariants as plans
 use Rattle.kexec_main.specs.Answers.{Answer, Goods, answer_of, plan, no_pages, heavy, memory}
 use Rattle.kexec_main.specs.declared.status.Status.{Status}
@@ -44,29 +44,29 @@ start_at entry = record { entry = entry; rax = 0; rbx = 0; rsi = 0 }
 
 -- The segments meet the rules, the pool suffices, and this is the load that the rules of taking pages and laying a list
 -- give, with so many words, link pages and these pairs in its accepted list.
-pub record IsLoaded (wish : Wish) (ss : List Part) (i : Inputs) (c : Checked) : Type 0 where
+pub record IsLoaded (wish : Wish) (ss : List SegmentValue) (i : Inputs) (c : Checked) : Type 0 where
   pub ruled : IsRefusal i.map ss None
   pub enough : need wish ss ≤ length i.pool
   pub laid : IsSealed (at i.memory) i.pool wish ss c.load
   pub told : Told c.load c.words c.links c.pairs
 
 -- a refusal of the plan, or of the load for its pages
-abbrev pub RefusesLoad : Wish → List Part → Inputs → Answer → Type 0
+abbrev pub RefusesLoad : Wish → List SegmentValue → Inputs → Answer → Type 0
 RefusesLoad wish ss i (plan (plans.Segments fault)) = IsRefusal i.map ss (Some fault)
 RefusesLoad wish ss i (no_pages left n) = IsRefusal i.map ss None × LoadsNot i.pool wish ss (no_pages left n)
 RefusesLoad wish ss i other = ⊥
 
 -- planning and loading
-abbrev pub RefusesOr : Wish → List Part → Inputs → Answer → Type 0
+abbrev pub RefusesOr : Wish → List SegmentValue → Inputs → Answer → Type 0
 RefusesOr wish ss i memory = Unit {0}
 RefusesOr wish ss i other = RefusesLoad wish ss i other
 
-abbrev pub LoadsRaw : Wish → List Part → Inputs → Result Load Status → Type 0
+abbrev pub LoadsRaw : Wish → List SegmentValue → Inputs → Result Load Status → Type 0
 LoadsRaw wish ss i (Ok load) = IsRefusal i.map ss None × (need wish ss ≤ length i.pool) × IsSealed (at i.memory) i.pool wish ss load
 LoadsRaw wish ss i (Err status) = RefusesOr wish ss i (answer_of status)
 
 -- what `boot` makes where no part is given that the kernel has no use for
-abbrev pub boots_segments : List Part → ℕ → Option Runs → Wish → List ℕ → Inputs → Result Goods Answer → Type 0
+abbrev pub boots_segments : List SegmentValue → ℕ → Option Runs → Wish → List ℕ → Inputs → Result Goods Answer → Type 0
 boots_segments ss entry runs wish out i (Ok goods) =
     (c : Checked) × IsLoaded wish ss i c × (goods.text ≡ run_text runs c (start_at entry)) × (goods.fault ≡ None) × IsOneFile goods out (after_runs runs c)
 boots_segments ss entry runs wish out i (Err (heavy count)) = (c : Checked) × IsLoaded wish ss i c × IsTooHeavy (after_runs runs c) count
@@ -94,7 +94,7 @@ abbrev pub record_of_load : Load → Start → Record
 record_of_load load start = record { crash = false; image = load.image; start = start; regions = 0; digest = 0; segments = load.segments }
 
 -- what `load` makes: the memory after the load, and its record
-abbrev pub loads_segments : List Part → ℕ → Wish → List ℕ → List ℕ → Inputs → Result Goods Answer → Type 0
+abbrev pub loads_segments : List SegmentValue → ℕ → Wish → List ℕ → List ℕ → Inputs → Result Goods Answer → Type 0
 loads_segments ss entry wish out load_record i (Ok goods) =
     (c : Checked) × IsLoaded wish ss i c × (goods.text ≡ list_text c (start_at entry)) × (goods.fault ≡ None)
     × (bytes : List ℕ) × IsFileOf (at c.load.memory) bytes

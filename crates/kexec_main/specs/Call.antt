@@ -13,7 +13,7 @@ use Rattle.kx_pages.specs.declared.image.Wish.{Wish}
 use Rattle.kx_pages.specs.declared.image.Wish.TheVariants as wishes
 use Rattle.page_memory.specs.Contents.{at}
 use Rattle.page_memory.specs.Memory.{Mem}
-use Rattle.segments.specs.Parts.{Part, need}
+use Rattle.segments.specs.Values.{SegmentValue, need}
 use Rattle.load_record.specs.File.{record_file}
 use Rattle.load_states.specs.States.{Checked}
 use Rattle.load_states.specs.Ready.{Told}
@@ -82,7 +82,7 @@ Answers (Err why) before after memory = Untouched before after × Calm before af
 Answers (Err why) before after other = ⊥
 
 -- the segments of a raw kernel of these bytes
-abbrev pub segments_of : ImageType → List ℕ → List Part
+abbrev pub segments_of : ImageType → List ℕ → List SegmentValue
 segments_of im kernel = raw_segment (address_of im) kernel ∷ []
 
 -- What stands after `boot` answered Done, where files were told: all that the words name was read; the pool sufficed; the

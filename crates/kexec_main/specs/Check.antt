@@ -2,7 +2,7 @@
 use Rattle.std.specs.Prelude.{◌≡◌, true, false, List, [], length, codes, ◌++◌, Option, Some, None, Result, Ok, Err}
 use Rattle.kx_pages.specs.declared.item.Item.{Item}
 use Rattle.page_memory.specs.Contents.{at}
-use Rattle.segments.specs.Parts.{want}
+use Rattle.segments.specs.Values.{want}
 use Rattle.list_checker.specs.declared.fault.ListFault.{ListFault}
 use Rattle.list_checker.specs.Walk.{IsAccepted, swap_page, links, pairs}
 use Rattle.list_checker.specs.Checked.{IsFirstFault}

@@ -4,7 +4,7 @@ ghost use Rattle.std.specs.Prelude.{◌≡◌, ◌≤◌, ◌∷◌, [], ℕ, Li
 ghost use Rattle.kx_pages.specs.declared.image.Wish.TheVariants.{Kept, Plain};
 ghost use Rattle.kx_pages.specs.declared.item.Item.{Item};
 ghost use Rattle.list_checker.specs.Walk.{IsAccepted, swap_page};
-ghost use Rattle.segments.specs.Parts.{want};
+ghost use Rattle.segments.specs.Values.{want};
 ghost use Rattle.page_memory.specs.Contents.{at};
 ghost use Rattle.load_record.specs.File.{record_file};
 ghost use Rattle.page_pool.specs.Pages.{is_filed};
@@ -20,7 +20,7 @@ use crate::deliver::{Goods, Output, deliver};
 use crate::loading::{load, plan, unused_part};
 use crate::output::memory_output;
 use crate::running::run_loaded;
-use crate::status::{Part, PlanFault, Status};
+use crate::status::{SegmentValue, PlanFault, Status};
 use crate::take::{Taken, take_inputs};
 use crate::text::load_lines;
 use kexec_words::{Boot, Load, Runs};
@@ -172,7 +172,7 @@ fn load_goods(
 }
 
 // Refuses a part that a raw kernel has no use for.
-fn refuse_unused(unused: Option<Part>) -> Result<(), Status>
+fn refuse_unused(unused: Option<SegmentValue>) -> Result<(), Status>
     ensures { IsUnused unused result }
 {
     match unused {

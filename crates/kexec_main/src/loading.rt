@@ -6,7 +6,7 @@ ghost use Rattle.page_memory.specs.Contents.{at};
 ghost use Rattle.page_memory.specs.Memory.{Mem};
 ghost use Rattle.page_pool.specs.Pages.{is_filed};
 ghost use Rattle.list_checker.specs.Walk.{IsAccepted, swap_page};
-ghost use Rattle.segments.specs.Parts.{want};
+ghost use Rattle.segments.specs.Values.{want};
 ghost use Rattle.kx_pages.specs.declared.item.Item.{Item};
 ghost use Rattle.load_states.specs.Answers.{IsAcceptedAs};
 ghost use Rattle.load_states.specs.Fillings.{FillsFrom, IsSealed};
@@ -14,7 +14,7 @@ ghost use Rattle.kexec_words.specs.Values.{inputs_value};
 ghost use Rattle.kexec_main.specs.Answers.{answer_of, memory};
 ghost use Rattle.kexec_main.specs.Planning.{unused_part, raw_segment, Tests, Plans, LoadsInto};
 
-use crate::status::{Part, PlanFault, Status};
+use crate::status::{SegmentValue, PlanFault, Status};
 use kexec_words::Inputs;
 use kimage_list::BeginFault;
 use kx_pages::Wish;
@@ -27,15 +27,15 @@ use segments::{Kind, SegFault, Segment, Segments};
 use std::alloc::{AllocError, Global};
 
 /// The first part that is given and that a raw kernel has no use for.
-pub(crate) fn unused_part(inputs: &Inputs) -> Option<Part>
+pub(crate) fn unused_part(inputs: &Inputs) -> Option<SegmentValue>
     ensures { result ≡ unused_part (inputs_value inputs.now) }
 {
     if inputs.initrd.is_some() {
-        Some(Part::Initrd)
+        Some(SegmentValue::Initrd)
     } else if !inputs.modules.is_empty() {
-        Some(Part::Module)
+        Some(SegmentValue::Module)
     } else if inputs.command.is_some() {
-        Some(Part::Command)
+        Some(SegmentValue::Command)
     } else {
         None
     }

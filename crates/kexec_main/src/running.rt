@@ -3,7 +3,7 @@
 ghost use Rattle.std.specs.Prelude.{◌≡◌, ◌++◌, List, length, IfOk, IfErr, Some, None, string_bytes};
 ghost use Rattle.kx_pages.specs.declared.item.Item.{Item};
 ghost use Rattle.list_checker.specs.Walk.{IsAccepted, swap_page};
-ghost use Rattle.segments.specs.Parts.{want};
+ghost use Rattle.segments.specs.Values.{want};
 ghost use Rattle.kexec_main.specs.Answers.{answer_of, memory};
 ghost use Rattle.kexec_main.specs.Boot.{HasMode, RunsLoaded};
 ghost use Rattle.page_memory.specs.Contents.{at};

@@ -1,16 +1,12 @@
-use Rattle.std.proofs.Common.{◌≡◌, ℕ, ◌<◌, List, Some, sym, ap, ◌∙◌, arith, length, set, get_or}
+use Rattle.std.proofs.Common.{◌≡◌, ℕ, List, sym, ap, ◌∙◌, arith, length, set}
 use Rattle.std.specs.Prelude.{slice_get}
-use Rattle.std.proofs.lemmas.Option.{slice_get-get_or}
-use Rattle.segments.specs.Parts.{Part}
-use Rattle.segments.specs.Laws.{some_same}
+use Rattle.segments.specs.Values.{SegmentValue}
+use Rattle.kx_laws.proofs.Options.{some_same}
 use Rattle.segments.proofs.Alike.{Alike, has_pages_set}
-use Rattle.segments.proofs.Segments.replace.Goals as goal
+use Rattle.segments.proofs.Steps.{got}
+use Rattle.segments.proofs.list.Segments.replace.Goals as goal
 
--- the segment at place i
-got : (ss ts : List Part) (i : ℕ) (s : Part) → ss ≡ ts → i < length ts → s ≡ get_or ss i s → slice_get ts i ≡ Some s
-got ss ts i s e l f = slice_get-get_or ts i s l ∙ ap Some (ap (λ xs. get_or xs i s) (sym e) ∙ sym f)
-
-changed : (s t : Part) (bytes : List ℕ) → s ≡ t → length bytes ≡ length s.bytes → Alike t (record { bytes = bytes; mem = s.mem; memsz = s.memsz })
+changed : (s t : SegmentValue) (bytes : List ℕ) → s ≡ t → length bytes ≡ length s.bytes → Alike t (record { bytes = bytes; mem = s.mem; memsz = s.memsz })
 changed s t bytes e l = record { mem = ap (λ x. x.mem) (sym e); memsz = ap (λ x. x.memsz) (sym e); long = ap (λ x. length x.bytes) (sym e) ∙ sym l }
 
 pub copy_from_slice-requires : goal.copy_from_slice-requires
@@ -30,7 +26,7 @@ invariant_of-self c =
     (c.behind-self.view_is ∙ some_same part s (sym at ∙ ap (λ xs. slice_get xs c.args.i) (sym c.self.view_is) ∙ e)) long)
 
 -- the list with these bytes
-written : (ss ts : List Part) (i : ℕ) (s t : Part) (xs ys : List ℕ) → ss ≡ ts → s ≡ t → xs ≡ ys → set ss i (record { bytes = xs; mem = s.mem; memsz = s.memsz }) ≡ set ts i (record { bytes = ys; mem = t.mem; memsz = t.memsz })
+written : (ss ts : List SegmentValue) (i : ℕ) (s t : SegmentValue) (xs ys : List ℕ) → ss ≡ ts → s ≡ t → xs ≡ ys → set ss i (record { bytes = xs; mem = s.mem; memsz = s.memsz }) ≡ set ts i (record { bytes = ys; mem = t.mem; memsz = t.memsz })
 written ss ts i s t xs ys e f g = cc
 
 pub returns : goal.returns

@@ -1,7 +1,7 @@
 use Rattle.std.proofs.Common.{arith, length, ap}
-use Rattle.segments.specs.Parts.{pages}
-use Rattle.segments.specs.Laws.{AreSegments-from_IsBare}
-use Rattle.segments.proofs.Segments.pages.Goals as goal
+use Rattle.segments.specs.Values.{pages}
+use Rattle.segments.proofs.Laws.{AreSegments-from_IsBare}
+use Rattle.segments.proofs.list.Segments.pages.Goals as goal
 
 pub total-requires : goal.total-requires
 total-requires c =

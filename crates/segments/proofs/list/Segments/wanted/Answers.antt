@@ -1,12 +1,12 @@
 use Rattle.std.proofs.Common.{◌≡◌, ℕ, Option, List, Some, None, sym, ap, ◌∙◌, arith, length, ◌≤◌}
 use Rattle.std.specs.Option.{option_map}
 use Rattle.page_memory.specs.Contents.{page_of}
-use Rattle.segments.specs.Parts.{Part, want, wanted}
-use Rattle.segments.specs.Laws.{want-wanted}
+use Rattle.segments.specs.Values.{SegmentValue, want, wanted}
+use Rattle.segments.proofs.Laws.{want-wanted}
 use Rattle.segments.proofs.Steps.{want_here, drop_all}
-use Rattle.segments.proofs.Segments.wanted.Goals as goal
+use Rattle.segments.proofs.list.Segments.wanted.Goals as goal
 
-filled : (ss ts : List Part) (n p : ℕ) (o : Option (List ℕ)) → ss ≡ ts → n ≡ p → wanted ss n ≡ o → option_map page_of o ≡ want ts p
+filled : (ss ts : List SegmentValue) (n p : ℕ) (o : Option (List ℕ)) → ss ≡ ts → n ≡ p → wanted ss n ≡ o → option_map page_of o ≡ want ts p
 filled ss ts n p o e f g =
     sym (ap (option_map page_of) g) ∙ ap (λ xs. option_map page_of (wanted xs n)) e ∙ ap (λ q. option_map page_of (wanted ts q)) f ∙ sym (want-wanted ts p)
 
