@@ -12,6 +12,7 @@ use Rattle.kexec_plan.specs.declared.format.Format.TheVariants.{Raw, Elf, Bzimag
 use Rattle.kexec_plan.specs.Requests.{Asked, Plan, is_raw}
 use Rattle.kexec_plan.specs.Formats.{format_of, kind_of, unused_part}
 use Rattle.kexec_plan.specs.Parts.{raw_segment, start_at}
+use Rattle.kexec_plan.specs.Kernels.{elf_kernel}
 use Rattle.kexec_plan.specs.Rules.{tested}
 
 -- the plan of these segments, without a purgatory
@@ -24,10 +25,16 @@ plain_plan map kind ss start = do
 abbrev pub raw_plan : Asked → Option Named → Kind → ℕ → ℕ → Result Plan PlanFault
 raw_plan r map kind at entry = plain_plan map kind (raw_segment at r.kernel ∷ []) (start_at entry)
 
+-- the plan of an ELF executable
+unfoldable pub elf_plan : Asked → Option Named → Kind → Result Plan PlanFault
+elf_plan r map kind = do
+  kernel ← elf_kernel r.kernel
+  plain_plan map kind kernel.list (start_at kernel.entry)
+
 -- the plan of a kernel of this form
 abbrev pub plan_as : Asked → Option Named → Kind → Format → Result Plan PlanFault
 plan_as r map kind (Raw at entry) = raw_plan r map kind at entry
-plan_as r map kind Elf = Err faults.UnknownImage
+plan_as r map kind Elf = elf_plan r map kind
 plan_as r map kind Bzimage = Err faults.UnknownImage
 plan_as r map kind Multiboot = Err faults.UnknownImage
 
