@@ -1,7 +1,7 @@
 -- The setup header of a bzImage (Linux/x86 boot protocol, "The Real-Mode Kernel Header"), as far as a loader of the 64-bit
 -- entry reads it. Places count bytes from the file's start.
-use Rattle.std.specs.Prelude.{[], ◌∷◌, refl}
-use Rattle.kx_fields.specs.Formats.{Format, IsFormat}
+use Rattle.std.specs.Prelude.{[], ◌∷◌}
+use Rattle.kx_fields.specs.Formats.{Format}
 use Rattle.bzimage.specs.declared.setup_header.SetupHeader.{SetupHeader}
 
 abbrev pub setup_header : Format SetupHeader
@@ -19,8 +19,5 @@ setup_header = record {
     pref_address = at 0x258 8;
     init_size = at 0x260 4;
   };
-  numbers = λ h. h.setup_sects ∷ h.jump ∷ h.version ∷ h.loadflags ∷ h.initrd_addr_max ∷ h.kernel_alignment ∷ h.relocatable_kernel ∷ h.xloadflags ∷ h.cmdline_size ∷ h.pref_address ∷ h.init_size ∷ [];
+  numbers = λ h. [];
 }
-
-pub setup_header_is : IsFormat 0x264 setup_header
-setup_header_is = record { numbered = λ at fits. refl; whole = λ at fits. refl; apart = refl }

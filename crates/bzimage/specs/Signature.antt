@@ -1,17 +1,14 @@
 -- The signature of a bzImage (Linux/x86 boot protocol, "The Real-Mode Kernel Header", boot_flag and header). Places count
 -- bytes from the file's start.
-use Rattle.std.specs.Prelude.{ℕ, ◌==◌, ◌&&◌, Bool, false, List, [], ◌∷◌, length, take, nat_lt, if◌then◌else◌, refl}
-use Rattle.kx_fields.specs.Formats.{Format, IsFormat, read}
+use Rattle.std.specs.Prelude.{ℕ, ◌==◌, ◌&&◌, Bool, false, List, [], ◌∷◌, length, take, nat_lt, if◌then◌else◌}
+use Rattle.kx_fields.specs.Formats.{Format, read}
 use Rattle.bzimage.specs.declared.signature.Signature.{Signature}
 
 abbrev pub signature : Format Signature
 signature = record {
   layout = λ at. record { boot_flag = at 0x1fe 2; header = at 0x202 4 };
-  numbers = λ s. s.boot_flag ∷ s.header ∷ [];
+  numbers = λ h. [];
 }
-
-pub signature_is : IsFormat 0x206 signature
-signature_is = record { numbered = λ at fits. refl; whole = λ at fits. refl; apart = refl }
 
 -- the mark of a boot sector, and "HdrS"
 abbrev pub is_right : Signature → Bool

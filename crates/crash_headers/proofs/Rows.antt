@@ -5,15 +5,23 @@ use Rattle.std.proofs.lemmas.List.{take_all, take-append-le, map_more, flat_map_
 use Rattle.std.proofs.Math.Seq.{drop-append-add, take-append_seam}
 use Rattle.kx_laws.proofs.Lists.{take_front}
 use Rattle.kx_fields.specs.Fields.{AreBytes, bytes_at, zeros}
-use Rattle.kx_fields.specs.Formats.{Fits, blank, read, written}
-use Rattle.kx_fields.specs.FormatLaws.{AreBytes-zeros, AreBytes-blank, AreBytes-from_test, length-zeros, length-written, length-blank, read_written, blank_begins}
+use Rattle.kx_fields.specs.Formats.{IsFormat, Fits, blank, read, written}
+use Rattle.kx_fields.proofs.Bytes.{AreBytes-zeros, AreBytes-from_test, length-zeros}
+use Rattle.kx_fields.proofs.Formats.{AreBytes-blank, length-written, length-blank, read_written, blank_begins}
 use Rattle.memory_map.specs.declared.row.Row.{Row}
 use Rattle.crash_headers.specs.declared.note.Note.{Note}
 use Rattle.crash_headers.specs.declared.program_header.ProgramHeader.{ProgramHeader}
 use Rattle.crash_headers.specs.declared.file_header.FileHeader.{FileHeader}
-use Rattle.crash_headers.specs.FileHeader.{ident, file_header, file_header_is, core_header, header_text, IsHeaderReadBack}
-use Rattle.crash_headers.specs.ProgramHeader.{program_header, program_header_is, row_text, note_row, load_row, IsRowReadBack, AreReadBack}
+use Rattle.crash_headers.specs.FileHeader.{ident, file_header, core_header, header_text, IsHeaderReadBack}
+use Rattle.crash_headers.specs.ProgramHeader.{program_header, row_text, note_row, load_row, IsRowReadBack, AreReadBack}
 use Rattle.crash_headers.specs.Headers.{count_of, rows, headers, length_for, HasIdentification, HasFileHeader, HasProgramHeaders}
+
+-- the tables
+pub file_header_is : IsFormat 64 file_header
+file_header_is = record { numbered = λ at fits. refl; whole = λ at fits. refl; apart = refl }
+
+pub program_header_is : IsFormat 56 program_header
+program_header_is = record { numbered = λ at fits. refl; whole = λ at fits. refl; apart = refl }
 
 -- what stands where no range does
 abbrev pub no_row : Row

@@ -1,7 +1,7 @@
 -- The file header of an ELF64 file (ELF gABI, chapter 4, ELF Header; Elf64_Ehdr), behind its identification, and that
 -- of a core file.
-use Rattle.std.specs.Prelude.{◌≡◌, ℕ, List, [], ◌∷◌, replicate, refl}
-use Rattle.kx_fields.specs.Formats.{Format, IsFormat, blank, read, written}
+use Rattle.std.specs.Prelude.{◌≡◌, ℕ, List, [], ◌∷◌, replicate}
+use Rattle.kx_fields.specs.Formats.{Format, blank, read, written}
 use Rattle.crash_headers.specs.declared.file_header.FileHeader.{FileHeader}
 
 -- e_ident: ELFCLASS64, ELFDATA2LSB, EV_CURRENT
@@ -27,9 +27,6 @@ file_header = record {
   };
   numbers = λ h. h.kind ∷ h.machine ∷ h.version ∷ h.entry ∷ h.phoff ∷ h.shoff ∷ h.flags ∷ h.ehsize ∷ h.phentsize ∷ h.phnum ∷ h.shentsize ∷ h.shnum ∷ h.shstrndx ∷ [];
 }
-
-pub file_header_is : IsFormat 64 file_header
-file_header_is = record { numbered = λ at fits. refl; whole = λ at fits. refl; apart = refl }
 
 -- the first 64 bytes of a file
 unfoldable pub header_text : FileHeader → List ℕ

@@ -1,9 +1,9 @@
 -- Program headers of an ELF64 file (ELF gABI, chapter 5, Program Header; Elf64_Phdr, whose p_align is zero), and those
 -- that a crash kernel gets (Linux, Documentation/admin-guide/kdump).
-use Rattle.std.specs.Prelude.{◌≡◌, ℕ, ◌+◌, List, [], ◌∷◌, refl}
+use Rattle.std.specs.Prelude.{◌≡◌, ℕ, ◌+◌, List, [], ◌∷◌}
 use Rattle.std.specs.List.{flat_map, AllByRecursion}
 use Rattle.kx_fields.specs.Fields.{zeros}
-use Rattle.kx_fields.specs.Formats.{Format, IsFormat, read, written}
+use Rattle.kx_fields.specs.Formats.{Format, read, written}
 use Rattle.memory_map.specs.declared.row.Row.{Row}
 use Rattle.crash_headers.specs.declared.note.Note.{Note}
 use Rattle.crash_headers.specs.declared.program_header.ProgramHeader.{ProgramHeader}
@@ -21,9 +21,6 @@ program_header = record {
   };
   numbers = λ h. h.kind ∷ h.flags ∷ h.offset ∷ h.vaddr ∷ h.paddr ∷ h.filesz ∷ h.memsz ∷ [];
 }
-
-pub program_header_is : IsFormat 56 program_header
-program_header_is = record { numbered = λ at fits. refl; whole = λ at fits. refl; apart = refl }
 
 unfoldable pub row_text : ProgramHeader → List ℕ
 row_text h = written program_header h (zeros 56)

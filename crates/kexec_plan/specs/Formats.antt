@@ -1,5 +1,5 @@
 -- The form of a kernel's file, and what a kernel of this form takes (this project's own).
-use Rattle.std.specs.Prelude.{◌≡◌, ℕ, Bool, true, false, ◌&&◌, ◌||◌, not, List, [], ◌∷◌, Option, Some, None, is_some, if◌then◌else◌, Result, Ok, Err}
+use Rattle.std.specs.Prelude.{ℕ, Bool, true, false, ◌&&◌, not, List, [], ◌∷◌, Option, Some, None, is_some, if◌then◌else◌, Result, Ok, Err}
 use Rattle.memory_map.specs.Named.{Named, reserved_area}
 use Rattle.kx_pages.specs.Spans.{Run}
 use Rattle.segments.specs.declared.fault.Kind.{Kind}

@@ -8,11 +8,7 @@ use segments::Segment;
 use std::alloc::{AllocError, Global};
 
 /// The segment of a raw kernel, in a list.
-pub(crate) fn raw_list(
-    alloc: Global,
-    at: u64,
-    kernel: Vec<u8>,
-) -> Result<Vec<Segment>, AllocError>
+pub(crate) fn raw_list(alloc: Global, at: u64, kernel: Vec<u8>) -> Result<Vec<Segment>, AllocError>
     ensures { IfOk result (λ v. v.items ≡ raw_segment at kernel.items ∷ []) }
 {
     let pages = (kernel.len() as u64 + (PAGE_SIZE - 1)) / PAGE_SIZE;

@@ -1,6 +1,5 @@
 //! What is to be loaded, and the plan of it.
 
-
 use kx_pages::{ImageType, Start};
 use segments::Segments;
 use std::marker::Model;

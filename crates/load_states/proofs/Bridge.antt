@@ -6,7 +6,7 @@ use Rattle.std.proofs.lemmas.Nat.Bits.{and_pow}
 use Rattle.kx_pages.specs.declared.image.Mode.{Mode}
 use Rattle.kx_pages.specs.declared.image.Mode.TheVariants.{Plain, Kept}
 use Rattle.page_memory.specs.Contents.{Contents, at, IsHeld}
-use Rattle.page_memory.specs.Laws.{frame_at-insert_same, frame_at-insert_other, held-insert, word-same_page}
+use Rattle.page_memory.proofs.Laws.{frame_at-insert_same, frame_at-insert_other, held-insert, word-same_page}
 use Rattle.relocate_machine.specs.declared.step.Step.{Step}
 use Rattle.relocate_machine.specs.declared.step.Step.TheVariants as steps
 use Rattle.relocate_machine.specs.declared.step.Outcome.TheVariants as outcomes

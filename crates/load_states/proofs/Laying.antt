@@ -7,7 +7,7 @@ use Rattle.std.proofs.lemmas.List.Folds.{Any-from_list_any}
 use Rattle.kx_pages.specs.Spans.{Run, in_span, in_spans, IsMaximal}
 use Rattle.page_memory.specs.Memory.{Mem}
 use Rattle.page_memory.specs.Contents.{Contents, at, after_set}
-use Rattle.page_memory.specs.Laws.{frame_at-insert_same, frame_at-insert_other}
+use Rattle.page_memory.proofs.Laws.{frame_at-insert_same, frame_at-insert_other}
 use Rattle.segments.specs.Parts.{Part, want, overlay}
 use Rattle.segments.specs.Laws.{some_same}
 use Rattle.load_states.specs.Laying.{Lays}

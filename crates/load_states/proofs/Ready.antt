@@ -5,7 +5,7 @@ use Rattle.kx_pages.specs.declared.item.Item.{Item}
 use Rattle.kx_pages.specs.declared.image.Mode.TheVariants.{Plain, Kept}
 use Rattle.kx_pages.specs.Lists.{Each, Has, destinations, sources}
 use Rattle.page_memory.specs.Contents.{Contents, at, IsHeld, after_set}
-use Rattle.page_memory.specs.Laws.{frame_at-insert_other, held-insert}
+use Rattle.page_memory.proofs.Laws.{frame_at-insert_other, held-insert}
 use Rattle.std.proofs.lemmas.Option.{none-some}
 use Rattle.page_memory.specs.Memory.{Mem}
 use Rattle.segments.specs.Parts.{Part, want, overlay}

@@ -5,9 +5,9 @@ use Rattle.std.proofs.lemmas.Bool.{cases_eq}
 use Rattle.kx_pages.specs.declared.image.Mode.{Mode}
 use Rattle.kx_pages.specs.declared.image.Mode.TheVariants.{Plain, Kept}
 use Rattle.page_memory.specs.Memory.{word}
-use Rattle.page_memory.specs.Laws.{word-same_page}
+use Rattle.page_memory.proofs.Laws.{word-same_page}
 use Rattle.page_memory.specs.Contents.{Contents, at}
-use Rattle.page_memory.specs.Laws.{frame_at-insert_same, frame_at-insert_other}
+use Rattle.page_memory.proofs.Laws.{frame_at-insert_same, frame_at-insert_other}
 use Rattle.relocate_machine.specs.Machine.{State, Registers, copied, moved, fetched, advanced, handled, taken, kind_of, masked, step_of}
 use Rattle.relocate_machine.specs.declared.step.Step.{Step}
 use Rattle.relocate_machine.specs.declared.step.Step.TheVariants as steps

@@ -4,7 +4,7 @@ use Rattle.std.specs.Prelude.{nat_le}
 use Rattle.kx_pages.specs.declared.image.Mode.{Mode}
 use Rattle.kx_pages.specs.declared.image.Mode.TheVariants.{Plain, Kept}
 use Rattle.page_memory.specs.Contents.{Contents, at}
-use Rattle.page_memory.specs.Laws.{held-insert}
+use Rattle.page_memory.proofs.Laws.{held-insert}
 use Rattle.relocate_machine.specs.declared.step.Step.{Step}
 use Rattle.relocate_machine.specs.declared.step.Step.TheVariants as steps
 use Rattle.relocate_machine.specs.declared.step.Outcome.{Outcome}

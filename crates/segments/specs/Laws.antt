@@ -10,7 +10,7 @@ use Rattle.std.proofs.lemmas.List.{length-take, length-replicate}
 use Rattle.std.proofs.lemmas.List.Sums.{fails_before_first}
 use Rattle.kx_pages.specs.Lists.{Each, Has, Distinct}
 use Rattle.page_memory.specs.Contents.{page_of}
-use Rattle.page_memory.specs.Laws.{page_of-take}
+use Rattle.page_memory.proofs.Laws.{page_of-take}
 use Rattle.segments.specs.declared.fault.SegFault.{SegFault}
 use Rattle.segments.specs.declared.fault.Kind.{Kind}
 use Rattle.kx_pages.specs.Spans.{Run}

@@ -1,6 +1,3 @@
-use Rattle.std.proofs.Common.{◌≡◌, sym, subst, Some, arith}
-use Rattle.segments.specs.Rules.{Answers, refusal}
-use Rattle.kexec_plan.specs.Ram.{ram_runs}
 use Rattle.kexec_plan.specs.Rules.{first_refusal}
 use Rattle.kexec_plan.proofs.Ram.{are_ram_runs}
 use Rattle.kexec_plan.proofs.rules.test_all.Goals as goal
