@@ -6,7 +6,7 @@ use Rattle.std.proofs.lemmas.Bool.{true≢false}
 use Rattle.std.proofs.lemmas.Option.{none-some}
 use Rattle.kx_pages.specs.declared.image.Image.{Image}
 use Rattle.page_memory.specs.Contents.{Contents, at}
-use Rattle.segments.specs.Parts.{Part, want, pages}
+use Rattle.segments.specs.Values.{SegmentValue, want, pages}
 use Rattle.segments.specs.Rules.{IsBare}
 use Rattle.kx_pages.specs.declared.item.Item.{Item}
 use Rattle.kx_pages.specs.declared.item.Item.TheVariants.{Link, Destination, Source, Done}
@@ -35,7 +35,7 @@ following_on (Some b) a (Destination p) e n = let s : b ≡ a = grind (arith, e)
 following_on (Some b) a (Source p) e n = let s : b ≡ a = grind (arith, e) in ap (λ x. x + 8) s
 following_on (Some b) a (Done p) e n = let s : b ≡ a = grind (arith, e) in ap (λ x. x + 8) s
 
-module _ (m : Contents) (S : List Part) (im : Image) where
+module _ (m : Contents) (S : List SegmentValue) (im : Image) where
   abbrev FaultyIn : Option ℕ → Earlier → ℕ → ℕ → Why → Type 0
   FaultyIn place s w n why = Faulty (at m) (want S) (pages S) im.control (swap_page im.mode) place s w n why
 

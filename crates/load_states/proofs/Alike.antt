@@ -5,7 +5,7 @@ use Rattle.kx_pages.specs.declared.image.Image.{Image}
 use Rattle.kx_pages.specs.declared.item.Item.{Item}
 use Rattle.page_memory.specs.Contents.{at}
 use Rattle.page_memory.specs.Memory.{Mem}
-use Rattle.segments.specs.Parts.{Part, overlay, want}
+use Rattle.segments.specs.Values.{SegmentValue, overlay, want}
 use Rattle.list_checker.specs.Walk.{IsAccepted, links, pairs}
 use Rattle.list_checker.proofs.Unique.{walk_same}
 use Rattle.load_states.specs.Exchange.{exchange}
@@ -25,7 +25,7 @@ same_memory M N h = λ i p. h p i
 pub tells_alike : (c : Checked) → Told c.load c.words c.links c.pairs → TellsAlike c
 tells_alike c told d same other =
     let memory : at d.load.memory ≡ at c.load.memory = same_memory (at d.load.memory) (at c.load.memory) same.reads in
-    let P : Mem → List Part → Image → Type 0 = λ M S i. IsAccepted M (want S) i.head i.control (swap_page i.mode) other.items in
+    let P : Mem → List SegmentValue → Image → Type 0 = λ M S i. IsAccepted M (want S) i.head i.control (swap_page i.mode) other.items in
     let here : IsAccepted (at c.load.memory) (want c.load.segments) c.load.image.head c.load.image.control (swap_page c.load.image.mode) other.items =
     subst (P (at c.load.memory) c.load.segments) same.image (subst (λ S. P (at c.load.memory) S d.load.image) same.segments (subst (λ M. P M d.load.segments d.load.image) memory other.accepted)) in
     let items : other.items ≡ told.items =
@@ -49,7 +49,7 @@ tells_alike c told d same other =
 told_left : (s n : Load) (words link_count : ℕ) (qs : List (ℕ × ℕ)) → IsLeftAs s n → Told s words link_count qs → Told n words link_count qs
 told_left s n words link_count qs left told =
     let memory : at s.memory ≡ at n.memory = sym (same_memory (at n.memory) (at s.memory) left.reads) in
-    let P : Mem → List Part → Image → Type 0 = λ M S i. IsAccepted M (want S) i.head i.control (swap_page i.mode) told.items in
+    let P : Mem → List SegmentValue → Image → Type 0 = λ M S i. IsAccepted M (want S) i.head i.control (swap_page i.mode) told.items in
     record {
       items = told.items;
       accepted = subst (P (at n.memory) n.segments) (sym left.image)

@@ -4,8 +4,8 @@ use Rattle.std.specs.Prelude.{◌↔◌, IsSome, is_some, eqb}
 use Rattle.kx_laws.proofs.Options.{some_of}
 use Rattle.kx_pages.specs.Lists.{Each, Has, count, destinations, sources}
 use Rattle.kx_pages.specs.declared.image.Wish.{Wish}
-use Rattle.segments.specs.Parts.{Part, is_destination, need, pages}
-use Rattle.segments.specs.Laws.{AreSegments, is_destination-from_Has, Has-from_is_destination, Distinct-pages}
+use Rattle.segments.specs.Values.{SegmentValue, is_destination, need, pages}
+use Rattle.segments.proofs.Laws.{AreSegments, is_destination-from_Has, Has-from_is_destination, Distinct-pages}
 use Rattle.kimage_list.specs.Load.{Entry, Loading, Request, begun, given, loaded, pages_of, requests, served, starts, taken}
 use Rattle.kimage_list.specs.Counted.{Allowed}
 use Rattle.kimage_list.proofs.Counting.{Full, full_on, counted_fit}
@@ -64,7 +64,7 @@ full_begun D pool = record {
   ends = ([], refl);
 }
 
-module _ (wish : Wish) (ss : List Part) (pool : List ℕ) (k : AreSegments ss) (once : (x : ℕ) → count x pool ≤ 1) where
+module _ (wish : Wish) (ss : List SegmentValue) (pool : List ℕ) (k : AreSegments ss) (once : (x : ℕ) → count x pool ≤ 1) where
   spent : pages_of (entries_of ss) ≡ pages ss
   spent = pages_of-entries_of ss
 

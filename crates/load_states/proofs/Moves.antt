@@ -6,7 +6,7 @@ use Rattle.kx_pages.specs.declared.image.Mode.TheVariants.{Plain, Kept}
 use Rattle.page_memory.specs.Memory.{Mem, Wants, copied_page, put}
 use Rattle.kx_pages.specs.Lists.{Each, Has, destinations}
 use Rattle.list_checker.specs.Walk.{InOrder}
-use Rattle.segments.specs.Parts.{overlay}
+use Rattle.segments.specs.Values.{overlay}
 use Rattle.std.proofs.lemmas.Option.{none-some}
 use Rattle.kx_pages.proofs.Lists.{Each-map, Each-both}
 

@@ -6,7 +6,7 @@ use Rattle.page_memory.specs.Contents.{Contents, at}
 use Rattle.page_memory.specs.Memory.{Mem, Agree}
 use Rattle.relocate_machine.specs.Run.{run_of}
 use Rattle.relocate_machine.specs.declared.step.Outcome.TheVariants as outcomes
-use Rattle.segments.specs.Parts.{need, overlay, want}
+use Rattle.segments.specs.Values.{need, overlay, want}
 use Rattle.load_states.specs.declared.accepted.Accepted.{Accepted}
 use Rattle.load_states.specs.declared.accepted.Accepted.TheVariants as variants
 use Rattle.load_states.specs.States.{Checked, Load, Returned, swap_of, with_memory}
