@@ -10,7 +10,7 @@ use Rattle.kx_pages.specs.declared.item.Item.{Item}
 use Rattle.page_memory.specs.Contents.{at}
 use Rattle.page_memory.specs.Memory.{Mem, Wants}
 use Rattle.segments.specs.Values.{is_destination, need, want}
-use Rattle.kimage_list.specs.Load.{Entry, Loading, Move, Start}
+use Rattle.kimage_list.specs.Load.{Entry, Move, Start}
 use Rattle.kimage_list.specs.Laying.{items, links_of, list_of, load_mode}
 use Rattle.kimage_list.proofs.Lists.{length-items}
 use Rattle.list_checker.specs.Walk.{Walk, IsAccepted, pairs, pairs_from}

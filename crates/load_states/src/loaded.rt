@@ -51,7 +51,11 @@ impl Loaded {
     /// The load of these parts, whatever its list is.
     pub fn from_parts(memory: Memory, pool: Pool, image: Image, segments: Segments) -> Loaded
         ensures { result ≡ record {
-            memory = memory; pool = pool; image = image; segments = segments } }
+          memory = memory;
+          pool = pool;
+          image = image;
+          segments = segments;
+        } }
     {
         Loaded {
             memory,

@@ -43,9 +43,9 @@ returns-in-Err-clause-why c =
 pub returns-in-Ok-clause-exactly : goal.returns-in-Ok-clause-exactly
 returns-in-Ok-clause-exactly c =
     loads_exactly c.args.wish c.args.segments c.args.pool.left (AreSegments-from_IsBare c.args.segments c.count-count.ensures.valid)
-    (λ x. omega (arith, c.left-_left.ensures.once.each x, count-append x c.args.pool.drawn c.args.pool.left))
+    (λ x. omega (arith, c.left-left.ensures.once.each x, count-append x c.args.pool.drawn c.args.pool.left))
 
 pub returns-in-Err-clause-exactly : goal.returns-in-Err-clause-exactly
 returns-in-Err-clause-exactly c =
     loads_exactly c.args.wish c.args.segments c.args.pool.left (AreSegments-from_IsBare c.args.segments c.count-count.ensures.valid)
-    (λ x. omega (arith, c.left-_left.ensures.once.each x, count-append x c.args.pool.drawn c.args.pool.left))
+    (λ x. omega (arith, c.left-left.ensures.once.each x, count-append x c.args.pool.drawn c.args.pool.left))
