@@ -13,7 +13,7 @@ use Rattle.kx_pages.specs.Lists.{Each, Has, Distinct, destinations, sources, has
 use Rattle.list_checker.specs.Walk.{Reads, Walk, links, DestinationFirst, pairs_from, pairs, InOrder, Accepted, IsAccepted}
 use Rattle.list_checker.specs.Faults.{Earlier, nothing_earlier, with_item, following, are_wanted, is_swap, is_kept, reasons, swap_meets_control, Faultless}
 use Rattle.list_checker.specs.Laws.{AcceptedWith, CheckExact}
-use Rattle.segments.specs.Elements.{Each-map, Each-both, Each-at, Each-from_Has, Each-append, Each-left, Each-right, Each-from_has_not, has_not-from_Each, Has-from_has, has-from_Has}
+use Rattle.kx_pages.proofs.Lists.{Each-map, Each-both, Each-at, Each-from_Has, Each-append, Each-left, Each-right, Each-from_has_not, has_not-from_Each, Has-from_has, has-from_Has}
 use Rattle.list_checker.proofs.Lists.{not_false, none_holds, none_first, equal-same_bytes, wanted_bytes, over, under, Distinct-push, Distinct-split, InOrder-push, InOrder-split}
 use Rattle.list_checker.proofs.Kept.{Keeps, keeps_none, keeps_link, keeps_pair, link_keeps, pair_keeps}
 

@@ -5,7 +5,7 @@ use Rattle.std.proofs.lemmas.Bool.{or_parts, eqb-false, ne_eqb}
 use Rattle.kx_pages.specs.Lists.{Each, sources, has}
 use Rattle.list_checker.specs.Walk.{PairsApart}
 use Rattle.list_checker.specs.Faults.{is_swap, is_kept}
-use Rattle.segments.specs.Elements.{Each-map, Each-both, Each-append, Each-left, Each-right, Each-from_has_not, has_not-from_Each}
+use Rattle.kx_pages.proofs.Lists.{Each-map, Each-both, Each-append, Each-left, Each-right, Each-from_has_not, has_not-from_Each}
 use Rattle.list_checker.proofs.Lists.{over_sources, under_sources}
 
 pub record FineKept (s : ℕ) (ls : List ℕ) (qs : List (ℕ × ℕ)) : Type 0 where

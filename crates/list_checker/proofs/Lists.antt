@@ -4,7 +4,7 @@ use Rattle.std.specs.Prelude.{◌≢◌, not}
 use Rattle.std.proofs.lemmas.Option.{none-some}
 use Rattle.std.proofs.lemmas.Bool.{eq-eqb, false≢true}
 use Rattle.list_checker.specs.declared.fault.Why.{Why}
-use Rattle.segments.specs.Elements.{Each-append, Each-right}
+use Rattle.kx_pages.proofs.Lists.{Each-append, Each-right}
 use Rattle.kx_pages.specs.Lists.{Each, Distinct, destinations, sources}
 use Rattle.list_checker.specs.Walk.{InOrder}
 use Rattle.list_checker.specs.Faults.{first_of, same_bytes, are_wanted}

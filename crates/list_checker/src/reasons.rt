@@ -2,7 +2,7 @@
 
 ghost use Rattle.std.specs.Prelude.{◌≡◌, ◌≢◌, ℕ, ◌+◌, ◌*◌, ◌/◌, ◌%◌, ◌<◌, ◌^◌, IsTrue, IfSome, MatchResult, Option, Some, None, true, false, not, eqb, ◌||◌, ◌&&◌};
 ghost use Rattle.page_memory.specs.Contents.{at};
-ghost use Rattle.segments.specs.Parts.{want, pages};
+ghost use Rattle.segments.specs.Values.{want, pages};
 ghost use Rattle.segments.specs.Rules.{IsBare};
 ghost use Rattle.kx_pages.specs.Items.{decode};
 ghost use Rattle.kx_pages.specs.Lists.{has, destinations, sources};

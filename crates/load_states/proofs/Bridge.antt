@@ -20,8 +20,8 @@ use Rattle.kx_pages.specs.Items.{code}
 use Rattle.kx_pages.specs.Lists.{Each, Has}
 use Rattle.page_memory.specs.Memory.{Mem, Wants, word, copied_page}
 use Rattle.list_checker.specs.Walk.{Reads, Walk, links, pairs_from, pairs, Accepted, AcceptedKept}
-use Rattle.segments.specs.Parts.{overlay}
-use Rattle.segments.specs.Elements.{Each-both, Each-at}
+use Rattle.segments.specs.Values.{overlay}
+use Rattle.kx_pages.proofs.Lists.{Each-both, Each-at}
 use Rattle.load_states.specs.Exchange.{exchange}
 use Rattle.load_states.proofs.Moves.{moves, moved_in, moved-apart, moves_alike, copied_alike, lays_over, Spares}
 use Rattle.load_states.proofs.Exchange.{exchanges}

@@ -7,7 +7,7 @@ use Rattle.kx_pages.specs.declared.item.Item.{Item}
 use Rattle.kx_pages.specs.Lists.{Each, Has, destinations, sources}
 use Rattle.list_checker.specs.Walk.{PairsApart, links, pairs, AcceptedKept}
 use Rattle.load_states.specs.Exchange.{partner, last_source, exchange}
-use Rattle.segments.specs.Elements.{Each-map, Each-both, Each-at}
+use Rattle.kx_pages.proofs.Lists.{Each-map, Each-both, Each-at}
 use Rattle.load_states.proofs.Moves.{moved_in, moves}
 use Rattle.kx_pages.specs.declared.image.Mode.TheVariants.{Kept}
 use Rattle.std.proofs.Common.{Option, Some, None}

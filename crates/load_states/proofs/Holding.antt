@@ -6,7 +6,7 @@ use Rattle.kx_pages.specs.declared.image.Mode.TheVariants.{Plain, Kept}
 use Rattle.kx_pages.specs.Lists.{Each, destinations, sources}
 use Rattle.page_memory.specs.Contents.{Contents, IsHeld}
 use Rattle.relocate_machine.specs.Machine.{AreHeld, move_writes}
-use Rattle.segments.specs.Elements.{Each-left, Each-right}
+use Rattle.kx_pages.proofs.Lists.{Each-left, Each-right}
 use Rattle.load_states.specs.Ready.{written_pages}
 
 -- the pages of the pairs' moves are held

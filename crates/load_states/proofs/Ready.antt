@@ -8,10 +8,10 @@ use Rattle.page_memory.specs.Contents.{Contents, at, IsHeld, after_set}
 use Rattle.page_memory.proofs.Laws.{frame_at-insert_other, held-insert}
 use Rattle.std.proofs.lemmas.Option.{none-some}
 use Rattle.page_memory.specs.Memory.{Mem}
-use Rattle.segments.specs.Parts.{Part, want, overlay}
+use Rattle.segments.specs.Values.{SegmentValue, want, overlay}
 use Rattle.segments.specs.Rules.{IsBare}
-use Rattle.segments.specs.Laws.{AreSegments-from_IsBare, Has-from_want, pages_below}
-use Rattle.segments.specs.Elements.{Each-map, Each-both}
+use Rattle.segments.proofs.Laws.{AreSegments-from_IsBare, Has-from_want, pages_below}
+use Rattle.kx_pages.proofs.Lists.{Each-map, Each-both}
 use Rattle.list_checker.specs.declared.earlier.Accept.{Accept}
 use Rattle.list_checker.specs.Walk.{Accepted, AcceptedKept, PairsApart, IsAccepted, swap_page, links, pairs}
 use Rattle.list_checker.specs.Checked.{as_pair, IsAccept}
@@ -29,7 +29,7 @@ use Rattle.relocate_machine.specs.declared.step.Outcome.TheVariants as outcomes
 below : (W : ℕ → Option (List ℕ)) (M : Mem) (qs : List (ℕ × ℕ)) → ((p : ℕ) (b : List ℕ) → W p ≡ Some b → p < 2 ^ 34) → Each (λ q. W q.0 ≡ Some (M q.1)) qs → Each (λ q. q.0 < 2 ^ 34) qs
 below W M qs h k = Each-map qs (λ q e. h q.0 (M q.1) e) k
 
-wanted_below : (S : List Part) → IsBare S → (p : ℕ) (b : List ℕ) → want S p ≡ Some b → p < 2 ^ 34
+wanted_below : (S : List SegmentValue) → IsBare S → (p : ℕ) (b : List ℕ) → want S p ≡ Some b → p < 2 ^ 34
 wanted_below S k p b e = let a = AreSegments-from_IsBare S k in pages_below S p a.placed (Has-from_want S p b a.placed e)
 
 told_of : (s : Load) (a : Accept) → IsAccept s.memory s.segments s.image a → Told s a.words a.links (map as_pair a.pairs.items)

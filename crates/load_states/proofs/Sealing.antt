@@ -7,9 +7,9 @@ use Rattle.kx_pages.specs.declared.image.Wish.{Wish}
 use Rattle.kx_pages.specs.declared.image.Image.{Image}
 use Rattle.page_memory.specs.Contents.{at}
 use Rattle.page_memory.specs.Memory.{Mem}
-use Rattle.segments.specs.Parts.{is_destination, want, pages, need}
-use Rattle.segments.specs.Laws.{Has-from_is_destination, Has-from_want}
-use Rattle.segments.specs.Elements.{has-from_Has}
+use Rattle.segments.specs.Values.{is_destination, want, pages, need}
+use Rattle.segments.proofs.Laws.{Has-from_is_destination, Has-from_want}
+use Rattle.kx_pages.proofs.Lists.{has-from_Has}
 use Rattle.kimage_list.specs.Load.{pages_of, starts, loaded}
 use Rattle.kimage_list.specs.Laying.{list_of}
 use Rattle.kimage_list.specs.Writers.{Load, StandsAt, IsAwaited}

@@ -7,7 +7,7 @@ use Rattle.kx_pages.specs.Lists.{Each, Has, destinations, sources}
 use Rattle.page_memory.specs.Contents.{Contents, at}
 use Rattle.page_memory.specs.Memory.{Mem}
 use Rattle.relocate_machine.specs.Machine.{AreHeld, move_writes}
-use Rattle.segments.specs.Parts.{want}
+use Rattle.segments.specs.Values.{want}
 use Rattle.list_checker.specs.Walk.{AcceptedKept, IsAccepted, swap_page, links, pairs}
 use Rattle.load_states.specs.States.{Load, Checked}
 

@@ -4,7 +4,7 @@ ghost use Rattle.std.specs.Prelude.{◌≡◌, ℕ, List, map, IsSome, Some};
 ghost use Rattle.kx_pages.specs.Lists.{Each};
 ghost use Rattle.page_memory.specs.Contents.{at};
 ghost use Rattle.relocate_machine.specs.Machine.{AreHeld, move_writes};
-ghost use Rattle.segments.specs.Parts.{overlay, want};
+ghost use Rattle.segments.specs.Values.{overlay, want};
 ghost use Rattle.segments.specs.Rules.{IsBare};
 ghost use Rattle.list_checker.specs.Walk.{swap_page};
 ghost use Rattle.list_checker.specs.Checked.{as_pair, IsAccept};

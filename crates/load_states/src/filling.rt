@@ -10,8 +10,8 @@ ghost use Rattle.page_pool.specs.Pages.{is_filed};
 ghost use Rattle.kimage_list.specs.Load.{Entry, Move, pages_of};
 ghost use Rattle.kimage_list.specs.Writers.{destination_after};
 ghost use Rattle.kimage_list.specs.Calls.{Refuses};
-ghost use Rattle.segments.specs.Parts.{is_destination, need};
-ghost use Rattle.segments.specs.Laws.{AreSegments};
+ghost use Rattle.segments.specs.Values.{is_destination, need};
+ghost use Rattle.segments.proofs.Laws.{AreSegments};
 ghost use Rattle.load_states.specs.Loads.{entries_of};
 ghost use Rattle.load_states.specs.Fillings.{Fills, FillsFrom, IsSealed, left};
 

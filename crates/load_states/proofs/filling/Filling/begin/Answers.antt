@@ -1,7 +1,7 @@
 use Rattle.std.proofs.Common.{length, subst, arith}
 use Rattle.page_memory.specs.Contents.{at}
 use Rattle.kimage_list.specs.Calls.{Refuses}
-use Rattle.segments.specs.Laws.{AreSegments-from_IsBare}
+use Rattle.segments.proofs.Laws.{AreSegments-from_IsBare}
 use Rattle.load_states.proofs.FillSteps.{filling_begun, span_pages, need_same}
 use Rattle.load_states.proofs.filling.Filling.begin.Goals as goal
 
