@@ -2,7 +2,7 @@
 -- header, or as an ELF32 executable.
 use Rattle.std.specs.Prelude.{◌≡◌, ℕ, ◌+◌, ◌-◌, ◌*◌, ◌/◌, ◌%◌, ◌^◌, ◌++◌, ◌==◌, ◌&&◌, ◌||◌, not, Bool, List, [], ◌∷◌, length, take, drop, replicate, nat_lt, nat_le, min, max, if◌then◌else◌, Option, Some, None, IfSome, Result, Ok, Err}
 use Rattle.kx_pages.specs.Limits.{segment_page_limit}
-use Rattle.segments.specs.Parts.{Part, is_destination}
+use Rattle.segments.specs.Values.{SegmentValue, is_destination}
 use Rattle.elf_image.specs.Loads.{Executable, exec_reading}
 use Rattle.elf_image.specs.Image.{image}
 use Rattle.elf_image.specs.declared.fault.ElfFault.{ElfFault}
@@ -15,7 +15,7 @@ use Rattle.multiboot_image.specs.declared.fault.MbFault.TheVariants as faults
 
 -- the segments, and the address that the kernel is entered at
 pub record Loaded : Type 0 where
-  pub list : List Part
+  pub list : List SegmentValue
   pub entry : ℕ
 
 -- where the loaded bytes begin in the file: as far before the header as load_addr is before header_addr
@@ -55,7 +55,7 @@ abbrev pub meets_page : ℕ → Site → Bool
 meets_page p s = nat_lt (max s.kludge.load_addr (4096 * p)) (min (memory_stop s) (4096 * p + 4096))
 
 -- the segment of these pages: zeros up to load_addr, then the loaded bytes
-abbrev pub segment : List ℕ → Site → Part
+abbrev pub segment : List ℕ → Site → SegmentValue
 segment file s = record {
   bytes = replicate (s.kludge.load_addr % 4096) 0 ++ take (loaded s) (drop (place s) file);
   mem = 4096 * (s.kludge.load_addr / 4096);
@@ -63,7 +63,7 @@ segment file s = record {
 }
 
 -- the segments: none where no page is met
-abbrev pub segments : List ℕ → Site → List Part
+abbrev pub segments : List ℕ → Site → List SegmentValue
 segments file s = if pages_met s == 0 then [] else segment file s ∷ []
 
 -- by the addresses in the header
@@ -78,7 +78,7 @@ abbrev pub of_elf : ElfFault → MbFault
 of_elf elf.Memory = faults.Memory
 of_elf e = faults.Elf e
 
-abbrev pub image_parts : ℕ → Result (List Part) ElfFault → Result Loaded MbFault
+abbrev pub image_parts : ℕ → Result (List SegmentValue) ElfFault → Result Loaded MbFault
 image_parts entry (Ok list) = Ok (record { list = list; entry = entry })
 image_parts entry (Err e) = Err (of_elf e)
 

@@ -2,7 +2,7 @@
 
 ghost use Rattle.std.specs.Prelude.{◌≡◌, ◌+◌, ◌++◌, ◌≤◌, ◌<◌, ◌^◌, false, length, take, drop, replicate, ℕ, IfOk};
 ghost use Rattle.kx_laws.specs.Results.{Gives};
-ghost use Rattle.segments.specs.Parts.{is_destination};
+ghost use Rattle.segments.specs.Values.{is_destination};
 ghost use Rattle.multiboot_image.specs.declared.fault.MbFault.TheVariants.{Memory};
 ghost use Rattle.multiboot_image.specs.Parts.{place, loaded, load_stop, memory_stop, is_bad, pages_met, segment, meets_page, HasPagesMet, kludge_parts, elf_parts, parts};
 
