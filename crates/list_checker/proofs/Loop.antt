@@ -18,12 +18,13 @@ use Rattle.kx_pages.specs.Items.{decode}
 use Rattle.kx_pages.specs.Lists.{Each}
 use Rattle.list_checker.specs.Faults.{Earlier, nothing_earlier, with_item, with_pair, following, is_wanted, reasons, pair_reasons, Faulty, Faultless}
 use Rattle.list_checker.specs.Checked.{Shows, as_pair, why_refused, Fits, Leads, IsPlace, IsAccept, IsFirstFault}
-use Rattle.list_checker.specs.Walk.{swap_page}
-use Rattle.list_checker.proofs.Lists.{none_holds, not_false}
-use Rattle.kx_pages.proofs.Lists.{Each-from_has_not}
+use Rattle.list_checker.proofs.Lists.{none_holds}
 use Rattle.list_checker.proofs.Checking.{check_exact}
 use Rattle.list_checker.proofs.Ending.{Linked, linked_none, linked_more, reach, reach_link, reach_next, check_ends}
 use Rattle.list_checker.proofs.Wanted.{wanted_below, parts_listed}
+use Rattle.kx_pages.proofs.Lists.{Each-from_has_not}
+use Rattle.kx_laws.proofs.Booleans.{not_false}
+use Rattle.kx_pages.specs.Modes.{swap_page}
 
 pub following_on : (place : Option ℕ) (a : ℕ) (i : Item) → place ≡ Some a → ((p : ℕ) → i ≡ Link p → ⊥) → following place i ≡ a + 8
 following_on place a (Link p) e n = absurd (n p refl)

@@ -15,9 +15,10 @@ use Rattle.list_checker.specs.declared.earlier.Pair.{Pair}
 use Rattle.list_checker.specs.declared.earlier.Earlier.{Earlier as Sets}
 use Rattle.kx_pages.specs.Items.{decode}
 use Rattle.kx_pages.specs.Lists.{destinations, sources, has}
-use Rattle.list_checker.specs.Walk.{links, pairs, swap_page, IsAccepted}
+use Rattle.list_checker.specs.Walk.{links, pairs, IsAccepted}
 use Rattle.list_checker.specs.Faults.{Earlier, nothing_earlier, is_head, is_kept, in_last_slot, reason, link_reasons, pair_reasons, done_reasons, Faulty}
 use Rattle.list_checker.specs.declared.fault.CheckFault.TheVariants as faults
+use Rattle.kx_pages.specs.Modes.{swap_page}
 
 abbrev pub as_pair : Pair → ℕ × ℕ
 as_pair q = (q.destination, q.source)

@@ -7,12 +7,12 @@ use Rattle.kx_pages.specs.declared.image.Wish.{Wish}
 use Rattle.page_memory.specs.Memory.{Mem}
 use Rattle.segments.specs.Values.{SegmentValue}
 use Rattle.segments.proofs.Laws.{IsPlaced}
-use Rattle.kimage_list.proofs.Lists.{some_same}
 use Rattle.kimage_list.specs.Load.{Entry, Move}
-use Rattle.kimage_list.specs.Writers.{Load, Writer, StandsAt, with_destination, destination_after}
+use Rattle.kimage_list.specs.Writers.{History, Writer, StandsAt, with_destination, destination_after}
 use Rattle.load_states.specs.Loads.{entries_of}
 use Rattle.load_states.specs.Fillings.{Fills}
 use Rattle.load_states.proofs.FillSteps.{so_far, so_far-start, so_far-more, so_far-goes, start_filled}
+use Rattle.kx_laws.proofs.Options.{some_same}
 
 -- segment i is written up to this page: some load stands there, and so does each load that stood before the segment
 pub record Goes (ss : List SegmentValue) (i first number : ℕ) (before now : Writer) : Type 0 where
@@ -22,7 +22,7 @@ pub record Goes (ss : List SegmentValue) (i first number : ℕ) (before now : Wr
   pub stands : Fills memory pool wish ss (so_far ss i first number) now
   pub each : (M : Mem) (pool : List ℕ) (wish : Wish) → Fills M pool wish ss (entries_of (take i ss)) before → Fills M pool wish ss (so_far ss i first number) now
 
-pub goes_begun : (ss : List SegmentValue) (i first : ℕ) (before now : Writer) (M : Mem) (pool : List ℕ) (wish : Wish) → Fills M pool wish ss (entries_of (take i ss)) before → ((h : Load) → StandsAt h before → StandsAt (with_destination h first) now)
+pub goes_begun : (ss : List SegmentValue) (i first : ℕ) (before now : Writer) (M : Mem) (pool : List ℕ) (wish : Wish) → Fills M pool wish ss (entries_of (take i ss)) before → ((h : History) → StandsAt h before → StandsAt (with_destination h first) now)
     → Goes ss i first first before now
 goes_begun ss i first before now M pool wish k f = record { memory = M; pool = pool; wish = wish; stands = go M pool wish k; each = go }
   where

@@ -7,10 +7,11 @@ use Rattle.kx_pages.specs.Lists.{Each, Has, Distinct, count}
 use Rattle.kx_pages.specs.declared.image.Wish.TheVariants.{Plain, Kept}
 use Rattle.segments.specs.Values.{SegmentValue, is_destination, want, page_count, pages_of_segment, pages}
 use Rattle.segments.proofs.Laws.{AreSegments, IsPlaced, is_destination-from_Has, want-from_Has, Has-from_want, Distinct-pages}
-use Rattle.kx_pages.proofs.Lists.{Each-from_Has}
 use Rattle.kimage_list.specs.Load.{Entry, Start, Move, page_entries, pages_of}
 use Rattle.load_states.specs.Loads.{entries_of, LoadIsAccepted}
 use Rattle.load_states.proofs.LaidAccepted.{Follows, Begins, Plan, plain_accepted, kept_accepted}
+use Rattle.kx_pages.proofs.Lists.{Each-from_Has}
+use Rattle.kx_pages.proofs.Counting.{count-from_Distinct}
 
 pub pages_of-append : (es fs : List Entry) → pages_of (es ++ fs) ≡ pages_of es ++ pages_of fs
 pages_of-append [] fs = refl
@@ -43,22 +44,6 @@ begins-entries : (ss : List SegmentValue) → 0 < length ss → Begins (entries_
 begins-entries [] n = absurd (omega (arith, n))
 begins-entries (s ∷ ss) n = tt
 
-pub count-distinct : (x : ℕ) (xs : List ℕ) → Distinct xs → count x xs ≤ 1
-count-distinct x [] d = omega arith
-count-distinct x (y ∷ xs) d = go (eqb_tells y x) (count-distinct x xs d.1)
-  where
-    none : (xs : List ℕ) → Each (λ z. y ≢ z) xs → y ≡ x → count x xs ≡ 0
-    none [] h e = refl
-    none (z ∷ zs) h e = out (eqb_tells z x) (none zs h.1 e)
-      where
-        out : ((eqb z x ≡ true) × (z ≡ x)) ⊎ ((eqb z x ≡ false) × (z ≢ x)) → count x zs ≡ 0 → count x (z ∷ zs) ≡ 0
-        out (inl t) ih = absurd (h.0 (e ∙ sym t.1))
-        out (inr t) ih = rw t.0 (omega (arith, ih))
-
-    go : ((eqb y x ≡ true) × (y ≡ x)) ⊎ ((eqb y x ≡ false) × (y ≢ x)) → count x xs ≤ 1 → count x (y ∷ xs) ≤ 1
-    go (inl t) ih = let z = none xs d.0 t.1 in rw t.0 (omega (arith, z))
-    go (inr t) ih = rw t.0 (omega (arith, ih))
-
 -- segments are a plan of a load
 pub plan_of : (ss : List SegmentValue) → AreSegments ss → Plan (is_destination ss) (want ss) (entries_of ss)
 plan_of ss k =
@@ -67,7 +52,7 @@ plan_of ss k =
     record {
       follows = follows-entries ss 0 k.placed;
       begins = begins-entries ss k.some;
-      once = λ x. subst (λ ys. count x ys ≤ 1) (sym same) (count-distinct x (pages ss) (Distinct-pages ss k.placed k.apart));
+      once = λ x. subst (λ ys. count x ys ≤ 1) (sym same) (count-from_Distinct x (pages ss) (Distinct-pages ss k.placed k.apart));
       wanted = subst (Each P) (sym same) (Each-from_Has P (pages ss) (λ p h. let w = want-from_Has ss p k.placed h in (is_destination-from_Has ss p k.placed h, w.0, w.1)));
       only = λ p bytes e. subst (Has p) (sym same) (Has-from_want ss p bytes k.placed e);
     }

@@ -13,9 +13,10 @@ use Rattle.kimage_list.specs.Writers.{Writer, writer_code, StandsAt}
 use Rattle.kimage_list.specs.Writers as writers
 use Rattle.segments.specs.Values.{SegmentValue, is_destination, want, need}
 use Rattle.segments.proofs.Laws.{AreSegments}
-use Rattle.list_checker.specs.Walk.{IsAccepted, swap_page}
+use Rattle.list_checker.specs.Walk.{IsAccepted}
 use Rattle.load_states.specs.States.{Load, part_code}
 use Rattle.load_states.specs.Loads.{entries_of, loading_of, memory_of}
+use Rattle.kx_pages.specs.Modes.{swap_page}
 
 -- What a clause sees of a load while its segments are written.
 pub record Fill : Type 0 where
@@ -33,7 +34,7 @@ left f = length f.segments - f.written
 -- The writer stands behind these entries of a load of the segments, which began with memory M and a pool of these pages,
 -- and each destination so far was given what it is to have.
 pub record Fills (M : Mem) (pool : List ℕ) (wish : Wish) (ss : List SegmentValue) (es : List Entry) (w : Writer) : Type 0 where
-  pub load : writers.Load
+  pub load : writers.History
   pub stands : StandsAt load w
   pub from_memory : load.before ≡ M
   pub from_pool : load.pool ≡ pool
@@ -53,6 +54,7 @@ pub record FillsFrom (M : Mem) (pool : List ℕ) (wish : Wish) (f : Fill) : Type
 pub record IsSealed (M : Mem) (pool : List ℕ) (wish : Wish) (ss : List SegmentValue) (r : Load) : Type 0 where
   pub loading : Loading
   pub requests : loading_of wish ss pool ≡ Some loading
+  pub once : (x : ℕ) → count x pool ≤ 1
   pub image : r.image ≡ image_of wish loading
   pub memory : (p : ℕ) → at r.memory p ≡ memory_of M wish ss loading p
   pub segments : r.segments ≡ ss

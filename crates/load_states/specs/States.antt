@@ -3,14 +3,13 @@ use Rattle.std.specs.Prelude.{◌≡◌, ℕ, List, Option, Some, None, unwrap_o
 use Rattle.std.proofs.Common.{ap}
 use Rattle.std.specs.Coded.{Coded, code_by, coded×, coded_ℕ, coded_list, coded_option}
 use Rattle.kx_pages.specs.declared.image.Image.{Image}
-use Rattle.kx_pages.specs.declared.image.Mode.{Mode}
-use Rattle.kx_pages.specs.declared.image.Mode.TheVariants.{Plain, Kept}
 use Rattle.page_memory.specs.Contents.{Contents, contents_code, at, IsHeld}
 use Rattle.page_pool.specs.Pages.{Pages, pages_code}
 use Rattle.segments.specs.Values.{SegmentValue}
-use Rattle.list_checker.specs.Walk.{swap_page}
 use Rattle.list_checker.specs.declared.earlier.Accept.{Accept}
 use Rattle.list_checker.specs.Checked.{as_pair}
+use Rattle.kx_pages.specs.Modes.{mode_of, swap_page}
+use Rattle.kx_pages.proofs.Modes.{mode_of-swap_page}
 
 -- a memory with a list in it: the memory, the pool, what running the list takes, and the segments that it is for
 pub record Load : Type 0 where
@@ -41,14 +40,6 @@ pub record CrashLoad : Type 0 where
   pub memory : Contents
   pub head : ℕ
   pub segments : List SegmentValue
-
-abbrev pub mode_of : Option ℕ → Mode
-mode_of None = Plain
-mode_of (Some swap) = Kept swap
-
-abbrev pub mode_of-swap_page : (mode : Mode) → mode_of (swap_page mode) ≡ mode
-mode_of-swap_page Plain = refl
-mode_of-swap_page (Kept swap) = refl
 
 -- records are stored as their fields
 abbrev pub image_code : Coded Image

@@ -29,11 +29,11 @@ invariant_of-result c =
 pub returns-in-Ok-clause-enough : goal.returns-in-Ok-clause-enough
 returns-in-Ok-clause-enough c =
     let k = AreSegments-from_IsBare c.args.segments c.count-count.ensures.valid in
-    let e = need_same c.args.wish c.args.segments _ c.count-count.result (span_pages c.args.segments c.pages_of.result.now k c.pages_of.ensures.apart c.pages_of.ensures.pages) c.count-count.ensures.value in
+    let e = need_same c.args.wish c.args.segments c.count-count.result _ c.count-count.ensures.value (span_pages c.args.segments c.pages_of.result.now k c.pages_of.ensures.apart c.pages_of.ensures.pages) in
     rw (← e) c.in-Ok.ensures.enough
 
 pub returns-in-Err-clause-why : goal.returns-in-Err-clause-why
 returns-in-Err-clause-why c =
     let k = AreSegments-from_IsBare c.args.segments c.count-count.ensures.valid in
-    let e = need_same c.args.wish c.args.segments _ c.count-count.result (span_pages c.args.segments c.pages_of.result.now k c.pages_of.ensures.apart c.pages_of.ensures.pages) c.count-count.ensures.value in
+    let e = need_same c.args.wish c.args.segments c.count-count.result _ c.count-count.ensures.value (span_pages c.args.segments c.pages_of.result.now k c.pages_of.ensures.apart c.pages_of.ensures.pages) in
     subst (Refuses c.in-Err.refused.why (length c.args.pool.left)) e c.in-Err.ensures.why
