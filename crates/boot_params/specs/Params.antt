@@ -1,6 +1,6 @@
 -- The parameter segment: the zero page, the command and a NUL (Linux/x86 boot protocol, "The Kernel Command Line"; that
 -- they stand together, the limit of rows and the order of faults are this project's own).
-use Rattle.std.specs.Prelude.{◌≡◌, ℕ, ◌+◌, ◌*◌, ◌<◌, true, ◌++◌, ◌==◌, List, [], ◌∷◌, length, take, drop, slice_index, slice_index_or, nat_lt, if◌then◌else◌, Option, Some, None, Result, Ok, Err}
+use Rattle.std.specs.Prelude.{◌≡◌, ℕ, ◌+◌, ◌*◌, ◌<◌, true, ◌++◌, ◌==◌, List, [], ◌∷◌, length, take, drop, slice_index, slice_index_or, nat_lt, if◌then◌else◌, Option, Some, Result, Ok}
 use Rattle.std.specs.Option.{option_map}
 use Rattle.std.specs.List.{position}
 use Rattle.kx_laws.specs.Results.{◌>>=◌, unless}

@@ -1,5 +1,5 @@
 -- The setup header of a file that was read.
-use Rattle.std.proofs.Common.{◌≡◌, ℕ, ◌-◌, ◌^◌, ◌<◌, ◌≤◌, List, length, drop, Bool, true, false, cond, refl, sym, ap, ◌∙◌, subst, Ok, Err, Result, Option, Some, arith, length-drop}
+use Rattle.std.proofs.Common.{◌≡◌, ℕ, ◌-◌, ◌^◌, ◌<◌, ◌≤◌, List, length, drop, Bool, true, false, cond, refl, sym, ap, ◌∙◌, subst, Ok, Err, Option, Some, arith, length-drop}
 use Rattle.std.specs.Prelude.{◌&&◌, ◌==◌, nat_lt, nat_le, not, IsTrue}
 use Rattle.std.proofs.lemmas.Bool.Decides.{nat_tests}
 use Rattle.std.proofs.lemmas.Bool.{or_parts}
@@ -7,9 +7,8 @@ use Rattle.std.proofs.lemmas.List.{length-take-le}
 use Rattle.std.specs.Int.{is_power_of_two, IsPowerOfTwo}
 use Rattle.bzimage.proofs.Powers.{power_of_two}
 use Rattle.bzimage.specs.declared.fault.BzFault.{BzFault}
-use Rattle.bzimage.specs.declared.fault.BzFault.TheVariants as faults
 use Rattle.bzimage.specs.declared.setup_header.SetupHeader.{SetupHeader}
-use Rattle.kx_laws.specs.Results.{◌>>=◌, unless, Gives}
+use Rattle.kx_laws.specs.Results.{◌>>=◌, unless}
 use Rattle.bzimage.specs.Kernel.{Kernel, has_bit, header_end, is_header_end, kernel_start, is_alignment, is_cut, header_fault, header_tested, header_bytes, kernel_of, kernel_reading, HasSmallNumbers, IsTested, IsSound}
 
 peel : (b : Bool) (x : BzFault) (rest : Option BzFault) → unless (cond b (Some x) rest) ≡ Ok tt → (b ≡ false) × (unless rest ≡ Ok tt)

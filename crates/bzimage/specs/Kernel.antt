@@ -1,7 +1,7 @@
 -- What a bzImage reads as, or its first fault (Linux/x86 boot protocol, "The Real-Mode Kernel Header" and "Loading The
 -- Rest of The Kernel"; the order of faults, and the limits of the header's end and of the alignment, are this project's
 -- own).
-use Rattle.std.specs.Prelude.{◌≡◌, ℕ, ◌+◌, ◌-◌, ◌*◌, ◌^◌, ◌<◌, ◌≤◌, ◌==◌, ◌&&◌, ◌||◌, not, Bool, IsTrue, List, length, take, nat_lt, nat_le, bit_and, if◌then◌else◌, Option, Some, None, Result, Ok, Err}
+use Rattle.std.specs.Prelude.{ℕ, ◌+◌, ◌-◌, ◌*◌, ◌^◌, ◌<◌, ◌≤◌, ◌==◌, ◌&&◌, ◌||◌, not, Bool, IsTrue, List, length, take, nat_lt, nat_le, bit_and, if◌then◌else◌, Option, Some, None, Result, Ok, Err}
 use Rattle.std.specs.Int.{is_power_of_two, IsPowerOfTwo}
 use Rattle.kx_laws.specs.Results.{◌>>=◌, unless}
 use Rattle.kx_fields.specs.Fields.{bytes_at}

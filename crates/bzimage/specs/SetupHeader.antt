@@ -1,6 +1,6 @@
 -- The setup header of a bzImage (Linux/x86 boot protocol, "The Real-Mode Kernel Header"), as far as a loader of the 64-bit
 -- entry reads it. Places count bytes from the file's start.
-use Rattle.std.specs.Prelude.{[], ◌∷◌}
+use Rattle.std.specs.Prelude.{[]}
 use Rattle.kx_fields.specs.Formats.{Format}
 use Rattle.bzimage.specs.declared.setup_header.SetupHeader.{SetupHeader}
 

@@ -1,6 +1,6 @@
 -- The signature of a bzImage (Linux/x86 boot protocol, "The Real-Mode Kernel Header", boot_flag and header). Places count
 -- bytes from the file's start.
-use Rattle.std.specs.Prelude.{ℕ, ◌==◌, ◌&&◌, Bool, false, List, [], ◌∷◌, length, take, nat_lt, if◌then◌else◌}
+use Rattle.std.specs.Prelude.{ℕ, ◌==◌, ◌&&◌, Bool, false, List, [], length, take, nat_lt, if◌then◌else◌}
 use Rattle.kx_fields.specs.Formats.{Format, read}
 use Rattle.bzimage.specs.declared.signature.Signature.{Signature}
 

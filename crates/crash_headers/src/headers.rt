@@ -91,7 +91,7 @@ pub fn make(alloc: Global, map: &Map, notes: &[Note]) -> Result<Vec<u8>, CrashFa
         let count = notes.len() as u64 + ranges.len() as u64;
         return Err(CrashFault::TooManyRanges { count });
     }
-    match first_outside(notes, ranges) {
+    match first_outside(alloc, notes, ranges)? {
         Some(i) => Err(CrashFault::NotesOutside { i }),
         None => {
             let out = headers(alloc, notes, ranges)?;

@@ -10,6 +10,7 @@ mod file_header;
 mod headers;
 mod note;
 mod program_header;
+mod ranges;
 #[cfg(test)]
 mod tests;
 

@@ -1,19 +1,19 @@
 //! Notes, and the text that lists them.
 
-ghost use Rattle.std.specs.Prelude.{◌≡◌, ◌+◌, []};
+ghost use Rattle.std.specs.Prelude.{◌≡◌, IfOk};
 ghost use Rattle.std.specs.List.{list_any, position};
 ghost use Rattle.kx_laws.specs.Results.{Gives};
 ghost use Rattle.text_lines.specs.Lines.{lines};
 ghost use Rattle.crash_headers.specs.declared.fault.NoteFault.TheVariants.{Memory};
+ghost use Rattle.crash_headers.specs.Ranges.{AreRising};
 ghost use Rattle.crash_headers.specs.Notes.{lies_in, is_outside, note_from, note_of, line_onto, notes_reading};
 
 use crate::fault::NoteFault;
+use crate::ranges::{end_of, rising};
+use kx_pages::ADDRESS_LIMIT;
 use memory_map::Row;
-use std::alloc::Global;
+use std::alloc::{AllocError, Global};
 use text_lines::{cut, next_line, number};
-
-/// The first address that is none.
-const ADDRESS_LIMIT: u64 = 0x4000_0000_0000;
 
 /// How many lines a text of notes can have.
 const MOST_NOTES: u64 = 1024;
@@ -30,31 +30,48 @@ impl Note {
     fn lies_in(self, range: &Row) -> bool
         ensures { result ≡ lies_in self range.now }
     {
-        range.start <= self.start
-            && u128::from(self.start) + u128::from(self.size)
-                <= u128::from(range.start) + u128::from(range.size)
+        range.start <= self.start && u128::from(self.start) + u128::from(self.size) <= end_of(range)
     }
 
-    /// Its bytes are those of one of the ranges.
-    fn lies_in_one(self, ranges: &[Row]) -> bool
-        ensures { result ≡ list_any (lies_in self) ranges.now }
+    /// Its bytes are those of one of the ranges, which rise: of the last that starts no later, if of any.
+    fn lies_in_one(self, rising: &[Row]) -> bool
+        requires { AreRising rising.now }
+        ensures { result ≡ list_any (lies_in self) rising.now }
     {
-        ranges.iter().any(|range| self.lies_in(range))
+        let count = rising.partition_point(|range| range.start <= self.start);
+        match count.checked_sub(1) {
+            Some(last) => self.lies_in(&rising[last]),
+            None => false,
+        }
     }
 
-    /// It lies in none of the ranges.
-    fn is_outside(self, ranges: &[Row]) -> bool
-        ensures { result ≡ is_outside ranges.now self }
+    /// It lies in none of the ranges, which rise.
+    fn is_outside(self, rising: &[Row]) -> bool
+        requires { AreRising rising.now }
+        ensures { result ≡ is_outside rising.now self }
     {
-        !self.lies_in_one(ranges)
+        !self.lies_in_one(rising)
     }
 }
 
-/// The first note that lies in none of the ranges.
-pub(crate) fn first_outside(notes: &[Note], ranges: &[Row]) -> Option<usize>
-    ensures { result ≡ position (is_outside ranges.now) notes.now }
+/// The first note that lies in none of the ranges, which rise.
+fn first_outside_rising(notes: &[Note], rising: &[Row]) -> Option<usize>
+    requires { AreRising rising.now }
+    ensures { result ≡ position (is_outside rising.now) notes.now }
 {
-    notes.iter().position(|note| note.is_outside(ranges))
+    notes.iter().position(|note| note.is_outside(rising))
+}
+
+/// The first note that lies in none of the ranges. They are put in order once, and each note is then found by halving.
+pub(crate) fn first_outside(
+    alloc: Global,
+    notes: &[Note],
+    ranges: &[Row],
+) -> Result<Option<usize>, AllocError>
+    ensures { IfOk result (λ r. r ≡ position (is_outside ranges.now) notes.now) }
+{
+    let rising = rising(alloc, ranges)?;
+    Ok(first_outside_rising(notes, &rising))
 }
 
 /// The note of a start and a size. None where it has no byte, or one at the limit of addresses or above.

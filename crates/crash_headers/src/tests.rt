@@ -38,16 +38,26 @@ const SECOND: [u64; 7] = [
     0,
 ];
 
-// The start and the size of a note, and whether it is inside a core range of that machine.
-const PLACES: [(u64, u64, bool); 8] = [
-    (0x0020_0000, 0x400, true),
-    (0x0010_0000, 0x400, true),
-    (0x03ff_fc00, 0x400, true),
-    (0x03ff_fc00, 0x401, false),
-    (0x000f_ffff, 0x400, false),
-    (0x0400_0000, 0x400, false),
-    (0x0600_0000, 0x0a00_0000, true),
-    (u64::MAX, u64::MAX, false),
+// Three ranges that touch, in another order than that of their starts.
+const TOUCHING: &[u8] =
+    b"08000000-0fffffff : System RAM\n00000000-03ffffff : System RAM\n04000000-07ffffff : System RAM\n";
+
+// A machine, the start and the size of a note, and whether it is inside a core range of that machine.
+const PLACES: [(&[u8], u64, u64, bool); 14] = [
+    (MACHINE, 0x0020_0000, 0x400, true),
+    (MACHINE, 0x0010_0000, 0x400, true),
+    (MACHINE, 0x03ff_fc00, 0x400, true),
+    (MACHINE, 0x03ff_fc00, 0x401, false),
+    (MACHINE, 0x000f_ffff, 0x400, false),
+    (MACHINE, 0x0400_0000, 0x400, false),
+    (MACHINE, 0x0600_0000, 0x0a00_0000, true),
+    (MACHINE, u64::MAX, u64::MAX, false),
+    (TOUCHING, 0, 0x0400_0000, true),
+    (TOUCHING, 0x03ff_ffff, 2, false),
+    (TOUCHING, 0x0400_0000, 0x0400_0000, true),
+    (TOUCHING, 0x0800_0000, 1, true),
+    (TOUCHING, 0x0fff_ffff, 1, true),
+    (TOUCHING, 0x0fff_ffff, 2, false),
 ];
 
 // A text, and how many notes it has, or the line that is none.
@@ -91,7 +101,7 @@ fn are_at(bytes: &[u8], at: usize, numbers: &[u64]) -> bool {
     true
 }
 
-// a note, and the two ranges beside the crash area.
+// A note, and the two ranges beside the crash area.
 #[test]
 fn headers_of_one_note_and_two_ranges(rt: HostRuntime) -> Result<(), Fail> {
     let alloc = rt.alloc();
@@ -113,8 +123,8 @@ fn headers_of_one_note_and_two_ranges(rt: HostRuntime) -> Result<(), Fail> {
 #[test]
 fn notes_lie_inside_one_core_range(rt: HostRuntime) -> Result<(), Fail> {
     let alloc = rt.alloc();
-    let map = Map::read(alloc, MACHINE)?;
-    for (start, size, inside) in PLACES {
+    for (machine, start, size, inside) in PLACES {
+        let map = Map::read(alloc, machine)?;
         let fault = make(alloc, &map, &[Note { start, size }]).err();
         let wanted = if inside {
             None

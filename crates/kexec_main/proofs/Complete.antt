@@ -9,7 +9,7 @@ use Rattle.kx_pages.specs.declared.item.Item.{Item}
 use Rattle.kx_pages.specs.declared.image.Wish.{Wish}
 use Rattle.page_memory.specs.Contents.{at}
 use Rattle.page_memory.specs.Memory.{Mem}
-use Rattle.segments.specs.Parts.{need}
+use Rattle.segments.specs.Values.{need}
 use Rattle.list_checker.specs.declared.fault.ListFault.{ListFault}
 use Rattle.load_states.specs.States.{Checked}
 use Rattle.file_commands.specs.Taking.{Refusal, by, too_long, reads}

@@ -10,7 +10,7 @@ use Rattle.kx_edge.specs.declared.edge.Sink.{Ghosts as Sink}
 use Rattle.page_memory.specs.Contents.{at}
 use Rattle.page_memory.specs.Memory.{Mem}
 use Rattle.page_pool.specs.Pages.{Pages}
-use Rattle.segments.specs.Parts.{need}
+use Rattle.segments.specs.Values.{need}
 use Rattle.list_checker.specs.declared.fault.ListFault.{ListFault}
 use Rattle.list_checker.specs.Reading.{IsWalk}
 use Rattle.list_checker.specs.Walk.{links, pairs}

@@ -2,9 +2,9 @@
 use Rattle.std.specs.Prelude.{◌≡◌, List, [], length, codes, ◌++◌, Option, Some, None, Result, Ok, Err}
 use Rattle.kx_pages.specs.declared.item.Item.{Item}
 use Rattle.page_memory.specs.Contents.{at}
-use Rattle.segments.specs.Parts.{want}
+use Rattle.segments.specs.Values.{want}
 use Rattle.list_checker.specs.declared.fault.ListFault.{ListFault}
-use Rattle.list_checker.specs.Walk.{IsAccepted, swap_page, links, pairs}
+use Rattle.list_checker.specs.Walk.{IsAccepted, links, pairs}
 use Rattle.list_checker.specs.Checked.{IsFirstFault}
 use Rattle.list_checker.specs.Texts.{fault_text}
 use Rattle.file_commands.specs.Taking.{Refusal}
@@ -12,6 +12,7 @@ use Rattle.kexec_main.specs.declared.files.LoadFiles.{LoadFiles}
 use Rattle.kexec_main.specs.declared.status.Reason.{Reason}
 use Rattle.kexec_main.specs.Outputs.{Made}
 use Rattle.kexec_main.specs.Texts.{accepted_line}
+use Rattle.kx_pages.specs.Modes.{swap_page}
 
 -- the items are a list that is accepted for the record's segments in the memory, in the record's mode
 abbrev pub IsAcceptedIn : LoadFiles → List Item → Type 0

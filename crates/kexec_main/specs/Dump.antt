@@ -5,7 +5,7 @@ use Rattle.kx_pages.specs.declared.item.Item.{Item}
 use Rattle.kx_pages.specs.declared.item.Item.TheVariants.{Link, Destination, Source, Done}
 use Rattle.kx_pages.specs.Items.{decode}
 use Rattle.page_memory.specs.Contents.{at}
-use Rattle.segments.specs.Parts.{Part}
+use Rattle.segments.specs.Values.{SegmentValue}
 use Rattle.list_checker.specs.declared.fault.ListFault.{ListFault}
 use Rattle.list_checker.specs.Reading.{IsWalk}
 use Rattle.list_checker.specs.Texts.{fault_text}
@@ -39,7 +39,7 @@ walk_text ws None = word_lines 0 ws
 walk_text ws (Some f) = word_lines 0 (take f.word ws) ++ (fault_text f ++ codes "\n")
 
 -- the line of a segment: its address, its bytes of memory, the count of its bytes and their digest by SHA-256 (FIPS 180-4)
-unfoldable pub segment_line : Part → List ℕ
+unfoldable pub segment_line : SegmentValue → List ℕ
 segment_line s =
     codes "segment " ++ (hexadecimal s.mem ++ (codes " memsz " ++ (hexadecimal s.memsz ++ (codes " bufsz " ++ (decimal (length s.bytes) ++ (codes " sha256 " ++ (encode_lower (sha256 s.bytes) ++ codes "\n")))))))
 

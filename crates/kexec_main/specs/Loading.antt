@@ -2,7 +2,7 @@
 use Rattle.std.specs.Prelude.{◌≡◌, ℕ, ◌≤◌, ◌<◌, List, length, Option, Result, Ok, Err}
 use Rattle.kx_pages.specs.declared.image.Wish.{Wish}
 use Rattle.page_memory.specs.Contents.{at}
-use Rattle.segments.specs.Parts.{Part, need}
+use Rattle.segments.specs.Values.{SegmentValue, need}
 use Rattle.memory_map.specs.Named.{Named}
 use Rattle.load_states.specs.Fillings.{IsSealed}
 use Rattle.load_states.specs.States.{Load}
@@ -19,7 +19,7 @@ HasNoPlan request map (reasons.Plan fault) = plan request map ≡ Err fault
 HasNoPlan request map other = ⊥
 
 -- the pool has fewer pages than the load of the segments takes: both numbers are the reason
-abbrev pub IsTooFew : List ℕ → Wish → List Part → Reason → Type 0
+abbrev pub IsTooFew : List ℕ → Wish → List SegmentValue → Reason → Type 0
 IsTooFew pool wish ss (reasons.NoPages left n) = (left ≡ length pool) × (n ≡ need wish ss) × (left < n)
 IsTooFew pool wish ss other = ⊥
 

@@ -9,7 +9,7 @@ use Rattle.kexec_words.specs.declared.commands.Runs.{Runs}
 use Rattle.kexec_words.specs.declared.commands.Runs.TheVariants.{Once, Twice}
 use Rattle.page_memory.specs.Memory.{Mem, Agree}
 use Rattle.page_memory.specs.Contents.{at}
-use Rattle.segments.specs.Parts.{overlay, want}
+use Rattle.segments.specs.Values.{overlay, want}
 use Rattle.load_states.specs.States.{Checked, Load, swap_of}
 use Rattle.load_states.specs.Ready.{Told}
 use Rattle.load_states.specs.Exchange.{exchange}

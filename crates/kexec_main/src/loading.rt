@@ -6,7 +6,7 @@ ghost use Rattle.kx_laws.specs.Results.{Gives};
 ghost use Rattle.page_memory.specs.Contents.{at};
 ghost use Rattle.page_memory.specs.Memory.{Mem};
 ghost use Rattle.page_pool.specs.Pages.{is_filed};
-ghost use Rattle.segments.specs.Parts.{need};
+ghost use Rattle.segments.specs.Values.{need};
 ghost use Rattle.load_states.specs.Fillings.{FillsFrom, IsSealed};
 ghost use Rattle.file_commands.specs.Calls.{MakesOr};
 ghost use Rattle.kexec_plan.specs.Plan.{IsServed, plan};

@@ -1,7 +1,9 @@
 //! Why a request has no plan.
 
 ghost use Rattle.std.specs.Prelude.{◌≡◌};
+ghost use Rattle.kexec_plan.specs.Faults.{of_elf};
 
+use elf_image::ElfFault;
 use segments::SegFault;
 use std::alloc::AllocError;
 use thiserror::Error;
@@ -47,6 +49,9 @@ pub enum PlanFault {
     /// There is no place for a part.
     #[error("there is no place for {part}: the memory map has no free run of pages where it may lie")]
     NoHole { part: Part },
+    /// The kernel or the purgatory is no ELF file that can be loaded.
+    #[error("{fault}")]
+    Elf { fault: ElfFault },
     /// The segments are refused.
     #[error("the kernel cannot be placed: {fault}")]
     Segments { fault: SegFault },
@@ -59,6 +64,18 @@ pub enum PlanFault {
     /// A crash kernel of another type than bzImage.
     #[error("a crash kernel has to be a bzImage")]
     CrashNeedsBzimage,
+}
+
+impl PlanFault {
+    /// What a fault of an ELF file is here.
+    pub(crate) fn of_elf(fault: ElfFault) -> PlanFault
+        ensures { result ≡ of_elf fault }
+    {
+        match fault {
+            ElfFault::Memory => PlanFault::Memory,
+            _ => PlanFault::Elf { fault },
+        }
+    }
 }
 
 impl From<AllocError> for PlanFault {

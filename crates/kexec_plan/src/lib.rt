@@ -7,6 +7,7 @@
 
 mod fault;
 mod format;
+mod kernels;
 mod parts;
 mod planning;
 mod request;

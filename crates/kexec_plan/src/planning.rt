@@ -4,10 +4,11 @@ ghost use Rattle.std.specs.Prelude.{◌≡◌};
 ghost use Rattle.kx_laws.specs.Results.{Gives};
 ghost use Rattle.kexec_plan.specs.Requests.{request_of, planned_of, lent, IsMapped};
 ghost use Rattle.kexec_plan.specs.Formats.{area_of, crash_kind, kind_of};
-ghost use Rattle.kexec_plan.specs.Plan.{plain_plan, raw_plan, plan_as, plan, IsServed};
+ghost use Rattle.kexec_plan.specs.Plan.{plain_plan, raw_plan, elf_plan, plan_as, plan, IsServed};
 
 use crate::fault::PlanFault;
 use crate::format::{Format, format_of, unused_part};
+use crate::kernels::{Kernel, read_elf};
 use crate::parts::{raw_list, start_at};
 use crate::request::{Planned, Request};
 use crate::rules::tested;
@@ -80,6 +81,23 @@ fn raw_plan(
     plain_plan(alloc, map, kind, list, start_at(entry))
 }
 
+// The plan of an ELF executable. Its file is let go when its segments are there.
+#[tactic(auto, unfolding(crate::specs::Plan::elf_plan))]
+fn elf_plan(
+    alloc: Global,
+    request: Request,
+    map: Option<&Map>,
+    kind: Kind,
+) -> Result<Planned, PlanFault>
+    ensures { Gives PlanFault.Memory planned_of result (elf_plan (request_of request) (lent map.entry) kind) }
+{
+    let Kernel { list, entry } = match read_elf(alloc, &request.kernel) {
+        Ok(kernel) => kernel,
+        Err(fault) => return Err(fault),
+    };
+    plain_plan(alloc, map, kind, list, start_at(entry))
+}
+
 // The plan of a kernel of this form.
 fn plan_as(
     alloc: Global,
@@ -92,7 +110,8 @@ fn plan_as(
 {
     match format {
         Format::Raw { at, entry } => raw_plan(alloc, request, map, kind, at, entry),
-        Format::Elf | Format::Bzimage | Format::Multiboot => Err(PlanFault::UnknownImage),
+        Format::Elf => elf_plan(alloc, request, map, kind),
+        Format::Bzimage | Format::Multiboot => Err(PlanFault::UnknownImage),
     }
 }
 
