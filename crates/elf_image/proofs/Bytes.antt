@@ -7,7 +7,7 @@ use Rattle.std.proofs.lemmas.Bool.{cases_lt, cases_eq, cond-true, cond-false, eq
 use Rattle.std.proofs.lemmas.List.{ext_get_or, length-append, length-take, length-drop, length-replicate, get_or_append_left, get_or-append_right, get_or-replicate, get_or-take, get_or-drop}
 use Rattle.std.proofs.lemmas.List.Folds.{list_any-append}
 use Rattle.std.proofs.lemmas.List.FromFn.{length-map-range_with_len, get_or-map-range_with_len}
-use Rattle.segments.specs.Parts.{Part}
+use Rattle.segments.specs.Values.{SegmentValue}
 use Rattle.elf_image.specs.declared.load.Load.{Load}
 use Rattle.elf_image.specs.Loads.{load_stop}
 use Rattle.elf_image.specs.Image.{is_file_of, is_file, byte_at, up_to_last, bytes_of, segment_of, segments_of}
@@ -234,7 +234,7 @@ grows file pre l bytes a n m s g d p q lo hi u is =
     ]
 
 -- ---- all loads
-abbrev made : ℕ → List ℕ → ℕ → Part
+abbrev made : ℕ → List ℕ → ℕ → SegmentValue
 made mem bytes n = record { bytes = bytes; mem = mem; memsz = n }
 
 same_part : (bytes more : List ℕ) (mem n m : ℕ) → bytes ≡ more → n ≡ m → made mem bytes n ≡ made mem more m
@@ -260,7 +260,7 @@ pages_size f e = omega arith
 pub joined_is : (file : List ℕ) (pre : List Load) (bytes : List ℕ) (f e s : ℕ) (ls : List Load) → f < e → Ends s e → Rise s ls → AreLoads (length file) ls → AllByRecursion (EndsBy s) pre → bytes ≡ bytes_of file pre (4096 * f) (4096 * (e - f)) → joined_to file bytes (4096 * f) (4096 * e) ls ≡ map (segment_of file (pre ++ ls)) (run_to f e ls)
 unfolding joined_to run_to
 joined_is file pre bytes f e s [] some h r g d is =
-    ap (λ (p : Part). p ∷ []) (same_part bytes _ (4096 * f) _ _ (is ∙ ap (λ xs. bytes_of file xs (4096 * f) (4096 * (e - f))) (sym (append-nil pre))) (pages_size f e))
+    ap (λ (p : SegmentValue). p ∷ []) (same_part bytes _ (4096 * f) _ _ (is ∙ ap (λ xs. bytes_of file xs (4096 * f) (4096 * (e - f))) (sym (append-nil pre))) (pages_size f e))
 joined_is file pre bytes f e s (l ∷ ls) some h r g d is =
     let w = follows (length file) s e l g.0 h r.0 in
     let F = first_number l in
@@ -282,7 +282,7 @@ joined_is file pre bytes f e s (l ∷ ls) some h r g d is =
           ∙ ap (λ xs. map (segment_of file xs) (run_to f E ls)) list
           ∙ ap (map (segment_of file (pre ++ l ∷ ls))) (sym (cond-true _ _ _ (le_true F e t)))
       | inl t ↦ cond-false _ _ _ (lt_pages F e t)
-          ∙ ap (λ (p : Part). p ∷ joined_to file (grown file l [] (4096 * F)) (4096 * F) (4096 * E) ls)
+          ∙ ap (λ (p : SegmentValue). p ∷ joined_to file (grown file l [] (4096 * F)) (4096 * F) (4096 * E) ls)
           (same_part bytes _ (4096 * f) _ _ (is ∙ sym (bytes_same file pre (l ∷ ls) (4096 * f) (4096 * (e - f)) (λ k i. rise_none (4096 * e) (l ∷ ls) (4096 * f + k) (omega (arith, t), r.1) (omega (arith, i, some))))) (pages_size f e))
           ∙ ap (λ xs. segment_of file (pre ++ l ∷ ls) (between f e) ∷ xs)
           (joined_is file (pre ++ l ∷ []) (grown file l [] (4096 * F)) F E (load_stop l) ls more (ends_at l) r.1 g.1 by

@@ -7,7 +7,7 @@ use Rattle.std.proofs.lemmas.Bool.{cond-true, cond-false}
 use Rattle.std.proofs.lemmas.List.{drop_more, drop_all, take_all}
 use Rattle.std.proofs.lemmas.List.Folds.{list_any-append, list_any_more}
 use Rattle.kx_pages.specs.Spans.{Run, in_span, in_spans}
-use Rattle.segments.specs.Parts.{Part}
+use Rattle.segments.specs.Values.{SegmentValue}
 use Rattle.elf_image.specs.declared.load.Load.{Load}
 use Rattle.elf_image.specs.Image.{meets_page, is_met}
 use Rattle.elf_image.specs.Joined.{first_of, end_of, grown, part, joined_to, joined}
@@ -21,7 +21,7 @@ each_at P [] i d all l = absurd (omega (arith, l))
 each_at P (y ∷ ys) zero d all l = all.0
 each_at P (y ∷ ys) (suc i) d all l = each_at P ys i d all.1 (omega (arith, l))
 
-pub one_more : (file bytes : List ℕ) (mem stop i : ℕ) (ls : List Load) (d : Load) (list new : List Part) (bytes2 : List ℕ) (mem2 stop2 : ℕ) (all : List Part) → i < length ls → ((rest : List Load) → new ++ joined_to file bytes2 mem2 stop2 rest ≡ list ++ joined_to file bytes mem stop (get_or ls i d ∷ rest)) → list ++ joined_to file bytes mem stop (drop i ls) ≡ all → new ++ joined_to file bytes2 mem2 stop2 (drop (i + 1) ls) ≡ all
+pub one_more : (file bytes : List ℕ) (mem stop i : ℕ) (ls : List Load) (d : Load) (list new : List SegmentValue) (bytes2 : List ℕ) (mem2 stop2 : ℕ) (all : List SegmentValue) → i < length ls → ((rest : List Load) → new ++ joined_to file bytes2 mem2 stop2 rest ≡ list ++ joined_to file bytes mem stop (get_or ls i d ∷ rest)) → list ++ joined_to file bytes mem stop (drop i ls) ≡ all → new ++ joined_to file bytes2 mem2 stop2 (drop (i + 1) ls) ≡ all
 one_more file bytes mem stop i ls d list new bytes2 mem2 stop2 all l h same =
     h (drop (i + 1) ls) ∙ ap (λ x. list ++ joined_to file bytes mem stop x) (sym (drop_more ls i d l)) ∙ same
 
@@ -45,7 +45,7 @@ touches file bytes more mem stop mem2 stop2 l ls t b m s =
     ∙ ap (λ x. joined_to file (grown file l bytes mem) mem x ls) s
     ∙ sym (cond-true _ _ _ t)
 
-pub lies_apart : (file bytes more : List ℕ) (mem stop mem2 stop2 : ℕ) (l : Load) (ls : List Load) (list new : List Part) → nat_le (first_of l) stop ≡ false → new ≡ list ++ part bytes mem stop ∷ [] → more ≡ grown file l [] (first_of l) → mem2 ≡ first_of l → stop2 ≡ end_of l → new ++ joined_to file more mem2 stop2 ls ≡ list ++ joined_to file bytes mem stop (l ∷ ls)
+pub lies_apart : (file bytes more : List ℕ) (mem stop mem2 stop2 : ℕ) (l : Load) (ls : List Load) (list new : List SegmentValue) → nat_le (first_of l) stop ≡ false → new ≡ list ++ part bytes mem stop ∷ [] → more ≡ grown file l [] (first_of l) → mem2 ≡ first_of l → stop2 ≡ end_of l → new ++ joined_to file more mem2 stop2 ls ≡ list ++ joined_to file bytes mem stop (l ∷ ls)
 unfolding joined_to
 lies_apart file bytes more mem stop mem2 stop2 l ls list new t n b m s =
     ap (λ x. x ++ joined_to file more mem2 stop2 ls) n
@@ -61,7 +61,7 @@ unfolding joined
 joined-none file [] e = refl
 joined-none file (l ∷ ls) e = absurd (omega (arith, e))
 
-pub join_first : (file bytes : List ℕ) (mem stop : ℕ) (l : Load) (ls : List Load) (list : List Part) → 0 < length ls → l ≡ get_or ls 0 no_load → list ≡ [] → bytes ≡ grown file l [] (first_of l) → mem ≡ first_of l → stop ≡ end_of l → list ++ joined_to file bytes mem stop (drop 1 ls) ≡ joined file ls
+pub join_first : (file bytes : List ℕ) (mem stop : ℕ) (l : Load) (ls : List Load) (list : List SegmentValue) → 0 < length ls → l ≡ get_or ls 0 no_load → list ≡ [] → bytes ≡ grown file l [] (first_of l) → mem ≡ first_of l → stop ≡ end_of l → list ++ joined_to file bytes mem stop (drop 1 ls) ≡ joined file ls
 unfolding joined
 join_first file bytes mem stop l [] list some is none b m s = absurd (omega (arith, some))
 join_first file bytes mem stop l (x ∷ xs) list some is none b m s =
@@ -71,7 +71,7 @@ join_first file bytes mem stop l (x ∷ xs) list some is none b m s =
     ∙ ap (λ y. joined_to file (grown file l [] (first_of l)) (first_of l) y xs) s
     ∙ ap (λ y. joined_to file (grown file y [] (first_of y)) (first_of y) (end_of y) xs) is
 
-pub join_last : (file bytes : List ℕ) (mem stop i : ℕ) (ls : List Load) (list new all : List Part) → length ls ≤ i → new ≡ list ++ part bytes mem stop ∷ [] → list ++ joined_to file bytes mem stop (drop i ls) ≡ all → new ≡ all
+pub join_last : (file bytes : List ℕ) (mem stop i : ℕ) (ls : List Load) (list new all : List SegmentValue) → length ls ≤ i → new ≡ list ++ part bytes mem stop ∷ [] → list ++ joined_to file bytes mem stop (drop i ls) ≡ all → new ≡ all
 unfolding joined_to
 join_last file bytes mem stop i ls list new all l n h =
     n ∙ ap (λ x. list ++ joined_to file bytes mem stop x) (sym (drop_all i ls l)) ∙ h

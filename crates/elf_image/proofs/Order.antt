@@ -8,7 +8,7 @@ use Rattle.std.proofs.lemmas.Bool.{cases_lt, or_cases, or_left, and_parts, cond-
 use Rattle.std.proofs.lemmas.List.Sorted.{All-permutation, list_any-IsPermutation, sum_by-IsPermutation}
 use Rattle.std.proofs.lemmas.List.Sums.{sum_by-cons}
 use Rattle.kx_pages.specs.Spans.{Run}
-use Rattle.segments.specs.Parts.{Part}
+use Rattle.segments.specs.Values.{SegmentValue}
 use Rattle.elf_image.specs.declared.load.Load.{Load}
 use Rattle.elf_image.specs.Loads.{load_stop}
 use Rattle.elf_image.specs.Image.{meets_page, is_met, is_file_of, is_file, byte_at, bytes_of, segment_of, segments_of, runs}
@@ -119,7 +119,7 @@ same_bytes file ls ys a n h k =
 same_segments : (file : List ℕ) (ls ys : List Load) (rs : List Run) → ((x : ℕ) → is_file ys x ≡ is_file ls x) → ((x : ℕ) → byte_at file ys x ≡ byte_at file ls x) → map (segment_of file ys) rs ≡ map (segment_of file ls) rs
 same_segments file ls ys [] h k = refl
 same_segments file ls ys (r ∷ rs) h k =
-    let P : List ℕ → Part = λ xs. record { bytes = xs; mem = 4096 * r.first; memsz = 4096 * r.count } in
+    let P : List ℕ → SegmentValue = λ xs. record { bytes = xs; mem = 4096 * r.first; memsz = 4096 * r.count } in
     ap (λ xs. P xs ∷ map (segment_of file ys) rs) (same_bytes file ls ys (4096 * r.first) (4096 * r.count) h k)
     ∙ ap (λ ss. segment_of file ls r ∷ ss) (same_segments file ls ys rs h k)
 

@@ -5,7 +5,7 @@ use Rattle.std.proofs.lemmas.Bool.Decides.{nat_tests}
 use Rattle.std.proofs.lemmas.Bool.{cases_lt, cases_eq, cond-true, cond-false, eq-eqb, ne_eqb, or_from}
 use Rattle.kx_pages.specs.Spans.{Run, end, in_span, in_spans, AreApart, passing}
 use Rattle.kx_pages.proofs.Same.{same_spans}
-use Rattle.segments.specs.Parts.{Part}
+use Rattle.segments.specs.Values.{SegmentValue}
 use Rattle.elf_image.specs.declared.load.Load.{Load}
 use Rattle.elf_image.specs.Loads.{load_stop}
 use Rattle.elf_image.specs.Image.{meets_page, is_met, with_number, runs, segment_of, segments_of, run_of, AreRuns}
@@ -227,5 +227,5 @@ run_back file ls (r ∷ rs) =
     let Q : ℕ → Run = λ n. record { first = r.first; count = n } in
     ap (λ x. x ∷ map run_of (map (segment_of file ls) rs)) (ap P f ∙ ap Q c) ∙ ap (λ xs. r ∷ xs) (run_back file ls rs)
 
-pub segments_runs : (file : List ℕ) (ls : List Load) (ss : List Part) (n : ℕ) → AreLoads n ls → ss ≡ segments_of file ls → AreRuns (is_met ls) (map run_of ss)
+pub segments_runs : (file : List ℕ) (ls : List Load) (ss : List SegmentValue) (n : ℕ) → AreLoads n ls → ss ≡ segments_of file ls → AreRuns (is_met ls) (map run_of ss)
 segments_runs file ls ss n g is = subst (AreRuns (is_met ls)) (sym (ap (map run_of) is ∙ run_back file ls (runs (is_met ls) 0 (2 ^ 34)))) (are_runs n ls g)

@@ -4,7 +4,7 @@ use Rattle.std.specs.Prelude.{◌≡◌, ℕ, zero, suc, ◌+◌, ◌-◌, ◌*�
 use Rattle.std.specs.List.{list_any, range_with_len}
 use Rattle.kx_pages.specs.Limits.{segment_page_limit}
 use Rattle.kx_pages.specs.Spans.{Run, in_spans, AreApart, passing}
-use Rattle.segments.specs.Parts.{Part}
+use Rattle.segments.specs.Values.{SegmentValue}
 use Rattle.elf_image.specs.declared.load.Load.{Load}
 use Rattle.elf_image.specs.declared.fault.ElfFault.{ElfFault}
 use Rattle.elf_image.specs.declared.fault.ElfFault.TheVariants as faults
@@ -52,7 +52,7 @@ abbrev pub bytes_of : List ℕ → List Load → ℕ → ℕ → List ℕ
 bytes_of file ls a n = map (byte_at file ls) (range_with_len a (up_to_last (λ k. is_file ls (a + k)) n))
 
 -- the segment of a run of pages
-abbrev pub segment_of : List ℕ → List Load → Run → Part
+abbrev pub segment_of : List ℕ → List Load → Run → SegmentValue
 segment_of file ls r = record {
   bytes = bytes_of file ls (4096 * r.first) (4096 * r.count);
   mem = 4096 * r.first;
@@ -64,15 +64,15 @@ abbrev pub pages_met : List Load → ℕ
 pages_met ls = passing (is_met ls) (2 ^ 34)
 
 -- the segments of an image: the maximal runs of pages that loads meet, in rising order
-abbrev pub segments_of : List ℕ → List Load → List Part
+abbrev pub segments_of : List ℕ → List Load → List SegmentValue
 segments_of file ls = map (segment_of file ls) (runs (is_met ls) 0 (2 ^ 34))
 
 -- the image of the loads of a file, which has no more pages than a load may have
-unfoldable pub image : List ℕ → List Load → Result (List Part) ElfFault
+unfoldable pub image : List ℕ → List Load → Result (List SegmentValue) ElfFault
 image file ls = if nat_lt segment_page_limit (pages_met ls) then Err (faults.TooLarge (pages_met ls)) else Ok (segments_of file ls)
 
 -- the pages of a segment
-abbrev pub run_of : Part → Run
+abbrev pub run_of : SegmentValue → Run
 run_of s = record { first = s.mem / 4096; count = s.memsz / 4096 }
 
 -- the numbers that pass are those of the runs, which rise, have numbers, and neither meet nor touch

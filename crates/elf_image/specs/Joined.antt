@@ -1,7 +1,7 @@
 -- Loads that rise, joined one after another into segments.
 use Rattle.std.specs.Prelude.{ℕ, ◌+◌, ◌-◌, ◌*◌, ◌/◌, ◌^◌, ◌++◌, ◌<◌, ◌≤◌, ◌==◌, ◌&&◌, Bool, List, [], ◌∷◌, length, take, drop, replicate, nat_lt, nat_le, if◌then◌else◌}
 use Rattle.std.specs.List.{AllByRecursion, count_by}
-use Rattle.segments.specs.Parts.{Part}
+use Rattle.segments.specs.Values.{SegmentValue}
 use Rattle.elf_image.specs.declared.load.Load.{Load}
 use Rattle.elf_image.specs.Loads.{load_stop}
 
@@ -42,16 +42,16 @@ grown file l bytes mem =
     if l.filesz == 0 then bytes
     else bytes ++ (replicate (l.paddr - mem - length bytes) 0 ++ take l.filesz (drop l.offset file))
 
-abbrev pub part : List ℕ → ℕ → ℕ → Part
+abbrev pub part : List ℕ → ℕ → ℕ → SegmentValue
 part bytes mem stop = record { bytes = bytes; mem = mem; memsz = stop - mem }
 
 -- the segment so far, with these bytes from mem on and pages up to stop, and the loads that follow
-unfoldable pub joined_to : List ℕ → List ℕ → ℕ → ℕ → List Load → List Part
+unfoldable pub joined_to : List ℕ → List ℕ → ℕ → ℕ → List Load → List SegmentValue
 joined_to file bytes mem stop [] = part bytes mem stop ∷ []
 joined_to file bytes mem stop (l ∷ ls) =
     if nat_le (first_of l) stop then joined_to file (grown file l bytes mem) mem (end_of l) ls
     else part bytes mem stop ∷ joined_to file (grown file l [] (first_of l)) (first_of l) (end_of l) ls
 
-unfoldable pub joined : List ℕ → List Load → List Part
+unfoldable pub joined : List ℕ → List Load → List SegmentValue
 joined file [] = []
 joined file (l ∷ ls) = joined_to file (grown file l [] (first_of l)) (first_of l) (end_of l) ls

@@ -6,7 +6,7 @@ ghost use Rattle.std.specs.Prelude.{Ok, map, ◌≡◌, ℕ, List, ◌+◌, ◌-
 ghost use Rattle.std.specs.List.{slice_get};
 ghost use Rattle.std.specs.List.Sorted.{IsPermutation, IsNonDecreasingBy};
 ghost use Rattle.kx_pages.specs.Spans.{Run, in_span, in_spans};
-ghost use Rattle.segments.specs.Parts.{Part};
+ghost use Rattle.segments.specs.Values.{SegmentValue};
 ghost use Rattle.elf_image.specs.declared.load.Load.{Load};
 ghost use Rattle.elf_image.specs.Loads.{load_stop, exec_reading};
 ghost use Rattle.elf_image.specs.Image.{meets_page, is_met, segments_of, image, run_of, AreRuns};

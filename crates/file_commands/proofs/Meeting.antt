@@ -81,6 +81,16 @@ module _ {S O X F R : Type 0} (D : Shelf S) (E : Sink O) (c : Command X F R) (s 
   completes (refused a) s' o' (inl h, same) i calm quiet = absurd (stands_err a s' i h)
   completes (refused a) s' o' (inr h, same) i calm quiet = absurd ((stands_ok h.0 s' i h.1).unrefused a h.2)
 
+  -- the answers that tell of a device come only where its count of faults rose
+  pub unread_rose : (s' : S) (o' : O) (n : List ℕ) → Meets D E c s o (unread n) s' o' → Rose (D.faults s) (D.faults s')
+  unread_rose s' o' n h = failed_rose D c.takes s s' n h.0
+
+  pub unwritten_rose : (s' : S) (o' : O) (n : List ℕ) → Meets D E c s o (unwritten n) s' o' → Rose (D.faults s) (D.faults s')
+  unwritten_rose s' o' n (x, goods, mid, h, m, d) = subst (λ k. Rose k (D.faults s')) (took_same D c.takes s mid (Ok x) h).faults (torn_rose D goods.outputs mid s' n d.0)
+
+  pub unsaid_rose : (s' : S) (o' : O) → Meets D E c s o unsaid s' o' → Rose (E.faults o) (E.faults o')
+  unsaid_rose s' o' (x, goods, mid, h, m, d) = d.1.rose
+
   -- what is seen where files are told
   told : {P Q : Files → Type 0} (files : Option Files) → ((held : Files) → P held → Q held) → IfSome files P → IfSome files Q
   told None f h = tt
@@ -138,3 +148,25 @@ module _ {S O X F R : Type 0} (D : Shelf S) (E : Sink O) (c : Command X F R) (he
   refuses s s' o o' memory read only calm quiet h = inr refl
   refuses s s' o o' (refused a) read only calm quiet (inl h, same) = absurd (not_read a (sym read ∙ h))
   refuses s s' o o' (refused a) read only calm quiet (inr h, same) = inl (ap refused (one_reason a (one_made h.0 (Err a) read h.1 only h.2)))
+
+-- what stands is done, or memory is wanted
+module _ {S O X F R : Type 0} (D : Shelf S) (E : Sink O) (c : Command X F R) (held : Files) (x : X) where
+  no_reason : (a : Refusal R) → ◌≡◌ {A = Result X (Refusal R)} (Ok x) (Err a) → ⊥
+  no_reason a e = cc
+
+  unfaulty : (g : Option F) (f : F) → g ≡ None → g ≡ Some f → ⊥
+  unfaulty g f a b = cc
+
+  as_read : (y : X) → reads c.takes held ≡ Ok x → reads c.takes held ≡ Ok y → Stands c x → Stands c y
+  as_read y read again h = subst (λ z. Stands c z) (ok_same x y (sym read ∙ again)) h
+
+  pub stands_told : (s s' : S) (o o' : O) (a : Answer F R) → reads c.takes held ≡ Ok x → Stands c x
+      → (Rose (D.faults s) (D.faults s') → ⊥) → (Rose (E.faults o) (E.faults o') → ⊥) → MeetsTold D E c held s o a s' o' → (a ≡ done) ⊎ (a ≡ memory)
+  stands_told s s' o o' done read h calm quiet m = inl refl
+  stands_told s s' o o' (not_accepted f) read h calm quiet (y, goods, again, m, fault, out) = absurd (unfaulty goods.fault f ((as_read y read again h).whole goods m) fault)
+  stands_told s s' o o' (unread n) read h calm quiet m = absurd (calm m.0)
+  stands_told s s' o o' (unwritten n) read h calm quiet (y, goods, again, m, cut) = absurd (calm cut.shelf)
+  stands_told s s' o o' unsaid read h calm quiet (y, goods, again, m, cut) = absurd (quiet cut.sink)
+  stands_told s s' o o' memory read h calm quiet m = inr refl
+  stands_told s s' o o' (refused a) read h calm quiet (inl r, same) = absurd (no_reason a (sym read ∙ r))
+  stands_told s s' o o' (refused a) read h calm quiet (inr r, same) = absurd ((as_read r.0 read r.1 h).unrefused a r.2)

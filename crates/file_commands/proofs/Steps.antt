@@ -29,6 +29,13 @@ reads_err (ok y) f held a e = absurd (ok_err y a e)
 reads_err {X = X} (refuse b) f held a e = ap Err (same_err {X = X} b a e)
 reads_err (file name most next) f held a e = reads_err (next (read_of held name most)) f held a e
 
+-- what was read of takes that follow one another was read of each
+pub reads_cases : {R X Y : Type 0} (t : Take R X) (f : X → Take R Y) (held : Files) (y : Y) → reads (and_then t f) held ≡ Ok y → (x : X) × (reads t held ≡ Ok x) × (reads (f x) held ≡ Ok y)
+unfolding and_then
+reads_cases (ok x) f held y h = (x, refl, h)
+reads_cases (refuse a) f held y h = absurd (ok_err y a (sym h))
+reads_cases (file name most next) f held y h = reads_cases (next (read_of held name most)) f held y h
+
 module _ {S : Type 0} (D : Shelf S) where
   same_self : (s t : S) → t ≡ s → Same D s t
   same_self s t e = record { files = ap D.files e; faults = ap D.faults e }

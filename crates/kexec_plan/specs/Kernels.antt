@@ -1,7 +1,7 @@
 -- Kernels whose files say where they lie (this project's own).
 use Rattle.std.specs.Prelude.{ℕ, List, Option, Some, None, if◌then◌else◌, Result, Ok, Err}
 use Rattle.kx_laws.specs.Results.{◌>>=◌, unless}
-use Rattle.segments.specs.Parts.{Part}
+use Rattle.segments.specs.Values.{SegmentValue}
 use Rattle.elf_image.specs.declared.fault.ElfFault.TheVariants as elf
 use Rattle.elf_image.specs.Loads.{exec_reading}
 use Rattle.elf_image.specs.Image.{image}
@@ -11,7 +11,7 @@ use Rattle.kexec_plan.specs.Faults.{told_by, of_elf}
 
 -- the segments, and the address that the kernel is entered at
 pub record Kernel : Type 0 where
-  pub list : List Part
+  pub list : List SegmentValue
   pub entry : ℕ
 
 -- an ELF executable, which has to be ELF64

@@ -2,7 +2,7 @@
 use Rattle.std.specs.Prelude.{◌≡◌, ℕ, false, true, is_some, List, [], ◌∷◌, Option, option_map, Result, Ok, Err}
 use Rattle.kx_laws.specs.Results.{◌>>=◌, unless}
 use Rattle.kx_pages.specs.declared.image.Start.{Start}
-use Rattle.segments.specs.Parts.{Part}
+use Rattle.segments.specs.Values.{SegmentValue}
 use Rattle.segments.specs.declared.fault.Kind.{Kind}
 use Rattle.memory_map.specs.Named.{Named}
 use Rattle.kexec_plan.specs.declared.fault.PlanFault.{PlanFault}
@@ -16,7 +16,7 @@ use Rattle.kexec_plan.specs.Kernels.{elf_kernel}
 use Rattle.kexec_plan.specs.Rules.{tested}
 
 -- the plan of these segments, without a purgatory
-unfoldable pub plain_plan : Option Named → Kind → List Part → Start → Result Plan PlanFault
+unfoldable pub plain_plan : Option Named → Kind → List SegmentValue → Start → Result Plan PlanFault
 plain_plan map kind ss start = do
   segments ← tested map kind ss
   Ok (record { segments = segments; start = start; regions = 0; digest = 0 })

@@ -2,7 +2,7 @@
 use Rattle.std.specs.Prelude.{◌≡◌, ℕ, Bool, true, false, ◌||◌, not, List, Option, is_some, option_map}
 use Rattle.std.specs.Borrow.{Bor}
 use Rattle.kx_pages.specs.declared.image.Start.{Start}
-use Rattle.segments.specs.Parts.{Part}
+use Rattle.segments.specs.Values.{SegmentValue}
 use Rattle.memory_map.specs.Named.{Named}
 use Rattle.kx_pages.specs.declared.image.ImageType.{ImageType}
 use Rattle.kx_pages.specs.declared.image.ImageType.TheVariants as types
@@ -22,7 +22,7 @@ pub record Asked : Type 0 where
 
 -- a plan: the segments, the start, and the addresses of the purgatory's table of regions and of its digest
 pub record Plan : Type 0 where
-  pub segments : List Part
+  pub segments : List SegmentValue
   pub start : Start
   pub regions : ℕ
   pub digest : ℕ

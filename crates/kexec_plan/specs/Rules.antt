@@ -1,7 +1,7 @@
 -- The rules that the segments of a plan have to meet: those of segments, over the RAM of the memory map, or without a
 -- map those where nothing is known of memory (this project's own).
 use Rattle.std.specs.Prelude.{◌^◌, List, Option, Some, None, Result, Ok, Err}
-use Rattle.segments.specs.Parts.{Part}
+use Rattle.segments.specs.Values.{SegmentValue}
 use Rattle.segments.specs.Rules.{bare_refusal, refusal}
 use Rattle.segments.specs.declared.fault.SegFault.{SegFault}
 use Rattle.segments.specs.declared.fault.Kind.{Kind}
@@ -16,14 +16,14 @@ unfoldable pub ram_runs : Named → List Run
 ram_runs map = runs (is_ram map) 0 (2 ^ 34)
 
 -- the first refusal of the segments
-unfoldable pub first_refusal : Option Named → Kind → List Part → Option SegFault
+unfoldable pub first_refusal : Option Named → Kind → List SegmentValue → Option SegFault
 first_refusal None kind ss = bare_refusal ss
 first_refusal (Some map) kind ss = refusal (ram_runs map) kind ss
 
 -- the segments, unless they are refused
-abbrev pub unless_refused : List Part → Option SegFault → Result (List Part) PlanFault
+abbrev pub unless_refused : List SegmentValue → Option SegFault → Result (List SegmentValue) PlanFault
 unless_refused ss None = Ok ss
 unless_refused ss (Some fault) = Err (faults.Segments fault)
 
-unfoldable pub tested : Option Named → Kind → List Part → Result (List Part) PlanFault
+unfoldable pub tested : Option Named → Kind → List SegmentValue → Result (List SegmentValue) PlanFault
 tested map kind ss = unless_refused ss (first_refusal map kind ss)
