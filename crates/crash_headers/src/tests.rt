@@ -80,6 +80,17 @@ const TEXTS: [(&[u8], Result<usize, u64>); 16] = [
     (b"00000000000200000 400", Err(1)),
 ];
 
+// A text of two notes. Its first bytes up to each of these lengths have so many notes, or a line that is none.
+const TWO_NOTES: &[u8] = b"200000 400\n3FFc00 abcd\n";
+
+const CUTS: [(usize, Result<usize, u64>); 5] = [
+    (0, Ok(0)),
+    (7, Err(1)),
+    (11, Ok(1)),
+    (18, Err(2)),
+    (23, Ok(2)),
+];
+
 // The number in the eight bytes at this place.
 fn number_at(bytes: &[u8], at: usize) -> Option<u64> {
     let (_, rest) = bytes.split_at_checked(at)?;
@@ -179,6 +190,22 @@ fn texts_of_notes(rt: HostRuntime) -> Result<(), Fail> {
             size: 0xabcd
         }
     );
+    Ok(())
+}
+
+#[test]
+fn each_prefix_of_a_text_is_read_as_far_as_it_goes(rt: HostRuntime) -> Result<(), Fail> {
+    let alloc = rt.alloc();
+    let mut length = 0;
+    for (last, wanted) in CUTS {
+        while length <= last {
+            let found = read_notes(alloc, TWO_NOTES.get(..length).ok_or("a prefix")?);
+            let told = found.map(|notes| notes.len());
+            assert_eq!(rt; told, wanted.map_err(|line| NoteFault::BadLine { line }));
+            length += 1;
+        }
+    }
+    assert_eq!(rt; length, TWO_NOTES.len() + 1);
     Ok(())
 }
 

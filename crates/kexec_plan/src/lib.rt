@@ -9,6 +9,7 @@ mod fault;
 mod format;
 mod kernels;
 mod parts;
+mod places;
 mod planning;
 mod request;
 mod rules;

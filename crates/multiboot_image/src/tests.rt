@@ -146,6 +146,42 @@ fn a_header_with_addresses(rt: HostRuntime) -> Result<(), Fail> {
     Ok(())
 }
 
+// The first 12 bytes tell a header, and the first 32 have its addresses; what is loaded ends with the file.
+#[test]
+fn each_prefix_of_a_file_is_read_as_far_as_it_goes(rt: HostRuntime) -> Result<(), Fail> {
+    let alloc = rt.alloc();
+    let kernel = file(alloc, 64, 0, &KERNEL)?;
+    for length in 0..65 {
+        let part = kernel.get(..length).ok_or("a prefix")?;
+        let found = find_header(part);
+        if length < 12 {
+            assert_eq!(rt; found.err(), Some(MbFault::NoHeader));
+        } else if length < 32 {
+            assert_eq!(rt; found.err(), Some(MbFault::BadKludge));
+        } else {
+            let parts = load_parts(alloc, &found?, part)?;
+            let segment = parts.list.first().ok_or("a segment")?;
+            assert_eq!(rt; segment.bytes.len(), length);
+        }
+    }
+    Ok(())
+}
+
+// A header anywhere in the first 8,192 bytes is found where its 12 bytes end there.
+#[test]
+fn headers_at_each_place_around_the_end_of_the_search(rt: HostRuntime) -> Result<(), Fail> {
+    let alloc = rt.alloc();
+    for at in 8160..8200 {
+        let wanted = if at % 4 == 0 && at <= 8180 {
+            Ok(at)
+        } else {
+            Err(MbFault::NoHeader)
+        };
+        assert_eq!(rt; found(alloc, 8300, at, 0)?, wanted);
+    }
+    Ok(())
+}
+
 #[test]
 fn addresses_and_segments(rt: HostRuntime) -> Result<(), Fail> {
     let alloc = rt.alloc();
