@@ -9,7 +9,7 @@ use Rattle.memory_map.specs.Named.{Named}
 use Rattle.kexec_words.specs.Limits.{HasParts}
 use Rattle.kexec_words.specs.Meaning.{needs_map}
 use Rattle.kexec_words.specs.Values.{InputsValue}
-use Rattle.kexec_plan.specs.Plan.{IsServed}
+use Rattle.kexec_plan.specs.Plan.{IsServed, is_served}
 use Rattle.kexec_plan.specs.Requests.{Asked, IsMapped, is_raw}
 use Rattle.kexec_main.specs.Inputs.{unserved}
 
@@ -19,19 +19,21 @@ unless_none o e = ap unless e
 pub unless_some : {F : Type 0} (o : Option F) (f : F) → o ≡ Some f → unless o ≡ Err f
 unless_some o f e = ap unless e
 
--- a raw kernel without a purgatory is served, and nothing else
-pub served : (image : ImageType) (purgatory : Option (List ℕ)) → unserved image purgatory ≡ None → (is_raw image ≡ true) × (is_some purgatory ≡ false)
+-- what is served is what the plan serves
+pub served : (image : ImageType) (purgatory : Option (List ℕ)) → unserved image purgatory ≡ None → (is_served image ≡ true) × (is_some purgatory ≡ false)
 served (types.Raw address entry) None e = (refl, refl)
 served (types.Raw address entry) (Some p) e = absurd cc
+served types.Elf None e = (refl, refl)
+served types.Elf (Some p) e = absurd cc
+served types.Bzimage None e = (refl, refl)
+served types.Bzimage (Some p) e = absurd cc
 served types.Auto p e = absurd cc
-served types.Elf p e = absurd cc
-served types.Bzimage p e = absurd cc
 served types.Multiboot p e = absurd cc
 
 pub request_served : (r : Asked) (image : ImageType) (purgatory : Option (List ℕ)) → r.crash ≡ false → r.image ≡ image → is_some r.purgatory ≡ is_some purgatory → unserved image purgatory ≡ None → IsServed r
 request_served r image purgatory crash type same e =
     let k = served image purgatory e in
-    record { raw = ap is_raw type ∙ k.0; no_purgatory = same ∙ k.1; no_crash = crash }
+    record { type = ap is_served type ∙ k.0; no_purgatory = same ∙ k.1; no_crash = crash }
 
 -- a memory map is named where the plan needs one
 needs_same : (image : ImageType) (i : InputsValue) → (false || (is_some i.purgatory || not (is_raw image))) ≡ needs_map image i
