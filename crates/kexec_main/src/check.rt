@@ -1,7 +1,8 @@
 //! `check`: whether the list of a load record is accepted.
 
-ghost use Rattle.std.specs.Prelude.{◌≡◌, string_bytes, IfOk};
+ghost use Rattle.std.specs.Prelude.{◌≡◌, IfOk, IfErr};
 ghost use Rattle.list_checker.specs.declared.fault.ListFault.{ListFault as SpecFault};
+ghost use Rattle.list_checker.specs.declared.fault.CheckFault.TheVariants as faults;
 ghost use Rattle.file_commands.specs.Calls.{Makes, goods_of};
 ghost use Rattle.kexec_words.specs.Values.{loaded_value};
 ghost use Rattle.kexec_main.specs.Check.{IsFaultLine, checks};
@@ -14,17 +15,24 @@ use crate::words::CheckWords;
 use file_commands::{Command, Goods, MakeFault, TakeFault};
 use kx_edge::Shelf;
 use list_checker::{CheckFault, ListFault, check as check_list};
-use std::alloc::{AllocError, Global};
+use std::alloc::Global;
 
-/// What is made of a list that is not accepted: its first fault's line alone, and the fault.
-pub(crate) fn fault_goods(alloc: Global, fault: ListFault) -> Result<Goods<ListFault>, AllocError>
-    ensures { IfOk result (λ g. IsFaultLine fault (goods_of g)) }
+/// What is made of a list that was not found to be accepted: its first fault's line alone, and the fault.
+pub(crate) fn fault_goods(
+    alloc: Global,
+    why: CheckFault,
+) -> Result<Goods<ListFault>, MakeFault<Reason>>
+    ensures line { IfOk result (λ g. (f : SpecFault) × (why ≡ faults.List f) × IsFaultLine f (goods_of g)) }
+    ensures memory { IfErr result (λ e. e ≡ MakeFault.Memory) }
 {
-    Ok(Goods {
-        outputs: Vec::new(alloc),
-        text: format!(in alloc; "{fault}\n")?,
-        fault: Some(fault),
-    })
+    match why {
+        CheckFault::Memory => Err(MakeFault::Memory),
+        CheckFault::List { fault } => Ok(Goods {
+            outputs: Vec::new(alloc),
+            text: format!(in alloc; "{fault}\n")?,
+            fault: Some(fault),
+        }),
+    }
 }
 
 // Checks the list, and makes the line that tells of it.
@@ -36,8 +44,7 @@ fn make_check(alloc: Global, files: LoadFiles) -> Result<Goods<ListFault>, MakeF
         load_record,
     } = files;
     match check_list(alloc, &memory, &load_record.image, &load_record.segments) {
-        Err(CheckFault::Memory) => Err(MakeFault::Memory),
-        Err(CheckFault::List { fault }) => Ok(fault_goods(alloc, fault)?),
+        Err(why) => fault_goods(alloc, why),
         Ok(accept) => {
             let pairs = accept.pairs.len() as u64;
             Ok(Goods {

@@ -19,7 +19,7 @@ use file_commands::{Command, Goods, MakeFault, TakeFault};
 use kexec_words::{Exec, Runs};
 use kx_edge::Shelf;
 use kx_pages::{Mode, Start};
-use list_checker::{CheckFault, ListFault};
+use list_checker::ListFault;
 use load_record::LoadRecord;
 use load_states::{Accepted, Loaded};
 use page_pool::Pool;
@@ -113,13 +113,11 @@ fn make_exec(alloc: Global, exec: ExecInputs) -> Result<Goods<ListFault>, MakeFa
             why: Reason::NotKept,
         });
     }
+    let runs = runs_of(twice, image.mode);
     let loaded = Loaded::from_parts(memory, Pool::empty(alloc), image, segments);
     match loaded.accept(alloc) {
-        Ok(accepted) => run_goods(alloc, accepted, runs_of(twice, image.mode), &start, out),
-        Err(refused) => match refused.why {
-            CheckFault::Memory => Err(MakeFault::Memory),
-            CheckFault::List { fault } => Ok(fault_goods(alloc, fault)?),
-        },
+        Ok(accepted) => run_goods(alloc, accepted, runs, &start, out),
+        Err(refused) => fault_goods(alloc, refused.why),
     }
 }
 

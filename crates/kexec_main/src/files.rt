@@ -7,7 +7,7 @@ ghost use Rattle.kexec_main.specs.Files.{load_files, load_record_file, map_file,
 ghost use Rattle.page_pool.specs.Pages.{is_filed};
 
 use crate::status::{InputFault, NotBuilt, Reason};
-use file_commands::{TakeFault, take_apart, take_file};
+use file_commands::{FileParts, TakeFault, take_apart, take_file};
 use kx_edge::Shelf;
 use load_record::{FIRST_BYTES, LoadRecord, RecFault};
 use memory_map::{Map, MapFault};
@@ -113,8 +113,8 @@ pub(crate) fn take_record<S: Shelf>(
 ) -> Result<LoadRecord, TakeFault<Reason>>
     ensures { Takes S.Shelf (load_record_file (string_bytes name)) (λ r. r) shelf.old result shelf.new }
 {
-    let file = take_apart(alloc, name, FIRST_BYTES, RECORD_LIMIT, shelf)?;
-    match LoadRecord::from_file(alloc, &file.front, file.rest) {
+    let FileParts { front, rest, .. } = take_apart(alloc, name, FIRST_BYTES, RECORD_LIMIT, shelf)?;
+    match LoadRecord::from_file(alloc, &front, rest) {
         Ok(record) if record.crash => Err(TakeFault::Refused {
             why: Reason::NotBuilt {
                 what: NotBuilt::Crash,

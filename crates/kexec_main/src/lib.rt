@@ -32,6 +32,8 @@ mod run;
 mod running;
 mod status;
 #[cfg(test)]
+mod status_tests;
+#[cfg(test)]
 mod tests;
 mod text;
 mod trace;

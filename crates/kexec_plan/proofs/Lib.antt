@@ -1,1 +1,3 @@
 pub mod Ram
+pub mod Holes
+pub mod Steps

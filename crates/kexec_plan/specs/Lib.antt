@@ -3,6 +3,10 @@ pub mod Requests
 pub mod Formats
 pub mod Rules
 pub mod Parts
+pub mod Holes
+pub mod Places
+pub mod Table
 pub mod Faults
 pub mod Kernels
+pub mod Linux
 pub mod Plan

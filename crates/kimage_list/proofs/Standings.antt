@@ -12,7 +12,7 @@ use Rattle.std.proofs.lemmas.List.{take-append-drop}
 use Rattle.kimage_list.specs.declared.table.PageSource.{PageSource}
 use Rattle.kx_pages.specs.declared.image.Mode.{Mode}
 use Rattle.kx_pages.specs.declared.image.Image.{Image}
-use Rattle.kx_pages.specs.Lists.{Has, has, count, destinations, sources}
+use Rattle.kx_pages.specs.Lists.{Distinct, Has, has, count, destinations, sources}
 use Rattle.kx_pages.specs.Spans.{Run, AreApart, pages, in_spans}
 use Rattle.kx_pages.specs.Items.{code}
 use Rattle.kx_pages.specs.declared.item.Item.{Item}
@@ -38,13 +38,12 @@ use Rattle.kimage_list.proofs.Enough.{has_of_count, once_more}
 use Rattle.kimage_list.proofs.Parts.{served-append, requests-append}
 use Rattle.kimage_list.proofs.Opening.{opened}
 use Rattle.kimage_list.specs.Beginning.{IsFresh, AreHeld}
-use Rattle.page_pool.specs.Counts.{IsOnce}
 use Rattle.kimage_list.proofs.OpenList.{holds-append}
 use Rattle.kimage_list.proofs.Finishing.{all_put}
 use Rattle.kimage_list.proofs.Going.{room_is_there, page_is_there, start_is_there, first_is_there, all_drawn, opens_under_way}
 use Rattle.kimage_list.proofs.Spanned.{length-pages_in, has-pages_in, each-pages_in, pages-once, spans-low}
 use Rattle.kx_pages.proofs.Lists.{Each-map, length-destinations}
-use Rattle.kx_pages.proofs.Counting.{count-append, count-from_Has}
+use Rattle.kx_pages.proofs.Counting.{count-from_Distinct, count-append, count-from_Has}
 use Rattle.kx_pages.specs.Needs.{first_count, need_of}
 
 keys-open_pages : (ls : List ℕ) (is : List Item) → keys (open_pages ls is) ≡ ls
@@ -536,12 +535,12 @@ is_next h l first links d bytes a = record { wanted = a.wanted; new = a.new; sam
 
 -- a load for which all memory is taken
 pub prepared : (M : Contents) (pool : Pages) (wanted : List Run) (segments : ℕ) (wish : Wish) (memory : Contents) (table : Slots) (n : ℕ) (list : OpenList) → n ≡ need_of wish segments (pages wanted) → n ≤ length pool.left
-    → ((q : ℕ) → at memory q ≡ at M q) → IsOnce (pool.drawn ++ pool.left) → ((p : ℕ) → is_filed pool p ≡ false) → IsFresh wanted table → AreApart 0 wanted → AreHeld n pool.left memory → 1 ≤ segments
+    → ((q : ℕ) → at memory q ≡ at M q) → Distinct (pool.drawn ++ pool.left) → ((p : ℕ) → is_filed pool p ≡ false) → IsFresh wanted table → AreApart 0 wanted → AreHeld n pool.left memory → 1 ≤ segments
     → list ≡ record { memory = memory; pool = pool; table = table; next = 0; entries = 0; head = 0 } → IsPrepared (load_begun (at M) pool.left wanted segments wish) list segments wish
 prepared M pool wanted segments wish memory table n list size enough same once unfiled fresh apart held some is =
     let need = need_of wish segments (pages wanted) in
     let fits : need_of wish segments (pages wanted) ≤ length pool.left = omega (arith, size, enough) in
-    let single : (x : ℕ) → count x pool.left ≤ 1 = λ x. omega (arith, once.each x, count-append x pool.drawn pool.left) in
+    let single : (x : ℕ) → count x pool.left ≤ 1 = λ x. omega (arith, count-from_Distinct x (pool.drawn ++ pool.left) once, count-append x pool.drawn pool.left) in
     let o = opens_under_way.0 (at M) (in_spans wanted) (λ p. None) (need_of wish segments (pages wanted)) pool.left (pages_in wanted) single (has-pages_in wanted) fits in
     subst (λ l. IsPrepared (load_begun (at M) pool.left wanted segments wish) l segments wish) (sym is) (record {
       nothing = refl;

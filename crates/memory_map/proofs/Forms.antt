@@ -59,19 +59,22 @@ module _ (line : List ℕ) (first last : ℕ) (class : Class) where
   by_numbers p q e f true s (Some a) n None m h = cc
   by_numbers p q e f true s (Some a) n (Some z) m h =
       let same = same_entry (a, z, class_of (drop 2 q.1)) (first, last, class) h in
-      let front = spaced line in
-      (drop 2 q.1, record {
-        spaces = front.spaces;
-        start = p.0;
-        stop = q.0;
-        are_spaces = front.all;
-        starts = n ∙ ap (λ (k : ℕ). Some k) same.first;
-        stops = m ∙ ap (λ (k : ℕ). Some k) same.last;
-        spelled = front.whole
-        ∙ ap (λ xs. front.spaces ++ xs) (cut_parts 45 (without_spaces line) p.0 p.1 e)
-        ∙ ap (λ xs. front.spaces ++ (p.0 ++ (45 ∷ xs))) (cut_parts 32 p.1 q.0 q.1 f)
-        ∙ ap (λ xs. front.spaces ++ (p.0 ++ (45 ∷ (q.0 ++ (32 ∷ xs))))) (begins_with q.1 (codes ": ") s);
-      }, sym same.class)
+      let front = spaced line in (
+        drop 2 q.1,
+        record {
+          spaces = front.spaces;
+          start = p.0;
+          stop = q.0;
+          are_spaces = front.all;
+          starts = n ∙ ap (λ (k : ℕ). Some k) same.first;
+          stops = m ∙ ap (λ (k : ℕ). Some k) same.last;
+          spelled = front.whole
+              ∙ ap (λ xs. front.spaces ++ xs) (cut_parts 45 (without_spaces line) p.0 p.1 e)
+              ∙ ap (λ xs. front.spaces ++ (p.0 ++ (45 ∷ xs))) (cut_parts 32 p.1 q.0 q.1 f)
+              ∙ ap (λ xs. front.spaces ++ (p.0 ++ (45 ∷ (q.0 ++ (32 ∷ xs))))) (begins_with q.1 (codes ": ") s);
+        },
+        sym same.class,
+      )
 
   by_name : (p : List ℕ × List ℕ) → cut 45 (without_spaces line) ≡ Some p → (o : Option (List ℕ × List ℕ)) → cut 32 p.1 ≡ o → entry_to (number p.0) o ≡ Some (first, last, class) → IsEntry line first last class
   by_name p e None f h = cc

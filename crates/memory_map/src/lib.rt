@@ -50,7 +50,8 @@ impl Model for Map {
 
     ghost view = { λ m. record { rows = m.rows.items; areas = m.areas.items } };
 
-    ghost invariant = { λ m. IsMap (record { rows = m.rows.items; areas = m.areas.items }) m.ram m.crash_rows.items m.core_ranges.items };
+    ghost invariant = { λ m. IsMap (record { rows = m.rows.items; areas = m.areas.items })
+        m.ram m.crash_rows.items m.core_ranges.items };
 }
 
 impl Map {
@@ -118,7 +119,9 @@ impl Map {
     /// text's order.
     pub fn core_ranges(&self) -> &[Row]
         ensures value { result.now ≡ core_ranges self.now }
-        ensures bytes { (b : ℕ) → covers b result.now ≡ (covers b (filter (λ r. is_ram_row r) self.now.rows) && not (covers b self.now.areas)) }
+        ensures bytes { (b : ℕ) → covers b result.now
+            ≡ (covers b (filter (λ r. is_ram_row r) self.now.rows)
+            && not (covers b self.now.areas)) }
         ensures below { AreBelow result.now }
     {
         &self.core_ranges
@@ -128,9 +131,12 @@ impl Map {
 /// What the tests of rows and pages in the contracts say of single bytes, where page `p` has the bytes `b` with
 /// `b / 4096` equal to `p`.
 pub fn tests_speak_of_bytes()
-    ensures holds { (r : Row) (p : ℕ) → IsTrue (holds_page p r) ↔ ((b : ℕ) → b / 4096 ≡ p → IsTrue (is_inside b r)) }
-    ensures meets { (r : Row) (p : ℕ) → IsTrue (meets_page p r) ↔ ((b : ℕ) × (b / 4096 ≡ p) × IsTrue (is_inside b r)) }
-    ensures rows { (r s : Row) → IsTrue (rows_meet r s) ↔ ((b : ℕ) × IsTrue (is_inside b r) × IsTrue (is_inside b s)) }
+    ensures holds { (r : Row) (p : ℕ) → IsTrue (holds_page p r)
+        ↔ ((b : ℕ) → b / 4096 ≡ p → IsTrue (is_inside b r)) }
+    ensures meets { (r : Row) (p : ℕ) → IsTrue (meets_page p r)
+        ↔ ((b : ℕ) × (b / 4096 ≡ p) × IsTrue (is_inside b r)) }
+    ensures rows { (r s : Row) → IsTrue (rows_meet r s)
+        ↔ ((b : ℕ) × IsTrue (is_inside b r) × IsTrue (is_inside b s)) }
 {}
 
 /// A line reads as a first and a last byte and what its name says exactly where it has the form of a map line: spaces, a

@@ -11,7 +11,7 @@ pub run_goods-requires : goal.run_goods-requires
 run_goods-requires c =
     let x = exec_inputs c.args.exec in
     let mode = x.files.load_record.image.mode in
-    (load_of x.files c.empty.result, subst (λ s. IsAcceptedAs s c.in-Ok.accepted) c.from_parts-loaded.ensures c.in-Ok.ensures.accepted, subst (λ runs. HasMode runs mode) (sym c.runs_of.ensures) (runs_fit x.twice mode))
+    (load_of x.files c.empty.result, subst (λ s. IsAcceptedAs s c.in-Ok.accepted) c.from_parts-loaded.ensures c.in-Ok.ensures.accepted, subst (λ runs. HasMode runs mode) (sym c.runs_of-runs.ensures) (runs_fit x.twice mode))
 
 pub returns-in-Ok : goal.returns-in-Ok
 returns-in-Ok c =
@@ -20,4 +20,4 @@ returns-in-Ok c =
     let a = subst (λ s. IsAcceptedAs s c.in-Ok.accepted) c.from_parts-loaded.ensures c.in-Ok.ensures.accepted in
     let start = x.files.load_record.start in
     executed x c.empty.result _ (sym c.lacks_swap_page.ensures ∙ c.if-lacks_swap_page.false)
-    (subst (λ runs. MakesOr (λ g. RunsList runs s start x.out (goods_of g)) (RefusesRun runs s) c.run_goods.result) c.runs_of.ensures (c.run_goods.ensures s a))
+    (subst (λ runs. MakesOr (λ g. RunsList runs s start x.out (goods_of g)) (RefusesRun runs s) c.run_goods.result) c.runs_of-runs.ensures (c.run_goods.ensures s a))
