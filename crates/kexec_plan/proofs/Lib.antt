@@ -1,3 +1,5 @@
 pub mod Ram
 pub mod Holes
 pub mod Steps
+pub mod Last
+pub mod Armed

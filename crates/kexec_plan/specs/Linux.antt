@@ -16,7 +16,8 @@ use Rattle.kexec_plan.specs.declared.places.PlaceRule.{PlaceRule}
 use Rattle.kexec_plan.specs.declared.linux_sites.FrontSites.{FrontSites}
 use Rattle.kexec_plan.specs.declared.linux_sites.BackSites.{BackSites}
 use Rattle.kexec_plan.specs.declared.linux_sites.LinuxSites.{LinuxSites}
-use Rattle.kexec_plan.specs.Requests.{Asked}
+use Rattle.kexec_plan.specs.Modules.{LinuxAsked}
+use Rattle.kexec_plan.specs.Parts.{segment_at}
 use Rattle.kexec_plan.specs.Faults.{told_by, of_params}
 use Rattle.kexec_plan.specs.Places.{placed, placed_some, nothing, taking, taking_some}
 use Rattle.kexec_plan.specs.Table.{kernel_rule, initrd_rule, parameters_rule}
@@ -26,7 +27,7 @@ abbrev pub command_of : Option (List ℕ) → List ℕ
 command_of command = unwrap_or command []
 
 -- where the kernel lies, then the initrd, apart from what is taken
-unfoldable pub front_sites : (ℕ → Bool) → (ℕ → Bool) → Kernel → Asked → Result FrontSites PlanFault
+unfoldable pub front_sites : (ℕ → Bool) → (ℕ → Bool) → Kernel → LinuxAsked → Result FrontSites PlanFault
 front_sites ram taken k r = do
   kernel ← placed ram taken (kernel_rule k (length r.kernel))
   initrd ← placed_some ram (taking taken kernel) (option_map (initrd_rule k) r.initrd)
@@ -43,7 +44,7 @@ back_sites ram taken rule purgatory_rule = do
   Ok (record { parameters = parameters; purgatory = purgatory })
 
 -- where the parts lie
-unfoldable pub linux_sites : (ℕ → Bool) → Kernel → Asked → Option PlaceRule → Result LinuxSites PlanFault
+unfoldable pub linux_sites : (ℕ → Bool) → Kernel → LinuxAsked → Option PlaceRule → Result LinuxSites PlanFault
 linux_sites ram k r purgatory_rule = do
   front ← front_sites ram nothing k r
   back ← back_sites ram (with_front nothing front) (parameters_rule k (command_of r.command)) purgatory_rule
@@ -54,11 +55,7 @@ pub record AreLow (s : LinuxSites) : Type 0 where
   pub kernel : s.front.kernel.at < 2 ^ 46
   pub parameters : s.back.parameters.at + 4096 < 2 ^ 46
 
--- the segment of a part at its place
-abbrev pub segment_at : Site → List ℕ → SegmentValue
-segment_at s bytes = record { bytes = bytes; mem = s.at; memsz = s.size }
-
--- that of a part that may be left out
+-- the segment of a part that may be left out
 abbrev pub segment_if : Option Site → Option (List ℕ) → List SegmentValue
 segment_if (Some s) (Some bytes) = segment_at s bytes ∷ []
 segment_if (Some s) None = []
@@ -77,7 +74,7 @@ rows_of (Some map) Normal = map.rows
 rows_of (Some map) (Crash area) = crash_rows map
 
 -- the segments: the kernel's protected-mode part, the initrd, the boot parameters
-unfoldable pub linux_parts : Kernel → Asked → List Row → LinuxSites → Result (List SegmentValue) PlanFault
+unfoldable pub linux_parts : Kernel → LinuxAsked → List Row → LinuxSites → Result (List SegmentValue) PlanFault
 linux_parts k r rows s = do
   parameters ← told_by of_params (params k rows (command_of r.command) s.back.parameters.at (initrd_told s.front.initrd r.initrd))
   Ok (segment_at s.front.kernel (drop k.start r.kernel) ∷ segment_if s.front.initrd r.initrd ++ segment_at s.back.parameters parameters ∷ [])

@@ -1,7 +1,13 @@
--- A module of a Multiboot kernel, as contracts see it.
-use Rattle.std.specs.Prelude.{ℕ, List}
+-- What belongs to kernels of single forms, as contracts see it.
+use Rattle.std.specs.Prelude.{ℕ, List, Option}
 
--- its bytes, and the text that the kernel gets with it
+-- a module of a Multiboot kernel: its bytes, and the text that the kernel gets with it
 pub record AskedModule : Type 0 where
   pub bytes : List ℕ
   pub text : List ℕ
+
+-- a bzImage, its initrd and its command
+pub record LinuxAsked : Type 0 where
+  pub kernel : List ℕ
+  pub initrd : Option (List ℕ)
+  pub command : Option (List ℕ)

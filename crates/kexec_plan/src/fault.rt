@@ -1,13 +1,14 @@
 //! Why a request has no plan.
 
 ghost use Rattle.std.specs.Prelude.{◌≡◌};
-ghost use Rattle.kexec_plan.specs.Faults.{of_elf, of_bzimage, of_params};
+ghost use Rattle.kexec_plan.specs.Faults.{of_elf, of_bzimage, of_params, of_link};
 
 use boot_params::ParamsFault;
 use bzimage::BzFault;
 use elf_image::ElfFault;
+use purgatory_link::LinkFault;
 use segments::SegFault;
-use std::alloc::AllocError;
+use std::alloc::{AllocError, AllocFailed};
 use thiserror::Error;
 
 /// A part of a request, or one that the plan makes for the kernel.
@@ -60,6 +61,9 @@ pub enum PlanFault {
     /// The boot parameters cannot be made.
     #[error("{fault}")]
     Params { fault: ParamsFault },
+    /// The purgatory cannot be linked, or has not the symbols of one.
+    #[error("the purgatory cannot be used: {fault}")]
+    Link { fault: LinkFault },
     /// The segments are refused.
     #[error("the kernel cannot be placed: {fault}")]
     Segments { fault: SegFault },
@@ -95,6 +99,16 @@ impl PlanFault {
         }
     }
 
+    /// What a fault of a purgatory is here.
+    pub(crate) fn of_link(fault: LinkFault) -> PlanFault
+        ensures { result ≡ of_link fault }
+    {
+        match fault {
+            LinkFault::Memory => PlanFault::Memory,
+            _ => PlanFault::Link { fault },
+        }
+    }
+
     /// What a fault of boot parameters is here.
     pub(crate) fn of_params(fault: ParamsFault) -> PlanFault
         ensures { result ≡ of_params fault }
@@ -112,6 +126,16 @@ impl From<AllocError> for PlanFault {
     ghost from_gives = { λ _ e. e ≡ Memory };
 
     fn from(_: AllocError) -> PlanFault {
+        PlanFault::Memory
+    }
+}
+
+impl<T: Drop> From<AllocFailed<T>> for PlanFault {
+    ghost use Rattle.kexec_plan.specs.declared.fault.PlanFault.TheVariants.{Memory};
+
+    ghost from_gives = { λ _ e. e ≡ Memory };
+
+    fn from(_: AllocFailed<T>) -> PlanFault {
         PlanFault::Memory
     }
 }

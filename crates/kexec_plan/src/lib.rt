@@ -6,15 +6,20 @@
 #![tactic(auto)]
 
 mod fault;
+mod finishing;
+mod fixed_plan;
 mod format;
 mod kernels;
 mod linux;
+mod linux_plan;
 mod linux_sites;
 mod parts;
 mod places;
 mod planning;
+mod purgatory;
 mod request;
 mod rules;
+mod symbols;
 mod table;
 
 pub use fault::{Part, PlanFault};

@@ -4,19 +4,41 @@ ghost use Rattle.std.specs.Prelude.{◌≡◌, ◌<◌, ◌≤◌, ◌^◌, ℕ,
 ghost use Rattle.kx_laws.specs.Results.{Gives};
 ghost use Rattle.kx_pages.specs.Spans.{in_spans};
 ghost use Rattle.bzimage.specs.Kernel.{IsSound};
-ghost use Rattle.kexec_plan.specs.Requests.{request_of, lent};
-ghost use Rattle.kexec_plan.specs.Linux.{command_of, linux_sites, linux_parts, linux_start, segment_at, segment_if, initrd_told, rows_of, AreLow};
+ghost use Rattle.kexec_plan.specs.Parts.{segment_at};
+ghost use Rattle.kexec_plan.specs.Requests.{lent};
+ghost use Rattle.kexec_plan.specs.Linux.{command_of, linux_sites, linux_parts, linux_start, segment_if, initrd_told, rows_of, AreLow};
 
 use crate::fault::PlanFault;
 use crate::linux_sites::{LinuxSites, command_of};
+use crate::parts::segment_at;
 use crate::places::Site;
-use crate::request::Request;
 use boot_params::make;
 use bzimage::BzImage;
 use kx_pages::Start;
 use memory_map::{Map, Row};
 use segments::{Kind, Segment};
 use std::alloc::{AllocError, Global};
+use std::marker::Model;
+
+/// A bzImage, its initrd and its command.
+#[derive(Drop)]
+pub(crate) struct LinuxRequest {
+    /// The kernel's file.
+    pub(crate) kernel: Vec<u8>,
+    /// The initrd, if there is one.
+    pub(crate) initrd: Option<Vec<u8>>,
+    /// The command, if there is one.
+    pub(crate) command: Option<Vec<u8>>,
+}
+
+impl Model for LinuxRequest {
+    ghost use Rattle.std.specs.Prelude.{option_map};
+    ghost use Rattle.kexec_plan.specs.Modules.{LinuxAsked};
+
+    ghost Value = { LinuxAsked };
+
+    ghost view = { λ r. record { kernel = r.kernel.items; initrd = option_map (λ v. v.items) r.initrd; command = option_map (λ v. v.items) r.command } };
+}
 
 // The bytes from number `n` on.
 fn cut_front(bytes: &mut Vec<u8>, n: usize)
@@ -24,17 +46,6 @@ fn cut_front(bytes: &mut Vec<u8>, n: usize)
     ensures { bytes.new.items ≡ drop n bytes.old.items }
 {
     bytes.drain(..n);
-}
-
-// The segment of a part at its place.
-fn segment_at(site: Site, bytes: Vec<u8>) -> Segment
-    ensures { result ≡ segment_at site bytes.items }
-{
-    Segment {
-        bytes,
-        mem: site.at,
-        memsz: site.size,
-    }
 }
 
 // Puts the segment of a part that may be left out behind the others.
@@ -94,19 +105,18 @@ fn segments_of(
 pub(crate) fn linux_parts(
     alloc: Global,
     image: &BzImage,
-    request: Request,
+    request: LinuxRequest,
     rows: &[Row],
     sites: &LinuxSites,
 ) -> Result<Vec<Segment>, PlanFault>
-    requires sound { IsSound (length request.kernel.items) image.now }
+    requires sound { IsSound (length request.kernel) image.now }
     requires low { AreLow sites.now }
-    ensures { Gives PlanFault.Memory (λ v. v.items) result (linux_parts image.now (request_of request) rows.now sites.now) }
+    ensures { Gives PlanFault.Memory (λ v. v.items) result (linux_parts image.now request rows.now sites.now) }
 {
-    let Request {
+    let LinuxRequest {
         mut kernel,
         initrd,
         command,
-        ..
     } = request;
     let told = initrd_told(sites.front.initrd, &initrd);
     let parameters = match make(alloc, image, rows, command_of(&command), sites.back.parameters.at, told)

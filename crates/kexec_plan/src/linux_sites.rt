@@ -4,14 +4,13 @@ ghost use Rattle.std.specs.Prelude.{◌≡◌, ◌<◌, ◌≤◌, ◌^◌, leng
 ghost use Rattle.kx_laws.specs.Results.{Gives};
 ghost use Rattle.kx_pages.specs.Spans.{in_spans};
 ghost use Rattle.bzimage.specs.Kernel.{IsSound};
-ghost use Rattle.kexec_plan.specs.Requests.{request_of};
-ghost use Rattle.kexec_plan.specs.Places.{nothing, IsPlacedBy};
+ghost use Rattle.kexec_plan.specs.Places.{nothing, IsPlacedBy, IsPlacedIf};
 ghost use Rattle.kexec_plan.specs.Table.{initrd_rule, parameters_rule};
 ghost use Rattle.kexec_plan.specs.Linux.{command_of, front_sites, with_front, back_sites, linux_sites, AreLow};
 
 use crate::fault::PlanFault;
+use crate::linux::LinuxRequest;
 use crate::places::{PlaceRule, Site, no_pages, place, place_some};
-use crate::request::Request;
 use crate::table::{initrd_rule, kernel_rule, parameters_rule};
 use bzimage::BzImage;
 use kx_pages::PageSet;
@@ -71,13 +70,13 @@ fn front_sites(
     ram: &PageSet,
     taken: &mut PageSet,
     image: &BzImage,
-    request: &Request,
+    request: &LinuxRequest,
 ) -> Result<FrontSites, PlanFault>
-    requires sound { IsSound (length request.now.kernel.items) image.now }
+    requires sound { IsSound (length request.now.kernel) image.now }
     ensures low { IfOk result (λ s. s.kernel.at < 2 ^ 46) }
     ensures taken { IfOk result (λ s. in_spans taken.new ≡ with_front (in_spans taken.old) s) }
     ensures exact { Gives PlanFault.Memory (λ s. s) result
-        (front_sites (in_spans ram.now) (in_spans taken.old) image.now (request_of request.now)) }
+        (front_sites (in_spans ram.now) (in_spans taken.old) image.now request.now) }
 {
     let kernel = match place(ram, taken, kernel_rule(image, request.kernel.len())) {
         Ok(site) => site,
@@ -102,6 +101,7 @@ fn back_sites(
     requires some_purgatory_align { IfSome purgatory_rule (λ r. 0 < r.align) }
     requires purgatory_align { IfSome purgatory_rule (λ r. r.align ≤ 2 ^ 45) }
     ensures place { IfOk result (λ s. IsPlacedBy rule s.parameters) }
+    ensures purgatory { IfOk result (λ s. IsPlacedIf purgatory_rule s.purgatory) }
     ensures exact { Gives PlanFault.Memory (λ s. s) result
         (back_sites (in_spans ram.now) (in_spans taken.old) rule purgatory_rule) }
 {
@@ -124,15 +124,16 @@ pub(crate) fn linux_sites(
     alloc: Global,
     ram: &PageSet,
     image: &BzImage,
-    request: &Request,
+    request: &LinuxRequest,
     purgatory_rule: Option<PlaceRule>,
 ) -> Result<LinuxSites, PlanFault>
-    requires sound { IsSound (length request.now.kernel.items) image.now }
+    requires sound { IsSound (length request.now.kernel) image.now }
     requires some_align { IfSome purgatory_rule (λ r. 0 < r.align) }
     requires align { IfSome purgatory_rule (λ r. r.align ≤ 2 ^ 45) }
     ensures low { IfOk result AreLow }
+    ensures purgatory { IfOk result (λ s. IsPlacedIf purgatory_rule s.back.purgatory) }
     ensures exact { Gives PlanFault.Memory (λ s. s) result
-        (linux_sites (in_spans ram.now) image.now (request_of request.now) purgatory_rule) }
+        (linux_sites (in_spans ram.now) image.now request.now purgatory_rule) }
 {
     let mut taken = no_pages(alloc);
     let front = match front_sites(ram, &mut taken, image, request) {

@@ -17,7 +17,7 @@ const KERNEL_MIN: u64 = 0x10_0000;
 const LIMIT_OF_32_BITS: u64 = 1 << 32;
 
 /// The last address below 4 GiB, or where a kernel may lie above it the last below the limit of addresses.
-fn last_address(above4g: bool) -> u64
+pub(crate) fn last_address(above4g: bool) -> u64
     ensures { result ≡ last_address above4g }
 {
     if above4g {
@@ -28,7 +28,7 @@ fn last_address(above4g: bool) -> u64
 }
 
 /// A part of so many bytes, as high as it can lie.
-fn highest(part: Part, length: u64, most: u64) -> PlaceRule
+pub(crate) fn highest(part: Part, length: u64, most: u64) -> PlaceRule
     ensures { result ≡ highest part length most }
 {
     PlaceRule {
