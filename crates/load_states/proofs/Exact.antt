@@ -1,12 +1,12 @@
 -- A load comes to its end exactly where the pool has the pages that it takes.
-use Rattle.std.proofs.Common.{◌≡◌, ℕ, suc, ◌+◌, ◌/◌, ◌≤◌, List, [], ◌∷◌, ◌++◌, length, Option, Some, None, refl, sym, ap, ◌∙◌, subst, arith, cond, Bool, true, append_assoc, length-append}
-use Rattle.std.specs.Prelude.{◌↔◌, IsSome, is_some, eqb}
+use Rattle.std.proofs.Common.{◌≡◌, ℕ, ◌+◌, ◌/◌, ◌≤◌, List, [], ◌∷◌, ◌++◌, length, Some, None, refl, sym, ap, ◌∙◌, subst, arith, cond, Bool, true, append_assoc, length-append}
+use Rattle.std.specs.Prelude.{is_some}
 use Rattle.kx_laws.proofs.Options.{some_of}
-use Rattle.kx_pages.specs.Lists.{Each, Has, count, destinations, sources}
+use Rattle.kx_pages.specs.Lists.{Each, Has, count, sources}
 use Rattle.kx_pages.specs.declared.image.Wish.{Wish}
 use Rattle.segments.specs.Values.{SegmentValue, is_destination, need, pages}
-use Rattle.segments.proofs.Laws.{AreSegments, is_destination-from_Has, Has-from_is_destination, Distinct-pages}
-use Rattle.kimage_list.specs.Load.{Entry, Loading, Request, begun, given, loaded, pages_of, requests, served, starts, taken}
+use Rattle.segments.proofs.Laws.{AreSegments, Has-from_is_destination, Distinct-pages}
+use Rattle.kimage_list.specs.Load.{Loading, Request, begun, given, pages_of, requests, served}
 use Rattle.kimage_list.specs.Counted.{Allowed}
 use Rattle.kimage_list.proofs.Counting.{Full, full_on, counted_fit}
 use Rattle.kimage_list.proofs.Enough.{has_of_count, taken_some}
@@ -21,7 +21,7 @@ use Rattle.load_states.proofs.LaidAccepted.{others_in, served_well, wished_in}
 use Rattle.load_states.proofs.LaidPlan.{pages_of-entries_of}
 use Rattle.kx_pages.proofs.Lists.{Each-left, Each-right, Each-from_Has, length-destinations}
 use Rattle.kx_pages.proofs.Counting.{count-append, Each-from_count}
-use Rattle.kx_pages.specs.Needs.{first_count, need_of}
+use Rattle.kx_pages.specs.Needs.{first_count}
 use Rattle.kx_pages.proofs.Counting.{count-from_Distinct}
 
 wished-cons : (r : Request) (rs : List Request) → wished (r ∷ []) ++ wished rs ≡ wished (r ∷ rs)
