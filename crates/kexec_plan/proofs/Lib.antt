@@ -3,3 +3,5 @@ pub mod Holes
 pub mod Steps
 pub mod Last
 pub mod Armed
+pub mod Laying
+pub mod Reach

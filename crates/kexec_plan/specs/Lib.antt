@@ -11,4 +11,5 @@ pub mod Kernels
 pub mod Purgatory
 pub mod Finish
 pub mod Linux
+pub mod Multiboot
 pub mod Plan

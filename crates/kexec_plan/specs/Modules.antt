@@ -11,3 +11,9 @@ pub record LinuxAsked : Type 0 where
   pub kernel : List ℕ
   pub initrd : Option (List ℕ)
   pub command : Option (List ℕ)
+
+-- a Multiboot kernel, its command and its modules
+pub record MultibootAsked : Type 0 where
+  pub kernel : List ℕ
+  pub command : Option (List ℕ)
+  pub modules : List AskedModule

@@ -17,12 +17,15 @@ use Rattle.kexec_plan.specs.Parts.{raw_segment, start_at}
 use Rattle.bzimage.specs.Kernel.{Kernel, kernel_reading}
 use Rattle.kexec_plan.specs.declared.linux_sites.LinuxSites.{LinuxSites}
 use Rattle.kexec_plan.specs.Faults.{told_by, of_bzimage}
-use Rattle.kexec_plan.specs.Modules.{LinuxAsked}
+use Rattle.kexec_plan.specs.Modules.{LinuxAsked, MultibootAsked}
 use Rattle.kexec_plan.specs.Places.{searched, placed_some, taken_by}
 use Rattle.kexec_plan.specs.Purgatory.{PurgatoryValue, some_purgatory, purgatory_rule, purgatory_most}
 use Rattle.kexec_plan.specs.Finish.{finished}
-use Rattle.kexec_plan.specs.Kernels.{elf_kernel}
-use Rattle.kexec_plan.specs.Linux.{linux_sites, linux_parts, linux_start, rows_of}
+use Rattle.kexec_plan.specs.Kernels.{elf_kernel, multiboot_kernel}
+use Rattle.kexec_plan.specs.Kernels as kernels
+use Rattle.kexec_plan.specs.Table.{information_rule}
+use Rattle.kexec_plan.specs.Multiboot.{Laid, modules_onto, multiboot_parts, multiboot_start}
+use Rattle.kexec_plan.specs.Linux.{command_of, back_sites, linux_sites, linux_parts, linux_start, rows_of}
 
 -- the plan of a kernel whose segments are known: the purgatory is placed beside them
 unfoldable pub fixed_placed : (ℕ → Bool) → List SegmentValue → Start → Option PurgatoryValue → Option Named → Kind → Result Plan PlanFault
@@ -66,6 +69,31 @@ linux_plan ram r file map kind = do
   image ← told_by of_bzimage (kernel_reading r.kernel)
   linux_read ram image r file map kind
 
+-- the plan of a Multiboot kernel: it is read, the purgatory is read, the modules are placed, then the information and the
+-- purgatory
+unfoldable pub multiboot_told : (ℕ → Bool) → Laid → ℕ → List ℕ → Option PurgatoryValue → Option Named → Kind → Result Plan PlanFault
+multiboot_told ram l entry command purgatory map kind = do
+  sites ← back_sites ram l.taken (information_rule (rows_of map kind) command l.slots) (option_map (purgatory_rule (purgatory_most kind false)) purgatory)
+  finished map kind (multiboot_parts l sites.parameters (rows_of map kind) command) (multiboot_start entry sites.parameters) purgatory sites.purgatory
+
+unfoldable pub multiboot_laid : (ℕ → Bool) → kernels.Kernel → MultibootAsked → Option PurgatoryValue → Option Named → Kind → Result Plan PlanFault
+multiboot_laid ram k r purgatory map kind = do
+  l ← modules_onto ram (record { taken = taken_by k.list; list = k.list; slots = [] }) r.modules
+  multiboot_told ram l k.entry (command_of r.command) purgatory map kind
+
+unfoldable pub multiboot_read : (ℕ → Bool) → kernels.Kernel → MultibootAsked → Option (List ℕ) → Option Named → Kind → Result Plan PlanFault
+multiboot_read ram k r file map kind = do
+  purgatory ← some_purgatory file
+  multiboot_laid ram k r purgatory map kind
+
+unfoldable pub multiboot_plan : (ℕ → Bool) → MultibootAsked → Option (List ℕ) → Option Named → Kind → Result Plan PlanFault
+multiboot_plan ram r file map kind = do
+  k ← multiboot_kernel r.kernel
+  multiboot_read ram k r file map kind
+
+abbrev pub multiboot_of : Asked → MultibootAsked
+multiboot_of r = record { kernel = r.kernel; command = r.command; modules = r.modules }
+
 -- what of a request is a bzImage's
 abbrev pub linux_of : Asked → LinuxAsked
 linux_of r = record { kernel = r.kernel; initrd = r.initrd; command = r.command }
@@ -75,7 +103,7 @@ abbrev pub plan_as : (ℕ → Bool) → Asked → Option Named → Kind → Form
 plan_as ram r map kind (Raw at entry) = raw_plan ram r map kind at entry
 plan_as ram r map kind Elf = elf_plan ram r.kernel r.purgatory map kind
 plan_as ram r map kind Bzimage = linux_plan ram (linux_of r) r.purgatory map kind
-plan_as ram r map kind Multiboot = Err faults.UnknownImage
+plan_as ram r map kind Multiboot = multiboot_plan ram (multiboot_of r) r.purgatory map kind
 
 -- the form of the kernel's file; whether it is loaded as a crash kernel; no part that it has no use for; its plan
 unfoldable pub plan : Asked → Option Named → Result Plan PlanFault
@@ -85,15 +113,6 @@ plan r map = do
   _ ← unless (option_map faults.Unused (unused_part r format))
   plan_as (searched map kind) r map kind format
 
--- the types that are served
-abbrev pub is_served : ImageType → Bool
-is_served (types.Raw at entry) = true
-is_served types.Elf = true
-is_served types.Bzimage = true
-is_served types.Multiboot = false
-is_served types.Auto = false
-
--- the requests that are served: those of such a type, for no crash kernel
+-- the requests that are served: those for no crash kernel
 pub record IsServed (r : Asked) : Type 0 where
-  pub type : is_served r.image ≡ true
   pub no_crash : r.crash ≡ false

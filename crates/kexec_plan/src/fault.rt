@@ -1,11 +1,12 @@
 //! Why a request has no plan.
 
 ghost use Rattle.std.specs.Prelude.{◌≡◌};
-ghost use Rattle.kexec_plan.specs.Faults.{of_elf, of_bzimage, of_params, of_link};
+ghost use Rattle.kexec_plan.specs.Faults.{of_elf, of_multiboot, of_bzimage, of_params, of_link};
 
 use boot_params::ParamsFault;
 use bzimage::BzFault;
 use elf_image::ElfFault;
+use multiboot_image::MbFault;
 use purgatory_link::LinkFault;
 use segments::SegFault;
 use std::alloc::{AllocError, AllocFailed};
@@ -55,6 +56,9 @@ pub enum PlanFault {
     /// The kernel or the purgatory is no ELF file that can be loaded.
     #[error("{fault}")]
     Elf { fault: ElfFault },
+    /// The kernel is no Multiboot kernel that can be loaded.
+    #[error("{fault}")]
+    Multiboot { fault: MbFault },
     /// The kernel is no bzImage that can be loaded.
     #[error("{fault}")]
     Bzimage { fault: BzFault },
@@ -86,6 +90,16 @@ impl PlanFault {
         match fault {
             ElfFault::Memory => PlanFault::Memory,
             _ => PlanFault::Elf { fault },
+        }
+    }
+
+    /// What a fault of a Multiboot kernel is here.
+    pub(crate) fn of_multiboot(fault: MbFault) -> PlanFault
+        ensures { result ≡ of_multiboot fault }
+    {
+        match fault {
+            MbFault::Memory => PlanFault::Memory,
+            _ => PlanFault::Multiboot { fault },
         }
     }
 

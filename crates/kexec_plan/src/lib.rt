@@ -13,6 +13,8 @@ mod kernels;
 mod linux;
 mod linux_plan;
 mod linux_sites;
+mod modules;
+mod multiboot_plan;
 mod parts;
 mod places;
 mod planning;

@@ -25,10 +25,10 @@ pub(crate) struct FrontSites {
     pub(crate) initrd: Option<Site>,
 }
 
-/// Where boot parameters and purgatory lie.
+/// Where boot parameters, or the information of a Multiboot kernel, and the purgatory lie.
 #[derive(Clone, Copy)]
 pub(crate) struct BackSites {
-    /// The boot parameters.
+    /// The boot parameters, or the information.
     pub(crate) parameters: Site,
     /// The purgatory, if there is one.
     pub(crate) purgatory: Option<Site>,
@@ -88,9 +88,9 @@ fn front_sites(
     }
 }
 
-// Places the boot parameters, then the purgatory.
+/// Places the boot parameters, or the information of a Multiboot kernel, then the purgatory.
 #[tactic(auto, unfolding(crate::specs::Linux::back_sites))]
-fn back_sites(
+pub(crate) fn back_sites(
     ram: &PageSet,
     taken: &mut PageSet,
     rule: PlaceRule,

@@ -12,6 +12,7 @@ use crate::fixed_plan::{elf_plan, fixed_plan};
 use crate::format::{Format, format_of, unused_part};
 use crate::linux::LinuxRequest;
 use crate::linux_plan::linux_plan;
+use crate::multiboot_plan::{MultibootRequest, multiboot_plan};
 use crate::parts::{raw_list, start_at};
 use crate::places::{area_pages, searched};
 use crate::request::{Planned, Request};
@@ -63,6 +64,7 @@ fn plan_as(
         kernel,
         initrd,
         command,
+        modules,
         purgatory,
         ..
     } = request;
@@ -80,7 +82,14 @@ fn plan_as(
             };
             linux_plan(alloc, ram, linux, purgatory, map, kind)
         }
-        Format::Multiboot => Err(PlanFault::UnknownImage),
+        Format::Multiboot => {
+            let multiboot = MultibootRequest {
+                kernel,
+                command,
+                modules,
+            };
+            multiboot_plan(alloc, ram, multiboot, purgatory, map, kind)
+        }
     }
 }
 

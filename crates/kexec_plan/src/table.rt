@@ -2,13 +2,16 @@
 
 ghost use Rattle.std.specs.Prelude.{◌≡◌, ◌<◌, ◌≤◌, ◌^◌, length};
 ghost use Rattle.bzimage.specs.Kernel.{IsSound};
-ghost use Rattle.kexec_plan.specs.Table.{last_address, highest, kernel_rule, initrd_rule, parameters_rule};
+ghost use Rattle.kexec_plan.specs.Table.{last_address, highest, kernel_rule, initrd_rule, parameters_rule, module_rule, information_rule};
 
 use crate::fault::Part;
 use crate::places::PlaceRule;
+use crate::request::Module;
 use bzimage::BzImage;
 use hole_search::End;
 use kx_pages::{ADDRESS_LIMIT, PAGE_SIZE};
+use memory_map::Row;
+use multiboot_image::{Placed, info_length};
 
 /// The least address of a bzImage: 1 MiB.
 const KERNEL_MIN: u64 = 0x10_0000;
@@ -75,4 +78,20 @@ pub(crate) fn parameters_rule(image: &BzImage, command: &[u8]) -> PlaceRule
 {
     let length = PAGE_SIZE + command.len() as u64 + 1;
     highest(Part::Parameters, length, last_address(image.above4g))
+}
+
+/// A module of a Multiboot kernel.
+pub(crate) fn module_rule(asked: &Module) -> PlaceRule
+    ensures { result ≡ module_rule asked.now }
+{
+    let most = LIMIT_OF_32_BITS - 1 - PAGE_SIZE;
+    highest(Part::Module, asked.bytes.len() as u64, most)
+}
+
+/// The information of a Multiboot kernel.
+pub(crate) fn information_rule(rows: &[Row], command: &[u8], modules: &[Placed]) -> PlaceRule
+    ensures { result ≡ information_rule rows.now command.now modules.now }
+{
+    let length = info_length(rows.len(), command.len(), modules);
+    highest(Part::Information, length, last_address(false))
 }
