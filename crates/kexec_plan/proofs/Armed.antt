@@ -22,6 +22,6 @@ pub armed_is : (map : Option Named) (kind : Kind) (ss : List SegmentValue) (star
 unfolding armed_plan
 armed_is map kind ss start l s segments new n e k t a =
     let is : new ≡ ss ++ armed_segment l start ss s ∷ [] =
-        a ∙ ap (λ xs. with_armed l start s xs n) e ∙ ap (λ m. with_armed l start s (ss ++ segment_at s l.bytes ∷ []) m) k
-          ∙ last_set ss (segment_at s l.bytes) (armed_segment l start ss s) (length ss) refl in
+    a ∙ ap (λ xs. with_armed l start s xs n) e ∙ ap (λ m. with_armed l start s (ss ++ segment_at s l.bytes ∷ []) m) k
+    ∙ last_set ss (segment_at s l.bytes) (armed_segment l start ss s) (length ss) refl in
     rw (t, is) refl

@@ -25,8 +25,8 @@ plain_plan map kind ss start = do
 abbrev pub armed_segment : Linkage → Start → List SegmentValue → Site → SegmentValue
 armed_segment l start ss s =
     segment_at s (armed l start
-      (region_table (others (ss ++ segment_at s l.bytes ∷ []) (length ss)))
-      (digest (ss ++ segment_at s l.bytes ∷ []) (length ss)))
+    (region_table (others (ss ++ segment_at s l.bytes ∷ []) (length ss)))
+    (digest (ss ++ segment_at s l.bytes ∷ []) (length ss)))
 
 -- the plan of these segments and of a linked purgatory behind them, which starts first
 unfoldable pub armed_plan : Option Named → Kind → List SegmentValue → Start → Linkage → Site → Result Plan PlanFault

@@ -15,7 +15,6 @@ use Rattle.kexec_plan.specs.Requests.{Asked, Plan}
 use Rattle.kexec_plan.specs.Formats.{format_of, kind_of, unused_part}
 use Rattle.kexec_plan.specs.Parts.{raw_segment, start_at}
 use Rattle.bzimage.specs.Kernel.{Kernel, kernel_reading}
-use Rattle.kexec_plan.specs.declared.linux_sites.LinuxSites.{LinuxSites}
 use Rattle.kexec_plan.specs.Faults.{told_by, of_bzimage}
 use Rattle.kexec_plan.specs.Modules.{LinuxAsked, MultibootAsked}
 use Rattle.kexec_plan.specs.Places.{searched, placed_some, taken_by}
@@ -23,9 +22,9 @@ use Rattle.kexec_plan.specs.Purgatory.{PurgatoryValue, some_purgatory, purgatory
 use Rattle.kexec_plan.specs.Finish.{finished}
 use Rattle.kexec_plan.specs.Kernels.{elf_kernel, multiboot_kernel}
 use Rattle.kexec_plan.specs.Kernels as kernels
-use Rattle.kexec_plan.specs.Table.{information_rule}
+use Rattle.kexec_plan.specs.Table.{headers_rule, information_rule}
 use Rattle.kexec_plan.specs.Multiboot.{Laid, modules_onto, multiboot_parts, multiboot_start}
-use Rattle.kexec_plan.specs.Linux.{command_of, back_sites, linux_sites, linux_parts, linux_start, rows_of}
+use Rattle.kexec_plan.specs.Linux.{LinuxPlaces, headers_size, some_headers, command_of, back_sites, linux_sites, linux_parts, linux_start, rows_of}
 
 -- the plan of a kernel whose segments are known: the purgatory is placed beside them
 unfoldable pub fixed_placed : (ℕ → Bool) → List SegmentValue → Start → Option PurgatoryValue → Option Named → Kind → Result Plan PlanFault
@@ -49,15 +48,20 @@ elf_plan ram file purgatory map kind = do
   fixed_plan ram kernel.list (start_at kernel.entry) purgatory map kind
 
 -- the plan of a bzImage: it is read, the purgatory is read, the parts are placed, and made
-unfoldable pub linux_made : Kernel → LinuxAsked → Option PurgatoryValue → Option Named → Kind → LinuxSites → Result Plan PlanFault
-linux_made image r purgatory map kind sites = do
-  parts ← linux_parts image r (rows_of map kind) sites
-  finished map kind parts (linux_start sites) purgatory sites.back.purgatory
+unfoldable pub linux_made : Kernel → LinuxAsked → Option PurgatoryValue → Option (List ℕ) → Option Named → Kind → LinuxPlaces → Result Plan PlanFault
+linux_made image r purgatory headers map kind sites = do
+  parts ← linux_parts image r headers (rows_of map kind) sites
+  finished map kind parts (linux_start sites) purgatory sites.later.back.purgatory
+
+unfoldable pub linux_headed : Kernel → LinuxAsked → Option PurgatoryValue → Option Named → Kind → LinuxPlaces → Result Plan PlanFault
+linux_headed image r purgatory map kind sites = do
+  headers ← some_headers map kind r.notes
+  linux_made image r purgatory headers map kind sites
 
 unfoldable pub linux_placed : (ℕ → Bool) → Kernel → LinuxAsked → Option PurgatoryValue → Option Named → Kind → Result Plan PlanFault
 linux_placed ram image r purgatory map kind = do
-  sites ← linux_sites ram image r (option_map (purgatory_rule (purgatory_most kind image.above4g)) purgatory)
-  linux_made image r purgatory map kind sites
+  sites ← linux_sites ram image r (option_map (headers_rule image) (headers_size map kind r.notes)) (option_map (purgatory_rule (purgatory_most kind image.above4g)) purgatory)
+  linux_headed image r purgatory map kind sites
 
 unfoldable pub linux_read : (ℕ → Bool) → Kernel → LinuxAsked → Option (List ℕ) → Option Named → Kind → Result Plan PlanFault
 linux_read ram image r file map kind = do
@@ -96,7 +100,7 @@ multiboot_of r = record { kernel = r.kernel; command = r.command; modules = r.mo
 
 -- what of a request is a bzImage's
 abbrev pub linux_of : Asked → LinuxAsked
-linux_of r = record { kernel = r.kernel; initrd = r.initrd; command = r.command }
+linux_of r = record { kernel = r.kernel; initrd = r.initrd; command = r.command; notes = r.notes }
 
 -- the plan of a kernel of this form
 abbrev pub plan_as : (ℕ → Bool) → Asked → Option Named → Kind → Format → Result Plan PlanFault
@@ -112,7 +116,3 @@ plan r map = do
   kind ← kind_of r map format
   _ ← unless (option_map faults.Unused (unused_part r format))
   plan_as (searched map kind) r map kind format
-
--- the requests that are served: those for no crash kernel
-pub record IsServed (r : Asked) : Type 0 where
-  pub no_crash : r.crash ≡ false

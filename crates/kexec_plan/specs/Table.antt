@@ -39,6 +39,10 @@ initrd_most k = if k.above4g then 2 ^ 46 - 1 else k.initrd_max
 abbrev pub initrd_rule : Kernel → List ℕ → PlaceRule
 initrd_rule k initrd = highest parts.Initrd (length initrd) (initrd_most k)
 
+-- its crash headers, of so many bytes
+abbrev pub headers_rule : Kernel → ℕ → PlaceRule
+headers_rule k n = highest parts.Headers n (last_address k.above4g)
+
 -- its boot parameters: the zero page, the command and a NUL
 abbrev pub parameters_rule : Kernel → List ℕ → PlaceRule
 parameters_rule k command = highest parts.Parameters (4096 + length command + 1) (last_address k.above4g)

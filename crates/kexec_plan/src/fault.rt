@@ -1,10 +1,11 @@
 //! Why a request has no plan.
 
 ghost use Rattle.std.specs.Prelude.{◌≡◌};
-ghost use Rattle.kexec_plan.specs.Faults.{of_elf, of_multiboot, of_bzimage, of_params, of_link};
+ghost use Rattle.kexec_plan.specs.Faults.{of_elf, of_multiboot, of_bzimage, of_params, of_crash, of_link};
 
 use boot_params::ParamsFault;
 use bzimage::BzFault;
+use crash_headers::CrashFault;
 use elf_image::ElfFault;
 use multiboot_image::MbFault;
 use purgatory_link::LinkFault;
@@ -68,6 +69,9 @@ pub enum PlanFault {
     /// The purgatory cannot be linked, or has not the symbols of one.
     #[error("the purgatory cannot be used: {fault}")]
     Link { fault: LinkFault },
+    /// The crash headers cannot be made.
+    #[error("{fault}")]
+    Crash { fault: CrashFault },
     /// The segments are refused.
     #[error("the kernel cannot be placed: {fault}")]
     Segments { fault: SegFault },
@@ -110,6 +114,16 @@ impl PlanFault {
         match fault {
             BzFault::Memory => PlanFault::Memory,
             _ => PlanFault::Bzimage { fault },
+        }
+    }
+
+    /// What a fault of crash headers is here.
+    pub(crate) fn of_crash(fault: CrashFault) -> PlanFault
+        ensures { result ≡ of_crash fault }
+    {
+        match fault {
+            CrashFault::Memory => PlanFault::Memory,
+            _ => PlanFault::Crash { fault },
         }
     }
 

@@ -63,7 +63,14 @@ fn armed_bytes(
     let table = regions_of(segments, purgatory);
     let digest = digest_of(segments, purgatory);
     let mut bytes = Vec::from_slice(alloc, &segments.segment(purgatory).bytes)?;
-    arm(&mut bytes, base, symbols, start, table.bytes(), digest.bytes());
+    arm(
+        &mut bytes,
+        base,
+        symbols,
+        start,
+        table.bytes(),
+        digest.bytes(),
+    );
     Ok(bytes)
 }
 

@@ -5,6 +5,7 @@
 //! first refusal in this order is the answer. Places, ends and order are this project's own.
 #![tactic(auto)]
 
+mod crash;
 mod fault;
 mod finishing;
 mod fixed_plan;

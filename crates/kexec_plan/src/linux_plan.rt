@@ -7,8 +7,9 @@ ghost use Rattle.bzimage.specs.Kernel.{IsSound};
 ghost use Rattle.kexec_plan.specs.Requests.{planned_of, lent};
 ghost use Rattle.kexec_plan.specs.Purgatory.{IsLinkable};
 ghost use Rattle.kexec_plan.specs.Linux.{AreLow};
-ghost use Rattle.kexec_plan.specs.Plan.{linux_made, linux_placed, linux_read, linux_plan};
+ghost use Rattle.kexec_plan.specs.Plan.{linux_made, linux_headed, linux_placed, linux_read, linux_plan};
 
+use crate::crash::{some_headers, some_headers_rule};
 use crate::fault::PlanFault;
 use crate::finishing::finished;
 use crate::linux::{LinuxRequest, linux_parts, linux_start, rows_of};
@@ -28,22 +29,48 @@ fn linux_made(
     image: &BzImage,
     request: LinuxRequest,
     purgatory: Option<Purgatory>,
+    headers: Option<Vec<u8>>,
     map: Option<&Map>,
     kind: &Kind,
     sites: &LinuxSites,
 ) -> Result<Planned, PlanFault>
     requires sound { IsSound (length request.kernel) image.now }
     requires low { AreLow sites.now }
-    requires purgatory { IsLinkable purgatory sites.now.back.purgatory }
+    requires purgatory { IsLinkable purgatory sites.now.later.back.purgatory }
     ensures { Gives PlanFault.Memory planned_of result
-        (linux_made image.now request purgatory (lent map.entry) kind.now sites.now) }
+        (linux_made image.now request purgatory (option_map (λ v. v.items) headers) (lent map.entry) kind.now sites.now) }
 {
-    let list = match linux_parts(alloc, image, request, rows_of(map, kind), sites) {
+    let list = match linux_parts(alloc, image, request, headers, rows_of(map, kind), sites) {
         Ok(list) => list,
         Err(fault) => return Err(fault),
     };
     let start = linux_start(sites);
-    finished(alloc, map, kind, list, start, purgatory, sites.back.purgatory)
+    let site = sites.later.back.purgatory;
+    finished(alloc, map, kind, list, start, purgatory, site)
+}
+
+// Makes the crash headers, in a crash load, and then the other parts.
+#[tactic(auto, unfolding(crate::specs::Plan::linux_headed))]
+fn linux_headed(
+    alloc: Global,
+    image: &BzImage,
+    request: LinuxRequest,
+    purgatory: Option<Purgatory>,
+    map: Option<&Map>,
+    kind: &Kind,
+    sites: &LinuxSites,
+) -> Result<Planned, PlanFault>
+    requires sound { IsSound (length request.kernel) image.now }
+    requires low { AreLow sites.now }
+    requires purgatory { IsLinkable purgatory sites.now.later.back.purgatory }
+    ensures { Gives PlanFault.Memory planned_of result
+        (linux_headed image.now request purgatory (lent map.entry) kind.now sites.now) }
+{
+    let headers = match some_headers(alloc, map, kind, &request.notes) {
+        Ok(headers) => headers,
+        Err(fault) => return Err(fault),
+    };
+    linux_made(alloc, image, request, purgatory, headers, map, kind, sites)
 }
 
 // Places the parts of a bzImage, and makes them.
@@ -61,12 +88,13 @@ fn linux_placed(
     ensures { Gives PlanFault.Memory planned_of result
         (linux_placed (in_spans ram.now) image.now request purgatory (lent map.entry) kind.now) }
 {
+    let headers = some_headers_rule(image, map, kind, &request.notes);
     let rule = some_purgatory_rule(&purgatory, purgatory_most(kind, image.above4g));
-    let sites = match linux_sites(alloc, ram, image, &request, rule) {
+    let sites = match linux_sites(alloc, ram, image, &request, headers, rule) {
         Ok(sites) => sites,
         Err(fault) => return Err(fault),
     };
-    linux_made(alloc, image, request, purgatory, map, kind, &sites)
+    linux_headed(alloc, image, request, purgatory, map, kind, &sites)
 }
 
 // Reads the purgatory of this file.

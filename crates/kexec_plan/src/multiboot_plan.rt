@@ -132,7 +132,9 @@ fn multiboot_laid(
 {
     let Kernel { list, entry } = kernel;
     let MultibootRequest {
-        command, modules, ..
+        command,
+        modules,
+        ..
     } = request;
     let taken = taken_by(alloc, &list)?;
     let mut laying = Laying {
@@ -144,7 +146,16 @@ fn multiboot_laid(
         Ok(()) => {}
         Err(fault) => return Err(fault),
     }
-    multiboot_told(alloc, ram, laying, entry, command_of(&command), purgatory, map, kind)
+    multiboot_told(
+        alloc,
+        ram,
+        laying,
+        entry,
+        command_of(&command),
+        purgatory,
+        map,
+        kind,
+    )
 }
 
 // Reads the purgatory of this file.

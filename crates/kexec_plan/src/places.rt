@@ -132,11 +132,7 @@ fn take(taken: &mut PageSet, site: Site) -> Result<(), AllocError>
 }
 
 /// The place of a part by its rule, in RAM that is not taken. It is taken then.
-pub(crate) fn place(
-    ram: &PageSet,
-    taken: &mut PageSet,
-    rule: PlaceRule,
-) -> Result<Site, PlanFault>
+pub(crate) fn place(ram: &PageSet, taken: &mut PageSet, rule: PlaceRule) -> Result<Site, PlanFault>
     requires some_align { 0 < rule.align }
     requires align { rule.align ≤ 2 ^ 45 }
     ensures exact { Gives PlanFault.Memory (λ s. s) result (placed (in_spans ram.now) (in_spans taken.old) rule) }

@@ -5,7 +5,7 @@ ghost use Rattle.kx_laws.specs.Results.{Gives};
 ghost use Rattle.kx_pages.specs.Spans.{in_spans};
 ghost use Rattle.kexec_plan.specs.Requests.{request_of, planned_of, lent, IsMapped};
 ghost use Rattle.kexec_plan.specs.Formats.{area_of, crash_kind, kind_of};
-ghost use Rattle.kexec_plan.specs.Plan.{plan_as, plan, IsServed};
+ghost use Rattle.kexec_plan.specs.Plan.{plan_as, plan};
 
 use crate::fault::PlanFault;
 use crate::fixed_plan::{elf_plan, fixed_plan};
@@ -66,6 +66,7 @@ fn plan_as(
         command,
         modules,
         purgatory,
+        notes,
         ..
     } = request;
     match format {
@@ -79,6 +80,7 @@ fn plan_as(
                 kernel,
                 initrd,
                 command,
+                notes,
             };
             linux_plan(alloc, ram, linux, purgatory, map, kind)
         }
@@ -100,7 +102,6 @@ fn plan_as(
 #[tactic(auto, unfolding(crate::specs::Plan::plan))]
 pub fn plan(alloc: Global, request: Request, map: Option<&Map>) -> Result<Planned, PlanFault>
     requires mapped { IsMapped (request_of request) (lent map) }
-    requires served { IsServed (request_of request) }
     ensures exact { Gives PlanFault.Memory planned_of result (plan (request_of request) (lent map.entry)) }
 {
     let format = match format_of(&request) {

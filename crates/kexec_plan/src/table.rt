@@ -2,7 +2,7 @@
 
 ghost use Rattle.std.specs.Prelude.{◌≡◌, ◌<◌, ◌≤◌, ◌^◌, length};
 ghost use Rattle.bzimage.specs.Kernel.{IsSound};
-ghost use Rattle.kexec_plan.specs.Table.{last_address, highest, kernel_rule, initrd_rule, parameters_rule, module_rule, information_rule};
+ghost use Rattle.kexec_plan.specs.Table.{last_address, highest, kernel_rule, initrd_rule, headers_rule, parameters_rule, module_rule, information_rule};
 
 use crate::fault::Part;
 use crate::places::PlaceRule;
@@ -69,6 +69,13 @@ pub(crate) fn initrd_rule(image: &BzImage, initrd: &[u8]) -> PlaceRule
         image.initrd_max
     };
     highest(Part::Initrd, initrd.len() as u64, most)
+}
+
+/// The crash headers of a bzImage, of so many bytes.
+pub(crate) fn headers_rule(image: &BzImage, length: u64) -> PlaceRule
+    ensures { result ≡ headers_rule image.now length }
+{
+    highest(Part::Headers, length, last_address(image.above4g))
 }
 
 /// The boot parameters of a bzImage.
