@@ -20,7 +20,7 @@ runs_fit true (Kept swap) = tt
 
 -- what runs the list of the files is what `exec` makes
 pub executed : (x : ExecInputs) (pool : Pages) (result : Result (MadeGoods ListFault) (MakeFault Reason)) → lacks_swap_page x.twice x.files.load_record.image.mode ≡ false
-    → MakesOr (λ g. RunsList (runs_asked x) (load_of x.files pool) x.files.load_record.start x.out (goods_of g)) (RefusesRun (runs_asked x) (load_of x.files pool)) result → Makes executes x result
+    → MakesOr (λ g. RunsList (runs_asked x) (load_of x.files pool) x.files.load_record.start x.files.load_record.regions x.files.load_record.digest x.out (goods_of g)) (RefusesRun (runs_asked x) (load_of x.files pool)) result → Makes executes x result
 executed x pool (Ok g) e m = (e, subst (λ fault. executes_as x (goods_of g) fault) (sym m.5) (pool, m))
 executed x pool (Err (makes.Refused why)) e m = inr (e, (pool, m))
 executed x pool (Err makes.Memory) e m = tt

@@ -7,6 +7,6 @@ pub mod Done
 pub mod Complete
 pub mod Holding
 pub mod Rising
-pub mod Serving
+pub mod Mapped
 pub mod Pages
 pub mod Again

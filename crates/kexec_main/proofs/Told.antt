@@ -1,24 +1,32 @@
 -- What is told of a run, in the words of its list.
 use Rattle.std.proofs.Common.{◌≡◌, ◌∙◌, ℕ, List, ◌++◌, length, Option, Some, None, ap, sym, refl}
 use Rattle.kx_pages.specs.declared.image.Start.{Start}
+use Rattle.page_memory.specs.Contents.{at}
+use Rattle.page_memory.specs.Memory.{Mem, Agree}
 use Rattle.kexec_words.specs.declared.commands.Runs.{Runs}
 use Rattle.kexec_words.specs.declared.commands.Runs.TheVariants.{Once, Twice}
 use Rattle.load_states.specs.States.{Checked}
 use Rattle.kexec_main.specs.declared.running.Ran.{Ran}
-use Rattle.kexec_main.specs.Runs.{HasRun, list_text, ran_text, run_text, second_line, second_steps}
-use Rattle.kexec_main.specs.Texts.{load_lines, ran_line}
+use Rattle.kexec_main.specs.Runs.{HasRun, after_runs, last_line, list_text, ran_text, run_text, second_steps}
+use Rattle.kexec_main.specs.Texts.{load_lines, purgatory_line, ran_line}
 
 first_text : (runs : Option Runs) (c : Checked) (r : Ran) (start : Start) → HasRun runs c r → load_lines r.words r.links r.pairs r.image start ++ ran_line r.steps ≡ list_text c start ++ ran_line c.words
 first_text runs c r start h = rw (h.words, h.links, h.pairs, h.image, h.ends) refl
 
-by_runs : (runs : Option Runs) (c : Checked) (start : Start) → second_line (second_steps runs c.words) (list_text c start ++ ran_line c.words) ≡ run_text runs c start
-by_runs None c start = refl
-by_runs (Some Once) c start = refl
-by_runs (Some Twice) c start = refl
+-- memories that agree are one
+one_memory : (N M : Mem) → Agree N M → N ≡ M
+one_memory N M h = λ i p. h p i
+
+by_runs : (runs : Option Runs) (c : Checked) (start : Start) (table digest : ℕ)
+    → last_line (second_steps runs c.words) (list_text c start ++ ran_line c.words) (purgatory_line (after_runs runs c) table digest) ≡ run_text runs c start table digest
+by_runs None c start table digest = refl
+by_runs (Some Once) c start table digest = refl
+by_runs (Some Twice) c start table digest = refl
 
 -- the text of a run is that of its list and its runs
-pub text_of : (runs : Option Runs) (c : Checked) (r : Ran) (start : Start) → HasRun runs c r → ran_text r start ≡ run_text runs c start
-text_of runs c r start h =
-    ap (λ second. second_line second (load_lines r.words r.links r.pairs r.image start ++ ran_line r.steps)) h.ends_again
-    ∙ ap (second_line (second_steps runs c.words)) (first_text runs c r start h)
-    ∙ by_runs runs c start
+pub text_of : (runs : Option Runs) (c : Checked) (r : Ran) (start : Start) (table digest : ℕ) → HasRun runs c r → ran_text r start table digest ≡ run_text runs c start table digest
+text_of runs c r start table digest h =
+    ap (λ second. last_line second (load_lines r.words r.links r.pairs r.image start ++ ran_line r.steps) (purgatory_line (at r.memory) table digest)) h.ends_again
+    ∙ ap (λ text. last_line (second_steps runs c.words) text (purgatory_line (at r.memory) table digest)) (first_text runs c r start h)
+    ∙ ap (λ N. last_line (second_steps runs c.words) (list_text c start ++ ran_line c.words) (purgatory_line N table digest)) (one_memory (at r.memory) (after_runs runs c) h.memory)
+    ∙ by_runs runs c start table digest

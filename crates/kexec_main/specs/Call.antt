@@ -66,7 +66,7 @@ module _ {S O : Type 0} (D : Shelf S) (E : Sink O) (held : Files) (s : S) (o : O
     pub output : List ℕ
     pub is_memory : IsFileOf (after_runs b.kept checked) output
     pub put : FilesPut (D.files s) ((b.out, output) ∷ []) (D.files s')
-    pub said : Said (E.said o) (run_text b.kept checked planned.start) (E.said o')
+    pub said : Said (E.said o) (run_text b.kept checked planned.start planned.regions planned.digest) (E.said o')
 
   -- After `load`: the kernel was loaded. OUT is the file of the memory after the load, RECORD tells its list, start and
   -- segments, every other file is as it was, and the text tells the list.
@@ -114,7 +114,7 @@ module _ {S O : Type 0} (D : Shelf S) (E : Sink O) (held : Files) (s : S) (o : O
     pub output : List ℕ
     pub is_memory : IsFileOf (after_runs (runs_asked inputs) checked) output
     pub put : FilesPut (D.files s) ((inputs.out, output) ∷ []) (D.files s')
-    pub said : Said (E.said o) (run_text (runs_asked inputs) checked inputs.files.load_record.start) (E.said o')
+    pub said : Said (E.said o) (run_text (runs_asked inputs) checked inputs.files.load_record.start inputs.files.load_record.regions inputs.files.load_record.digest) (E.said o')
 
   -- After `trace`: OUT is the file of the memory after the steps of the machine, and the text tells how its run came out.
   pub record HasTraced (t : TraceValue) : Type 0 where

@@ -51,10 +51,10 @@ load_of x pool = record { memory = x.memory; pool = pool; image = x.load_record.
 
 -- The accepted list of a load is run: the file of the memory after the last run is the output, and the text tells the list
 -- and each run.
-abbrev pub RunsList : Option Runs → Load → Start → List ℕ → Made → Type 0
-RunsList runs load start out goods =
+abbrev pub RunsList : Option Runs → Load → Start → (table digest : ℕ) → List ℕ → Made → Type 0
+RunsList runs load start table digest out goods =
     (words : ℕ) × (links : ℕ) × (qs : List (ℕ × ℕ)) × Told load words links qs
-    × (goods.text ≡ run_text runs (checked_with load words links qs) start) × (goods.fault ≡ None)
+    × (goods.text ≡ run_text runs (checked_with load words links qs) start table digest) × (goods.fault ≡ None)
     × IsMemoryFile goods.outputs out (after_runs runs (checked_with load words links qs))
 
 -- the memory after the last run has no file, for this reason
@@ -67,7 +67,7 @@ abbrev pub runs_asked : ExecInputs → Option Runs
 runs_asked x = runs_of x.twice x.files.load_record.image.mode
 
 abbrev pub RunsFiles : ExecInputs → Made → Type 0
-RunsFiles x goods = (pool : Pages) × RunsList (runs_asked x) (load_of x.files pool) x.files.load_record.start x.out goods
+RunsFiles x goods = (pool : Pages) × RunsList (runs_asked x) (load_of x.files pool) x.files.load_record.start x.files.load_record.regions x.files.load_record.digest x.out goods
 
 abbrev pub RefusesFiles : ExecInputs → Reason → Type 0
 RefusesFiles x why = (pool : Pages) × RefusesRun (runs_asked x) (load_of x.files pool) why

@@ -1,31 +1,19 @@
 -- What `boot` and `load` take, in the order in which it is taken, and the request that the kernel's files make (this
 -- project's own).
 use Rattle.std.specs.Prelude.{ℕ, ◌-◌, List, [], length, map, Option, Some, None, option_map, false}
-use Rattle.kx_laws.specs.Results.{unless}
 use Rattle.page_memory.specs.Contents.{Contents}
 use Rattle.memory_map.specs.Named.{Named}
 use Rattle.file_commands.specs.Taking.{File, Take, ok, ◌>>=◌}
-use Rattle.file_commands.specs.Files.{all_files, from_reader, optional_file, whole_file}
+use Rattle.file_commands.specs.Files.{all_files, optional_file, whole_file}
 use Rattle.file_commands.specs.Calls.{file_of}
 use Rattle.kx_pages.specs.declared.image.ImageType.{ImageType}
-use Rattle.kx_pages.specs.declared.image.ImageType.TheVariants as types
 use Rattle.kexec_words.specs.Values.{InputsValue}
 use Rattle.kexec_plan.specs.Modules.{AskedModule}
 use Rattle.kexec_plan.specs.Requests.{Asked, request_of}
 use Rattle.kexec_main.specs.declared.inputs.KernelFiles.{KernelFiles as TakenFiles}
 use Rattle.kexec_main.specs.declared.load_inputs.LoadInputs.{LoadInputs as Taken}
-use Rattle.kexec_main.specs.declared.status.NotBuilt.{NotBuilt}
-use Rattle.kexec_main.specs.declared.status.NotBuilt.TheVariants.{Format, Purgatory}
 use Rattle.kexec_main.specs.declared.status.Reason.{Reason}
-use Rattle.kexec_main.specs.declared.status.Reason.TheVariants as reasons
 use Rattle.kexec_main.specs.Files.{map_file, memory_file, pool_file}
-
--- what of a request is not served yet: the type that is told by the file alone, Multiboot, and a purgatory
-abbrev pub unserved : ImageType → Option (List ℕ) → Option NotBuilt
-unserved types.Auto purgatory = Some Format
-unserved types.Multiboot purgatory = Some Format
-unserved image None = None
-unserved image (Some purgatory) = Some Purgatory
 
 -- the most bytes of the kernel, the initrd and the modules together, and of a purgatory
 abbrev pub kernel_limit : ℕ
@@ -69,6 +57,7 @@ request_with image command files = record {
   command = command;
   modules = map module_of files.modules;
   purgatory = files.purgatory;
+  notes = [];
 }
 
 -- what a load is made of: the memory, the pages of the pool, the memory map, and the request for a plan
@@ -78,10 +67,9 @@ pub record LoadInputs : Type 0 where
   pub map : Option Named
   pub request : Asked
 
--- What `boot` and `load` take. What is not served yet is refused before any file is taken.
+-- what `boot` and `load` take
 abbrev pub load_inputs : ImageType → InputsValue → Take Reason LoadInputs
 load_inputs image i = do
-  none ← from_reader reasons.NotBuilt (unless (unserved image i.purgatory))
   m ← memory_file i.memory
   p ← pool_file i.pool
   ram ← optional_file map_file i.map

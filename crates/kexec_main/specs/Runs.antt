@@ -14,7 +14,7 @@ use Rattle.load_states.specs.States.{Checked, Load, swap_of}
 use Rattle.load_states.specs.Ready.{Told}
 use Rattle.load_states.specs.Exchange.{exchange}
 use Rattle.kexec_main.specs.declared.running.Ran.{Ran}
-use Rattle.kexec_main.specs.Texts.{load_lines, ran_line}
+use Rattle.kexec_main.specs.Texts.{load_lines, purgatory_line, ran_line}
 
 -- what the runs ask of the load
 abbrev pub wish_of : Option Runs → Wish
@@ -75,15 +75,17 @@ Leaves (Some Twice) c N = (p : ℕ) → p ≢ swap_of c.load → N p ≡ at c.lo
 abbrev pub list_text : Checked → Start → List ℕ
 list_text c start = load_lines c.words c.links (length c.pairs) c.load.image start
 
-abbrev pub run_text : Option Runs → Checked → Start → List ℕ
-run_text None c start = list_text c start ++ ran_line c.words
-run_text (Some Once) c start = list_text c start ++ ran_line c.words
-run_text (Some Twice) c start = (list_text c start ++ ran_line c.words) ++ ran_line c.words
+-- after one run, where there is a purgatory, the test of its regions in the memory that the run left
+abbrev pub run_text : Option Runs → Checked → Start → (table digest : ℕ) → List ℕ
+run_text None c start table digest = (list_text c start ++ ran_line c.words) ++ purgatory_line (after_runs None c) table digest
+run_text (Some Once) c start table digest = (list_text c start ++ ran_line c.words) ++ purgatory_line (after_runs (Some Once) c) table digest
+run_text (Some Twice) c start table digest = (list_text c start ++ ran_line c.words) ++ ran_line c.words
 
--- the same by what ran
-abbrev pub second_line : Option ℕ → List ℕ → List ℕ
-second_line None text = text
-second_line (Some steps) text = text ++ ran_line steps
+-- the same by what ran: the line of the second run, or else that of the test
+abbrev pub last_line : Option ℕ → List ℕ → List ℕ → List ℕ
+last_line None text line = text ++ line
+last_line (Some steps) text line = text ++ ran_line steps
 
-abbrev pub ran_text : Ran → Start → List ℕ
-ran_text r start = second_line r.back (load_lines r.words r.links r.pairs r.image start ++ ran_line r.steps)
+abbrev pub ran_text : Ran → Start → (table digest : ℕ) → List ℕ
+ran_text r start table digest =
+    last_line r.back (load_lines r.words r.links r.pairs r.image start ++ ran_line r.steps) (purgatory_line (at r.memory) table digest)

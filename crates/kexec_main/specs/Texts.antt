@@ -1,6 +1,10 @@
 -- The texts that commands say (this project's own). Addresses and words are in lower-case hexadecimal without leading
 -- zeros, counts in decimal, and each line ends with a newline.
-use Rattle.std.specs.Prelude.{ℕ, ◌*◌, List, ◌++◌, codes, decimal, false}
+use Rattle.std.specs.Prelude.{ℕ, ◌*◌, ◌==◌, ◌&&◌, List, [], ◌++◌, codes, decimal, false, if◌then◌else◌}
+use Rattle.page_memory.specs.Memory.{Mem}
+use Rattle.purgatory_link.specs.declared.region_test.RegionTest.{RegionTest}
+use Rattle.purgatory_link.specs.declared.region_test.RegionTest.TheVariants as tests
+use Rattle.purgatory_link.specs.RegionTest.{test}
 use Rattle.std.specs.Fmt.{digits}
 use Rattle.kx_pages.specs.declared.image.Start.{Start}
 use Rattle.kx_pages.specs.declared.image.Image.{Image}
@@ -32,6 +36,16 @@ start_line s =
 -- a run, and how many steps it took
 abbrev pub ran_line : ℕ → List ℕ
 ran_line steps = codes "ran " ++ (decimal steps ++ codes "\n")
+
+-- what the test of the purgatory's regions found
+abbrev pub regions_line : RegionTest → List ℕ
+regions_line tests.Same = codes "regions same\n"
+regions_line (tests.Differs found wanted) = codes "regions differ\n"
+regions_line (tests.Wild region) = codes "regions wild\n"
+
+-- the line of that test after one run, where there is a purgatory: its region table and its digest have addresses
+abbrev pub purgatory_line : Mem → ℕ → ℕ → List ℕ
+purgatory_line N table digest = if (table == 0) && (digest == 0) then [] else regions_line (test N table digest)
 
 -- what a load says
 abbrev pub load_lines : ℕ → ℕ → ℕ → Image → Start → List ℕ

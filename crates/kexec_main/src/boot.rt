@@ -69,7 +69,7 @@ fn make_boot(alloc: Global, boot: BootInputs) -> Result<Goods<ListFault>, MakeFa
     let BootInputs { load, runs, out } = boot;
     let kernel = load_request(alloc, load, wish_of(runs))?;
     let ran = run_loaded(alloc, kernel.loaded, runs)?;
-    let text = ran_text(alloc, &ran, &kernel.start)?;
+    let text = ran_text(alloc, &ran, &kernel.start, kernel.regions, kernel.digest)?;
     let outputs = memory_output(alloc, ran.memory, out)?;
     Ok(Goods {
         outputs,

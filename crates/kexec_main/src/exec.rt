@@ -78,13 +78,15 @@ fn run_goods(
     accepted: Accepted,
     runs: Option<Runs>,
     start: &Start,
+    regions: u64,
+    digest: u64,
     out: String,
 ) -> Result<Goods<ListFault>, MakeFault<Reason>>
     requires { (s : LoadOf) × IsAcceptedAs s accepted × HasMode runs s.image.mode }
-    ensures { (s : LoadOf) → IsAcceptedAs s accepted → MakesOr (λ g. RunsList runs s start.now (string_bytes out) (goods_of g)) (RefusesRun runs s) result }
+    ensures { (s : LoadOf) → IsAcceptedAs s accepted → MakesOr (λ g. RunsList runs s start.now regions digest (string_bytes out) (goods_of g)) (RefusesRun runs s) result }
 {
     let ran = run_accepted(accepted, runs);
-    let text = ran_text(alloc, &ran, start)?;
+    let text = ran_text(alloc, &ran, start, regions, digest)?;
     let outputs = memory_output(alloc, ran.memory, out)?;
     Ok(Goods {
         outputs,
@@ -105,6 +107,8 @@ fn make_exec(alloc: Global, exec: ExecInputs) -> Result<Goods<ListFault>, MakeFa
     let LoadRecord {
         image,
         start,
+        regions,
+        digest,
         segments,
         ..
     } = load_record;
@@ -116,7 +120,7 @@ fn make_exec(alloc: Global, exec: ExecInputs) -> Result<Goods<ListFault>, MakeFa
     let runs = runs_of(twice, image.mode);
     let loaded = Loaded::from_parts(memory, Pool::empty(alloc), image, segments);
     match loaded.accept(alloc) {
-        Ok(accepted) => run_goods(alloc, accepted, runs, &start, out),
+        Ok(accepted) => run_goods(alloc, accepted, runs, &start, regions, digest, out),
         Err(refused) => fault_goods(alloc, refused.why),
     }
 }

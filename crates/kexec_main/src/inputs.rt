@@ -6,11 +6,11 @@ ghost use Rattle.file_commands.specs.Calls.{Takes, file_of};
 ghost use Rattle.kexec_words.specs.Limits.{HasParts};
 ghost use Rattle.kexec_words.specs.Values.{inputs_value};
 ghost use Rattle.kexec_plan.specs.Requests.{request_of};
-ghost use Rattle.kexec_main.specs.Inputs.{KernelFiles as KernelBytes, inputs_of, kernel_bytes, kernel_files, left_after, load_inputs, module_of, request_with, unserved};
+ghost use Rattle.kexec_main.specs.Inputs.{KernelFiles as KernelBytes, inputs_of, kernel_bytes, kernel_files, left_after, load_inputs, module_of, request_with};
 
 use crate::files::{take_map, take_memory, take_pool};
 use crate::load_inputs::LoadInputs;
-use crate::status::{NotBuilt, Reason};
+use crate::status::Reason;
 use file_commands::{File, TakeFault, take_all, take_file, take_optional};
 use kexec_plan::{Module, Request};
 use kexec_words::Inputs;
@@ -23,19 +23,6 @@ const KERNEL_LIMIT: usize = 268_435_456;
 
 /// The most bytes of a purgatory.
 const PURGATORY_LIMIT: usize = 16_777_216;
-
-/// What of a request is not served yet: the type that is told by the file alone, Multiboot, and a purgatory.
-fn unserved(image: ImageType, purgatory: &Option<String>) -> Option<NotBuilt>
-    ensures { result ≡ unserved image (option_map string_bytes purgatory.now) }
-{
-    match image {
-        ImageType::Auto | ImageType::Multiboot => Some(NotBuilt::Format),
-        ImageType::Raw { .. } | ImageType::Elf | ImageType::Bzimage => match purgatory {
-            Some(_) => Some(NotBuilt::Purgatory),
-            None => None,
-        },
-    }
-}
 
 /// The files of a kernel, as they were taken.
 #[derive(Drop)]
@@ -118,10 +105,11 @@ fn request_with(
         command,
         modules,
         purgatory: files.purgatory,
+        notes: Vec::new(alloc),
     })
 }
 
-/// Takes what `boot` and `load` take. What is not served yet is refused before any file is taken.
+/// Takes what `boot` and `load` take.
 pub(crate) fn take_inputs<S: Shelf>(
     alloc: Global,
     image: ImageType,
@@ -141,11 +129,6 @@ pub(crate) fn take_inputs<S: Shelf>(
         modules,
         command,
     } = inputs;
-    if let Some(what) = unserved(image, &purgatory) {
-        return Err(TakeFault::Refused {
-            why: Reason::NotBuilt { what },
-        });
-    }
     let memory = take_memory(alloc, memory, shelf)?;
     let pool = take_pool(alloc, pool, shelf)?;
     let map = take_map(alloc, map, shelf)?;

@@ -3,7 +3,6 @@
 ghost use Rattle.std.specs.Prelude.{◌≡◌, ℕ, false};
 ghost use Rattle.page_pool.specs.Pages.{is_filed};
 ghost use Rattle.kexec_plan.specs.Requests.{IsMapped, request_of};
-ghost use Rattle.kexec_plan.specs.Plan.{IsServed};
 
 use kexec_plan::Request;
 use memory_map::Map;
@@ -21,6 +20,4 @@ pub(crate) struct LoadInputs {
     pub(crate) ghost unfiled: { (q : ℕ) → is_filed pool q ≡ false },
     /// A memory map is there where the request needs one.
     pub(crate) ghost mapped: { IsMapped (request_of request) map },
-    /// The plan serves the request.
-    pub(crate) ghost served: { IsServed (request_of request) },
 }

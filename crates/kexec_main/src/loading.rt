@@ -9,7 +9,7 @@ ghost use Rattle.page_pool.specs.Pages.{is_filed};
 ghost use Rattle.segments.specs.Values.{need};
 ghost use Rattle.load_states.specs.Fillings.{FillsFrom, IsSealed};
 ghost use Rattle.file_commands.specs.Calls.{MakesOr};
-ghost use Rattle.kexec_plan.specs.Plan.{IsServed, plan};
+ghost use Rattle.kexec_plan.specs.Plan.{plan};
 ghost use Rattle.kexec_plan.specs.Requests.{IsMapped, lent, planned_of, request_of};
 ghost use Rattle.kexec_main.specs.Inputs.{inputs_of};
 ghost use Rattle.kexec_main.specs.Loading.{HasNoPlan, IsLoaded, IsTooFew, RefusesLoad, plan_of};
@@ -33,8 +33,7 @@ fn plan_request(
     request: Request,
     map: Option<&Map>,
 ) -> Result<Planned, MakeFault<Reason>>
-    requires mapped { IsMapped (request_of request) (lent map) }
-    requires served { IsServed (request_of request) }
+    requires { IsMapped (request_of request) (lent map) }
     ensures { MakesOr (λ p. plan (request_of request) (lent map.entry) ≡ Ok (planned_of p)) (HasNoPlan (request_of request) (lent map.entry)) result }
 {
     match plan(alloc, request, map) {

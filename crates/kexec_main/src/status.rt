@@ -34,10 +34,6 @@ pub enum InputFault {
 pub enum NotBuilt {
     #[error("this command is not served yet: boot, load, check, dump, exec and trace are")]
     Command,
-    #[error("this type is not served yet: give --type raw with --at, --type elf or --type bzimage")]
-    Format,
-    #[error("--purgatory is not served yet")]
-    Purgatory,
     #[error("crash records are not served yet")]
     Crash,
 }

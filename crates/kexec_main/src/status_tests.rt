@@ -7,7 +7,7 @@ use std::alloc::{AllocError, Global};
 use std::test::Fail;
 
 /// The words, the exit status and the status, of commands that are refused: nothing is written or said.
-const REFUSALS: [(&str, u8, &str); 32] = [
+const REFUSALS: [(&str, u8, &str); 31] = [
     ("", 2, "Usage { why: Command }"),
     ("reboot m p o k", 2, "Usage { why: Command }"),
     ("boot m p o", 2, "Usage { why: Parse }"),
@@ -57,12 +57,7 @@ const REFUSALS: [(&str, u8, &str); 32] = [
         64,
         "NotBuilt { what: Command }",
     ),
-    ("boot --map f none p o k", 64, "NotBuilt { what: Format }"),
-    (
-        "boot --map f --type raw --at 2000 --purgatory k none p o k",
-        64,
-        "NotBuilt { what: Purgatory }",
-    ),
+    ("boot --map f m p o k", 8, "Plan { fault: UnknownImage }"),
     ("check m crash", 64, "NotBuilt { what: Crash }"),
     (
         "boot --type raw --at 2000 none p o k",

@@ -3,10 +3,13 @@
 
 ghost use Rattle.std.specs.Prelude.{◌≡◌, ◌++◌, IfOk, OnOk, string_bytes};
 ghost use Rattle.kexec_main.specs.Runs.{ran_text};
-ghost use Rattle.kexec_main.specs.Texts.{accepted_line, head_line, start_line, ran_line, load_lines};
+ghost use Rattle.page_memory.specs.Contents.{at};
+ghost use Rattle.kexec_main.specs.Texts.{purgatory_line, regions_line, accepted_line, head_line, start_line, ran_line, load_lines};
 
 use crate::running::Ran;
 use kx_pages::{Image, Mode, Start};
+use page_memory::Memory;
+use purgatory_link::{RegionTest, test_regions};
 use std::alloc::{AllocError, Global};
 
 /// How many words the walk of an accepted list has, how many link pages, and how many pairs.
@@ -74,14 +77,49 @@ fn push_ran_line(alloc: Global, text: &mut String, steps: u64) -> Result<(), All
     Ok(())
 }
 
-/// What is said of a list that ran, and of each run: the one text of a command that runs a list.
-pub(crate) fn ran_text(alloc: Global, ran: &Ran, start: &Start) -> Result<String, AllocError>
-    ensures { IfOk result (λ s. string_bytes s ≡ ran_text ran.now start.now) }
+// What the test of the purgatory's regions found.
+fn regions_line(test: RegionTest) -> &'static str
+    ensures { result.now ≡ regions_line test }
+{
+    match test {
+        RegionTest::Same => "regions same\n",
+        RegionTest::Differs { .. } => "regions differ\n",
+        RegionTest::Wild { .. } => "regions wild\n",
+    }
+}
+
+// Adds the test of the purgatory's regions in this memory, where there is a purgatory.
+fn push_purgatory_line(
+    text: &mut String,
+    memory: &Memory,
+    regions: u64,
+    digest: u64,
+) -> Result<(), AllocError>
+    ensures { OnOk result (string_bytes text.new ≡ string_bytes text.old ++ purgatory_line (at memory.now) regions digest) }
+{
+    if regions == 0 && digest == 0 {
+        return Ok(());
+    }
+    text.push_str(regions_line(test_regions(memory, regions, digest)))?;
+    Ok(())
+}
+
+/// What is said of a list that ran, and of each run: the one text of a command that runs a list. `regions` and `digest`
+/// are the addresses of the purgatory's region table and of its digest, or 0.
+pub(crate) fn ran_text(
+    alloc: Global,
+    ran: &Ran,
+    start: &Start,
+    regions: u64,
+    digest: u64,
+) -> Result<String, AllocError>
+    ensures { IfOk result (λ s. string_bytes s ≡ ran_text ran.now start.now regions digest) }
 {
     let mut text = load_lines(alloc, ran.words, ran.links, ran.pairs, &ran.image, start)?;
     push_ran_line(alloc, &mut text, ran.steps)?;
-    if let Some(steps) = ran.back {
-        push_ran_line(alloc, &mut text, steps)?;
+    match ran.back {
+        Some(steps) => push_ran_line(alloc, &mut text, steps)?,
+        None => push_purgatory_line(&mut text, &ran.memory, regions, digest)?,
     }
     Ok(text)
 }

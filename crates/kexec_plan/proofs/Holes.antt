@@ -73,7 +73,7 @@ all_from : (f : ℕ → Bool) (n p : ℕ) → ((q : ℕ) → p ≤ q → q < p +
 all_from f zero p h = refl
 all_from f (suc n) p h =
     both_true (f p) (list_all f (range_with_len (p + 1) n)) (h p (omega arith) (omega arith))
-      (all_from f n (p + 1) (λ q a b. h q (omega (arith, a)) (omega (arith, b))))
+    (all_from f n (p + 1) (λ q a b. h q (omega (arith, a)) (omega (arith, b))))
 
 not_of : (b : Bool) → not b ≡ true → b ≡ false
 not_of false h = refl
@@ -91,7 +91,7 @@ Fits-from_fits ram taken r a h =
     let q = and_parts (nat_le r.min a) _ p.1 in
     let t = and_parts (nat_le (a + part_size r.length - 1) r.most) (are_free ram taken a (part_size r.length)) q.1 in
     let free : (x : ℕ) → a / 4096 ≤ x → x ≤ (a + part_size r.length - 1) / 4096 → is_free ram taken x ≡ true =
-        λ x from to. all_at (is_free ram taken) ((a + part_size r.length - 1) / 4096 + 1 - a / 4096) (a / 4096) x t.1 from (omega (arith, from, to)) in
+    λ x from to. all_at (is_free ram taken) ((a + part_size r.length - 1) / 4096 + 1 - a / 4096) (a / 4096) x t.1 from (omega (arith, from, to)) in
     record {
       aligned = grind (arith, nat_tests, p.0);
       above = grind (arith, nat_tests, q.0);
@@ -107,7 +107,7 @@ fits-from_Fits ram taken r a h =
     both_true (nat_le r.min a) _ (let e = h.above in grind (arith, nat_tests)) (
     both_true (nat_le (a + part_size r.length - 1) r.most) (are_free ram taken a (part_size r.length)) (let e = h.below in grind (arith, nat_tests)) (
     all_from (is_free ram taken) ((a + part_size r.length - 1) / 4096 + 1 - a / 4096) (a / 4096) (λ x from to.
-        both_true (ram x) (not (taken x)) (h.in_ram x from (omega (arith, from, to))) (of_not (taken x) (h.not_taken x from (omega (arith, from, to))))))))
+    both_true (ram x) (not (taken x)) (h.in_ram x from (omega (arith, from, to))) (of_not (taken x) (h.not_taken x from (omega (arith, from, to))))))))
 
 some_size : (n : ℕ) → 0 < part_size n
 some_size n = omega arith

@@ -6,6 +6,12 @@ use Rattle.bzimage.specs.declared.fault.BzFault.{BzFault}
 use Rattle.bzimage.specs.declared.fault.BzFault.TheVariants as bz
 use Rattle.boot_params.specs.declared.fault.ParamsFault.{ParamsFault}
 use Rattle.boot_params.specs.declared.fault.ParamsFault.TheVariants as params
+use Rattle.multiboot_image.specs.declared.fault.MbFault.{MbFault}
+use Rattle.multiboot_image.specs.declared.fault.MbFault.TheVariants as multiboot
+use Rattle.crash_headers.specs.declared.fault.CrashFault.{CrashFault}
+use Rattle.crash_headers.specs.declared.fault.CrashFault.TheVariants as crash
+use Rattle.purgatory_link.specs.declared.fault.LinkFault.{LinkFault}
+use Rattle.purgatory_link.specs.declared.fault.LinkFault.TheVariants as link
 use Rattle.kexec_plan.specs.declared.fault.PlanFault.{PlanFault}
 use Rattle.kexec_plan.specs.declared.fault.PlanFault.TheVariants as faults
 
@@ -25,3 +31,15 @@ of_bzimage e = faults.Bzimage e
 abbrev pub of_params : ParamsFault → PlanFault
 of_params params.Memory = faults.Memory
 of_params e = faults.Params e
+
+abbrev pub of_link : LinkFault → PlanFault
+of_link link.Memory = faults.Memory
+of_link e = faults.Link e
+
+abbrev pub of_multiboot : MbFault → PlanFault
+of_multiboot multiboot.Memory = faults.Memory
+of_multiboot e = faults.Multiboot e
+
+abbrev pub of_crash : CrashFault → PlanFault
+of_crash crash.Memory = faults.Memory
+of_crash e = faults.Crash e

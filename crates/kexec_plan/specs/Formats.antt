@@ -1,5 +1,12 @@
 -- The form of a kernel's file, and what a kernel of this form takes (this project's own).
-use Rattle.std.specs.Prelude.{ℕ, Bool, true, false, ◌&&◌, not, List, [], ◌∷◌, Option, Some, None, is_some, if◌then◌else◌, Result, Ok, Err}
+use Rattle.std.specs.Prelude.{ℕ, Bool, true, false, ◌&&◌, not, List, [], ◌∷◌, Option, Some, None, is_some, nat_eq, if◌then◌else◌, Result, Ok, Err}
+use Rattle.std.specs.List.{starts_with}
+use Rattle.bzimage.specs.Signature as signature
+use Rattle.elf_image.specs.FileHeader.{magic}
+use Rattle.multiboot_image.specs.declared.header.Header.{Header}
+use Rattle.multiboot_image.specs.declared.fault.MbFault.{MbFault}
+use Rattle.multiboot_image.specs.declared.fault.MbFault.TheVariants as multiboot
+use Rattle.multiboot_image.specs.Header.{header_found}
 use Rattle.memory_map.specs.Named.{Named, reserved_area}
 use Rattle.kx_pages.specs.Spans.{Run}
 use Rattle.segments.specs.declared.fault.Kind.{Kind}
@@ -15,13 +22,27 @@ use Rattle.kexec_plan.specs.declared.format.Format.TheVariants.{Raw, Elf, Bzimag
 use Rattle.kexec_plan.specs.Modules.{AskedModule}
 use Rattle.kexec_plan.specs.Requests.{Asked}
 
+-- the file has another thing than no Multiboot header
+abbrev pub has_header : Result Header MbFault → Bool
+has_header (Err multiboot.NoHeader) = false
+has_header (Ok h) = true
+has_header (Err e) = true
+
+-- the form that a file shows: a bzImage, a Multiboot kernel, or an ELF file
+unfoldable pub shown_format : List ℕ → Result Format PlanFault
+shown_format file =
+    if signature.is_bzimage file then Ok Bzimage
+    else if has_header (header_found file) then Ok Multiboot
+    else if starts_with nat_eq file magic then Ok Elf
+    else Err faults.UnknownImage
+
 -- the form of a file of the given type
 abbrev pub given_format : List ℕ → ImageType → Result Format PlanFault
 given_format file (types.Raw at entry) = Ok (Raw at entry)
 given_format file types.Elf = Ok Elf
 given_format file types.Bzimage = Ok Bzimage
 given_format file types.Multiboot = Ok Multiboot
-given_format file types.Auto = Err faults.UnknownImage
+given_format file types.Auto = shown_format file
 
 abbrev pub format_of : Asked → Result Format PlanFault
 format_of r = given_format r.kernel r.image

@@ -7,7 +7,9 @@ use Rattle.elf_image.specs.Loads.{exec_reading}
 use Rattle.elf_image.specs.Image.{image}
 use Rattle.kexec_plan.specs.declared.fault.PlanFault.{PlanFault}
 use Rattle.kexec_plan.specs.declared.fault.PlanFault.TheVariants as faults
-use Rattle.kexec_plan.specs.Faults.{told_by, of_elf}
+use Rattle.multiboot_image.specs.Header.{header_found}
+use Rattle.multiboot_image.specs.Parts as multiboot
+use Rattle.kexec_plan.specs.Faults.{told_by, of_elf, of_multiboot}
 
 -- the segments, and the address that the kernel is entered at
 pub record Kernel : Type 0 where
@@ -21,3 +23,10 @@ elf_kernel file = do
   _ ← unless (if exec.wide then None else Some (faults.Elf elf.Class))
   list ← told_by of_elf (image file exec.loads)
   Ok (record { list = list; entry = exec.entry })
+
+-- a Multiboot kernel
+unfoldable pub multiboot_kernel : List ℕ → Result Kernel PlanFault
+multiboot_kernel file = do
+  header ← told_by of_multiboot (header_found file)
+  loaded ← told_by of_multiboot (multiboot.parts header file)
+  Ok (record { list = loaded.list; entry = loaded.entry })

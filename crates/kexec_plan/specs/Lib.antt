@@ -8,5 +8,8 @@ pub mod Places
 pub mod Table
 pub mod Faults
 pub mod Kernels
+pub mod Purgatory
+pub mod Finish
 pub mod Linux
+pub mod Multiboot
 pub mod Plan

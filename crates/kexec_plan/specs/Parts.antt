@@ -2,6 +2,7 @@
 use Rattle.std.specs.Prelude.{ℕ, ◌+◌, ◌*◌, ◌/◌, List, length, max}
 use Rattle.kx_pages.specs.declared.image.Start.{Start}
 use Rattle.segments.specs.Values.{SegmentValue}
+use Rattle.kexec_plan.specs.declared.places.Site.{Site}
 
 -- so many bytes in whole pages
 abbrev pub whole_pages : ℕ → ℕ
@@ -18,3 +19,7 @@ raw_segment at bytes = record { bytes = bytes; mem = at; memsz = whole_pages (le
 -- a start at this address, all registers 0
 abbrev pub start_at : ℕ → Start
 start_at entry = record { entry = entry; rax = 0; rbx = 0; rsi = 0 }
+
+-- the segment of a part at its place
+abbrev pub segment_at : Site → List ℕ → SegmentValue
+segment_at s bytes = record { bytes = bytes; mem = s.at; memsz = s.size }

@@ -1,6 +1,8 @@
 -- Where the parts of a plan are placed (this project's own).
-use Rattle.std.specs.Prelude.{◌≡◌, ℕ, ◌+◌, ◌*◌, ◌/◌, ◌%◌, ◌^◌, ◌≤◌, ◌||◌, Bool, false, max, nat_le, if◌then◌else◌, List, [], ◌∷◌, Option, Some, None, Result, Ok, Err}
+use Rattle.std.specs.Prelude.{◌≡◌, ℕ, ◌+◌, ◌*◌, ◌/◌, ◌%◌, ◌^◌, ◌≤◌, ◌||◌, Bool, false, ◌&&◌, max, min, nat_lt, nat_le, if◌then◌else◌, List, [], ◌∷◌, Option, Some, None, Result, Ok, Err}
+use Rattle.std.specs.List.{list_any}
 use Rattle.kx_laws.specs.Results.{◌>>=◌}
+use Rattle.segments.specs.Values.{SegmentValue, stop}
 use Rattle.kx_pages.specs.Spans.{Run, in_span}
 use Rattle.memory_map.specs.Named.{Named, is_ram}
 use Rattle.segments.specs.declared.fault.Kind.{Kind}
@@ -33,6 +35,14 @@ placed ram taken r =
 -- no page
 abbrev pub nothing : ℕ → Bool
 nothing q = false
+
+-- the pages that a segment meets, below the limit, also where it does not begin at a page
+abbrev pub is_met : ℕ → SegmentValue → Bool
+is_met q s = nat_lt q (2 ^ 34) && nat_lt (max s.mem (4096 * q)) (min (stop s) (4096 * q + 4096))
+
+-- what is taken by segments
+unfoldable pub taken_by : List SegmentValue → ℕ → Bool
+taken_by ss q = list_any (is_met q) ss
 
 -- the pages of a place
 abbrev pub pages_at : Site → Run

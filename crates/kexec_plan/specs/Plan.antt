@@ -15,51 +15,99 @@ use Rattle.kexec_plan.specs.Requests.{Asked, Plan}
 use Rattle.kexec_plan.specs.Formats.{format_of, kind_of, unused_part}
 use Rattle.kexec_plan.specs.Parts.{raw_segment, start_at}
 use Rattle.bzimage.specs.Kernel.{Kernel, kernel_reading}
-use Rattle.kexec_plan.specs.declared.linux_sites.LinuxSites.{LinuxSites}
 use Rattle.kexec_plan.specs.Faults.{told_by, of_bzimage}
-use Rattle.kexec_plan.specs.Places.{searched}
-use Rattle.kexec_plan.specs.Kernels.{elf_kernel}
-use Rattle.kexec_plan.specs.Linux.{linux_sites, linux_parts, linux_start, rows_of}
-use Rattle.kexec_plan.specs.Rules.{tested}
+use Rattle.kexec_plan.specs.Modules.{LinuxAsked, MultibootAsked}
+use Rattle.kexec_plan.specs.Places.{searched, placed_some, taken_by}
+use Rattle.kexec_plan.specs.Purgatory.{PurgatoryValue, some_purgatory, purgatory_rule, purgatory_most}
+use Rattle.kexec_plan.specs.Finish.{finished}
+use Rattle.kexec_plan.specs.Kernels.{elf_kernel, multiboot_kernel}
+use Rattle.kexec_plan.specs.Kernels as kernels
+use Rattle.kexec_plan.specs.Table.{headers_rule, information_rule}
+use Rattle.kexec_plan.specs.Multiboot.{Laid, modules_onto, multiboot_parts, multiboot_start}
+use Rattle.kexec_plan.specs.Linux.{LinuxPlaces, headers_size, some_headers, command_of, back_sites, linux_sites, linux_parts, linux_start, rows_of}
 
--- the plan of these segments, without a purgatory
-unfoldable pub plain_plan : Option Named → Kind → List SegmentValue → Start → Result Plan PlanFault
-plain_plan map kind ss start = do
-  segments ← tested map kind ss
-  Ok (record { segments = segments; start = start; regions = 0; digest = 0 })
+-- the plan of a kernel whose segments are known: the purgatory is placed beside them
+unfoldable pub fixed_placed : (ℕ → Bool) → List SegmentValue → Start → Option PurgatoryValue → Option Named → Kind → Result Plan PlanFault
+fixed_placed ram ss start purgatory map kind = do
+  site ← placed_some ram (taken_by ss) (option_map (purgatory_rule (purgatory_most kind false)) purgatory)
+  finished map kind ss start purgatory site
+
+unfoldable pub fixed_plan : (ℕ → Bool) → List SegmentValue → Start → Option (List ℕ) → Option Named → Kind → Result Plan PlanFault
+fixed_plan ram ss start file map kind = do
+  purgatory ← some_purgatory file
+  fixed_placed ram ss start purgatory map kind
 
 -- the plan of a raw kernel
-abbrev pub raw_plan : Asked → Option Named → Kind → ℕ → ℕ → Result Plan PlanFault
-raw_plan r map kind at entry = plain_plan map kind (raw_segment at r.kernel ∷ []) (start_at entry)
+abbrev pub raw_plan : (ℕ → Bool) → Asked → Option Named → Kind → ℕ → ℕ → Result Plan PlanFault
+raw_plan ram r map kind at entry = fixed_plan ram (raw_segment at r.kernel ∷ []) (start_at entry) r.purgatory map kind
 
 -- the plan of an ELF executable
-unfoldable pub elf_plan : Asked → Option Named → Kind → Result Plan PlanFault
-elf_plan r map kind = do
-  kernel ← elf_kernel r.kernel
-  plain_plan map kind kernel.list (start_at kernel.entry)
+unfoldable pub elf_plan : (ℕ → Bool) → List ℕ → Option (List ℕ) → Option Named → Kind → Result Plan PlanFault
+elf_plan ram file purgatory map kind = do
+  kernel ← elf_kernel file
+  fixed_plan ram kernel.list (start_at kernel.entry) purgatory map kind
 
--- the plan of a bzImage: its parts are placed, and made
-unfoldable pub linux_made : Kernel → Asked → Option Named → Kind → LinuxSites → Result Plan PlanFault
-linux_made image r map kind sites = do
-  parts ← linux_parts image r (rows_of map kind) sites
-  plain_plan map kind parts (linux_start sites)
+-- the plan of a bzImage: it is read, the purgatory is read, the parts are placed, and made
+unfoldable pub linux_made : Kernel → LinuxAsked → Option PurgatoryValue → Option (List ℕ) → Option Named → Kind → LinuxPlaces → Result Plan PlanFault
+linux_made image r purgatory headers map kind sites = do
+  parts ← linux_parts image r headers (rows_of map kind) sites
+  finished map kind parts (linux_start sites) purgatory sites.later.back.purgatory
 
-unfoldable pub linux_placed : (ℕ → Bool) → Kernel → Asked → Option Named → Kind → Result Plan PlanFault
-linux_placed ram image r map kind = do
-  sites ← linux_sites ram image r None
-  linux_made image r map kind sites
+unfoldable pub linux_headed : Kernel → LinuxAsked → Option PurgatoryValue → Option Named → Kind → LinuxPlaces → Result Plan PlanFault
+linux_headed image r purgatory map kind sites = do
+  headers ← some_headers map kind r.notes
+  linux_made image r purgatory headers map kind sites
 
-unfoldable pub linux_plan : (ℕ → Bool) → Asked → Option Named → Kind → Result Plan PlanFault
-linux_plan ram r map kind = do
+unfoldable pub linux_placed : (ℕ → Bool) → Kernel → LinuxAsked → Option PurgatoryValue → Option Named → Kind → Result Plan PlanFault
+linux_placed ram image r purgatory map kind = do
+  sites ← linux_sites ram image r (option_map (headers_rule image) (headers_size map kind r.notes)) (option_map (purgatory_rule (purgatory_most kind image.above4g)) purgatory)
+  linux_headed image r purgatory map kind sites
+
+unfoldable pub linux_read : (ℕ → Bool) → Kernel → LinuxAsked → Option (List ℕ) → Option Named → Kind → Result Plan PlanFault
+linux_read ram image r file map kind = do
+  purgatory ← some_purgatory file
+  linux_placed ram image r purgatory map kind
+
+unfoldable pub linux_plan : (ℕ → Bool) → LinuxAsked → Option (List ℕ) → Option Named → Kind → Result Plan PlanFault
+linux_plan ram r file map kind = do
   image ← told_by of_bzimage (kernel_reading r.kernel)
-  linux_placed ram image r map kind
+  linux_read ram image r file map kind
+
+-- the plan of a Multiboot kernel: it is read, the purgatory is read, the modules are placed, then the information and the
+-- purgatory
+unfoldable pub multiboot_told : (ℕ → Bool) → Laid → ℕ → List ℕ → Option PurgatoryValue → Option Named → Kind → Result Plan PlanFault
+multiboot_told ram l entry command purgatory map kind = do
+  sites ← back_sites ram l.taken (information_rule (rows_of map kind) command l.slots) (option_map (purgatory_rule (purgatory_most kind false)) purgatory)
+  finished map kind (multiboot_parts l sites.parameters (rows_of map kind) command) (multiboot_start entry sites.parameters) purgatory sites.purgatory
+
+unfoldable pub multiboot_laid : (ℕ → Bool) → kernels.Kernel → MultibootAsked → Option PurgatoryValue → Option Named → Kind → Result Plan PlanFault
+multiboot_laid ram k r purgatory map kind = do
+  l ← modules_onto ram (record { taken = taken_by k.list; list = k.list; slots = [] }) r.modules
+  multiboot_told ram l k.entry (command_of r.command) purgatory map kind
+
+unfoldable pub multiboot_read : (ℕ → Bool) → kernels.Kernel → MultibootAsked → Option (List ℕ) → Option Named → Kind → Result Plan PlanFault
+multiboot_read ram k r file map kind = do
+  purgatory ← some_purgatory file
+  multiboot_laid ram k r purgatory map kind
+
+unfoldable pub multiboot_plan : (ℕ → Bool) → MultibootAsked → Option (List ℕ) → Option Named → Kind → Result Plan PlanFault
+multiboot_plan ram r file map kind = do
+  k ← multiboot_kernel r.kernel
+  multiboot_read ram k r file map kind
+
+abbrev pub multiboot_of : Asked → MultibootAsked
+multiboot_of r = record { kernel = r.kernel; command = r.command; modules = r.modules }
+
+-- what of a request is a bzImage's
+abbrev pub linux_of : Asked → LinuxAsked
+linux_of r = record { kernel = r.kernel; initrd = r.initrd; command = r.command; notes = r.notes }
 
 -- the plan of a kernel of this form
 abbrev pub plan_as : (ℕ → Bool) → Asked → Option Named → Kind → Format → Result Plan PlanFault
-plan_as ram r map kind (Raw at entry) = raw_plan r map kind at entry
-plan_as ram r map kind Elf = elf_plan r map kind
-plan_as ram r map kind Bzimage = linux_plan ram r map kind
-plan_as ram r map kind Multiboot = Err faults.UnknownImage
+plan_as ram r map kind (Raw at entry) = raw_plan ram r map kind at entry
+plan_as ram r map kind Elf = elf_plan ram r.kernel r.purgatory map kind
+plan_as ram r map kind Bzimage = linux_plan ram (linux_of r) r.purgatory map kind
+plan_as ram r map kind Multiboot = multiboot_plan ram (multiboot_of r) r.purgatory map kind
 
 -- the form of the kernel's file; whether it is loaded as a crash kernel; no part that it has no use for; its plan
 unfoldable pub plan : Asked → Option Named → Result Plan PlanFault
@@ -68,17 +116,3 @@ plan r map = do
   kind ← kind_of r map format
   _ ← unless (option_map faults.Unused (unused_part r format))
   plan_as (searched map kind) r map kind format
-
--- the types that are served
-abbrev pub is_served : ImageType → Bool
-is_served (types.Raw at entry) = true
-is_served types.Elf = true
-is_served types.Bzimage = true
-is_served types.Multiboot = false
-is_served types.Auto = false
-
--- the requests that are served: those of such a type, without a purgatory, for no crash kernel
-pub record IsServed (r : Asked) : Type 0 where
-  pub type : is_served r.image ≡ true
-  pub no_purgatory : is_some r.purgatory ≡ false
-  pub no_crash : r.crash ≡ false

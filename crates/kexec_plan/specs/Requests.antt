@@ -3,6 +3,7 @@ use Rattle.std.specs.Prelude.{◌≡◌, ℕ, Bool, true, false, ◌||◌, not, 
 use Rattle.std.specs.Borrow.{Bor}
 use Rattle.kx_pages.specs.declared.image.Start.{Start}
 use Rattle.segments.specs.Values.{SegmentValue}
+use Rattle.crash_headers.specs.declared.note.Note.{Note}
 use Rattle.memory_map.specs.Named.{Named}
 use Rattle.kx_pages.specs.declared.image.ImageType.{ImageType}
 use Rattle.kx_pages.specs.declared.image.ImageType.TheVariants as types
@@ -19,6 +20,7 @@ pub record Asked : Type 0 where
   pub command : Option (List ℕ)
   pub modules : List AskedModule
   pub purgatory : Option (List ℕ)
+  pub notes : List Note
 
 -- a plan: the segments, the start, and the addresses of the purgatory's table of regions and of its digest
 pub record Plan : Type 0 where
@@ -37,6 +39,7 @@ request_of r = record {
   command = option_map (λ v. v.items) r.command;
   modules = r.modules.items;
   purgatory = option_map (λ v. v.items) r.purgatory;
+  notes = r.notes.items;
 }
 
 abbrev pub planned_of : Planned → Plan

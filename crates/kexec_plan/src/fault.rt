@@ -1,13 +1,16 @@
 //! Why a request has no plan.
 
 ghost use Rattle.std.specs.Prelude.{◌≡◌};
-ghost use Rattle.kexec_plan.specs.Faults.{of_elf, of_bzimage, of_params};
+ghost use Rattle.kexec_plan.specs.Faults.{of_elf, of_multiboot, of_bzimage, of_params, of_crash, of_link};
 
 use boot_params::ParamsFault;
 use bzimage::BzFault;
+use crash_headers::CrashFault;
 use elf_image::ElfFault;
+use multiboot_image::MbFault;
+use purgatory_link::LinkFault;
 use segments::SegFault;
-use std::alloc::AllocError;
+use std::alloc::{AllocError, AllocFailed};
 use thiserror::Error;
 
 /// A part of a request, or one that the plan makes for the kernel.
@@ -54,12 +57,21 @@ pub enum PlanFault {
     /// The kernel or the purgatory is no ELF file that can be loaded.
     #[error("{fault}")]
     Elf { fault: ElfFault },
+    /// The kernel is no Multiboot kernel that can be loaded.
+    #[error("{fault}")]
+    Multiboot { fault: MbFault },
     /// The kernel is no bzImage that can be loaded.
     #[error("{fault}")]
     Bzimage { fault: BzFault },
     /// The boot parameters cannot be made.
     #[error("{fault}")]
     Params { fault: ParamsFault },
+    /// The purgatory cannot be linked, or has not the symbols of one.
+    #[error("the purgatory cannot be used: {fault}")]
+    Link { fault: LinkFault },
+    /// The crash headers cannot be made.
+    #[error("{fault}")]
+    Crash { fault: CrashFault },
     /// The segments are refused.
     #[error("the kernel cannot be placed: {fault}")]
     Segments { fault: SegFault },
@@ -85,6 +97,16 @@ impl PlanFault {
         }
     }
 
+    /// What a fault of a Multiboot kernel is here.
+    pub(crate) fn of_multiboot(fault: MbFault) -> PlanFault
+        ensures { result ≡ of_multiboot fault }
+    {
+        match fault {
+            MbFault::Memory => PlanFault::Memory,
+            _ => PlanFault::Multiboot { fault },
+        }
+    }
+
     /// What a fault of a bzImage is here.
     pub(crate) fn of_bzimage(fault: BzFault) -> PlanFault
         ensures { result ≡ of_bzimage fault }
@@ -92,6 +114,26 @@ impl PlanFault {
         match fault {
             BzFault::Memory => PlanFault::Memory,
             _ => PlanFault::Bzimage { fault },
+        }
+    }
+
+    /// What a fault of crash headers is here.
+    pub(crate) fn of_crash(fault: CrashFault) -> PlanFault
+        ensures { result ≡ of_crash fault }
+    {
+        match fault {
+            CrashFault::Memory => PlanFault::Memory,
+            _ => PlanFault::Crash { fault },
+        }
+    }
+
+    /// What a fault of a purgatory is here.
+    pub(crate) fn of_link(fault: LinkFault) -> PlanFault
+        ensures { result ≡ of_link fault }
+    {
+        match fault {
+            LinkFault::Memory => PlanFault::Memory,
+            _ => PlanFault::Link { fault },
         }
     }
 
@@ -112,6 +154,16 @@ impl From<AllocError> for PlanFault {
     ghost from_gives = { λ _ e. e ≡ Memory };
 
     fn from(_: AllocError) -> PlanFault {
+        PlanFault::Memory
+    }
+}
+
+impl<T: Drop> From<AllocFailed<T>> for PlanFault {
+    ghost use Rattle.kexec_plan.specs.declared.fault.PlanFault.TheVariants.{Memory};
+
+    ghost from_gives = { λ _ e. e ≡ Memory };
+
+    fn from(_: AllocFailed<T>) -> PlanFault {
         PlanFault::Memory
     }
 }

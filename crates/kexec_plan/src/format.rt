@@ -1,12 +1,18 @@
 //! The form of the kernel's file, and what a kernel of this form takes.
 
 ghost use Rattle.std.specs.Prelude.{◌≡◌};
+ghost use Rattle.multiboot_image.specs.Header.{header_found};
 ghost use Rattle.kexec_plan.specs.Requests.{request_of};
-ghost use Rattle.kexec_plan.specs.Formats.{format_of, unused_part};
+ghost use Rattle.kexec_plan.specs.Formats.{has_header, shown_format, format_of, unused_part};
 
 use crate::fault::{Part, PlanFault};
 use crate::request::Request;
+use bzimage::is_bzimage;
 use kx_pages::ImageType;
+use multiboot_image::{MbFault, find_header};
+
+/// The first bytes of an ELF file (ELFMAG).
+const ELF_MAGIC: &[u8; 4] = b"\x7fELF";
 
 /// The form of a kernel's file.
 #[derive(Clone, Copy, Debug, PartialEq, Eq)]
@@ -21,6 +27,29 @@ pub(crate) enum Format {
     Multiboot,
 }
 
+// Whether the file has a Multiboot header, also one that asks for what is not served.
+fn has_header(file: &[u8]) -> bool
+    ensures { result ≡ has_header (header_found file.now) }
+{
+    !matches!(find_header(file), Err(MbFault::NoHeader))
+}
+
+// The form that the file shows.
+#[tactic(auto, unfolding(crate::specs::Formats::shown_format))]
+fn shown_format(file: &[u8]) -> Result<Format, PlanFault>
+    ensures { result ≡ shown_format file.now }
+{
+    if is_bzimage(file) {
+        Ok(Format::Bzimage)
+    } else if has_header(file) {
+        Ok(Format::Multiboot)
+    } else if file.starts_with(ELF_MAGIC) {
+        Ok(Format::Elf)
+    } else {
+        Err(PlanFault::UnknownImage)
+    }
+}
+
 /// The form of the request's kernel: the one that is given, or the one that its file shows.
 pub(crate) fn format_of(request: &Request) -> Result<Format, PlanFault>
     ensures { result ≡ format_of (request_of request.now) }
@@ -30,7 +59,7 @@ pub(crate) fn format_of(request: &Request) -> Result<Format, PlanFault>
         ImageType::Elf => Ok(Format::Elf),
         ImageType::Bzimage => Ok(Format::Bzimage),
         ImageType::Multiboot => Ok(Format::Multiboot),
-        ImageType::Auto => Err(PlanFault::UnknownImage),
+        ImageType::Auto => shown_format(&request.kernel),
     }
 }
 

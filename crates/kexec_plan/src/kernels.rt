@@ -2,10 +2,11 @@
 
 ghost use Rattle.std.specs.Prelude.{◌≡◌};
 ghost use Rattle.kx_laws.specs.Results.{Gives};
-ghost use Rattle.kexec_plan.specs.Kernels.{elf_kernel};
+ghost use Rattle.kexec_plan.specs.Kernels.{elf_kernel, multiboot_kernel};
 
 use crate::fault::PlanFault;
 use elf_image::{ElfFault, image_pages, read_exec};
+use multiboot_image::{Parts, find_header, load_parts};
 use segments::Segment;
 use std::alloc::Global;
 use std::marker::Model;
@@ -47,5 +48,20 @@ pub(crate) fn read_elf(alloc: Global, file: &[u8]) -> Result<Kernel, PlanFault>
             entry: exec.entry,
         }),
         Err(fault) => Err(PlanFault::of_elf(fault)),
+    }
+}
+
+/// The Multiboot kernel of this file.
+#[tactic(auto, unfolding(crate::specs::Kernels::multiboot_kernel))]
+pub(crate) fn read_multiboot(alloc: Global, file: &[u8]) -> Result<Kernel, PlanFault>
+    ensures { Gives PlanFault.Memory (λ k. k) result (multiboot_kernel file.now) }
+{
+    let header = match find_header(file) {
+        Ok(header) => header,
+        Err(fault) => return Err(PlanFault::of_multiboot(fault)),
+    };
+    match load_parts(alloc, &header, file) {
+        Ok(Parts { list, entry }) => Ok(Kernel { list, entry }),
+        Err(fault) => Err(PlanFault::of_multiboot(fault)),
     }
 }

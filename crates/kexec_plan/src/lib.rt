@@ -5,16 +5,24 @@
 //! first refusal in this order is the answer. Places, ends and order are this project's own.
 #![tactic(auto)]
 
+mod crash;
 mod fault;
+mod finishing;
+mod fixed_plan;
 mod format;
 mod kernels;
 mod linux;
+mod linux_plan;
 mod linux_sites;
+mod modules;
+mod multiboot_plan;
 mod parts;
 mod places;
 mod planning;
+mod purgatory;
 mod request;
 mod rules;
+mod symbols;
 mod table;
 
 pub use fault::{Part, PlanFault};

@@ -1,22 +1,47 @@
-//! A bzImage with its initrd and its command.
+//! The segments of a bzImage with its initrd and its command.
 
 ghost use Rattle.std.specs.Prelude.{◌≡◌, ◌<◌, ◌≤◌, ◌^◌, ℕ, [], ◌∷◌, ◌++◌, length, drop, ◌+◌, option_map, IfOk, IfSome, OnOk};
 ghost use Rattle.kx_laws.specs.Results.{Gives};
 ghost use Rattle.kx_pages.specs.Spans.{in_spans};
 ghost use Rattle.bzimage.specs.Kernel.{IsSound};
-ghost use Rattle.kexec_plan.specs.Requests.{request_of, lent};
-ghost use Rattle.kexec_plan.specs.Linux.{command_of, linux_sites, linux_parts, linux_start, segment_at, segment_if, initrd_told, rows_of, AreLow};
+ghost use Rattle.kexec_plan.specs.Parts.{segment_at};
+ghost use Rattle.kexec_plan.specs.Requests.{lent};
+ghost use Rattle.kexec_plan.specs.Linux.{linux_parts, linux_start, segment_if, initrd_told, rows_of, AreLow};
 
 use crate::fault::PlanFault;
-use crate::linux_sites::{LinuxSites, command_of};
+use crate::linux_sites::LinuxSites;
+use crate::parts::segment_at;
 use crate::places::Site;
-use crate::request::Request;
 use boot_params::make;
 use bzimage::BzImage;
+use crash_headers::Note;
 use kx_pages::Start;
 use memory_map::{Map, Row};
 use segments::{Kind, Segment};
 use std::alloc::{AllocError, Global};
+use std::marker::Model;
+
+/// A bzImage, its initrd, its command, and the notes of the processors.
+#[derive(Drop)]
+pub(crate) struct LinuxRequest {
+    /// The kernel's file.
+    pub(crate) kernel: Vec<u8>,
+    /// The initrd, if there is one.
+    pub(crate) initrd: Option<Vec<u8>>,
+    /// The command, if there is one.
+    pub(crate) command: Option<Vec<u8>>,
+    /// Where the processors leave their notes, for a crash kernel.
+    pub(crate) notes: Vec<Note>,
+}
+
+impl Model for LinuxRequest {
+    ghost use Rattle.std.specs.Prelude.{option_map};
+    ghost use Rattle.kexec_plan.specs.Modules.{LinuxAsked};
+
+    ghost Value = { LinuxAsked };
+
+    ghost view = { λ r. record { kernel = r.kernel.items; initrd = option_map (λ v. v.items) r.initrd; command = option_map (λ v. v.items) r.command; notes = r.notes.items } };
+}
 
 // The bytes from number `n` on.
 fn cut_front(bytes: &mut Vec<u8>, n: usize)
@@ -24,17 +49,6 @@ fn cut_front(bytes: &mut Vec<u8>, n: usize)
     ensures { bytes.new.items ≡ drop n bytes.old.items }
 {
     bytes.drain(..n);
-}
-
-// The segment of a part at its place.
-fn segment_at(site: Site, bytes: Vec<u8>) -> Segment
-    ensures { result ≡ segment_at site bytes.items }
-{
-    Segment {
-        bytes,
-        mem: site.at,
-        memsz: site.size,
-    }
 }
 
 // Puts the segment of a part that may be left out behind the others.
@@ -78,14 +92,16 @@ fn segments_of(
     sites: &LinuxSites,
     kernel: Vec<u8>,
     initrd: Option<Vec<u8>>,
+    headers: Option<Vec<u8>>,
     parameters: Vec<u8>,
 ) -> Result<Vec<Segment>, AllocError>
-    ensures { IfOk result (λ v. v.items ≡ segment_at sites.now.front.kernel kernel.items ∷ segment_if sites.now.front.initrd (option_map (λ b. b.items) initrd) ++ segment_at sites.now.back.parameters parameters.items ∷ []) }
+    ensures { IfOk result (λ v. v.items ≡ segment_at sites.now.front.kernel kernel.items ∷ segment_if sites.now.front.initrd (option_map (λ b. b.items) initrd) ++ segment_if sites.now.later.headers (option_map (λ b. b.items) headers) ++ segment_at sites.now.later.back.parameters parameters.items ∷ []) }
 {
     let mut list = Vec::new(alloc);
     list.push(segment_at(sites.front.kernel, kernel))?;
     push_some(&mut list, sites.front.initrd, initrd)?;
-    list.push(segment_at(sites.back.parameters, parameters))?;
+    push_some(&mut list, sites.later.headers, headers)?;
+    list.push(segment_at(sites.later.back.parameters, parameters))?;
     Ok(list)
 }
 
@@ -94,28 +110,28 @@ fn segments_of(
 pub(crate) fn linux_parts(
     alloc: Global,
     image: &BzImage,
-    request: Request,
+    request: LinuxRequest,
+    headers: Option<Vec<u8>>,
     rows: &[Row],
     sites: &LinuxSites,
 ) -> Result<Vec<Segment>, PlanFault>
-    requires sound { IsSound (length request.kernel.items) image.now }
+    requires sound { IsSound (length request.kernel) image.now }
     requires low { AreLow sites.now }
-    ensures { Gives PlanFault.Memory (λ v. v.items) result (linux_parts image.now (request_of request) rows.now sites.now) }
+    ensures { Gives PlanFault.Memory (λ v. v.items) result (linux_parts image.now request (option_map (λ v. v.items) headers) rows.now sites.now) }
 {
-    let Request {
+    let LinuxRequest {
         mut kernel,
         initrd,
-        command,
         ..
     } = request;
     let told = initrd_told(sites.front.initrd, &initrd);
-    let parameters = match make(alloc, image, rows, command_of(&command), sites.back.parameters.at, told)
-    {
+    let at = sites.later.back.parameters.at;
+    let parameters = match make(alloc, image, rows, &sites.later.command, at, told) {
         Ok(parameters) => parameters,
         Err(fault) => return Err(PlanFault::of_params(fault)),
     };
     cut_front(&mut kernel, image.start);
-    let list = segments_of(alloc, sites, kernel, initrd, parameters)?;
+    let list = segments_of(alloc, sites, kernel, initrd, headers, parameters)?;
     Ok(list)
 }
 
@@ -128,7 +144,7 @@ pub(crate) fn linux_start(sites: &LinuxSites) -> Start
         entry: sites.front.kernel.at + ENTRY,
         rax: 0,
         rbx: 0,
-        rsi: sites.back.parameters.at,
+        rsi: sites.later.back.parameters.at,
     }
 }
 

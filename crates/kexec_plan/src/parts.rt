@@ -1,8 +1,9 @@
 //! The segments of kernels that say themselves where they lie.
 
 ghost use Rattle.std.specs.Prelude.{◌≡◌, ◌∷◌, [], IfOk};
-ghost use Rattle.kexec_plan.specs.Parts.{raw_segment, start_at};
+ghost use Rattle.kexec_plan.specs.Parts.{raw_segment, start_at, segment_at};
 
+use crate::places::Site;
 use kx_pages::{PAGE_SIZE, Start};
 use segments::Segment;
 use std::alloc::{AllocError, Global};
@@ -30,5 +31,16 @@ pub(crate) fn start_at(entry: u64) -> Start
         rax: 0,
         rbx: 0,
         rsi: 0,
+    }
+}
+
+/// The segment of a part at its place.
+pub(crate) fn segment_at(site: Site, bytes: Vec<u8>) -> Segment
+    ensures { result ≡ segment_at site bytes.items }
+{
+    Segment {
+        bytes,
+        mem: site.at,
+        memsz: site.size,
     }
 }

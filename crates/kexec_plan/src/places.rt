@@ -5,13 +5,13 @@ ghost use Rattle.kx_laws.specs.Results.{Gives};
 ghost use Rattle.kx_pages.specs.Spans.{in_span, in_spans};
 ghost use Rattle.kexec_plan.specs.Parts.{part_size};
 ghost use Rattle.kexec_plan.specs.Requests.{lent};
-ghost use Rattle.kexec_plan.specs.Places.{searched, nothing, placed, placed_some, taking, taking_some, pages_at, IsPlacedBy, IsPlacedIf};
+ghost use Rattle.kexec_plan.specs.Places.{searched, is_met, taken_by, nothing, placed, placed_some, taking, taking_some, pages_at, IsPlacedBy, IsPlacedIf};
 
 use crate::fault::{Part, PlanFault};
 use hole_search::{End, find};
-use kx_pages::{ADDRESS_LIMIT, PAGE_SIZE, PageSet, Span};
+use kx_pages::{ADDRESS_LIMIT, PAGE_LIMIT, PAGE_SIZE, PageSet, Span};
 use memory_map::Map;
-use segments::Kind;
+use segments::{Kind, Segment};
 use std::alloc::{AllocError, Global};
 
 /// Where a part lies: whole pages.
@@ -54,6 +54,31 @@ pub(crate) fn no_pages(alloc: Global) -> PageSet
     ensures { in_spans result ≡ nothing }
 {
     PageSet::new(alloc)
+}
+
+// The pages that a segment meets, below the limit.
+fn met_pages(segment: &Segment) -> Span
+    ensures { (q : ℕ) → in_span result q ≡ is_met q segment.now }
+{
+    let stop = u128::from(segment.mem) + u128::from(segment.memsz);
+    let first = (segment.mem / PAGE_SIZE).min(PAGE_LIMIT);
+    let end = ((stop + 4095) / 4096).min(u128::from(PAGE_LIMIT)) as u64;
+    if segment.memsz == 0 {
+        return Span::new(0, 0).unwrap();
+    }
+    Span::new(first, end - first).unwrap()
+}
+
+/// The pages that are taken by segments.
+#[tactic(auto, unfolding(crate::specs::Places::taken_by))]
+pub(crate) fn taken_by(alloc: Global, list: &[Segment]) -> Result<PageSet, AllocError>
+    ensures { IfOk result (λ s. in_spans s ≡ taken_by list.now) }
+{
+    let mut taken = PageSet::new(alloc);
+    for segment in list {
+        taken.add(met_pages(segment))?;
+    }
+    Ok(taken)
 }
 
 /// The area of a crash load, and else no page.
@@ -107,11 +132,7 @@ fn take(taken: &mut PageSet, site: Site) -> Result<(), AllocError>
 }
 
 /// The place of a part by its rule, in RAM that is not taken. It is taken then.
-pub(crate) fn place(
-    ram: &PageSet,
-    taken: &mut PageSet,
-    rule: PlaceRule,
-) -> Result<Site, PlanFault>
+pub(crate) fn place(ram: &PageSet, taken: &mut PageSet, rule: PlaceRule) -> Result<Site, PlanFault>
     requires some_align { 0 < rule.align }
     requires align { rule.align ≤ 2 ^ 45 }
     ensures exact { Gives PlanFault.Memory (λ s. s) result (placed (in_spans ram.now) (in_spans taken.old) rule) }

@@ -1,5 +1,6 @@
 //! What is to be loaded, and the plan of it.
 
+use crash_headers::Note;
 use kx_pages::{ImageType, Start};
 use segments::Segments;
 use std::marker::Model;
@@ -38,6 +39,8 @@ pub struct Request {
     pub modules: Vec<Module>,
     /// The purgatory's file: a relocatable object that runs before the new kernel.
     pub purgatory: Option<Vec<u8>>,
+    /// Where the processors of this kernel leave their notes, for a crash kernel.
+    pub notes: Vec<Note>,
 }
 
 /// The segments of a load, and how the new kernel starts.

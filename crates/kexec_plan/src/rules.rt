@@ -1,6 +1,6 @@
 //! The segments are tested.
 
-ghost use Rattle.std.specs.Prelude.{◌≡◌};
+ghost use Rattle.std.specs.Prelude.{◌≡◌, IfOk};
 ghost use Rattle.kx_laws.specs.Results.{Gives};
 ghost use Rattle.segments.specs.Rules.{Answers};
 ghost use Rattle.kexec_plan.specs.Requests.{lent};
@@ -39,7 +39,8 @@ pub(crate) fn tested(
     kind: &Kind,
     list: Vec<Segment>,
 ) -> Result<Segments, PlanFault>
-    ensures { Gives PlanFault.Memory (λ s. s) result (tested (lent map.entry) kind.now list.items) }
+    ensures same { IfOk result (λ s. s ≡ list.items) }
+    ensures exact { Gives PlanFault.Memory (λ s. s) result (tested (lent map.entry) kind.now list.items) }
 {
     match test_all(alloc, map, kind, list) {
         Ok(segments) => Ok(segments),

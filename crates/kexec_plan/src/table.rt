@@ -2,13 +2,16 @@
 
 ghost use Rattle.std.specs.Prelude.{◌≡◌, ◌<◌, ◌≤◌, ◌^◌, length};
 ghost use Rattle.bzimage.specs.Kernel.{IsSound};
-ghost use Rattle.kexec_plan.specs.Table.{last_address, highest, kernel_rule, initrd_rule, parameters_rule};
+ghost use Rattle.kexec_plan.specs.Table.{last_address, highest, kernel_rule, initrd_rule, headers_rule, parameters_rule, module_rule, information_rule};
 
 use crate::fault::Part;
 use crate::places::PlaceRule;
+use crate::request::Module;
 use bzimage::BzImage;
 use hole_search::End;
 use kx_pages::{ADDRESS_LIMIT, PAGE_SIZE};
+use memory_map::Row;
+use multiboot_image::{Placed, info_length};
 
 /// The least address of a bzImage: 1 MiB.
 const KERNEL_MIN: u64 = 0x10_0000;
@@ -17,7 +20,7 @@ const KERNEL_MIN: u64 = 0x10_0000;
 const LIMIT_OF_32_BITS: u64 = 1 << 32;
 
 /// The last address below 4 GiB, or where a kernel may lie above it the last below the limit of addresses.
-fn last_address(above4g: bool) -> u64
+pub(crate) fn last_address(above4g: bool) -> u64
     ensures { result ≡ last_address above4g }
 {
     if above4g {
@@ -28,7 +31,7 @@ fn last_address(above4g: bool) -> u64
 }
 
 /// A part of so many bytes, as high as it can lie.
-fn highest(part: Part, length: u64, most: u64) -> PlaceRule
+pub(crate) fn highest(part: Part, length: u64, most: u64) -> PlaceRule
     ensures { result ≡ highest part length most }
 {
     PlaceRule {
@@ -68,6 +71,13 @@ pub(crate) fn initrd_rule(image: &BzImage, initrd: &[u8]) -> PlaceRule
     highest(Part::Initrd, initrd.len() as u64, most)
 }
 
+/// The crash headers of a bzImage, of so many bytes.
+pub(crate) fn headers_rule(image: &BzImage, length: u64) -> PlaceRule
+    ensures { result ≡ headers_rule image.now length }
+{
+    highest(Part::Headers, length, last_address(image.above4g))
+}
+
 /// The boot parameters of a bzImage.
 pub(crate) fn parameters_rule(image: &BzImage, command: &[u8]) -> PlaceRule
     requires { length command.now < 2 ^ 63 }
@@ -75,4 +85,20 @@ pub(crate) fn parameters_rule(image: &BzImage, command: &[u8]) -> PlaceRule
 {
     let length = PAGE_SIZE + command.len() as u64 + 1;
     highest(Part::Parameters, length, last_address(image.above4g))
+}
+
+/// A module of a Multiboot kernel.
+pub(crate) fn module_rule(asked: &Module) -> PlaceRule
+    ensures { result ≡ module_rule asked.now }
+{
+    let most = LIMIT_OF_32_BITS - 1 - PAGE_SIZE;
+    highest(Part::Module, asked.bytes.len() as u64, most)
+}
+
+/// The information of a Multiboot kernel.
+pub(crate) fn information_rule(rows: &[Row], command: &[u8], modules: &[Placed]) -> PlaceRule
+    ensures { result ≡ information_rule rows.now command.now modules.now }
+{
+    let length = info_length(rows.len(), command.len(), modules);
+    highest(Part::Information, length, last_address(false))
 }

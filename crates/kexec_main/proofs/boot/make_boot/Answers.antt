@@ -39,7 +39,7 @@ returns c =
       plan_of kernel,
       k,
       (l, r.3),
-      c.in_ok-text.ensures ∙ text_of x.runs k c.in_ok-ran.ran kernel.start r.4,
+      c.in_ok-text.ensures ∙ text_of x.runs k c.in_ok-ran.ran kernel.start kernel.regions kernel.digest r.4,
       refl,
       output_as (at c.in_ok-ran.ran.memory) (after_runs x.runs k) _ x.out r.4.memory c.in_ok-outputs.ensures,
     )

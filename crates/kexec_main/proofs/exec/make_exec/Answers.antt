@@ -20,4 +20,4 @@ returns-in-Ok c =
     let a = subst (λ s. IsAcceptedAs s c.in-Ok.accepted) c.from_parts-loaded.ensures c.in-Ok.ensures.accepted in
     let start = x.files.load_record.start in
     executed x c.empty.result _ (sym c.lacks_swap_page.ensures ∙ c.if-lacks_swap_page.false)
-    (subst (λ runs. MakesOr (λ g. RunsList runs s start x.out (goods_of g)) (RefusesRun runs s) c.run_goods.result) c.runs_of-runs.ensures (c.run_goods.ensures s a))
+    (subst (λ runs. MakesOr (λ g. RunsList runs s start x.files.load_record.regions x.files.load_record.digest x.out (goods_of g)) (RefusesRun runs s) c.run_goods.result) c.runs_of-runs.ensures (c.run_goods.ensures s a))

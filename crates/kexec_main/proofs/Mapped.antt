@@ -1,43 +1,18 @@
--- What is not served is refused before any file is taken; what is served is what the plan takes.
+-- A memory map is named where the plan needs one.
 use Rattle.std.proofs.Common.{◌≡◌, ◌∙◌, Bool, true, false, List, ℕ, Option, Some, None, Ok, Err, ap, refl, sym}
 use Rattle.std.specs.Prelude.{is_some, not, option_map, ◌||◌}
 use Rattle.kx_laws.proofs.Booleans.{or_false, or_true}
-use Rattle.kx_laws.specs.Results.{unless}
 use Rattle.kx_pages.specs.declared.image.ImageType.{ImageType}
 use Rattle.kx_pages.specs.declared.image.ImageType.TheVariants as types
 use Rattle.memory_map.specs.Named.{Named}
 use Rattle.kexec_words.specs.Limits.{HasParts}
 use Rattle.kexec_words.specs.Meaning.{needs_map}
 use Rattle.kexec_words.specs.Values.{InputsValue}
-use Rattle.kexec_plan.specs.Plan.{IsServed, is_served}
 use Rattle.kexec_plan.specs.Requests.{Asked, IsMapped, is_raw}
-use Rattle.kexec_main.specs.Inputs.{unserved}
 
 pub is_some_map : {A B : Type 0} (f : A → B) (o : Option A) → is_some (option_map f o) ≡ is_some o
 is_some_map f None = refl
 is_some_map f (Some x) = refl
-
-pub unless_none : {F : Type 0} (o : Option F) → o ≡ None → unless o ≡ Ok tt
-unless_none o e = ap unless e
-
-pub unless_some : {F : Type 0} (o : Option F) (f : F) → o ≡ Some f → unless o ≡ Err f
-unless_some o f e = ap unless e
-
--- what is served is what the plan serves
-pub served : (image : ImageType) (purgatory : Option (List ℕ)) → unserved image purgatory ≡ None → (is_served image ≡ true) × (is_some purgatory ≡ false)
-served (types.Raw address entry) None e = (refl, refl)
-served (types.Raw address entry) (Some p) e = absurd cc
-served types.Elf None e = (refl, refl)
-served types.Elf (Some p) e = absurd cc
-served types.Bzimage None e = (refl, refl)
-served types.Bzimage (Some p) e = absurd cc
-served types.Auto p e = absurd cc
-served types.Multiboot p e = absurd cc
-
-pub request_served : (r : Asked) (image : ImageType) (purgatory : Option (List ℕ)) → r.crash ≡ false → r.image ≡ image → is_some r.purgatory ≡ is_some purgatory → unserved image purgatory ≡ None → IsServed r
-request_served r image purgatory crash type same e =
-    let k = served image purgatory e in
-    record { type = ap is_served type ∙ k.0; no_purgatory = same ∙ k.1; no_crash = crash }
 
 -- a memory map is named where the plan needs one
 needs_same : (image : ImageType) (i : InputsValue) → (false || (is_some i.purgatory || not (is_raw image))) ≡ needs_map image i

@@ -1,0 +1,34 @@
+use Rattle.std.proofs.Common.{rules, ◌≡◌, ◌∙◌, ◌∷◌, [], sym, inl, inr, ⊎_elim}
+use Rattle.std.proofs.lemmas.List.{nil_from_length}
+use Rattle.std.specs.Vec.Iter.{into_iter_items}
+use Rattle.kexec_plan.proofs.Laying.{onto_next, onto_fails, onto_end}
+use Rattle.kexec_plan.proofs.modules.place_modules.Goals as goal
+
+pub loop-asked-preserved : goal.loop-asked-preserved
+loop-asked-preserved c =
+    let items : into_iter_items c.loop-asked.asked-iterator ≡ c.in-Some.asked ∷ into_iter_items c.next.new.self = search rules in
+    let l = rw items at c.loop-asked.invariant.rest in
+    record {
+      can = tt;
+      finite = tt;
+      rest = sym (onto_next _ _ _ _ _ c.in-Ok.ensures.exact) ∙ l;
+      low = λ h. c.in-Ok.ensures.low (c.loop-asked.invariant.low h);
+    }
+
+pub returns-in-Err : goal.returns-in-Err
+returns-in-Err c =
+    let items : into_iter_items c.loop-asked.asked-iterator ≡ c.in-Some.asked ∷ into_iter_items c.next.new.self = search rules in
+    let l = rw items at c.loop-asked.invariant.rest in
+    record {
+      exact = ⊎_elim (λ e. inl (sym l ∙ onto_fails _ _ _ _ _ e)) (λ m. inr m) c.in-Err.ensures.exact;
+      low = tt;
+    }
+
+pub returns : goal.returns
+returns c =
+    let none : into_iter_items c.loop-asked.asked-iterator ≡ [] = nil_from_length c.loop-asked.asked-iterator.rest.items (search rules) in
+    let l = rw none at c.loop-asked.invariant.rest in
+    record {
+      exact = sym l ∙ onto_end _ _;
+      low = c.loop-asked.invariant.low;
+    }

@@ -1,0 +1,51 @@
+-- The end of every plan: the purgatory is linked, the segments are tested, and the purgatory gets what it is to find (this
+-- project's own).
+use Rattle.std.specs.Prelude.{ℕ, ◌++◌, List, [], ◌∷◌, length, Option, Some, None, Result, Ok, Err}
+use Rattle.kx_laws.specs.Results.{◌>>=◌}
+use Rattle.kx_pages.specs.declared.image.Start.{Start}
+use Rattle.segments.specs.Values.{SegmentValue}
+use Rattle.segments.specs.declared.fault.Kind.{Kind}
+use Rattle.memory_map.specs.Named.{Named}
+use Rattle.purgatory_link.specs.Regions.{others, digest, region_table}
+use Rattle.kexec_plan.specs.declared.fault.PlanFault.{PlanFault}
+use Rattle.kexec_plan.specs.declared.places.Site.{Site}
+use Rattle.kexec_plan.specs.Requests.{Plan}
+use Rattle.kexec_plan.specs.Parts.{segment_at, start_at}
+use Rattle.kexec_plan.specs.Rules.{tested}
+use Rattle.kexec_plan.specs.Purgatory.{PurgatoryValue, Linkage, linked_at, armed}
+
+-- the plan of these segments, without a purgatory
+unfoldable pub plain_plan : Option Named → Kind → List SegmentValue → Start → Result Plan PlanFault
+plain_plan map kind ss start = do
+  segments ← tested map kind ss
+  Ok (record { segments = segments; start = start; regions = 0; digest = 0 })
+
+-- the purgatory's segment, the last one, with the registers for this start, with the table of the regions of all others
+-- and with their digest
+abbrev pub armed_segment : Linkage → Start → List SegmentValue → Site → SegmentValue
+armed_segment l start ss s =
+    segment_at s (armed l start
+    (region_table (others (ss ++ segment_at s l.bytes ∷ []) (length ss)))
+    (digest (ss ++ segment_at s l.bytes ∷ []) (length ss)))
+
+-- the plan of these segments and of a linked purgatory behind them, which starts first
+unfoldable pub armed_plan : Option Named → Kind → List SegmentValue → Start → Linkage → Site → Result Plan PlanFault
+armed_plan map kind ss start l s = do
+  _ ← tested map kind (ss ++ segment_at s l.bytes ∷ [])
+  Ok (record {
+    segments = ss ++ armed_segment l start ss s ∷ [];
+    start = start_at l.symbols.start;
+    regions = l.symbols.regions;
+    digest = l.symbols.digest;
+  })
+
+unfoldable pub linked_plan : Option Named → Kind → List SegmentValue → Start → PurgatoryValue → Site → Result Plan PlanFault
+linked_plan map kind ss start p s = do
+  l ← linked_at p s
+  armed_plan map kind ss start l s
+
+-- the plan of these segments, and of the purgatory at its place
+abbrev pub finished : Option Named → Kind → List SegmentValue → Start → Option PurgatoryValue → Option Site → Result Plan PlanFault
+finished map kind ss start (Some p) (Some s) = linked_plan map kind ss start p s
+finished map kind ss start (Some p) None = plain_plan map kind ss start
+finished map kind ss start None s = plain_plan map kind ss start

@@ -1,0 +1,131 @@
+-- The purgatory: code that runs between the old kernel and the new one. It finds the registers of the new kernel, the
+-- regions that it tests and their digest in three symbols, and starts at a fourth (the names are those of kexec-tools'
+-- purgatory; sizes and the order of the registers are this project's own).
+use Rattle.std.specs.Prelude.{◌≡◌, ℕ, ◌+◌, ◌-◌, ◌%◌, ◌^◌, ◌<◌, ◌≤◌, ◌==◌, not, Bool, List, [], ◌∷◌, length, codes, refl, if◌then◌else◌, Option, Some, None, Result, Ok, Err}
+use Rattle.kx_laws.specs.Results.{◌>>=◌}
+use Rattle.kx_fields.specs.Fields.{zeros, with_bytes}
+use Rattle.kx_fields.specs.Formats.{Format, written}
+use Rattle.kx_pages.specs.declared.image.Start.{Start}
+use Rattle.segments.specs.declared.fault.Kind.{Kind}
+use Rattle.segments.specs.declared.fault.Kind.TheVariants.{Normal, Crash}
+use Rattle.elf_image.specs.Object.{Relocatable, object_reading, IsObject}
+use Rattle.purgatory_link.specs.declared.fault.LinkFault.{LinkFault}
+use Rattle.purgatory_link.specs.declared.fault.LinkFault.TheVariants as link
+use Rattle.purgatory_link.specs.Layout.{linked_size}
+use Rattle.purgatory_link.specs.Link.{linking}
+use Rattle.purgatory_link.specs.Sym.{Image}
+use Rattle.purgatory_link.specs.Set.{symbol_of, is_inside}
+use Rattle.kexec_plan.specs.declared.fault.Part.TheVariants as parts
+use Rattle.kexec_plan.specs.declared.fault.PlanFault.{PlanFault}
+use Rattle.kexec_plan.specs.declared.places.Site.{Site}
+use Rattle.kexec_plan.specs.declared.places.PlaceRule.{PlaceRule}
+use Rattle.kexec_plan.specs.declared.symbols.Symbols.{Symbols}
+use Rattle.kexec_plan.specs.Faults.{told_by, of_elf, of_link}
+use Rattle.kexec_plan.specs.Table.{highest, last_address}
+
+-- a purgatory that was read: the object, its file, and how many bytes it is linked to
+pub record PurgatoryValue : Type 0 where
+  pub object : Relocatable
+  pub file : List ℕ
+  pub size : ℕ
+
+-- what is so of each
+pub record IsPurgatory (p : PurgatoryValue) : Type 0 where
+  pub object : IsObject p.object p.file
+  pub size : linked_size p.object.sections ≡ Ok p.size
+  pub some : 4096 ≤ p.size
+  pub most : p.size ≤ 16777216
+  pub whole : p.size % 4096 ≡ 0
+
+unfoldable pub purgatory_read : List ℕ → Result PurgatoryValue PlanFault
+purgatory_read file = do
+  object ← told_by of_elf (object_reading file)
+  size ← told_by of_link (linked_size object.sections)
+  Ok (record { object = object; file = file; size = size })
+
+unfoldable pub some_purgatory : Option (List ℕ) → Result (Option PurgatoryValue) PlanFault
+some_purgatory None = Ok None
+some_purgatory (Some file) = do
+  p ← purgatory_read file
+  Ok (Some p)
+
+-- it lies below 2 GiB, where code of the small code model can lie; in a crash load where the kernel may lie, a page below
+-- the limit of addresses
+abbrev pub purgatory_most : Kind → Bool → ℕ
+purgatory_most Normal above4g = 2 ^ 31 - 1
+purgatory_most (Crash area) above4g = if above4g then 2 ^ 46 - 4097 else 2 ^ 32 - 1
+
+abbrev pub purgatory_rule : ℕ → PurgatoryValue → PlaceRule
+purgatory_rule most p = highest parts.Purgatory p.size most
+
+-- a purgatory at its place
+abbrev pub IsLinkable : Option PurgatoryValue → Option Site → Type 0
+IsLinkable (Some p) (Some s) = (s.at % 4096 ≡ 0) × (s.at + p.size < 2 ^ 46)
+IsLinkable (Some p) None = Unit {0}
+IsLinkable None s = Unit {0}
+
+-- the address of a symbol of n bytes that lie in the linked bytes
+abbrev pub place_by : Image → ℕ → Option (ℕ × ℕ) → Result ℕ LinkFault
+place_by l n None = Err link.NoSymbol
+place_by l n (Some s) =
+    if not (n == s.1) then Err (link.WrongSize s.1)
+    else if not (is_inside l s.0 s.1) then Err (link.WrongSize s.1)
+    else Ok s.0
+
+unfoldable pub symbol_place : Image → List ℕ → ℕ → Result ℕ LinkFault
+symbol_place l name n = place_by l n (symbol_of l.names name)
+
+-- the address of a symbol of any size
+abbrev pub address_by : Option (ℕ × ℕ) → Result ℕ LinkFault
+address_by None = Err link.NoSymbol
+address_by (Some s) = Ok s.0
+
+unfoldable pub symbol_address : Image → List ℕ → Result ℕ LinkFault
+symbol_address l name = address_by (symbol_of l.names name)
+
+-- the symbols of a purgatory: the registers, the table of regions, the digest, and the start
+unfoldable pub symbols_of : Image → Result Symbols LinkFault
+symbols_of l = do
+  regs ← symbol_place l (codes "entry64_regs") 136
+  regions ← symbol_place l (codes "purgatory_sha_regions") 256
+  digest ← symbol_place l (codes "purgatory_sha256_digest") 32
+  start ← symbol_address l (codes "purgatory_start")
+  Ok (record { regs = regs; regions = regions; digest = digest; start = start })
+
+-- a linked purgatory
+pub record Linkage : Type 0 where
+  pub base : ℕ
+  pub bytes : List ℕ
+  pub symbols : Symbols
+
+unfoldable pub linked_at : PurgatoryValue → Site → Result Linkage PlanFault
+linked_at p s = do
+  image ← told_by of_link (linking s.at p.object p.file)
+  symbols ← told_by of_link (symbols_of image)
+  Ok (record { base = image.base; bytes = image.bytes; symbols = symbols })
+
+-- the registers of the new kernel: rax, rcx, rdx, rbx, rsp, rbp, rsi, rdi, r8 to r15 and rip, 8 bytes each
+abbrev pub registers : Format Start
+registers = record {
+  layout = λ at. record { rax = at 0 8; rbx = at 24 8; rsi = at 48 8; entry = at 128 8 };
+  numbers = λ s. s.rax ∷ s.rbx ∷ s.rsi ∷ s.entry ∷ [];
+}
+
+unfoldable pub registers_text : Start → List ℕ
+registers_text s = written registers s (zeros 136)
+
+-- the bytes with these registers, this table of regions and this digest in place of the symbols, in this order
+unfoldable pub armed : Linkage → Start → List ℕ → List ℕ → List ℕ
+armed l start table digest =
+    with_bytes (l.symbols.digest - l.base) digest (
+    with_bytes (l.symbols.regions - l.base) table (
+    with_bytes (l.symbols.regs - l.base) (registers_text start) l.bytes))
+
+-- the three symbols lie in the linked bytes
+pub record HasSymbols (base n : ℕ) (s : Symbols) : Type 0 where
+  pub regs_from : base ≤ s.regs
+  pub regs_to : s.regs + 136 ≤ base + n
+  pub regions_from : base ≤ s.regions
+  pub regions_to : s.regions + 256 ≤ base + n
+  pub digest_from : base ≤ s.digest
+  pub digest_to : s.digest + 32 ≤ base + n

@@ -1,0 +1,169 @@
+//! The end of every plan: the purgatory is linked, the segments are tested, and the purgatory gets what it is to find.
+
+ghost use Rattle.std.specs.Prelude.{◌≡◌, ◌++◌, ◌∷◌, [], ◌<◌, length, List, Some, IfOk, OnOk};
+ghost use Rattle.std.specs.List.{slice_set, slice_get};
+ghost use Rattle.kx_laws.specs.Results.{Gives};
+ghost use Rattle.segments.specs.Values.{SegmentValue};
+ghost use Rattle.purgatory_link.specs.Regions.{others, digest, region_table};
+ghost use Rattle.kexec_plan.specs.Requests.{planned_of, lent};
+ghost use Rattle.kexec_plan.specs.Parts.{segment_at};
+ghost use Rattle.kexec_plan.specs.Rules.{tested};
+ghost use Rattle.kexec_plan.specs.Purgatory.{IsLinkable, HasSymbols, armed};
+ghost use Rattle.kexec_plan.specs.Finish.{plain_plan, armed_segment, armed_plan, linked_plan, finished};
+
+use crate::fault::PlanFault;
+use crate::parts::{segment_at, start_at};
+use crate::places::Site;
+use crate::purgatory::{Linkage, Purgatory, arm};
+use crate::request::Planned;
+use crate::rules::tested;
+use crate::symbols::Symbols;
+use kx_pages::Start;
+use memory_map::Map;
+use purgatory_link::{digest_of, regions_of};
+use segments::{Kind, Segment, Segments};
+use std::alloc::{AllocError, Global};
+
+// The plan of these segments, without a purgatory.
+#[tactic(auto, unfolding(crate::specs::Finish::plain_plan))]
+fn plain_plan(
+    alloc: Global,
+    map: Option<&Map>,
+    kind: &Kind,
+    list: Vec<Segment>,
+    start: Start,
+) -> Result<Planned, PlanFault>
+    ensures { Gives PlanFault.Memory planned_of result (plain_plan (lent map.entry) kind.now list.items start) }
+{
+    match tested(alloc, map, kind, list) {
+        Ok(segments) => Ok(Planned {
+            segments,
+            start,
+            regions: 0,
+            digest: 0,
+        }),
+        Err(fault) => Err(fault),
+    }
+}
+
+// The bytes of the purgatory, segment number `purgatory`, with what it is to find.
+fn armed_bytes(
+    alloc: Global,
+    segments: &Segments,
+    purgatory: usize,
+    base: u64,
+    symbols: Symbols,
+    start: Start,
+) -> Result<Vec<u8>, AllocError>
+    requires inside { purgatory < length segments.now }
+    requires symbols { (s : SegmentValue) → slice_get segments.now purgatory ≡ Some s → HasSymbols base (length s.bytes) symbols }
+    ensures length { IfOk result (λ v. (s : SegmentValue) → slice_get segments.now purgatory ≡ Some s → length v.items ≡ length s.bytes) }
+    ensures exact { IfOk result (λ v. (s : SegmentValue) → slice_get segments.now purgatory ≡ Some s → v.items ≡ armed (record { base = base; bytes = s.bytes; symbols = symbols }) start (region_table (others segments.now purgatory)) (digest segments.now purgatory)) }
+{
+    let table = regions_of(segments, purgatory);
+    let digest = digest_of(segments, purgatory);
+    let mut bytes = Vec::from_slice(alloc, &segments.segment(purgatory).bytes)?;
+    arm(
+        &mut bytes,
+        base,
+        symbols,
+        start,
+        table.bytes(),
+        digest.bytes(),
+    );
+    Ok(bytes)
+}
+
+// The purgatory, segment number `purgatory`, gets what it is to find.
+fn arm_segment(
+    alloc: Global,
+    segments: &mut Segments,
+    purgatory: usize,
+    base: u64,
+    symbols: Symbols,
+    start: Start,
+) -> Result<(), AllocError>
+    requires inside { purgatory < length segments.old }
+    requires symbols { (s : SegmentValue) → slice_get segments.old purgatory ≡ Some s → HasSymbols base (length s.bytes) symbols }
+    ensures { OnOk result ((s : SegmentValue) → slice_get segments.old purgatory ≡ Some s → segments.new ≡ slice_set segments.old purgatory (record s { bytes = armed (record { base = base; bytes = s.bytes; symbols = symbols }) start (region_table (others segments.old purgatory)) (digest segments.old purgatory) })) }
+{
+    let bytes = armed_bytes(alloc, segments, purgatory, base, symbols, start)?;
+    segments.replace(purgatory, &bytes);
+    Ok(())
+}
+
+// The plan of these segments and of a linked purgatory behind them.
+#[tactic(auto, unfolding(crate::specs::Finish::armed_plan))]
+fn armed_plan(
+    alloc: Global,
+    map: Option<&Map>,
+    kind: &Kind,
+    mut list: Vec<Segment>,
+    start: Start,
+    linkage: Linkage,
+    site: Site,
+) -> Result<Planned, PlanFault>
+    requires { HasSymbols linkage.base (length linkage.bytes) linkage.symbols }
+    ensures { Gives PlanFault.Memory planned_of result (armed_plan (lent map.entry) kind.now list.items start linkage site) }
+{
+    let Linkage {
+        base,
+        bytes,
+        symbols,
+    } = linkage;
+    let purgatory = list.len();
+    list.push(segment_at(site, bytes))?;
+    let mut segments = match tested(alloc, map, kind, list) {
+        Ok(segments) => segments,
+        Err(fault) => return Err(fault),
+    };
+    arm_segment(alloc, &mut segments, purgatory, base, symbols, start)?;
+    Ok(Planned {
+        segments,
+        start: start_at(symbols.start),
+        regions: symbols.regions,
+        digest: symbols.digest,
+    })
+}
+
+// The plan of these segments and of a purgatory behind them.
+#[tactic(auto, unfolding(crate::specs::Finish::linked_plan))]
+fn linked_plan(
+    alloc: Global,
+    map: Option<&Map>,
+    kind: &Kind,
+    list: Vec<Segment>,
+    start: Start,
+    purgatory: Purgatory,
+    site: Site,
+) -> Result<Planned, PlanFault>
+    requires { IsLinkable (Some purgatory) (Some site) }
+    ensures { Gives PlanFault.Memory planned_of result (linked_plan (lent map.entry) kind.now list.items start purgatory site) }
+{
+    let linkage = match purgatory.link_at(alloc, site) {
+        Ok(linkage) => linkage,
+        Err(fault) => return Err(fault),
+    };
+    armed_plan(alloc, map, kind, list, start, linkage, site)
+}
+
+/// The plan of these segments, and of the purgatory at its place.
+pub(crate) fn finished(
+    alloc: Global,
+    map: Option<&Map>,
+    kind: &Kind,
+    list: Vec<Segment>,
+    start: Start,
+    purgatory: Option<Purgatory>,
+    site: Option<Site>,
+) -> Result<Planned, PlanFault>
+    requires { IsLinkable purgatory site }
+    ensures { Gives PlanFault.Memory planned_of result (finished (lent map.entry) kind.now list.items start purgatory site) }
+{
+    match (purgatory, site) {
+        (Some(purgatory), Some(site)) => {
+            linked_plan(alloc, map, kind, list, start, purgatory, site)
+        }
+        _ => plain_plan(alloc, map, kind, list, start),
+    }
+}

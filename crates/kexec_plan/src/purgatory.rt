@@ -1,0 +1,152 @@
+//! A purgatory that is read, and linked at its place.
+
+ghost use Rattle.std.specs.Prelude.{◌≡◌, ◌+◌, ◌-◌, ◌≤◌, option_map, length, Some, IfOk};
+ghost use Rattle.kx_laws.specs.Results.{Gives};
+ghost use Rattle.kexec_plan.specs.Purgatory.{purgatory_read, some_purgatory, purgatory_most, purgatory_rule, linked_at, armed, HasSymbols, IsLinkable};
+
+use crate::fault::{Part, PlanFault};
+use crate::places::{PlaceRule, Site};
+use crate::symbols::{Symbols, registers_of, write_at};
+use crate::table::{highest, last_address};
+use elf_image::{Object, read_object};
+use kx_pages::{ADDRESS_LIMIT, PAGE_SIZE, Start};
+use purgatory_link::{Linked, link, size};
+use segments::Kind;
+use std::alloc::Global;
+use std::marker::Model;
+
+/// A purgatory that was read.
+#[derive(Drop)]
+pub(crate) struct Purgatory {
+    object: Object,
+    file: Vec<u8>,
+    size: u64,
+}
+
+impl Model for Purgatory {
+    ghost use Rattle.kexec_plan.specs.Purgatory.{PurgatoryValue, IsPurgatory};
+
+    ghost Value = { PurgatoryValue };
+
+    ghost view = { λ p. record { object = p.object; file = p.file.items; size = p.size } };
+
+    ghost invariant = { λ p. IsPurgatory (record { object = p.object; file = p.file.items; size = p.size }) };
+}
+
+/// A linked purgatory.
+#[derive(Drop)]
+pub(crate) struct Linkage {
+    /// The address of its first byte.
+    pub(crate) base: u64,
+    /// Its bytes.
+    pub(crate) bytes: Vec<u8>,
+    /// Its symbols.
+    pub(crate) symbols: Symbols,
+}
+
+impl Model for Linkage {
+    ghost use Rattle.kexec_plan.specs.Purgatory.{Linkage as LinkageValue};
+
+    ghost Value = { LinkageValue };
+
+    ghost view = { λ l. record { base = l.base; bytes = l.bytes.items; symbols = l.symbols } };
+}
+
+/// The purgatory of this file, or why it is none.
+#[tactic(auto, unfolding(crate::specs::Purgatory::purgatory_read))]
+fn read_purgatory(alloc: Global, file: Vec<u8>) -> Result<Purgatory, PlanFault>
+    ensures { Gives PlanFault.Memory (λ p. p) result (purgatory_read file.items) }
+{
+    let object = match read_object(alloc, &file) {
+        Ok(object) => object,
+        Err(fault) => return Err(PlanFault::of_elf(fault)),
+    };
+    match size(&object) {
+        Ok(size) => Ok(Purgatory { object, file, size }),
+        Err(fault) => Err(PlanFault::of_link(fault)),
+    }
+}
+
+/// The same where there is a file.
+#[tactic(auto, unfolding(crate::specs::Purgatory::some_purgatory))]
+pub(crate) fn some_purgatory(
+    alloc: Global,
+    file: Option<Vec<u8>>,
+) -> Result<Option<Purgatory>, PlanFault>
+    ensures { Gives PlanFault.Memory (λ p. p) result (some_purgatory (option_map (λ v. v.items) file)) }
+{
+    match file {
+        Some(file) => match read_purgatory(alloc, file) {
+            Ok(purgatory) => Ok(Some(purgatory)),
+            Err(fault) => Err(fault),
+        },
+        None => Ok(None),
+    }
+}
+
+/// The greatest address of a purgatory's last byte, for a kernel that may or may not lie above 4 GiB.
+pub(crate) fn purgatory_most(kind: &Kind, above4g: bool) -> u64
+    ensures { result ≡ purgatory_most kind.now above4g }
+{
+    match kind {
+        Kind::Normal => (1 << 31) - 1,
+        Kind::Crash { .. } if above4g => ADDRESS_LIMIT - PAGE_SIZE - 1,
+        Kind::Crash { .. } => last_address(false),
+    }
+}
+
+/// The rule of a purgatory's place, if there is one.
+pub(crate) fn some_purgatory_rule(purgatory: &Option<Purgatory>, most: u64) -> Option<PlaceRule>
+    ensures { result ≡ option_map (purgatory_rule most) purgatory.now }
+{
+    match purgatory {
+        Some(purgatory) => Some(highest(Part::Purgatory, purgatory.size, most)),
+        None => None,
+    }
+}
+
+impl Purgatory {
+    /// The purgatory linked at its place.
+    #[tactic(auto, unfolding(crate::specs::Purgatory::linked_at))]
+    pub(crate) fn link_at(&self, alloc: Global, site: Site) -> Result<Linkage, PlanFault>
+        requires { IsLinkable (Some self.now) (Some site) }
+        ensures exact { Gives PlanFault.Memory (λ l. l) result (linked_at self.now site) }
+        ensures symbols { IfOk result (λ l. HasSymbols l.base (length l.bytes) l.symbols) }
+    {
+        let linked = match link(alloc, &self.object, &self.file, site.at) {
+            Ok(linked) => linked,
+            Err(fault) => return Err(PlanFault::of_link(fault)),
+        };
+        let symbols = match Symbols::find(&linked) {
+            Ok(symbols) => symbols,
+            Err(fault) => return Err(PlanFault::of_link(fault)),
+        };
+        let Linked { base, bytes, .. } = linked;
+        Ok(Linkage {
+            base,
+            bytes,
+            symbols,
+        })
+    }
+}
+
+/// Puts registers, table and digest in place of the symbols, in this order.
+#[tactic(auto, unfolding(crate::specs::Purgatory::armed))]
+pub(crate) fn arm(
+    bytes: &mut [u8],
+    base: u64,
+    symbols: Symbols,
+    start: Start,
+    table: &[u8],
+    digest: &[u8],
+)
+    requires symbols { HasSymbols base (length bytes.old) symbols }
+    requires table { length table.now ≡ 256 }
+    requires digest { length digest.now ≡ 32 }
+    ensures { bytes.new ≡ armed (record { base = base; bytes = bytes.old; symbols = symbols }) start table.now digest.now }
+{
+    let registers = registers_of(start);
+    write_at(bytes, (symbols.regs - base) as usize, registers.bytes());
+    write_at(bytes, (symbols.regions - base) as usize, table);
+    write_at(bytes, (symbols.digest - base) as usize, digest);
+}

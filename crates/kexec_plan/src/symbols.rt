@@ -1,0 +1,127 @@
+//! The symbols of a linked purgatory.
+
+ghost use Rattle.std.specs.Prelude.{◌≡◌, ◌+◌, ◌-◌, ◌≤◌, codes, length, IfOk};
+ghost use Rattle.kx_fields.specs.Fields.{with_bytes};
+ghost use Rattle.purgatory_link.specs.Set.{is_inside};
+ghost use Rattle.kexec_plan.specs.Purgatory.{symbol_place, symbol_address, symbols_of, registers_text, HasSymbols};
+
+use kx_fields::Block;
+use kx_pages::Start;
+use purgatory_link::{LinkFault, Linked};
+
+/// The names of the symbols: the registers of the new kernel, the table of regions, the digest, and the start.
+const REGISTERS: &[u8; 12] = b"entry64_regs";
+
+const REGIONS: &[u8; 21] = b"purgatory_sha_regions";
+
+const DIGEST: &[u8; 23] = b"purgatory_sha256_digest";
+
+const START: &[u8; 15] = b"purgatory_start";
+
+/// The addresses of a purgatory's symbols.
+#[derive(Clone, Copy)]
+pub(crate) struct Symbols {
+    /// The registers of the new kernel: 136 bytes.
+    pub(crate) regs: u64,
+    /// The table of regions: 256 bytes.
+    pub(crate) regions: u64,
+    /// Their digest: 32 bytes.
+    pub(crate) digest: u64,
+    /// Where the purgatory starts.
+    pub(crate) start: u64,
+}
+
+// So many bytes from this address on are linked bytes.
+fn is_inside(linked: &Linked, address: u64, size: u64) -> bool
+    ensures { result ≡ is_inside linked.now address size }
+{
+    let length = linked.bytes.len() as u64;
+    address >= linked.base
+        && address - linked.base <= length
+        && size <= length - (address - linked.base)
+}
+
+// The address of a symbol of so many bytes, which lie in the linked bytes.
+#[tactic(auto, unfolding(crate::specs::Purgatory::symbol_place))]
+fn symbol_place(linked: &Linked, name: &[u8], size: u64) -> Result<u64, LinkFault>
+    ensures exact { result ≡ symbol_place linked.now name.now size }
+    ensures from { IfOk result (λ a. linked.now.base ≤ a) }
+    ensures to { IfOk result (λ a. a + size ≤ linked.now.base + length linked.now.bytes) }
+{
+    let (address, found) = match linked.symbol(name) {
+        Some(symbol) => symbol,
+        None => return Err(LinkFault::NoSymbol),
+    };
+    if size != found {
+        return Err(LinkFault::WrongSize { found });
+    }
+    if !is_inside(linked, address, found) {
+        return Err(LinkFault::WrongSize { found });
+    }
+    Ok(address)
+}
+
+// The address of a symbol.
+#[tactic(auto, unfolding(crate::specs::Purgatory::symbol_address))]
+fn symbol_address(linked: &Linked, name: &[u8]) -> Result<u64, LinkFault>
+    ensures { result ≡ symbol_address linked.now name.now }
+{
+    match linked.symbol(name) {
+        Some((address, _)) => Ok(address),
+        None => Err(LinkFault::NoSymbol),
+    }
+}
+
+impl Symbols {
+    /// The symbols of a linked purgatory, or the first that is none.
+    #[tactic(auto, unfolding(crate::specs::Purgatory::symbols_of))]
+    pub(crate) fn find(linked: &Linked) -> Result<Symbols, LinkFault>
+        ensures exact { result ≡ symbols_of linked.now }
+        ensures inside { IfOk result (HasSymbols linked.now.base (length linked.now.bytes)) }
+    {
+        let regs = match symbol_place(linked, REGISTERS, 136) {
+            Ok(address) => address,
+            Err(fault) => return Err(fault),
+        };
+        let regions = match symbol_place(linked, REGIONS, 256) {
+            Ok(address) => address,
+            Err(fault) => return Err(fault),
+        };
+        let digest = match symbol_place(linked, DIGEST, 32) {
+            Ok(address) => address,
+            Err(fault) => return Err(fault),
+        };
+        match symbol_address(linked, START) {
+            Ok(start) => Ok(Symbols {
+                regs,
+                regions,
+                digest,
+                start,
+            }),
+            Err(fault) => Err(fault),
+        }
+    }
+}
+
+/// The registers of the new kernel, as the purgatory finds them.
+#[tactic(auto, unfolding(crate::specs::Purgatory::registers_text))]
+pub(crate) fn registers_of(start: Start) -> Block<136>
+    ensures { result ≡ registers_text start }
+{
+    let mut block = Block::zeros();
+    kx_fields::fields!(put block, start {
+        rax: u64 @ 0,
+        rbx: u64 @ 24,
+        rsi: u64 @ 48,
+        entry: u64 @ 128,
+    });
+    block
+}
+
+/// Puts these bytes in place of as many from this place on.
+pub(crate) fn write_at(bytes: &mut [u8], at: usize, these: &[u8])
+    requires { at + length these.now ≤ length bytes.old }
+    ensures { bytes.new ≡ with_bytes at these.now bytes.old }
+{
+    bytes[at..at + these.len()].copy_from_slice(these);
+}
