@@ -1,181 +1,176 @@
--- What nothing refuses is done, where no device fails and memory suffices.
-use Rattle.std.proofs.Common.{◌≡◌, ℕ, ◌<◌, ◌≤◌, List, length, Option, Some, None, Result, Ok, Err, refl, sym, ap, ◌∙◌, subst, inl, inr, arith}
-use Rattle.std.specs.Prelude.{IfSome, ◌⊎◌}
-use Rattle.kx_pages.specs.declared.image.Wish.{Wish}
-use Rattle.kx_pages.proofs.Same.{same_spans}
+-- What nothing refuses is done; what lacks pages is refused for them.
+use Rattle.std.proofs.Common.{◌≡◌, ℕ, ◌<◌, ◌≤◌, List, Option, Some, None, Result, Ok, Err, refl, sym, ap, ◌∙◌, subst, inl, inr, arith}
+use Rattle.std.specs.Prelude.{◌⊎◌, length, IfSome}
+use Rattle.kx_laws.proofs.Results.{ok_same}
 use Rattle.kx_edge.specs.Edge.{Files, Rose}
+use Rattle.kx_edge.specs.declared.edge.Shelf.{Ghosts as Shelf}
+use Rattle.kx_edge.specs.declared.edge.Sink.{Ghosts as Sink}
+use Rattle.kx_pages.specs.declared.item.Item.{Item}
+use Rattle.kx_pages.specs.declared.image.Wish.{Wish}
+use Rattle.page_memory.specs.Contents.{at}
+use Rattle.page_memory.specs.Memory.{Mem}
+use Rattle.segments.specs.Values.{need}
 use Rattle.list_checker.specs.declared.fault.ListFault.{ListFault}
-use Rattle.memory_map.specs.Named.{Named}
-use Rattle.segments.specs.Parts.{Part, need}
-use Rattle.segments.specs.Rules.{refusal}
-use Rattle.segments.specs.declared.fault.SegFault.{SegFault}
-use Rattle.segments.specs.declared.fault.Kind.TheVariants.{Normal}
+use Rattle.load_states.specs.States.{Checked}
+use Rattle.file_commands.specs.Taking.{Refusal, by, too_long, reads}
+use Rattle.file_commands.specs.Answers.{Answer, MeetsTold, RefusesFor, Stands, done, memory, refused}
+use Rattle.file_commands.proofs.Meeting.{refuses, stands_told}
 use Rattle.kexec_words.specs.declared.faults.UsageWhy.{UsageWhy}
-use Rattle.kexec_words.specs.Values.{CommandValue, BootValue, LoadValue, boot, load}
-use Rattle.kexec_main.specs.declared.status.Part.{Part as UnusedPart}
-use Rattle.kexec_main.specs.declared.status.PlanFault.{PlanFault}
-use Rattle.kexec_main.specs.declared.status.PlanFault.TheVariants as plans
-use Rattle.kexec_main.specs.Answers.{Answer, Goods, IsOut, Moment, TakeOrder, Meets, done, not_accepted, usage, unread, unwritten, unsaid, too_long, input, plan, no_pages, heavy, not_kept, not_built, memory}
-use Rattle.kexec_main.specs.Boot.{RefusesLoad, boots, boots_segments, loads, loads_segments, or_unused}
-use Rattle.kexec_main.specs.Files.{Inputs, input_files, input_order}
-use Rattle.kexec_main.specs.Planning.{IsRefusal, unused_part, wish_of}
-use Rattle.kexec_main.specs.Call.{Answers, AnswersCommand, AnswersBoot, AnswersLoad, IsInOrder, boot_leaves, load_leaves, address_of, entry_of, segments_of, load_wish}
+use Rattle.kexec_words.specs.Values.{CommandValue, BootValue, ExecValue, LoadValue, LoadedValue, TraceValue}
+use Rattle.kexec_words.specs.Values as words
+use Rattle.kexec_plan.specs.Requests.{Plan}
+use Rattle.kexec_plan.specs.Plan.{plan}
+use Rattle.kexec_plan.specs.declared.fault.PlanFault.{PlanFault}
+use Rattle.kexec_main.specs.declared.files.LoadFiles.{LoadFiles}
+use Rattle.kexec_main.specs.declared.status.Reason.{Reason}
+use Rattle.kexec_main.specs.declared.status.Reason.TheVariants as reasons
+use Rattle.kexec_main.specs.Boot.{BootInputs, boots}
+use Rattle.kexec_main.specs.Call.{CanLoad, CanRun, IsInOrder, HasTooFew, LacksPages}
+use Rattle.kexec_main.specs.Check.{IsAcceptedIn, checks_as}
+use Rattle.kexec_main.specs.Commands.{Holds, boot, load, check, dump, exec, trace}
+use Rattle.kexec_main.specs.Exec.{ExecInputs, executes_as, lacks_swap_page, load_of, runs_asked}
+use Rattle.kexec_main.specs.Inputs.{LoadInputs}
+use Rattle.kexec_main.specs.Load.{LoadCommand, loads}
+use Rattle.kexec_main.specs.Loading.{IsLoaded, IsTooFew, RefusesLoad}
+use Rattle.kexec_main.specs.Outputs.{Made, HasNoFile, IsTooHeavy}
+use Rattle.kexec_main.specs.Runs.{after_runs, checked_with, wish_of}
+use Rattle.kexec_main.specs.Trace.{TraceInputs, traces}
 
--- done, or want of memory
-abbrev Ends : Answer → Type 0
-Ends a = (a ≡ done) ⊎ (a ≡ memory)
+-- a memory without a file is too heavy for one
+heavy : (N : Mem) (why : Reason) → ((n : ℕ) → IsTooHeavy N n → ⊥) → HasNoFile N why → ⊥
+heavy N (reasons.Heavy n) light h = light n h
+heavy N (reasons.Usage w) light h = h
+heavy N (reasons.NotBuilt w) light h = h
+heavy N (reasons.Input f) light h = h
+heavy N reasons.NotKept light h = h
+heavy N (reasons.Plan f) light h = h
+heavy N (reasons.NoPages p n) light h = h
 
-same_read : (x y : Inputs) → ◌≡◌ {A = Result Inputs Answer} (Ok x) (Ok y) → x ≡ y
-same_read x y e = cc
+-- a request has one plan
+no_fault : (p : Plan) (f : PlanFault) → ◌≡◌ {A = Result Plan PlanFault} (Ok p) (Err f) → ⊥
+no_fault p f e = cc
 
-told_none : (f : ListFault) → ◌≡◌ {A = Option ListFault} None (Some f) → ⊥
-told_none f e = cc
-
-read_err : (x : Inputs) (a : Answer) → ◌≡◌ {A = Result Inputs Answer} (Ok x) (Err a) → ⊥
-read_err x a e = cc
-
-accepted_not : (f : SegFault) → ◌≡◌ {A = Option SegFault} None (Some f) → ⊥
-accepted_not f e = cc
-
--- segments have one first refusal
-one_refusal : (map : Option Named) (ss : List Part) (f : SegFault) → IsRefusal map ss None → IsRefusal map ss (Some f) → ⊥
-one_refusal None ss f a b = accepted_not f (sym a ∙ b)
-one_refusal (Some map) ss f a b =
-    let same = same_spans 0 0 a.0 b.0 a.1 b.1 (λ q. a.2 q ∙ sym (b.2 q)) in
-    accepted_not f (sym a.3 ∙ ap (λ ram. refusal ram Normal ss) same ∙ b.3)
+one_plan : (i : LoadInputs) (p q : Plan) → plan i.request i.map ≡ Ok p → plan i.request i.map ≡ Ok q → p ≡ q
+one_plan i p q a b = ok_same {F = PlanFault} p q (sym a ∙ b)
 
 too_few : (pool need left n : ℕ) → need ≤ pool → left ≡ pool → n ≡ need → left < n → ⊥
 too_few pool need left n enough a b less = omega arith
 
--- what no part without use refuses
-unrefused : (u : Option UnusedPart) (makes : Result Goods Answer → Type 0) (r : Result Goods Answer) → u ≡ None → or_unused u makes r → makes r
-unrefused None makes r e h = h
-unrefused (Some part) makes r e h = absurd cc
+-- nothing refuses a load that can be made
+loads_not : (wish : Wish) (i : LoadInputs) (leaves : Checked → Mem) (why : Reason) → CanLoad wish i leaves → RefusesLoad wish i why → ⊥
+loads_not wish i leaves (reasons.NoPages left n) can (q, planned, few) =
+    too_few (length i.pool) (need wish can.p.segments) left n can.enough few.0 (few.1 ∙ ap (λ (p : Plan). need wish p.segments) (one_plan i q can.p planned can.planned)) few.2
+loads_not wish i leaves (reasons.Plan f) can h = no_fault can.p f (sym can.planned ∙ h)
+loads_not wish i leaves (reasons.Usage w) can h = h
+loads_not wish i leaves (reasons.NotBuilt w) can h = h
+loads_not wish i leaves (reasons.Input f) can h = h
+loads_not wish i leaves reasons.NotKept can h = h
+loads_not wish i leaves (reasons.Heavy n) can h = h
 
--- nothing refuses a load
-plans_not : (wish : Wish) (ss : List Part) (i : Inputs) (fault : PlanFault) → IsRefusal i.map ss None → RefusesLoad wish ss i (plan fault) → ⊥
-plans_not wish ss i (plans.Segments f) ruled h = one_refusal i.map ss f ruled h
-plans_not wish ss i (plans.Unused part) ruled h = h
+loaded_as : (wish : Wish) (i : LoadInputs) (leaves : Checked → Mem) (p : Plan) (c : Checked) → (can : CanLoad wish i leaves) → IsLoaded wish i p c.load → IsLoaded wish i can.p c.load
+loaded_as wish i leaves p c can l = subst (λ p. IsLoaded wish i p c.load) (one_plan i p can.p l.planned can.planned) l
 
-module _ (order : TakeOrder) (reads : Files → Result Inputs Answer) (makes : Inputs → Result Goods Answer → Type 0) (before after : Moment) (held : Files) (i : Inputs)
-    (told : before.files ≡ Some held) (read : reads held ≡ Ok i)
-    (shelf : Rose before.shelf_faults after.shelf_faults → ⊥) (sink : Rose before.sink_faults after.sink_faults → ⊥)
-    (whole : (goods : Goods) → makes i (Ok goods) → goods.fault ≡ None)
-    (unrefused : (a : Answer) → makes i (Err a) → ⊥) where
-  refused_none : (a : Answer) → IfSome before.files (λ held. (reads held ≡ Err a) ⊎ ((x : Inputs) × (reads held ≡ Ok x) × makes x (Err a))) → ⊥
-  refused_none a h = go (subst (λ files. IfSome files (λ held. (reads held ≡ Err a) ⊎ ((x : Inputs) × (reads held ≡ Ok x) × makes x (Err a)))) told h)
-    where
-      go : (reads held ≡ Err a) ⊎ ((x : Inputs) × (reads held ≡ Ok x) × makes x (Err a)) → ⊥
-      go (inl e) = read_err i a (sym read ∙ e)
-      go (inr k) = unrefused a (subst (λ x. makes x (Err a)) (same_read k.0 i (sym k.1 ∙ read)) k.2)
-
-  fault_none : (f : ListFault) → IfSome before.files (λ held. (x : Inputs) × (goods : Goods) × (reads held ≡ Ok x) × makes x (Ok goods) × (goods.fault ≡ Some f)) → ⊥
-  fault_none f h = go (subst (λ files. IfSome files (λ held. (x : Inputs) × (goods : Goods) × (reads held ≡ Ok x) × makes x (Ok goods) × (goods.fault ≡ Some f))) told h)
-    where
-      go : (x : Inputs) × (goods : Goods) × (reads held ≡ Ok x) × makes x (Ok goods) × (goods.fault ≡ Some f) → ⊥
-      go k = told_none f (sym (whole k.1 (subst (λ x. makes x (Ok k.1)) (same_read k.0 i (sym k.2 ∙ read)) k.3)) ∙ k.4)
-
-  pub meets_ends : (a : Answer) → Meets order reads makes before after a → Ends a
-  meets_ends done h = inl refl
-  meets_ends memory h = inr refl
-  meets_ends (not_accepted f) h = absurd (fault_none f (weaker before.files h.1))
-    where
-      weaker : (files : Option Files) → IfSome files (λ held. (x : Inputs) × (goods : Goods) × (reads held ≡ Ok x) × makes x (Ok goods) × (goods.fault ≡ Some f) × IsOut goods before after)
-          → IfSome files (λ held. (x : Inputs) × (goods : Goods) × (reads held ≡ Ok x) × makes x (Ok goods) × (goods.fault ≡ Some f))
-      weaker None h = tt
-      weaker (Some held) h = (h.0, h.1, h.2, h.3, h.4)
-  meets_ends (unread n) h = absurd (shelf h.1)
-  meets_ends (unwritten n) h = absurd (shelf h.0.shelf)
-  meets_ends unsaid h = absurd (sink h.0.sink)
-  meets_ends (usage w) h = absurd (refused_none (usage w) h.2)
-  meets_ends (too_long n l) h = absurd (refused_none (too_long n l) h.2)
-  meets_ends (input f) h = absurd (refused_none (input f) h.2)
-  meets_ends (plan f) h = absurd (refused_none (plan f) h.2)
-  meets_ends (no_pages p n) h = absurd (refused_none (no_pages p n) h.2)
-  meets_ends (heavy n) h = absurd (refused_none (heavy n) h.2)
-  meets_ends not_kept h = absurd (refused_none not_kept h.2)
-  meets_ends (not_built w) h = absurd (refused_none (not_built w) h.2)
-
--- nothing refuses what is in order
-module _ (wish : Wish) (ss : List Part) (i : Inputs) (ruled : IsRefusal i.map ss None) (enough : need wish ss ≤ length i.pool) where
-  loads_not : (a : Answer) → RefusesLoad wish ss i a → ⊥
-  loads_not (plan f) h = plans_not wish ss i f ruled h
-  loads_not (no_pages left n) h = too_few (length i.pool) (need wish ss) left n enough h.1.0 h.1.1 h.1.2
-  loads_not done h = h
-  loads_not memory h = h
-  loads_not (not_accepted f) h = h
-  loads_not (unread n) h = h
-  loads_not (unwritten n) h = h
-  loads_not unsaid h = h
-  loads_not (usage w) h = h
-  loads_not (too_long n l) h = h
-  loads_not (input f) h = h
-  loads_not (heavy n) h = h
-  loads_not not_kept h = h
-  loads_not (not_built w) h = h
-
--- `boot`
-boots_not : (b : BootValue) (held : Files) (o : IsInOrder b.image b.inputs (wish_of b.kept) (boot_leaves b) held) (a : Answer)
-    → boots_segments (segments_of b.image o.inputs.kernel) (entry_of b.image) b.kept (wish_of b.kept) b.out o.inputs (Err a) → ⊥
-boots_not b held o (heavy n) h = o.light h.0 n h.1 h.2
-boots_not b held o done h = h
-boots_not b held o memory h = h
-boots_not b held o (not_accepted f) h = h
-boots_not b held o (unread n) h = h
-boots_not b held o (unwritten n) h = h
-boots_not b held o unsaid h = h
-boots_not b held o (usage w) h = h
-boots_not b held o (too_long n l) h = h
-boots_not b held o (input f) h = h
-boots_not b held o (plan f) h = loads_not (wish_of b.kept) (segments_of b.image o.inputs.kernel) o.inputs o.ruled o.enough (plan f) h
-boots_not b held o (no_pages p n) h = loads_not (wish_of b.kept) (segments_of b.image o.inputs.kernel) o.inputs o.ruled o.enough (no_pages p n) h
-boots_not b held o not_kept h = h
-boots_not b held o (not_built w) h = h
-
-pub boot_complete : (r : Result CommandValue UsageWhy) (b : BootValue) (before after : Moment) (a : Answer) → r ≡ Ok (boot b) → Answers r before after a
-    → IfSome before.files (λ held. IsInOrder b.image b.inputs (wish_of b.kept) (boot_leaves b) held → (Rose before.shelf_faults after.shelf_faults → ⊥) → (Rose before.sink_faults after.sink_faults → ⊥) → Ends a)
-boot_complete r b before after a e h = go before.files refl
+boot_stands : (b : BootValue) (x : BootInputs) → CanLoad (wish_of x.runs) x.load (after_runs x.runs) → Stands (boot b) x
+boot_stands b x can = record { unrefused = none; whole = λ goods m. m.4 }
   where
-    go : (files : Option Files) → before.files ≡ files → IfSome files (λ held. IsInOrder b.image b.inputs (wish_of b.kept) (boot_leaves b) held → (Rose before.shelf_faults after.shelf_faults → ⊥) → (Rose before.sink_faults after.sink_faults → ⊥) → Ends a)
-    go None told = tt
-    go (Some held) told = λ o shelf sink.
-        let runs : AnswersCommand (boot b) before after a = subst (λ x. Answers x before after a) e h in
-        let k : AnswersBoot None b before after a = subst (λ u. AnswersBoot u b before after a) o.served runs in
-        let ss = segments_of b.image o.inputs.kernel in
-        meets_ends (input_order b.inputs) (input_files b.inputs) (boots (address_of b.image) (entry_of b.image) b) before after held o.inputs told o.reads shelf sink
-        (λ goods m. (unrefused (unused_part b.inputs) (boots_segments ss (entry_of b.image) b.kept (wish_of b.kept) b.out o.inputs) (Ok goods) o.used m).3)
-        (λ x m. boots_not b held o x (unrefused (unused_part b.inputs) (boots_segments ss (entry_of b.image) b.kept (wish_of b.kept) b.out o.inputs) (Err x) o.used m))
-        a k
+    none : (a : Refusal Reason) → boots x (Err a) → ⊥
+    none (by why) (inl r) = loads_not (wish_of x.runs) x.load (after_runs x.runs) why can r
+    none (by why) (inr (p, c, l, f)) = heavy (after_runs x.runs c) why (λ n h. can.light c n (loaded_as (wish_of x.runs) x.load (after_runs x.runs) p c can l.0) h) f
+    none (too_long name limit) m = m
 
--- `load`
-loads_segments_not : (l : LoadValue) (held : Files) (o : IsInOrder l.image l.inputs (load_wish l) load_leaves held) (a : Answer)
-    → loads_segments (segments_of l.image o.inputs.kernel) (entry_of l.image) (load_wish l) l.out l.load_record o.inputs (Err a) → ⊥
-loads_segments_not l held o (heavy n) h = o.light h.0 n h.1 h.2
-loads_segments_not l held o done h = h
-loads_segments_not l held o memory h = h
-loads_segments_not l held o (not_accepted f) h = h
-loads_segments_not l held o (unread n) h = h
-loads_segments_not l held o (unwritten n) h = h
-loads_segments_not l held o unsaid h = h
-loads_segments_not l held o (usage w) h = h
-loads_segments_not l held o (too_long n m) h = h
-loads_segments_not l held o (input f) h = h
-loads_segments_not l held o (plan f) h = loads_not (load_wish l) (segments_of l.image o.inputs.kernel) o.inputs o.ruled o.enough (plan f) h
-loads_segments_not l held o (no_pages p n) h = loads_not (load_wish l) (segments_of l.image o.inputs.kernel) o.inputs o.ruled o.enough (no_pages p n) h
-loads_segments_not l held o not_kept h = h
-loads_segments_not l held o (not_built w) h = h
-
-pub load_complete : (r : Result CommandValue UsageWhy) (l : LoadValue) (before after : Moment) (a : Answer) → r ≡ Ok (load l) → Answers r before after a
-    → IfSome before.files (λ held. IsInOrder l.image l.inputs (load_wish l) load_leaves held → (Rose before.shelf_faults after.shelf_faults → ⊥) → (Rose before.sink_faults after.sink_faults → ⊥) → Ends a)
-load_complete r l before after a e h = go before.files refl
+load_stands : (l : LoadValue) (x : LoadCommand) → CanLoad x.wish x.load (λ c. at c.load.memory) → Stands (load l) x
+load_stands l x can = record { unrefused = none; whole = λ goods m. m.4 }
   where
-    go : (files : Option Files) → before.files ≡ files → IfSome files (λ held. IsInOrder l.image l.inputs (load_wish l) load_leaves held → (Rose before.shelf_faults after.shelf_faults → ⊥) → (Rose before.sink_faults after.sink_faults → ⊥) → Ends a)
-    go None told = tt
-    go (Some held) told = λ o shelf sink.
-        let runs : AnswersCommand (load l) before after a = subst (λ x. Answers x before after a) e h in
-        let k : AnswersLoad None l before after a = subst (λ u. AnswersLoad u l before after a) o.served runs in
-        let ss = segments_of l.image o.inputs.kernel in
-        meets_ends (input_order l.inputs) (input_files l.inputs) (loads (address_of l.image) (entry_of l.image) l) before after held o.inputs told o.reads shelf sink
-        (λ goods m. (unrefused (unused_part l.inputs) (loads_segments ss (entry_of l.image) (load_wish l) l.out l.load_record o.inputs) (Ok goods) o.used m).3)
-        (λ x m. loads_segments_not l held o x (unrefused (unused_part l.inputs) (loads_segments ss (entry_of l.image) (load_wish l) l.out l.load_record o.inputs) (Err x) o.used m))
-        a k
+    none : (a : Refusal Reason) → loads x (Err a) → ⊥
+    none (by why) (inl r) = loads_not x.wish x.load (λ c. at c.load.memory) why can r
+    none (by why) (inr (p, c, k, f)) = heavy (at c.load.memory) why (λ n h. can.light c n (loaded_as x.wish x.load (λ c. at c.load.memory) p c can k.0) h) f
+    none (too_long name limit) m = m
+
+check_stands : (l : LoadedValue) (x : LoadFiles) (is : List Item) → IsAcceptedIn x is → Stands (check l) x
+check_stands l x is accepted = record { unrefused = λ a m. m; whole = λ goods m. whole goods goods.fault m refl }
+  where
+    whole : (goods : Made) (f : Option ListFault) → checks_as x goods f → goods.fault ≡ f → goods.fault ≡ None
+    whole goods None m e = e
+    whole goods (Some f) m e = absurd (m.0.1 is accepted)
+
+dump_stands : (l : LoadedValue) (x : LoadFiles) → Stands (dump l) x
+dump_stands l x = record { unrefused = λ a m. m; whole = λ goods m. m.1 }
+
+exec_stands : (e : ExecValue) (x : ExecInputs) → CanRun x → Stands (exec e) x
+exec_stands e x can = record { unrefused = none; whole = λ goods m. whole goods goods.fault m.1 refl }
+  where
+    kept_not : lacks_swap_page x.twice x.files.load_record.image.mode ≡ true → ⊥
+    kept_not t = let k = sym can.kept ∙ t in cc
+
+    none : (a : Refusal Reason) → (exec e).makes x (Err a) → ⊥
+    none (by why) (inl k) = kept_not k.1
+    none (by why) (inr (k, (pool, r))) = heavy (after_runs (runs_asked x) (checked_with (load_of x.files pool) r.0 r.1 r.2)) why (λ n h. can.light (checked_with (load_of x.files pool) r.0 r.1 r.2) pool n refl h) r.4
+    none (too_long name limit) m = m
+
+    whole : (goods : Made) (f : Option ListFault) → executes_as x goods f → goods.fault ≡ f → goods.fault ≡ None
+    whole goods None m e = e
+    whole goods (Some f) m e = absurd (m.0.1 can.items can.accepted)
+
+trace_stands : (t : TraceValue) (x : TraceInputs) → ((why : Reason) → traces x (Err (by why)) → ⊥) → Stands (trace t) x
+trace_stands t x light = record { unrefused = none; whole = λ goods m. m.1 }
+  where
+    none : (a : Refusal Reason) → traces x (Err a) → ⊥
+    none (by why) m = light why m
+    none (too_long name limit) m = m
+
+-- a load that lacks pages is refused for nothing else
+few_reason : (wish : Wish) (i : LoadInputs) (p : Plan) (pool n : ℕ) → plan i.request i.map ≡ Ok p → pool ≡ length i.pool → n ≡ need wish p.segments → (why : Reason) → RefusesLoad wish i why → why ≡ reasons.NoPages pool n
+few_reason wish i p pool n planned same all (reasons.NoPages left m) (q, other, few) =
+    rw (few.0 ∙ sym same, few.1 ∙ ap (λ (p : Plan). need wish p.segments) (one_plan i q p other planned) ∙ sym all) refl
+few_reason wish i p pool n planned same all (reasons.Plan f) h = absurd (no_fault p f (sym planned ∙ h))
+few_reason wish i p pool n planned same all (reasons.Usage w) h = absurd h
+few_reason wish i p pool n planned same all (reasons.NotBuilt w) h = absurd h
+few_reason wish i p pool n planned same all (reasons.Input f) h = absurd h
+few_reason wish i p pool n planned same all reasons.NotKept h = absurd h
+few_reason wish i p pool n planned same all (reasons.Heavy m) h = absurd h
+
+not_loaded : (wish : Wish) (i : LoadInputs) (pool n : ℕ) (q : Plan) (c : Checked) → LacksPages wish i pool n → IsLoaded wish i q c.load → ⊥
+not_loaded wish i pool n q c (p, planned, same, all, less) l =
+    too_few (length i.pool) (need wish q.segments) pool n l.enough same (all ∙ ap (λ (p : Plan). need wish p.segments) (one_plan i p q planned l.planned)) less
+
+few_boots : (b : BootValue) (x : BootInputs) (pool n : ℕ) → LacksPages (wish_of x.runs) x.load pool n → RefusesFor (boot b) x (by (reasons.NoPages pool n))
+few_boots b x pool n few (Ok goods) m = absurd (not_loaded (wish_of x.runs) x.load pool n m.0 m.1 few m.2.0)
+few_boots b x pool n few (Err (by why)) (inl r) = ap (λ w. Err (by w)) (few_reason (wish_of x.runs) x.load few.0 pool n few.1 few.2 few.3 why r)
+few_boots b x pool n few (Err (by why)) (inr m) = absurd (not_loaded (wish_of x.runs) x.load pool n m.0 m.1 few m.2.0)
+few_boots b x pool n few (Err (too_long name limit)) m = absurd m
+
+few_loads : (l : LoadValue) (x : LoadCommand) (pool n : ℕ) → LacksPages x.wish x.load pool n → RefusesFor (load l) x (by (reasons.NoPages pool n))
+few_loads l x pool n few (Ok goods) m = absurd (not_loaded x.wish x.load pool n m.0 m.1 few m.2.0)
+few_loads l x pool n few (Err (by why)) (inl r) = ap (λ w. Err (by w)) (few_reason x.wish x.load few.0 pool n few.1 few.2 few.3 why r)
+few_loads l x pool n few (Err (by why)) (inr m) = absurd (not_loaded x.wish x.load pool n m.0 m.1 few m.2.0)
+few_loads l x pool n few (Err (too_long name limit)) m = absurd m
+
+module _ {S O : Type 0} (D : Shelf S) (E : Sink O) (held : Files) (s : S) (o : O) (s' : S) (o' : O) (a : Answer ListFault Reason)
+    (calm : Rose (D.faults s) (D.faults s') → ⊥) (quiet : Rose (E.faults o) (E.faults o') → ⊥) where
+  ends : (c : CommandValue) → IsInOrder c held → Holds (λ X p. MeetsTold D E p held s o a s' o') (Ok c) → (a ≡ done) ⊎ (a ≡ memory)
+  ends (words.boot b) i m = stands_told D E (boot b) held i.0 s s' o o' a i.1 (boot_stands b i.0 i.2) calm quiet m
+  ends (words.load l) i m = stands_told D E (load l) held i.0 s s' o o' a i.1 (load_stands l i.0 i.2) calm quiet m
+  ends (words.check l) i m = stands_told D E (check l) held i.0 s s' o o' a i.1 (check_stands l i.0 i.2 i.3) calm quiet m
+  ends (words.dump l) i m = stands_told D E (dump l) held i.0 s s' o o' a i.1 (dump_stands l i.0) calm quiet m
+  ends (words.exec e) i m = stands_told D E (exec e) held i.0 s s' o o' a i.1 (exec_stands e i.0 i.2) calm quiet m
+  ends (words.trace t) i m = stands_told D E (trace t) held i.0 s s' o o' a i.1 (trace_stands t i.0 (λ why h. heavy _ why i.2 h)) calm quiet m
+  ends (words.load_panic l) i m = absurd i
+  ends (words.sample n) i m = absurd i
+
+  -- what is in order is done, or memory is wanted
+  pub complete : (w : Result CommandValue UsageWhy) (c : CommandValue) → w ≡ Ok c → IsInOrder c held → Holds (λ X p. MeetsTold D E p held s o a s' o') w → (a ≡ done) ⊎ (a ≡ memory)
+  complete w c e i h = ends c i (subst (λ w. Holds (λ X p. MeetsTold D E p held s o a s' o') w) e h)
+
+  lacks : (c : CommandValue) (pool n : ℕ) → HasTooFew c held pool n → Holds (λ X p. MeetsTold D E p held s o a s' o') (Ok c) → (a ≡ refused (by (reasons.NoPages pool n))) ⊎ (a ≡ memory)
+  lacks (words.boot b) pool n f m = refuses D E (boot b) held f.0 (by (reasons.NoPages pool n)) s s' o o' a f.1 (few_boots b f.0 pool n f.2) calm quiet m
+  lacks (words.load l) pool n f m = refuses D E (load l) held f.0 (by (reasons.NoPages pool n)) s s' o o' a f.1 (few_loads l f.0 pool n f.2) calm quiet m
+  lacks (words.check l) pool n f m = absurd f
+  lacks (words.dump l) pool n f m = absurd f
+  lacks (words.exec e) pool n f m = absurd f
+  lacks (words.trace t) pool n f m = absurd f
+  lacks (words.load_panic l) pool n f m = absurd f
+  lacks (words.sample k) pool n f m = absurd f
+
+  -- what lacks pages is refused for them, or memory is wanted
+  pub lacks_pages : (w : Result CommandValue UsageWhy) (c : CommandValue) (pool n : ℕ) → w ≡ Ok c → HasTooFew c held pool n → Holds (λ X p. MeetsTold D E p held s o a s' o') w → (a ≡ refused (by (reasons.NoPages pool n))) ⊎ (a ≡ memory)
+  lacks_pages w c pool n e f h = lacks c pool n f (subst (λ w. Holds (λ X p. MeetsTold D E p held s o a s' o') w) e h)

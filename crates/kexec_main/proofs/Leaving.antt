@@ -7,15 +7,13 @@ use Rattle.kexec_words.specs.declared.commands.Runs.{Runs}
 use Rattle.kexec_words.specs.declared.commands.Runs.TheVariants.{Once, Twice}
 use Rattle.kimage_list.specs.Laying.{mode_with, swap_of}
 use Rattle.page_memory.specs.Contents.{at}
-use Rattle.segments.specs.Parts.{Part}
 use Rattle.load_states.specs.States.{Checked}
 use Rattle.load_states.specs.Ready.{Told}
 use Rattle.load_states.proofs.Ready.{once_arrives, twice_returns}
-use Rattle.kexec_main.specs.Boot.{HasMode, IsLoaded}
-use Rattle.kexec_main.specs.Files.{Inputs}
-use Rattle.kexec_main.specs.Planning.{wish_of}
-use Rattle.kexec_main.specs.Runs.{Leaves, after_runs}
-use Rattle.page_memory.specs.Memory.{Mem, Agree}
+use Rattle.kexec_plan.specs.Requests.{Plan}
+use Rattle.kexec_main.specs.Inputs.{LoadInputs}
+use Rattle.kexec_main.specs.Loading.{IsLoaded}
+use Rattle.kexec_main.specs.Runs.{HasMode, Leaves, after_runs, wish_of}
 
 pub leaves_by : (runs : Option Runs) (c : Checked) (mode : Mode) → c.load.image.mode ≡ mode → HasMode runs mode → Told c.load c.words c.links c.pairs → Leaves runs c (after_runs runs c)
 leaves_by None c Plain m h t = ((λ p bytes e. ap (λ o. unwrap_or o (at c.load.memory p)) e), λ p e. ap (λ o. unwrap_or o (at c.load.memory p)) e)
@@ -28,12 +26,6 @@ has_mode : (runs : Option Runs) (swap : ℕ) → HasMode runs (mode_with (wish_o
 has_mode None swap = tt
 has_mode (Some runs) swap = tt
 
-pub leaves_of : (runs : Option Runs) (ss : List Part) (i : Inputs) (c : Checked) → IsLoaded (wish_of runs) ss i c → Leaves runs c (after_runs runs c)
-leaves_of runs ss i c l =
-    leaves_by runs c (mode_with (wish_of runs) (swap_of l.laid.loading)) (ap (λ i. i.mode) l.laid.image) (has_mode runs (swap_of l.laid.loading)) l.told
-
--- a memory that agrees is left as well
-pub leaves_as : (runs : Option Runs) (c : Checked) (N M : Mem) → Agree N M → Leaves runs c M → Leaves runs c N
-leaves_as None c N M h l = ((λ p bytes e. h p ∙ l.0 p bytes e), λ p e. h p ∙ l.1 p e)
-leaves_as (Some Once) c N M h l = λ p bytes e. h p ∙ l p bytes e
-leaves_as (Some Twice) c N M h l = λ p n. h p ∙ l p n
+pub leaves_of : (runs : Option Runs) (i : LoadInputs) (p : Plan) (c : Checked) → IsLoaded (wish_of runs) i p c.load → Told c.load c.words c.links c.pairs → Leaves runs c (after_runs runs c)
+leaves_of runs i p c l told =
+    leaves_by runs c (mode_with (wish_of runs) (swap_of l.laid.loading)) (ap (λ i. i.mode) l.laid.image) (has_mode runs (swap_of l.laid.loading)) told

@@ -1,12 +1,9 @@
-pub mod Puts
-pub mod Taking
-pub mod Turns
-pub mod Meeting
+pub mod Told
 pub mod Outputs
-pub mod ListRuns
 pub mod Lines
-pub mod Unused
+pub mod Executes
 pub mod Leaving
-pub mod Headline
+pub mod Done
 pub mod Complete
-pub mod Coming
+pub mod Holding
+pub mod Rising

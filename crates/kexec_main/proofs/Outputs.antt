@@ -1,29 +1,22 @@
--- Outputs that are files of memories.
-use Rattle.std.proofs.Common.{ℕ, List, Result, Err, ◌∙◌}
+-- Memories that agree have the same files.
+use Rattle.std.proofs.Common.{ℕ, List, ◌∙◌}
 use Rattle.page_memory.specs.Memory.{Mem, Agree}
-use Rattle.kexec_main.specs.Answers.{Answer, Goods, done, not_accepted, usage, unread, unwritten, unsaid, too_long, input, plan, no_pages, heavy, not_kept, not_built, memory}
-use Rattle.kexec_main.specs.Makes.{IsFileOf, IsTooHeavy, WritesNot, MakesNot}
+use Rattle.file_commands.specs.Taking.{File}
+use Rattle.kexec_main.specs.declared.status.Reason.{Reason}
+use Rattle.kexec_main.specs.declared.status.Reason.TheVariants.{Usage, NotBuilt, Input, NotKept, Plan, NoPages, Heavy}
+use Rattle.kexec_main.specs.Outputs.{HasNoFile, IsFileOf, IsMemoryFile}
 
--- memories that agree have the same files
 pub file_as : (N M : Mem) (bytes : List ℕ) → Agree N M → IsFileOf N bytes → IsFileOf M bytes
 file_as N M bytes h f = (f.0, f.1, λ p. f.2 p ∙ h p, f.3, f.4)
 
-pub heavy_as : (N M : Mem) (n : ℕ) → Agree N M → IsTooHeavy N n → IsTooHeavy M n
-heavy_as N M n h f = (f.0, f.1, λ p. f.2 p ∙ h p, f.3, f.4)
+pub output_as : (N M : Mem) (outputs : List File) (name : List ℕ) → Agree N M → IsMemoryFile outputs name N → IsMemoryFile outputs name M
+output_as N M outputs name h f = (f.0, f.1, file_as N M f.0 h f.2)
 
--- a memory that has no file
-pub not_written : {X : Type 0} (makes : X → Result Goods Answer → Type 0) (x : X) (N M : Mem) (a : Answer) → Agree N M → ((n : ℕ) → IsTooHeavy M n → makes x (Err (heavy n))) → WritesNot N a → MakesNot makes x a
-not_written makes x N M memory g f h = tt
-not_written makes x N M (heavy n) g f h = f n (heavy_as N M n g h)
-not_written makes x N M done g f h = absurd h
-not_written makes x N M (not_accepted v) g f h = absurd h
-not_written makes x N M (usage w) g f h = absurd h
-not_written makes x N M (unread n) g f h = absurd h
-not_written makes x N M (unwritten n) g f h = absurd h
-not_written makes x N M unsaid g f h = absurd h
-not_written makes x N M (too_long n l) g f h = absurd h
-not_written makes x N M (input v) g f h = absurd h
-not_written makes x N M (plan v) g f h = absurd h
-not_written makes x N M (no_pages p n) g f h = absurd h
-not_written makes x N M (not_built w) g f h = absurd h
-not_written makes x N M not_kept g f h = absurd h
+pub no_file_as : (N M : Mem) (why : Reason) → Agree N M → HasNoFile N why → HasNoFile M why
+no_file_as N M (Heavy n) h f = (f.0, f.1, λ p. f.2 p ∙ h p, f.3, f.4)
+no_file_as N M (Usage why) h f = absurd f
+no_file_as N M (NotBuilt what) h f = absurd f
+no_file_as N M (Input fault) h f = absurd f
+no_file_as N M NotKept h f = absurd f
+no_file_as N M (Plan fault) h f = absurd f
+no_file_as N M (NoPages pool need) h f = absurd f

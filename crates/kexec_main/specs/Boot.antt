@@ -1,111 +1,42 @@
--- What `boot` and `load` make of what they read, for raw kernels.
-use Rattle.std.specs.Prelude.{◌≡◌, ℕ, ◌≤◌, List, [], ◌∷◌, length, false, cond, Option, Some, None, Result, Ok, Err}
-use Rattle.kx_pages.specs.declared.image.Start.{Start}
-use Rattle.kx_pages.specs.declared.image.Wish.{Wish}
-use Rattle.kx_pages.specs.declared.image.Wish.TheVariants.{Plain, Kept}
-use Rattle.kx_pages.specs.declared.image.Mode.{Mode}
-use Rattle.kx_pages.specs.declared.image.Mode.TheVariants as modes
-use Rattle.kexec_words.specs.declared.commands.Runs.{Runs}
-use Rattle.page_memory.specs.Contents.{at}
-use Rattle.page_memory.specs.Memory.{Mem, Agree}
-use Rattle.segments.specs.Parts.{Part, need}
-use Rattle.load_states.specs.States.{Load, Checked}
+-- What `boot` takes and makes (this project's own).
+use Rattle.std.specs.Prelude.{◌≡◌, ℕ, List, Option, None, string_bytes, Result, Ok, Err, ◌⊎◌}
+use Rattle.file_commands.specs.Taking.{Refusal, Take, ok, too_long, by, ◌>>=◌}
+use Rattle.load_states.specs.States.{Checked}
 use Rattle.load_states.specs.Ready.{Told}
-use Rattle.load_states.specs.Fillings.{IsSealed}
-use Rattle.load_record.specs.File.{Record, record_file}
-use Rattle.kexec_main.specs.declared.status.Part.{Part as UnusedPart}
-use Rattle.kexec_main.specs.declared.status.PlanFault.TheVariants as plans
-use Rattle.kexec_main.specs.Answers.{Answer, Goods, answer_of, plan, no_pages, heavy, memory}
-use Rattle.kexec_main.specs.declared.status.Status.{Status}
-use Rattle.kexec_main.specs.Files.{Inputs}
-use Rattle.kexec_main.specs.Makes.{IsFileOf, IsOneFile, IsTooHeavy}
-use Rattle.kexec_main.specs.Planning.{raw_segment, unused_part, wish_of, IsRefusal, LoadsNot}
-use Rattle.kexec_main.specs.Runs.{after_runs, list_text, run_text}
-use Rattle.kexec_main.specs.Texts.{load_lines}
-use Rattle.kexec_words.specs.Values.{BootValue, LoadValue}
+use Rattle.kexec_words.specs.declared.commands.Runs.{Runs}
+use Rattle.kexec_words.specs.Values.{BootValue}
+use Rattle.kexec_plan.specs.Requests.{Plan}
+use Rattle.kexec_main.specs.declared.boot.BootInputs.{BootInputs as Taken}
+use Rattle.kexec_main.specs.declared.status.Reason.{Reason}
+use Rattle.kexec_main.specs.Inputs.{LoadInputs, inputs_of, load_inputs}
+use Rattle.kexec_main.specs.Loading.{IsLoaded, RefusesLoad}
+use Rattle.kexec_main.specs.Outputs.{Made, HasNoFile, IsMemoryFile}
+use Rattle.kexec_main.specs.Runs.{after_runs, run_text, wish_of}
 
--- the mode of the list for these runs
-abbrev pub HasMode : Option Runs → Mode → Type 0
-HasMode None modes.Plain = Unit {0}
-HasMode None (modes.Kept swap) = ⊥
-HasMode (Some runs) modes.Plain = ⊥
-HasMode (Some runs) (modes.Kept swap) = Unit {0}
+-- what `boot` took, how often the list is to run, and the name of its output
+pub record BootInputs : Type 0 where
+  pub load : LoadInputs
+  pub runs : Option Runs
+  pub out : List ℕ
 
--- a load was run: so much is told of its accepted list, and this memory and this text follow
-abbrev pub RunsLoaded : Option Runs → Load → Start → Mem → List ℕ → Type 0
-RunsLoaded runs load start N text =
-    (words : ℕ) × (links : ℕ) × (qs : List (ℕ × ℕ)) × Told load words links qs
-    × Agree N (after_runs runs (record { load = load; words = words; links = links; pairs = qs }))
-    × (text ≡ run_text runs (record { load = load; words = words; links = links; pairs = qs }) start)
+abbrev pub boot_files : BootValue → Take Reason BootInputs
+boot_files b = do
+  x ← load_inputs b.image b.inputs
+  ok (record { load = x; runs = b.kept; out = b.out })
 
--- a raw kernel starts at its entry, with all registers 0
-abbrev pub start_at : ℕ → Start
-start_at entry = record { entry = entry; rax = 0; rbx = 0; rsi = 0 }
+abbrev pub boot_inputs : Taken → BootInputs
+boot_inputs b = record { load = inputs_of b.load; runs = b.runs; out = string_bytes b.out }
 
--- The segments meet the rules, the pool suffices, and this is the load that the rules of taking pages and laying a list
--- give, with so many words, link pages and these pairs in its accepted list.
-pub record IsLoaded (wish : Wish) (ss : List Part) (i : Inputs) (c : Checked) : Type 0 where
-  pub ruled : IsRefusal i.map ss None
-  pub enough : need wish ss ≤ length i.pool
-  pub laid : IsSealed (at i.memory) i.pool wish ss c.load
-  pub told : Told c.load c.words c.links c.pairs
+-- the kernel is loaded by this plan, and so much is told of its accepted list
+abbrev pub Boots : BootInputs → Plan → Checked → Type 0
+Boots x p c = IsLoaded (wish_of x.runs) x.load p c.load × Told c.load c.words c.links c.pairs
 
--- a refusal of the plan, or of the load for its pages
-abbrev pub RefusesLoad : Wish → List Part → Inputs → Answer → Type 0
-RefusesLoad wish ss i (plan (plans.Segments fault)) = IsRefusal i.map ss (Some fault)
-RefusesLoad wish ss i (no_pages left n) = IsRefusal i.map ss None × LoadsNot i.pool wish ss (no_pages left n)
-RefusesLoad wish ss i other = ⊥
-
--- planning and loading
-abbrev pub RefusesOr : Wish → List Part → Inputs → Answer → Type 0
-RefusesOr wish ss i memory = Unit {0}
-RefusesOr wish ss i other = RefusesLoad wish ss i other
-
-abbrev pub LoadsRaw : Wish → List Part → Inputs → Result Load Status → Type 0
-LoadsRaw wish ss i (Ok load) = IsRefusal i.map ss None × (need wish ss ≤ length i.pool) × IsSealed (at i.memory) i.pool wish ss load
-LoadsRaw wish ss i (Err status) = RefusesOr wish ss i (answer_of status)
-
--- what `boot` makes where no part is given that the kernel has no use for
-abbrev pub boots_segments : List Part → ℕ → Option Runs → Wish → List ℕ → Inputs → Result Goods Answer → Type 0
-boots_segments ss entry runs wish out i (Ok goods) =
-    (c : Checked) × IsLoaded wish ss i c × (goods.text ≡ run_text runs c (start_at entry)) × (goods.fault ≡ None) × IsOneFile goods out (after_runs runs c)
-boots_segments ss entry runs wish out i (Err (heavy count)) = (c : Checked) × IsLoaded wish ss i c × IsTooHeavy (after_runs runs c) count
-boots_segments ss entry runs wish out i (Err other) = RefusesLoad wish ss i other
-
--- what is said of a load, by what is told of its accepted list
-abbrev pub IsToldText : Load → Start → List ℕ → Type 0
-IsToldText load start text =
-    (words : ℕ) × (links : ℕ) × (qs : List (ℕ × ℕ)) × Told load words links qs × (text ≡ load_lines words links (length qs) load.image start)
-
--- a part that the kernel has no use for is refused
-abbrev pub IsUnused : Option UnusedPart → Result (Unit {0}) Status → Type 0
-IsUnused unused (Ok x) = unused ≡ None
-IsUnused None (Err status) = ⊥
-IsUnused (Some part) (Err status) = answer_of status ≡ plan (plans.Unused part)
-
--- a part that the kernel has no use for refuses first
-abbrev pub or_unused : Option UnusedPart → (Result Goods Answer → Type 0) → Result Goods Answer → Type 0
-or_unused None makes r = makes r
-or_unused (Some part) makes (Ok goods) = ⊥
-or_unused (Some part) makes (Err a) = a ≡ plan (plans.Unused part)
-
--- the record of a load
-abbrev pub record_of_load : Load → Start → Record
-record_of_load load start = record { crash = false; image = load.image; start = start; regions = 0; digest = 0; segments = load.segments }
-
--- what `load` makes: the memory after the load, and its record
-abbrev pub loads_segments : List Part → ℕ → Wish → List ℕ → List ℕ → Inputs → Result Goods Answer → Type 0
-loads_segments ss entry wish out load_record i (Ok goods) =
-    (c : Checked) × IsLoaded wish ss i c × (goods.text ≡ list_text c (start_at entry)) × (goods.fault ≡ None)
-    × (bytes : List ℕ) × IsFileOf (at c.load.memory) bytes
-    × (goods.outputs ≡ (out, bytes) ∷ (load_record, record_file (record_of_load c.load (start_at entry))) ∷ [])
-loads_segments ss entry wish out load_record i (Err (heavy count)) = (c : Checked) × IsLoaded wish ss i c × IsTooHeavy (at c.load.memory) count
-loads_segments ss entry wish out load_record i (Err other) = RefusesLoad wish ss i other
-
--- what `boot` makes of a raw kernel that goes to this address and is entered at that one
-abbrev pub boots : ℕ → ℕ → BootValue → Inputs → Result Goods Answer → Type 0
-boots address entry b i r = or_unused (unused_part b.inputs) (boots_segments (raw_segment address i.kernel ∷ []) entry b.kept (wish_of b.kept) b.out i) r
-
--- what `load` makes of it
-abbrev pub loads : ℕ → ℕ → LoadValue → Inputs → Result Goods Answer → Type 0
-loads address entry l i r = or_unused (unused_part l.inputs) (loads_segments (raw_segment address i.kernel ∷ []) entry (cond l.kept Kept Plain) l.out l.load_record i) r
+-- The kernel is loaded and its list run: the file of the memory after the last run is the output, and the text tells the
+-- list and each run. Or the plan or the load refuses, or that memory has no file.
+abbrev pub boots : BootInputs → Result Made (Refusal Reason) → Type 0
+boots x (Ok goods) =
+    (p : Plan) × (c : Checked) × Boots x p c × (goods.text ≡ run_text x.runs c p.start) × (goods.fault ≡ None)
+    × IsMemoryFile goods.outputs x.out (after_runs x.runs c)
+boots x (Err (by why)) =
+    RefusesLoad (wish_of x.runs) x.load why ⊎ ((p : Plan) × (c : Checked) × Boots x p c × HasNoFile (after_runs x.runs c) why)
+boots x (Err (too_long name limit)) = ⊥

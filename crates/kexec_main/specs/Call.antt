@@ -1,153 +1,174 @@
--- What each answer of the top call says, by the words after the program's name.
-use Rattle.std.specs.Prelude.{◌≡◌, ◌≤◌, ℕ, Option, Some, None, is_some, if◌then◌else◌, cond, Result, Ok, Err, List, [], ◌∷◌, length}
-use Rattle.kexec_words.specs.declared.faults.UsageWhy.{UsageWhy}
-use Rattle.kexec_words.specs.declared.commands.ImageType.{ImageType}
-use Rattle.kexec_words.specs.declared.commands.ImageType.TheVariants as image
-use Rattle.kexec_words.specs.Values.{CommandValue, InputsValue, BootValue, ExecValue, LoadValue, boot, load, load_panic, check, dump, exec, trace, sample}
-use Rattle.kexec_main.specs.declared.boot.Raw.{Raw}
-use Rattle.kexec_main.specs.declared.status.NotBuilt.{NotBuilt}
-use Rattle.kexec_main.specs.declared.status.NotBuilt.TheVariants.{Command, Format, Purgatory}
-use Rattle.kexec_main.specs.declared.status.Status.{Status}
-use Rattle.kx_edge.specs.Edge.{Files, Said}
+-- What the top call promises of each command, over files that are told (this project's own).
+use Rattle.std.specs.Prelude.{◌≡◌, ℕ, ◌≤◌, ◌<◌, List, [], ◌∷◌, ◌++◌, length, take, Option, Some, None, Result, Ok, Err, false}
+use Rattle.std.specs.List.{flat_map}
+use Rattle.kx_pages.specs.Lists.{count}
+use Rattle.kx_pages.specs.declared.item.Item.{Item}
 use Rattle.kx_pages.specs.declared.image.Wish.{Wish}
-use Rattle.kx_pages.specs.declared.image.Wish.TheVariants as wishes
+use Rattle.kx_edge.specs.Edge.{Files, Said}
+use Rattle.kx_edge.specs.declared.edge.Shelf.{Ghosts as Shelf}
+use Rattle.kx_edge.specs.declared.edge.Sink.{Ghosts as Sink}
 use Rattle.page_memory.specs.Contents.{at}
 use Rattle.page_memory.specs.Memory.{Mem}
-use Rattle.segments.specs.Parts.{Part, need}
+use Rattle.page_pool.specs.Pages.{Pages}
+use Rattle.segments.specs.Values.{need}
+use Rattle.list_checker.specs.declared.fault.ListFault.{ListFault}
+use Rattle.list_checker.specs.Reading.{IsWalk}
+use Rattle.list_checker.specs.Walk.{links, pairs}
 use Rattle.load_record.specs.File.{record_file}
 use Rattle.load_states.specs.States.{Checked}
 use Rattle.load_states.specs.Ready.{Told}
-use Rattle.page_pool.specs.Pages.{Pages}
-use Rattle.kexec_main.specs.declared.load_files.LoadFiles.{LoadFiles}
-use Rattle.kexec_main.specs.Answers.{Answer, Moment, Untouched, Calm, Meets, PutAll, answer_of, usage, not_built, memory}
-use Rattle.kexec_main.specs.Boot.{IsLoaded, boots, loads, record_of_load, start_at}
-use Rattle.kexec_main.specs.Check.{checks}
-use Rattle.kexec_main.specs.Dump.{dumps}
-use Rattle.kexec_main.specs.Exec.{executes, load_of, runs_of}
-use Rattle.kexec_main.specs.Files.{Inputs, input_files, input_order, memory_file, named}
-use Rattle.kexec_main.specs.Makes.{IsFileOf, IsTooHeavy}
-use Rattle.kexec_main.specs.Planning.{IsRefusal, raw_segment, unused_part, wish_of}
-use Rattle.kexec_main.specs.Runs.{Leaves, after_runs, list_text, run_text}
-use Rattle.kexec_main.specs.LoadedFiles.{load_files, load_order}
-use Rattle.kexec_main.specs.Trace.{traces}
+use Rattle.load_states.specs.Fillings.{IsSealed}
+use Rattle.relocate_machine.specs.Run.{run_of}
+use Rattle.file_commands.specs.Taking.{reads}
+use Rattle.file_commands.specs.Answers.{FilesPut}
+use Rattle.kexec_words.specs.Values.{CommandValue, BootValue, ExecValue, LoadValue, LoadedValue, TraceValue}
+use Rattle.kexec_words.specs.Values as words
+use Rattle.kexec_plan.specs.Requests.{Plan}
+use Rattle.kexec_plan.specs.Plan.{plan}
+use Rattle.kexec_main.specs.declared.files.LoadFiles.{LoadFiles}
+use Rattle.kexec_main.specs.Inputs.{LoadInputs}
+use Rattle.kexec_main.specs.Loading.{IsLoaded}
+use Rattle.kexec_main.specs.Outputs.{IsFileOf, IsTooHeavy}
+use Rattle.kexec_main.specs.Texts.{accepted_line}
+use Rattle.kexec_main.specs.Runs.{Leaves, after_runs, list_text, run_text, wish_of}
+use Rattle.kexec_main.specs.Boot.{BootInputs, boot_files}
+use Rattle.kexec_main.specs.Load.{LoadCommand, load_command_files, load_wish, record_of_load}
+use Rattle.kexec_main.specs.Check.{IsAcceptedIn}
+use Rattle.kexec_main.specs.Dump.{segment_line, walk_text}
+use Rattle.kexec_main.specs.Exec.{ExecInputs, exec_files, lacks_swap_page, load_of, runs_asked}
+use Rattle.kexec_main.specs.Files.{load_files_of}
+use Rattle.kexec_main.specs.Trace.{TraceInputs, outcome_line, trace_files}
 
--- what of a request for a load is not built yet: only raw kernels without a purgatory are served
-abbrev pub unserved : ImageType → InputsValue → Option NotBuilt
-unserved (image.Raw address entry) i = if is_some i.purgatory then Some Purgatory else None
-unserved other i = Some Format
+-- A kernel was loaded, whatever memory held.
+pub record NormalLoad (wish : Wish) (i : LoadInputs) (p : Plan) (c : Checked) : Type 0 where
+  -- the request has this plan
+  pub planned : plan i.request i.map ≡ Ok p
+  -- the pool has as many pages as the load takes
+  pub enough : need wish p.segments ≤ length i.pool
+  -- the list, the control page and the sources are those that the rules of taking pages and laying a list give
+  pub laid : IsSealed (at i.memory) i.pool wish p.segments c.load
+  -- memory is as it was at every page but the first ones of the pool
+  pub only_pool_pages : (q : ℕ) → count q (take (need wish p.segments) i.pool) ≡ 0 → at c.load.memory q ≡ at i.memory q
+  -- the list is accepted for the segments, by a walk of so many words with so many link pages and these pairs
+  pub accepted : Told c.load c.words c.links c.pairs
 
--- where a raw kernel goes, and where it is entered
-abbrev pub address_of : ImageType → ℕ
-address_of (image.Raw address entry) = address
-address_of other = 0
+module _ {S O : Type 0} (D : Shelf S) (E : Sink O) (held : Files) (s : S) (o : O) (s' : S) (o' : O) where
+  -- After `boot`: all that the words name was read, and the kernel loaded. The runs left what they are to leave, each after
+  -- as many steps as the walk has words. OUT is the file of the memory after the last run, every other file is as it was,
+  -- and the text tells the list and each run.
+  pub record HasBooted (b : BootValue) : Type 0 where
+    pub inputs : BootInputs
+    pub read : reads (boot_files b) held ≡ Ok inputs
+    pub planned : Plan
+    pub checked : Checked
+    pub load : NormalLoad (wish_of b.kept) inputs.load planned checked
+    pub leaves : Leaves b.kept checked (after_runs b.kept checked)
+    pub output : List ℕ
+    pub is_memory : IsFileOf (after_runs b.kept checked) output
+    pub put : FilesPut (D.files s) ((b.out, output) ∷ []) (D.files s')
+    pub said : Said (E.said o) (run_text b.kept checked planned.start) (E.said o')
 
-abbrev pub entry_of : ImageType → ℕ
-entry_of (image.Raw address entry) = entry
-entry_of other = 0
+  -- After `load`: the kernel was loaded. OUT is the file of the memory after the load, RECORD tells its list, start and
+  -- segments, every other file is as it was, and the text tells the list.
+  pub record HasLoaded (l : LoadValue) : Type 0 where
+    pub inputs : LoadCommand
+    pub read : reads (load_command_files l) held ≡ Ok inputs
+    pub planned : Plan
+    pub checked : Checked
+    pub load : NormalLoad (load_wish l) inputs.load planned checked
+    pub output : List ℕ
+    pub is_memory : IsFileOf (at checked.load.memory) output
+    pub put : FilesPut (D.files s) ((l.out, output) ∷ (l.load_record, record_file (record_of_load checked.load planned)) ∷ []) (D.files s')
+    pub said : Said (E.said o) (list_text checked planned.start) (E.said o')
 
-abbrev pub Serves : ImageType → InputsValue → Result Raw Status → Type 0
-Serves im i (Ok raw) = (unserved im i ≡ None) × (raw.at ≡ address_of im) × (raw.entry ≡ entry_of im)
-Serves im i (Err status) = (what : NotBuilt) × (unserved im i ≡ Some what) × (answer_of status ≡ not_built what)
+  -- After `check`: the list of the record is accepted in the memory for its segments, and the text tells it.
+  pub record HasChecked (l : LoadedValue) : Type 0 where
+    pub files : LoadFiles
+    pub read : reads (load_files_of l) held ≡ Ok files
+    pub items : List Item
+    pub accepted : IsAcceptedIn files items
+    pub put : FilesPut (D.files s) [] (D.files s')
+    pub said : Said (E.said o) (accepted_line (length items) (length (links items)) (length (pairs items))) (E.said o')
 
--- a command that is not built yet is refused before any file is taken
-abbrev pub IsNotBuilt : NotBuilt → Moment → Moment → Answer → Type 0
-IsNotBuilt what before after memory = Untouched before after × Calm before after
-IsNotBuilt what before after (not_built w) = (w ≡ what) × Untouched before after × Calm before after
-IsNotBuilt what before after other = ⊥
+  -- After `dump`: the text tells each word of the record's list, up to the done word or the first that cannot be followed,
+  -- and each segment.
+  pub record HasDumped (l : LoadedValue) : Type 0 where
+    pub files : LoadFiles
+    pub read : reads (load_files_of l) held ≡ Ok files
+    pub list : List ℕ
+    pub fault : Option ListFault
+    pub walk : IsWalk (at files.memory) files.load_record.image.head list fault
+    pub put : FilesPut (D.files s) [] (D.files s')
+    pub said : Said (E.said o) (walk_text list fault ++ flat_map segment_line files.load_record.segments) (E.said o')
 
-abbrev pub AnswersBoot : Option NotBuilt → BootValue → Moment → Moment → Answer → Type 0
-AnswersBoot (Some what) b before after a = IsNotBuilt what before after a
-AnswersBoot None b before after a = Meets (input_order b.inputs) (input_files b.inputs) (boots (address_of b.image) (entry_of b.image) b) before after a
+  -- After `exec`: the record's list is accepted in the memory for the record's segments. The runs left what they are to
+  -- leave; OUT is the file of that memory, every other file is as it was, and the text tells the list and each run.
+  pub record HasExecuted (e : ExecValue) : Type 0 where
+    pub inputs : ExecInputs
+    pub read : reads (exec_files e) held ≡ Ok inputs
+    pub pool : Pages
+    pub checked : Checked
+    pub of_files : checked.load ≡ load_of inputs.files pool
+    pub accepted : Told checked.load checked.words checked.links checked.pairs
+    pub leaves : Leaves (runs_asked inputs) checked (after_runs (runs_asked inputs) checked)
+    pub output : List ℕ
+    pub is_memory : IsFileOf (after_runs (runs_asked inputs) checked) output
+    pub put : FilesPut (D.files s) ((inputs.out, output) ∷ []) (D.files s')
+    pub said : Said (E.said o) (run_text (runs_asked inputs) checked inputs.files.load_record.start) (E.said o')
 
-abbrev pub AnswersLoad : Option NotBuilt → LoadValue → Moment → Moment → Answer → Type 0
-AnswersLoad (Some what) l before after a = IsNotBuilt what before after a
-AnswersLoad None l before after a = Meets (input_order l.inputs) (input_files l.inputs) (loads (address_of l.image) (entry_of l.image) l) before after a
+  -- After `trace`: OUT is the file of the memory after the steps of the machine, and the text tells how its run came out.
+  pub record HasTraced (t : TraceValue) : Type 0 where
+    pub inputs : TraceInputs
+    pub read : reads (trace_files t) held ≡ Ok inputs
+    pub output : List ℕ
+    pub is_memory : IsFileOf (at (run_of inputs.memory inputs.head inputs.mode inputs.limit).0.memory) output
+    pub put : FilesPut (D.files s) ((inputs.out, output) ∷ []) (D.files s')
+    pub said : Said (E.said o) (outcome_line (run_of inputs.memory inputs.head inputs.mode inputs.limit).1) (E.said o')
 
--- what an answer says of a command
-abbrev pub AnswersCommand : CommandValue → Moment → Moment → Answer → Type 0
-AnswersCommand (boot b) before after a = AnswersBoot (unserved b.image b.inputs) b before after a
-AnswersCommand (load l) before after a = AnswersLoad (unserved l.image l.inputs) l before after a
-AnswersCommand (check w) before after a = Meets (load_order w.memory w.load_record) (load_files w.memory w.load_record) checks before after a
-AnswersCommand (dump w) before after a = Meets (load_order w.memory w.load_record) (load_files w.memory w.load_record) dumps before after a
-AnswersCommand (exec w) before after a = Meets (load_order w.memory w.load_record) (load_files w.memory w.load_record) (executes w.out w.twice) before after a
-AnswersCommand (trace t) before after a = Meets (named (t.memory ∷ [])) (memory_file t.memory) (traces t.out t.head t.swap t.limit) before after a
-AnswersCommand (load_panic l) before after a = IsNotBuilt Command before after a
-AnswersCommand (sample n) before after a = IsNotBuilt Command before after a
+  -- what stands after a command answered Done; a command that is not served never does
+  abbrev pub HasDone : CommandValue → Type 0
+  HasDone (words.boot b) = HasBooted b
+  HasDone (words.load l) = HasLoaded l
+  HasDone (words.check l) = HasChecked l
+  HasDone (words.dump l) = HasDumped l
+  HasDone (words.exec e) = HasExecuted e
+  HasDone (words.trace t) = HasTraced t
+  HasDone (words.load_panic l) = ⊥
+  HasDone (words.sample n) = ⊥
 
--- what an answer says of the words: those that are refused, and those of a command
-abbrev pub Answers : Result CommandValue UsageWhy → Moment → Moment → Answer → Type 0
-Answers (Ok command) before after a = AnswersCommand command before after a
-Answers (Err why) before after (usage w) = (w ≡ why) × Untouched before after × Calm before after
-Answers (Err why) before after memory = Untouched before after × Calm before after
-Answers (Err why) before after other = ⊥
+-- Nothing refuses the load of what was taken: the request has a plan, the pool has as many pages as the load takes, and
+-- each memory that it may leave has a file.
+pub record CanLoad (wish : Wish) (i : LoadInputs) (leaves : Checked → Mem) : Type 0 where
+  pub p : Plan
+  pub planned : plan i.request i.map ≡ Ok p
+  pub enough : need wish p.segments ≤ length i.pool
+  pub light : (c : Checked) (n : ℕ) → IsLoaded wish i p c.load → IsTooHeavy (leaves c) n → ⊥
 
--- the segments of a raw kernel of these bytes
-abbrev pub segments_of : ImageType → List ℕ → List Part
-segments_of im kernel = raw_segment (address_of im) kernel ∷ []
+-- the record's list is accepted in the memory, a record that is to run twice is in kept mode, and the memory after the runs
+-- has a file
+pub record CanRun (x : ExecInputs) : Type 0 where
+  pub items : List Item
+  pub accepted : IsAcceptedIn x.files items
+  pub kept : lacks_swap_page x.twice x.files.load_record.image.mode ≡ false
+  pub light : (c : Checked) (pool : Pages) (n : ℕ) → c.load ≡ load_of x.files pool → IsTooHeavy (after_runs (runs_asked x) c) n → ⊥
 
--- What stands after `boot` answered Done, where files were told: all that the words name was read; the pool sufficed; the
--- load wrote only pages of the pool and laid an accepted list; the runs leave what they are to leave; OUT is the file of
--- the memory after the last run, every other file is as it was, and the text tells the list and each run.
-pub record HasBooted (b : BootValue) (held : Files) (before after : Moment) : Type 0 where
-  pub inputs : Inputs
-  pub reads : input_files b.inputs held ≡ Ok inputs
-  pub checked : Checked
-  pub loaded : IsLoaded (wish_of b.kept) (segments_of b.image inputs.kernel) inputs checked
-  pub leaves : Leaves b.kept checked (after_runs b.kept checked)
-  pub output : List ℕ
-  pub is_memory : IsFileOf (after_runs b.kept checked) output
-  pub put : PutAll before.files ((b.out, output) ∷ []) after.files
-  pub said : Said before.said (run_text b.kept checked (start_at (entry_of b.image))) after.said
+-- a command is in order over these files: they are read, and nothing refuses what they are
+abbrev pub IsInOrder : CommandValue → Files → Type 0
+IsInOrder (words.boot b) held = (x : BootInputs) × (reads (boot_files b) held ≡ Ok x) × CanLoad (wish_of x.runs) x.load (after_runs x.runs)
+IsInOrder (words.load l) held = (x : LoadCommand) × (reads (load_command_files l) held ≡ Ok x) × CanLoad x.wish x.load (λ c. at c.load.memory)
+IsInOrder (words.check l) held = (x : LoadFiles) × (reads (load_files_of l) held ≡ Ok x) × (is : List Item) × IsAcceptedIn x is
+IsInOrder (words.dump l) held = (x : LoadFiles) × (reads (load_files_of l) held ≡ Ok x)
+IsInOrder (words.exec e) held = (x : ExecInputs) × (reads (exec_files e) held ≡ Ok x) × CanRun x
+IsInOrder (words.trace t) held =
+    (x : TraceInputs) × (reads (trace_files t) held ≡ Ok x) × ((n : ℕ) → IsTooHeavy (at (run_of x.memory x.head x.mode x.limit).0.memory) n → ⊥)
+IsInOrder (words.load_panic l) held = ⊥
+IsInOrder (words.sample n) held = ⊥
 
--- the wish of a load
-abbrev pub load_wish : LoadValue → Wish
-load_wish l = cond l.kept wishes.Kept wishes.Plain
+-- the files are read and the request has a plan, whose load takes more pages than the pool has: so many, and so many
+abbrev pub LacksPages : Wish → LoadInputs → (pool need : ℕ) → Type 0
+LacksPages wish i pool n = (p : Plan) × (plan i.request i.map ≡ Ok p) × (pool ≡ length i.pool) × (n ≡ need wish p.segments) × (pool < n)
 
--- What stands after `load` answered Done, where files were told: all that the words name was read; the pool sufficed; the
--- load wrote only pages of the pool and laid an accepted list; OUT is the file of the memory after the load, RECORD tells
--- its list, start and segments, every other file is as it was, and the text tells the list.
-pub record HasLoaded (l : LoadValue) (held : Files) (before after : Moment) : Type 0 where
-  pub inputs : Inputs
-  pub reads : input_files l.inputs held ≡ Ok inputs
-  pub checked : Checked
-  pub loaded : IsLoaded (load_wish l) (segments_of l.image inputs.kernel) inputs checked
-  pub output : List ℕ
-  pub is_memory : IsFileOf (at checked.load.memory) output
-  pub put : PutAll before.files ((l.out, output) ∷ (l.load_record, record_file (record_of_load checked.load (start_at (entry_of l.image)))) ∷ []) after.files
-  pub said : Said before.said (list_text checked (start_at (entry_of l.image))) after.said
-
--- What stands after `exec` answered Done, where files were told: the memory and the record were read; the record's list is
--- accepted in the memory for the record's segments; the runs left what they are to leave; OUT is the file of that memory,
--- every other file is as it was, and the text tells the list and each run.
-pub record HasExecuted (e : ExecValue) (held : Files) (before after : Moment) : Type 0 where
-  pub files : LoadFiles
-  pub reads : load_files e.memory e.load_record held ≡ Ok files
-  pub pool : Pages
-  pub checked : Checked
-  pub of_files : checked.load ≡ load_of files pool
-  pub accepted : Told checked.load checked.words checked.links checked.pairs
-  pub left : Mem
-  pub leaves : Leaves (runs_of e.twice files.load_record.image.mode) checked left
-  pub output : List ℕ
-  pub is_memory : IsFileOf left output
-  pub put : PutAll before.files ((e.out, output) ∷ []) after.files
-  pub said : Said before.said (run_text (runs_of e.twice files.load_record.image.mode) checked files.load_record.start) after.said
-
--- Nothing refuses a load of what these inputs hold, and each memory that it may leave has a file: the request is served,
--- the files are read, no part is given that the kernel has no use for, the segments meet the rules, the pool has as many
--- pages as the load takes, and the memory has at most as many pages as a file.
-pub record IsInOrder (image : ImageType) (i : InputsValue) (wish : Wish) (leaves : Checked → Mem) (held : Files) : Type 0 where
-  pub served : unserved image i ≡ None
-  pub inputs : Inputs
-  pub reads : input_files i held ≡ Ok inputs
-  pub used : unused_part i ≡ None
-  pub ruled : IsRefusal inputs.map (segments_of image inputs.kernel) None
-  pub enough : need wish (segments_of image inputs.kernel) ≤ length inputs.pool
-  pub light : (c : Checked) (count : ℕ) → IsLoaded wish (segments_of image inputs.kernel) inputs c → IsTooHeavy (leaves c) count → ⊥
-
--- the memory after `boot`, and after `load`
-abbrev pub boot_leaves : BootValue → Checked → Mem
-boot_leaves b c = after_runs b.kept c
-
-abbrev pub load_leaves : Checked → Mem
-load_leaves c = at c.load.memory
+abbrev pub HasTooFew : CommandValue → Files → (pool need : ℕ) → Type 0
+HasTooFew (words.boot b) held pool n = (x : BootInputs) × (reads (boot_files b) held ≡ Ok x) × LacksPages (wish_of x.runs) x.load pool n
+HasTooFew (words.load l) held pool n = (x : LoadCommand) × (reads (load_command_files l) held ≡ Ok x) × LacksPages x.wish x.load pool n
+HasTooFew other held pool n = ⊥

@@ -1,19 +1,20 @@
 -- What `dump` makes: a line for each word of the list, and one for each segment.
-use Rattle.std.specs.Prelude.{◌≡◌, ℕ, ◌+◌, ◌*◌, ◌/◌, true, false, List, [], ◌∷◌, ◌++◌, length, take, codes, decimal, Option, Some, None, Result, Ok, Err}
+use Rattle.std.specs.Prelude.{◌≡◌, ℕ, ◌+◌, ◌*◌, ◌/◌, List, [], ◌∷◌, ◌++◌, length, take, codes, decimal, Option, Some, None, Result, Ok, Err}
 use Rattle.std.specs.List.{flat_map}
 use Rattle.kx_pages.specs.declared.item.Item.{Item}
 use Rattle.kx_pages.specs.declared.item.Item.TheVariants.{Link, Destination, Source, Done}
 use Rattle.kx_pages.specs.Items.{decode}
 use Rattle.page_memory.specs.Contents.{at}
-use Rattle.segments.specs.Parts.{Part}
+use Rattle.segments.specs.Values.{SegmentValue}
 use Rattle.list_checker.specs.declared.fault.ListFault.{ListFault}
 use Rattle.list_checker.specs.Reading.{IsWalk}
 use Rattle.list_checker.specs.Texts.{fault_text}
 use Rattle.sha2.specs.Sha256.{sha256}
 use Rattle.hex.specs.Hex.{encode_lower}
-use Rattle.kexec_main.specs.declared.load_files.LoadFiles.{LoadFiles}
-use Rattle.kexec_main.specs.declared.status.NotBuilt.TheVariants.{Crash}
-use Rattle.kexec_main.specs.Answers.{Answer, Goods, not_built}
+use Rattle.file_commands.specs.Taking.{Refusal}
+use Rattle.kexec_main.specs.declared.files.LoadFiles.{LoadFiles}
+use Rattle.kexec_main.specs.declared.status.Reason.{Reason}
+use Rattle.kexec_main.specs.Outputs.{Made}
 use Rattle.kexec_main.specs.Texts.{hexadecimal}
 
 -- what a word is, and its address, that is the word without its flags
@@ -38,15 +39,14 @@ walk_text ws None = word_lines 0 ws
 walk_text ws (Some f) = word_lines 0 (take f.word ws) ++ (fault_text f ++ codes "\n")
 
 -- the line of a segment: its address, its bytes of memory, the count of its bytes and their digest by SHA-256 (FIPS 180-4)
-unfoldable pub segment_line : Part → List ℕ
+unfoldable pub segment_line : SegmentValue → List ℕ
 segment_line s =
     codes "segment " ++ (hexadecimal s.mem ++ (codes " memsz " ++ (hexadecimal s.memsz ++ (codes " bufsz " ++ (decimal (length s.bytes) ++ (codes " sha256 " ++ (encode_lower (sha256 s.bytes) ++ codes "\n")))))))
 
--- No output is made, whether the list is accepted or not. Crash records are not read yet.
-abbrev pub dumps : LoadFiles → Result Goods Answer → Type 0
+-- a line for each word and each segment; no output is made, whether the list is accepted or not, and nothing is refused
+abbrev pub dumps : LoadFiles → Result Made (Refusal Reason) → Type 0
 dumps x (Ok goods) =
-    (x.load_record.crash ≡ false) × (goods.outputs ≡ []) × (goods.fault ≡ None)
+    (goods.outputs ≡ []) × (goods.fault ≡ None)
     × ((ws : List ℕ) × (fault : Option ListFault) × IsWalk (at x.memory) x.load_record.image.head ws fault
     × (goods.text ≡ walk_text ws fault ++ flat_map segment_line x.load_record.segments))
-dumps x (Err (not_built what)) = (what ≡ Crash) × (x.load_record.crash ≡ true)
 dumps x (Err other) = ⊥

@@ -1,21 +1,43 @@
--- What `exec` makes: the memory after the runs of an accepted list, and what is told of the list and the runs.
-use Rattle.std.specs.Prelude.{◌≡◌, ℕ, Bool, true, false, List, Option, Some, None, Result, Ok, Err}
+-- What `exec` takes and makes (this project's own).
+use Rattle.std.specs.Prelude.{◌≡◌, ℕ, Bool, true, false, List, Option, Some, None, string_bytes, Result, Ok, Err, ◌⊎◌}
 use Rattle.kx_pages.specs.declared.image.Mode.{Mode}
 use Rattle.kx_pages.specs.declared.image.Mode.TheVariants.{Plain, Kept}
 use Rattle.kx_pages.specs.declared.image.Start.{Start}
-use Rattle.page_memory.specs.Memory.{Mem}
 use Rattle.page_pool.specs.Pages.{Pages}
 use Rattle.list_checker.specs.declared.fault.ListFault.{ListFault}
 use Rattle.load_states.specs.States.{Load}
+use Rattle.load_states.specs.Ready.{Told}
+use Rattle.file_commands.specs.Taking.{Refusal, Take, ok, too_long, by, ◌>>=◌}
+use Rattle.kexec_words.specs.Values.{ExecValue}
 use Rattle.kexec_words.specs.declared.commands.Runs.{Runs}
 use Rattle.kexec_words.specs.declared.commands.Runs.TheVariants.{Once, Twice}
-use Rattle.kexec_main.specs.declared.load_files.LoadFiles.{LoadFiles}
-use Rattle.kexec_main.specs.declared.status.NotBuilt.TheVariants.{Crash}
-use Rattle.kexec_main.specs.Answers.{Answer, Goods, heavy, not_kept, not_built}
-use Rattle.kexec_main.specs.Boot.{RunsLoaded}
+use Rattle.kexec_main.specs.declared.exec.ExecInputs.{ExecInputs as Taken}
+use Rattle.kexec_main.specs.declared.files.LoadFiles.{LoadFiles}
+use Rattle.kexec_main.specs.declared.status.Reason.{Reason}
+use Rattle.kexec_main.specs.declared.status.Reason.TheVariants.{NotKept}
 use Rattle.kexec_main.specs.Check.{IsFaultIn, IsFaultLine}
-use Rattle.kexec_main.specs.LoadedFiles.{lacks_swap_page}
-use Rattle.kexec_main.specs.Makes.{IsOneFile, IsTooHeavy}
+use Rattle.kexec_main.specs.Files.{load_files}
+use Rattle.kexec_main.specs.Outputs.{Made, HasNoFile, IsMemoryFile}
+use Rattle.kexec_main.specs.Runs.{after_runs, checked_with, run_text}
+
+-- what `exec` took, whether the list is to run twice, and the name of its output
+pub record ExecInputs : Type 0 where
+  pub files : LoadFiles
+  pub twice : Bool
+  pub out : List ℕ
+
+abbrev pub exec_files : ExecValue → Take Reason ExecInputs
+exec_files e = do
+  x ← load_files e.memory e.load_record
+  ok (record { files = x; twice = e.twice; out = e.out })
+
+abbrev pub exec_inputs : Taken → ExecInputs
+exec_inputs e = record { files = e.files; twice = e.twice; out = string_bytes e.out }
+
+-- a second run is asked for, and there is no swap page to run the list again with
+abbrev pub lacks_swap_page : Bool → Mode → Bool
+lacks_swap_page twice Plain = twice
+lacks_swap_page twice (Kept swap) = false
 
 -- the runs of a list in this mode: a plain list runs once, and with context preserved the list may run once more
 abbrev pub runs_of : Bool → Mode → Option Runs
@@ -27,29 +49,38 @@ runs_of true (Kept swap) = Some Twice
 abbrev pub load_of : LoadFiles → Pages → Load
 load_of x pool = record { memory = x.memory; pool = pool; image = x.load_record.image; segments = x.load_record.segments }
 
--- the accepted list of a load is run: the file of the memory after the last run and what is told of the list and each run
--- go out, or that memory has too many pages for a file
-abbrev pub runs_list : List ℕ → Option Runs → Start → Load → Result Goods Answer → Type 0
-runs_list out runs start s (Ok goods) = (N : Mem) × RunsLoaded runs s start N goods.text × (goods.fault ≡ None) × IsOneFile goods out N
-runs_list out runs start s (Err (heavy count)) = (N : Mem) × (text : List ℕ) × RunsLoaded runs s start N text × IsTooHeavy N count
-runs_list out runs start s (Err other) = ⊥
+-- The accepted list of a load is run: the file of the memory after the last run is the output, and the text tells the list
+-- and each run.
+abbrev pub RunsList : Option Runs → Load → Start → List ℕ → Made → Type 0
+RunsList runs load start out goods =
+    (words : ℕ) × (links : ℕ) × (qs : List (ℕ × ℕ)) × Told load words links qs
+    × (goods.text ≡ run_text runs (checked_with load words links qs) start) × (goods.fault ≡ None)
+    × IsMemoryFile goods.outputs out (after_runs runs (checked_with load words links qs))
+
+-- the memory after the last run has no file, for this reason
+abbrev pub RefusesRun : Option Runs → Load → Reason → Type 0
+RefusesRun runs load why =
+    (words : ℕ) × (links : ℕ) × (qs : List (ℕ × ℕ)) × Told load words links qs × HasNoFile (after_runs runs (checked_with load words links qs)) why
 
 -- the list of the files is run
-abbrev pub runs_files : List ℕ → Bool → LoadFiles → Result Goods Answer → Type 0
-runs_files out twice x r = (pool : Pages) × runs_list out (runs_of twice x.load_record.image.mode) x.load_record.start (load_of x pool) r
+abbrev pub runs_asked : ExecInputs → Option Runs
+runs_asked x = runs_of x.twice x.files.load_record.image.mode
+
+abbrev pub RunsFiles : ExecInputs → Made → Type 0
+RunsFiles x goods = (pool : Pages) × RunsList (runs_asked x) (load_of x.files pool) x.files.load_record.start x.out goods
+
+abbrev pub RefusesFiles : ExecInputs → Reason → Type 0
+RefusesFiles x why = (pool : Pages) × RefusesRun (runs_asked x) (load_of x.files pool) why
 
 -- the list is accepted and was run, or its first fault is told and nothing was run
-abbrev pub executes_as : List ℕ → Bool → LoadFiles → Goods → Option ListFault → Type 0
-executes_as out twice x goods None = runs_files out twice x (Ok goods)
-executes_as out twice x goods (Some f) = IsFaultIn x f × IsFaultLine f goods
+abbrev pub executes_as : ExecInputs → Made → Option ListFault → Type 0
+executes_as x goods None = RunsFiles x goods
+executes_as x goods (Some f) = IsFaultIn x.files f × IsFaultLine f goods
 
--- Crash records are not run yet, and a plain list is not run twice: both are refused before the list is looked at. After
--- the runs memory may have too many pages for a file.
-abbrev pub executes : List ℕ → Bool → LoadFiles → Result Goods Answer → Type 0
-executes out twice x (Ok goods) =
-    (x.load_record.crash ≡ false) × (lacks_swap_page twice x.load_record.image.mode ≡ false) × executes_as out twice x goods goods.fault
-executes out twice x (Err (heavy count)) =
-    (x.load_record.crash ≡ false) × (lacks_swap_page twice x.load_record.image.mode ≡ false) × runs_files out twice x (Err (heavy count))
-executes out twice x (Err not_kept) = (x.load_record.crash ≡ false) × (lacks_swap_page twice x.load_record.image.mode ≡ true)
-executes out twice x (Err (not_built what)) = (what ≡ Crash) × (x.load_record.crash ≡ true)
-executes out twice x (Err other) = ⊥
+-- A plain list is not run twice: this is refused before the list is looked at. After the runs memory may have no file.
+abbrev pub executes : ExecInputs → Result Made (Refusal Reason) → Type 0
+executes x (Ok goods) = (lacks_swap_page x.twice x.files.load_record.image.mode ≡ false) × executes_as x goods goods.fault
+executes x (Err (by why)) =
+    ((why ≡ NotKept) × (lacks_swap_page x.twice x.files.load_record.image.mode ≡ true))
+    ⊎ ((lacks_swap_page x.twice x.files.load_record.image.mode ≡ false) × RefusesFiles x why)
+executes x (Err (too_long name limit)) = ⊥

@@ -1,13 +1,17 @@
--- What `trace` makes: the memory after the steps, and how the run came out.
-use Rattle.std.specs.Prelude.{◌≡◌, ℕ, ◌/◌, List, ◌++◌, codes, decimal, Option, Some, None, Result, Ok, Err}
+-- What `trace` takes and makes (this project's own).
+use Rattle.std.specs.Prelude.{◌≡◌, ℕ, ◌/◌, List, ◌++◌, codes, decimal, Option, Some, None, string_bytes, Result, Ok, Err}
 use Rattle.kx_pages.specs.declared.image.Mode.{Mode}
 use Rattle.kx_pages.specs.declared.image.Mode.TheVariants.{Plain, Kept}
 use Rattle.page_memory.specs.Contents.{Contents, at}
 use Rattle.relocate_machine.specs.declared.step.Outcome.{Outcome}
 use Rattle.relocate_machine.specs.declared.step.Outcome.TheVariants as outcomes
 use Rattle.relocate_machine.specs.Run.{run_of}
-use Rattle.kexec_main.specs.Answers.{Answer, Goods, heavy}
-use Rattle.kexec_main.specs.Makes.{IsOneFile, IsTooHeavy}
+use Rattle.file_commands.specs.Taking.{Refusal, Take, ok, too_long, by, ◌>>=◌}
+use Rattle.kexec_words.specs.Values.{TraceValue}
+use Rattle.kexec_main.specs.declared.trace.TraceInputs.{TraceInputs as Taken}
+use Rattle.kexec_main.specs.declared.status.Reason.{Reason}
+use Rattle.kexec_main.specs.Files.{memory_file}
+use Rattle.kexec_main.specs.Outputs.{Made, HasNoFile, IsMemoryFile}
 use Rattle.kexec_main.specs.Texts.{hexadecimal}
 
 -- how a run came out
@@ -21,10 +25,26 @@ abbrev pub mode_by : Option ℕ → Mode
 mode_by None = Plain
 mode_by (Some address) = Kept (address / 4096)
 
--- the file of the memory after the steps and the outcome's line; or too many pages for a file
-abbrev pub traces : List ℕ → ℕ → Option ℕ → ℕ → Contents → Result Goods Answer → Type 0
-traces out head swap limit m (Ok goods) =
-    let run = run_of m head (mode_by swap) limit in
-    (goods.text ≡ outcome_line run.1) × (goods.fault ≡ None) × IsOneFile goods out (at run.0.memory)
-traces out head swap limit m (Err (heavy count)) = IsTooHeavy (at (run_of m head (mode_by swap) limit).0.memory) count
-traces out head swap limit m (Err other) = ⊥
+-- what `trace` took, the head word, the mode of the moves, the most steps, and the name of its output
+pub record TraceInputs : Type 0 where
+  pub memory : Contents
+  pub head : ℕ
+  pub mode : Mode
+  pub limit : ℕ
+  pub out : List ℕ
+
+abbrev pub trace_files : TraceValue → Take Reason TraceInputs
+trace_files t = do
+  m ← memory_file t.memory
+  ok (record { memory = m; head = t.head; mode = mode_by t.swap; limit = t.limit; out = t.out })
+
+abbrev pub trace_inputs : Taken → TraceInputs
+trace_inputs t = record { memory = t.memory; head = t.head; mode = t.mode; limit = t.limit; out = string_bytes t.out }
+
+-- the file of the memory after the steps and the outcome's line; or that memory has no file
+abbrev pub traces : TraceInputs → Result Made (Refusal Reason) → Type 0
+traces x (Ok goods) =
+    let run = run_of x.memory x.head x.mode x.limit in
+    (goods.text ≡ outcome_line run.1) × (goods.fault ≡ None) × IsMemoryFile goods.outputs x.out (at run.0.memory)
+traces x (Err (by why)) = HasNoFile (at (run_of x.memory x.head x.mode x.limit).0.memory) why
+traces x (Err (too_long name limit)) = ⊥

@@ -2,19 +2,18 @@
 
 ghost use Rattle.std.specs.Prelude.{◌≡◌, ◌++◌, ◌∷◌, [], IfOk, OnOk, string_bytes};
 ghost use Rattle.std.specs.List.{flat_map};
+ghost use Rattle.file_commands.specs.Calls.{Makes};
 ghost use Rattle.kexec_words.specs.Values.{loaded_value};
-ghost use Rattle.kexec_main.specs.Answers.{Meets, ended, moment};
 ghost use Rattle.kexec_main.specs.Dump.{dumps, segment_line, walk_text, word_line, word_lines};
-ghost use Rattle.kexec_main.specs.LoadedFiles.{load_files, load_order};
-ghost use Rattle.kexec_main.specs.Makes.{Makes};
+ghost use Rattle.kexec_main.specs.Files.{load_files_of};
 
-use crate::deliver::{Goods, deliver};
-use crate::load_files::{LoadFiles, take_load_files};
-use crate::status::{NotBuilt, Status};
-use kexec_words::Loaded;
-use kx_edge::{Shelf, Sink};
+use crate::files::{LoadFiles, take_load_files};
+use crate::status::Reason;
+use crate::words::DumpWords;
+use file_commands::{Command, Goods, MakeFault, TakeFault};
+use kx_edge::Shelf;
 use kx_pages::Item;
-use list_checker::{Walk, walk};
+use list_checker::{ListFault, Walk, walk};
 use segments::{Segment, Segments};
 use sha2::{Digest, Sha256};
 use std::alloc::{AllocError, Global};
@@ -84,18 +83,13 @@ fn push_segments(alloc: Global, text: &mut String, segments: &Segments) -> Resul
 }
 
 // Makes the lines of the list and of the segments.
-fn dump_goods(alloc: Global, files: LoadFiles) -> Result<Goods, Status>
+fn make_dump(alloc: Global, files: LoadFiles) -> Result<Goods<ListFault>, MakeFault<Reason>>
     ensures { Makes dumps files result }
 {
     let LoadFiles {
         memory,
         load_record,
     } = files;
-    if load_record.crash {
-        return Err(Status::NotBuilt {
-            what: NotBuilt::Crash,
-        });
-    }
     let walk = walk(alloc, &memory, load_record.image.head)?;
     let mut text = String::new(alloc);
     push_walk(alloc, &mut text, walk)?;
@@ -107,24 +101,28 @@ fn dump_goods(alloc: Global, files: LoadFiles) -> Result<Goods, Status>
     })
 }
 
-/// Tells each word of the record's list, up to the done word or the first word that cannot be followed, and each
-/// segment.
-pub(crate) fn dump<S: Shelf, O: Sink>(
-    alloc: Global,
-    loaded: Loaded,
-    shelf: &mut S,
-    out: &mut O,
-) -> Result<(), Status>
-    ensures { Meets (load_order (string_bytes loaded.memory) (string_bytes loaded.load_record)) (load_files (string_bytes loaded.memory) (string_bytes loaded.load_record)) dumps
-        (moment (S.files shelf.old) (S.faults shelf.old) (O.said out.old) (O.faults out.old))
-        (moment (S.files shelf.new) (S.faults shelf.new) (O.said out.new) (O.faults out.new))
-        (ended result) }
-{
-    let Loaded {
-        memory,
-        load_record,
-    } = loaded;
-    let files = take_load_files(alloc, memory, load_record, shelf)?;
-    let goods = dump_goods(alloc, files)?;
-    deliver(goods, shelf, out)
+impl Command for DumpWords {
+    type Taken = LoadFiles;
+
+    type Fault = ListFault;
+
+    type Reason = Reason;
+
+    ghost use Rattle.kexec_main.specs.declared.files.LoadFiles.{LoadFiles};
+
+    ghost Inputs = { LoadFiles };
+
+    ghost inputs = { λ f. f };
+
+    ghost takes = { λ d. load_files_of (loaded_value d.words) };
+
+    ghost makes = { dumps };
+
+    fn take<S: Shelf>(self, alloc: Global, shelf: &mut S) -> Result<LoadFiles, TakeFault<Reason>> {
+        take_load_files(alloc, self.words.memory, self.words.load_record, shelf)
+    }
+
+    fn make(alloc: Global, files: LoadFiles) -> Result<Goods<ListFault>, MakeFault<Reason>> {
+        make_dump(alloc, files)
+    }
 }

@@ -1,28 +1,55 @@
 //! `exec`: runs the list of a load record where it is accepted.
 
-ghost use Rattle.std.specs.Prelude.{◌≡◌, ◌∷◌, [], string_bytes};
+ghost use Rattle.std.specs.Prelude.{◌≡◌, string_bytes};
 ghost use Rattle.load_states.specs.Answers.{IsAcceptedAs};
 ghost use Rattle.load_states.specs.States.{Load as LoadOf};
+ghost use Rattle.file_commands.specs.Calls.{Makes, MakesOr, Takes, goods_of};
 ghost use Rattle.kexec_words.specs.Values.{exec_value};
-ghost use Rattle.kexec_main.specs.Answers.{Meets, ended, moment};
-ghost use Rattle.kexec_main.specs.Boot.{HasMode};
-ghost use Rattle.kexec_main.specs.Exec.{executes, runs_list, runs_of};
-ghost use Rattle.kexec_main.specs.LoadedFiles.{lacks_swap_page, load_files, load_order};
-ghost use Rattle.kexec_main.specs.Makes.{Makes};
+ghost use Rattle.kexec_main.specs.Exec.{ExecInputs as Inputs, RunsList, RefusesRun, exec_files, exec_inputs, executes, lacks_swap_page, runs_of};
+ghost use Rattle.kexec_main.specs.Runs.{HasMode};
 
 use crate::check::fault_goods;
-use crate::deliver::{Goods, deliver};
-use crate::load_files::{LoadFiles, take_load_files};
+use crate::files::{LoadFiles, take_load_files};
 use crate::output::memory_output;
 use crate::running::run_accepted;
-use crate::status::{NotBuilt, Status};
+use crate::status::Reason;
+use crate::text::ran_text;
+use crate::words::ExecWords;
+use file_commands::{Command, Goods, MakeFault, TakeFault};
 use kexec_words::{Exec, Runs};
-use kx_edge::{Shelf, Sink};
+use kx_edge::Shelf;
 use kx_pages::{Mode, Start};
+use list_checker::ListFault;
 use load_record::LoadRecord;
 use load_states::{Accepted, Loaded};
 use page_pool::Pool;
 use std::alloc::Global;
+
+/// What `exec` took, whether the list is to run twice, and the name of its output.
+#[derive(Drop)]
+pub(crate) struct ExecInputs {
+    pub(crate) files: LoadFiles,
+    pub(crate) twice: bool,
+    pub(crate) out: String,
+}
+
+// Takes what is to be run.
+fn take_exec<S: Shelf>(
+    alloc: Global,
+    exec: Exec,
+    shelf: &mut S,
+) -> Result<ExecInputs, TakeFault<Reason>>
+    ensures { Takes S.Shelf (exec_files (exec_value exec)) exec_inputs shelf.old result shelf.new }
+{
+    let Exec {
+        memory,
+        load_record,
+        out,
+        twice,
+    } = exec;
+    let files = take_load_files(alloc, memory, load_record, shelf)?;
+    Ok(ExecInputs { files, twice, out })
+}
 
 // A second run is asked for, and the record is in plain mode.
 fn lacks_swap_page(twice: bool, mode: Mode) -> bool
@@ -52,69 +79,68 @@ fn run_goods(
     runs: Option<Runs>,
     start: &Start,
     out: String,
-) -> Result<Goods, Status>
+) -> Result<Goods<ListFault>, MakeFault<Reason>>
     requires { (s : LoadOf) × IsAcceptedAs s accepted × HasMode runs s.image.mode }
-    ensures { (s : LoadOf) → IsAcceptedAs s accepted → Makes (runs_list (string_bytes out) runs start.now) s result }
+    ensures { (s : LoadOf) → IsAcceptedAs s accepted → MakesOr (λ g. RunsList runs s start.now (string_bytes out) (goods_of g)) (RefusesRun runs s) result }
 {
-    let ran = run_accepted(alloc, accepted, runs, start)?;
+    let ran = run_accepted(accepted, runs);
+    let text = ran_text(alloc, &ran, start)?;
     let outputs = memory_output(alloc, ran.memory, out)?;
     Ok(Goods {
         outputs,
-        text: ran.text,
+        text,
         fault: None,
     })
 }
 
 // Runs the list where it is accepted, and makes the file of the memory after the last run.
-fn exec_goods(alloc: Global, files: LoadFiles, twice: bool, out: String) -> Result<Goods, Status>
-    ensures { Makes (executes (string_bytes out) twice) files result }
+fn make_exec(alloc: Global, exec: ExecInputs) -> Result<Goods<ListFault>, MakeFault<Reason>>
+    ensures { Makes executes (exec_inputs exec) result }
 {
+    let ExecInputs { files, twice, out } = exec;
     let LoadFiles {
         memory,
         load_record,
     } = files;
     let LoadRecord {
-        crash,
         image,
         start,
         segments,
         ..
     } = load_record;
-    if crash {
-        return Err(Status::NotBuilt {
-            what: NotBuilt::Crash,
-        });
-    }
     if lacks_swap_page(twice, image.mode) {
-        return Err(Status::NotKept);
+        return Err(MakeFault::Refused {
+            why: Reason::NotKept,
+        });
     }
     let runs = runs_of(twice, image.mode);
     let loaded = Loaded::from_parts(memory, Pool::empty(alloc), image, segments);
     match loaded.accept(alloc) {
-        Err(refused) => fault_goods(alloc, refused.why),
         Ok(accepted) => run_goods(alloc, accepted, runs, &start, out),
+        Err(refused) => fault_goods(alloc, refused.why),
     }
 }
 
-/// Runs the list of the record, once or twice, where it is accepted in the memory for the record's segments.
-pub(crate) fn exec<S: Shelf, O: Sink>(
-    alloc: Global,
-    exec: Exec,
-    shelf: &mut S,
-    out: &mut O,
-) -> Result<(), Status>
-    ensures { Meets (load_order (string_bytes exec.memory) (string_bytes exec.load_record)) (load_files (string_bytes exec.memory) (string_bytes exec.load_record)) (executes (string_bytes exec.out) exec.twice)
-        (moment (S.files shelf.old) (S.faults shelf.old) (O.said out.old) (O.faults out.old))
-        (moment (S.files shelf.new) (S.faults shelf.new) (O.said out.new) (O.faults out.new))
-        (ended result) }
-{
-    let Exec {
-        memory,
-        load_record,
-        out: name,
-        twice,
-    } = exec;
-    let files = take_load_files(alloc, memory, load_record, shelf)?;
-    let goods = exec_goods(alloc, files, twice, name)?;
-    deliver(goods, shelf, out)
+impl Command for ExecWords {
+    type Taken = ExecInputs;
+
+    type Fault = ListFault;
+
+    type Reason = Reason;
+
+    ghost Inputs = { Inputs };
+
+    ghost inputs = { exec_inputs };
+
+    ghost takes = { λ e. exec_files (exec_value e.words) };
+
+    ghost makes = { executes };
+
+    fn take<S: Shelf>(self, alloc: Global, shelf: &mut S) -> Result<ExecInputs, TakeFault<Reason>> {
+        take_exec(alloc, self.words, shelf)
+    }
+
+    fn make(alloc: Global, exec: ExecInputs) -> Result<Goods<ListFault>, MakeFault<Reason>> {
+        make_exec(alloc, exec)
+    }
 }

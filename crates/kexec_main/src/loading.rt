@@ -1,91 +1,47 @@
-//! Raw kernels are planned and loaded.
+//! A request is planned, and its segments are loaded.
 
-ghost use Rattle.std.specs.Prelude.{◌≡◌, ◌<◌, ◌≤◌, ◌^◌, ◌∷◌, [], ℕ, List, length, false, IfOk, IfErr, option_map};
+ghost use Rattle.std.specs.Prelude.{◌≡◌, ◌≤◌, ℕ, List, length, false, option_map, Ok};
 ghost use Rattle.kx_pages.specs.declared.image.Wish.{Wish as WishOf};
+ghost use Rattle.kx_laws.specs.Results.{Gives};
 ghost use Rattle.page_memory.specs.Contents.{at};
 ghost use Rattle.page_memory.specs.Memory.{Mem};
 ghost use Rattle.page_pool.specs.Pages.{is_filed};
-ghost use Rattle.list_checker.specs.Walk.{IsAccepted, swap_page};
-ghost use Rattle.segments.specs.Parts.{want};
-ghost use Rattle.kx_pages.specs.declared.item.Item.{Item};
-ghost use Rattle.load_states.specs.Answers.{IsAcceptedAs};
+ghost use Rattle.segments.specs.Values.{need};
 ghost use Rattle.load_states.specs.Fillings.{FillsFrom, IsSealed};
-ghost use Rattle.kexec_words.specs.Values.{inputs_value};
-ghost use Rattle.kexec_main.specs.Answers.{answer_of, memory};
-ghost use Rattle.kexec_main.specs.Planning.{unused_part, raw_segment, Tests, Plans, LoadsInto};
+ghost use Rattle.file_commands.specs.Calls.{MakesOr};
+ghost use Rattle.kexec_plan.specs.Plan.{IsServed, plan};
+ghost use Rattle.kexec_plan.specs.Requests.{IsMapped, lent, planned_of, request_of};
+ghost use Rattle.kexec_main.specs.Inputs.{inputs_of};
+ghost use Rattle.kexec_main.specs.Loading.{HasNoPlan, IsLoaded, IsTooFew, RefusesLoad, plan_of};
 
-use crate::status::{Part, PlanFault, Status};
-use kexec_words::Inputs;
+use crate::load_inputs::LoadInputs;
+use crate::status::Reason;
+use file_commands::MakeFault;
+use kexec_plan::{PlanFault, Planned, Request, plan};
 use kimage_list::BeginFault;
-use kx_pages::Wish;
-use list_checker::CheckFault;
-use load_states::{Accepted, Filling, Loaded};
+use kx_pages::{Start, Wish};
+use load_states::{Filling, Loaded};
 use memory_map::Map;
 use page_memory::Memory;
 use page_pool::Pool;
-use segments::{Kind, SegFault, Segment, Segments};
-use std::alloc::{AllocError, Global};
+use segments::Segments;
+use std::alloc::Global;
 
-/// The first part that is given and that a raw kernel has no use for.
-pub(crate) fn unused_part(inputs: &Inputs) -> Option<Part>
-    ensures { result ≡ unused_part (inputs_value inputs.now) }
-{
-    if inputs.initrd.is_some() {
-        Some(Part::Initrd)
-    } else if !inputs.modules.is_empty() {
-        Some(Part::Module)
-    } else if inputs.command.is_some() {
-        Some(Part::Command)
-    } else {
-        None
-    }
-}
-
-// A raw kernel's segment, in a list.
-fn raw_list(alloc: Global, at: u64, kernel: Vec<u8>) -> Result<Vec<Segment>, AllocError>
-    requires { length kernel.items ≤ 268435456 }
-    ensures { IfOk result (λ v. v.items ≡ raw_segment at kernel.items ∷ []) }
-{
-    let pages = (kernel.len() as u64 + 4095) / 4096;
-    let mut list = Vec::new(alloc);
-    list.push(Segment {
-        bytes: kernel,
-        mem: at,
-        memsz: 4096 * pages,
-    })?;
-    Ok(list)
-}
-
-// Tests the segments, over the map's RAM where there is a map.
-fn tested(alloc: Global, map: &Option<Map>, list: Vec<Segment>) -> Result<Segments, SegFault>
-    ensures { Tests map.now list.items result }
-{
-    match map {
-        Some(map) => {
-            let ram = map.ram();
-            let _spans = ram.spans();
-            Segments::new(alloc, list, ram, Kind::Normal)
-        }
-        None => Segments::bare(alloc, list),
-    }
-}
-
-/// The segments of a raw kernel, which meet the rules.
-pub(crate) fn plan(
+// The plan of a request.
+fn plan_request(
     alloc: Global,
-    map: &Option<Map>,
-    at: u64,
-    kernel: Vec<u8>,
-) -> Result<Segments, Status>
-    requires { length kernel.items ≤ 268435456 }
-    ensures { Plans map.now (raw_segment at kernel.items ∷ []) result }
+    request: Request,
+    map: Option<&Map>,
+) -> Result<Planned, MakeFault<Reason>>
+    requires mapped { IsMapped (request_of request) (lent map) }
+    requires served { IsServed (request_of request) }
+    ensures { MakesOr (λ p. plan (request_of request) (lent map.entry) ≡ Ok (planned_of p)) (HasNoPlan (request_of request) (lent map.entry)) result }
 {
-    let list = raw_list(alloc, at, kernel)?;
-    match tested(alloc, map, list) {
-        Ok(segments) => Ok(segments),
-        Err(SegFault::Memory) => Err(Status::Memory),
-        Err(fault) => Err(Status::Plan {
-            fault: PlanFault::Segments { fault },
+    match plan(alloc, request, map) {
+        Ok(planned) => Ok(planned),
+        Err(PlanFault::Memory) => Err(MakeFault::Memory),
+        Err(fault) => Err(MakeFault::Refused {
+            why: Reason::Plan { fault },
         }),
     }
 }
@@ -100,37 +56,63 @@ fn fill_all(mut filling: Filling) -> Loaded
     filling.seal()
 }
 
-/// Loads the segments: lays their list and their bytes in pages of the pool.
-pub(crate) fn load(
+// Loads the segments: lays their list and their bytes in pages of the pool.
+fn load_segments(
     alloc: Global,
     memory: Memory,
     pool: Pool,
     segments: Segments,
     wish: Wish,
-) -> Result<Loaded, Status>
+) -> Result<Loaded, MakeFault<Reason>>
     requires { (q : ℕ) → is_filed pool q ≡ false }
-    ensures { LoadsInto memory pool.left wish segments result }
+    ensures { MakesOr (λ load. (need wish segments ≤ length pool.left) × IsSealed (at memory) pool.left wish segments load) (IsTooFew pool.left wish segments) result }
 {
     match Filling::begin(alloc, memory, pool, segments, wish) {
         Ok(filling) => Ok(fill_all(filling)),
         Err(refused) => Err(match refused.why {
-            BeginFault::NoPages { pool, need } => Status::NoPages { pool, need },
-            BeginFault::Memory => Status::Memory,
+            BeginFault::NoPages { pool, need } => MakeFault::Refused {
+                why: Reason::NoPages { pool, need },
+            },
+            BeginFault::Memory => MakeFault::Memory,
         }),
     }
 }
 
-/// The accepted state of a load whose list is accepted.
-pub(crate) fn accept(alloc: Global, loaded: Loaded) -> Result<Accepted, Status>
-    requires { (is : List Item) × IsAccepted (at loaded.memory) (want loaded.segments) loaded.image.head loaded.image.control (swap_page loaded.image.mode) is }
-    ensures accepted { IfOk result (λ a. IsAcceptedAs loaded a) }
-    ensures memory { IfErr result (λ s. answer_of s ≡ memory) }
+/// A load of a new kernel, and how the kernel starts: its entry and registers, and the addresses of the purgatory's region
+/// table and of its digest, which are 0 without one.
+#[derive(Drop)]
+pub(crate) struct LoadedKernel {
+    pub(crate) loaded: Loaded,
+    pub(crate) start: Start,
+    pub(crate) regions: u64,
+    pub(crate) digest: u64,
+}
+
+/// Plans the request and loads the segments of the plan.
+pub(crate) fn load_request(
+    alloc: Global,
+    inputs: LoadInputs,
+    wish: Wish,
+) -> Result<LoadedKernel, MakeFault<Reason>>
+    ensures { MakesOr (λ k. IsLoaded wish (inputs_of inputs) (plan_of k) k.loaded) (RefusesLoad wish (inputs_of inputs)) result }
 {
-    match loaded.accept(alloc) {
-        Ok(accepted) => Ok(accepted),
-        Err(refused) => match refused.why {
-            CheckFault::Memory => Err(Status::Memory),
-            CheckFault::List { .. } => unreachable!(),
-        },
-    }
+    let LoadInputs {
+        memory,
+        pool,
+        map,
+        request,
+    } = inputs;
+    let Planned {
+        segments,
+        start,
+        regions,
+        digest,
+    } = plan_request(alloc, request, map.as_ref())?;
+    let loaded = load_segments(alloc, memory, pool, segments, wish)?;
+    Ok(LoadedKernel {
+        loaded,
+        start,
+        regions,
+        digest,
+    })
 }

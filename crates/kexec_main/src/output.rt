@@ -1,32 +1,36 @@
 //! Outputs that are files of memories.
 
-ghost use Rattle.std.specs.Prelude.{◌≡◌, ◌∷◌, [], string_bytes, IfOk};
+ghost use Rattle.std.specs.Prelude.{◌≡◌, ◌∷◌, [], map, string_bytes, IfOk};
 ghost use Rattle.page_memory.specs.Contents.{at};
-ghost use Rattle.kexec_main.specs.Answers.{answer_of};
-ghost use Rattle.kexec_main.specs.Makes.{Writes, refused_as};
+ghost use Rattle.file_commands.specs.Calls.{MakesOr, file_of};
+ghost use Rattle.kexec_main.specs.Outputs.{HasNoFile, IsFileOf, IsMemoryFile};
 
-use crate::deliver::Output;
-use crate::status::Status;
+use crate::status::Reason;
+use file_commands::{File, MakeFault};
 use page_memory::{HeavyFault, Memory};
 use std::alloc::{AllocError, Global};
 
-// One output.
-fn one(alloc: Global, output: Output) -> Result<Vec<Output>, AllocError>
-    ensures { IfOk result (λ v. v.items ≡ output ∷ []) }
+// The bytes of the file of a memory.
+fn memory_bytes(memory: Memory) -> Result<Vec<u8>, MakeFault<Reason>>
+    ensures { MakesOr (λ bytes. IsFileOf (at memory) bytes.items) (HasNoFile (at memory)) result }
 {
-    let mut outputs = Vec::new(alloc);
-    outputs.push(output)?;
-    Ok(outputs)
+    let _sets = memory.sets();
+    match memory.into_file() {
+        Ok(bytes) => Ok(bytes),
+        Err(HeavyFault::Memory) => Err(MakeFault::Memory),
+        Err(HeavyFault::TooMany { count }) => Err(MakeFault::Refused {
+            why: Reason::Heavy { count },
+        }),
+    }
 }
 
-// The answer where a memory has no file.
-fn refused(fault: HeavyFault) -> Status
-    ensures { answer_of result ≡ refused_as fault }
+// One file in a list.
+fn one(alloc: Global, file: File) -> Result<Vec<File>, AllocError>
+    ensures { IfOk result (λ v. v.items ≡ file ∷ []) }
 {
-    match fault {
-        HeavyFault::Memory => Status::Memory,
-        HeavyFault::TooMany { count } => Status::Heavy { count },
-    }
+    let mut files = Vec::new(alloc);
+    files.push(file)?;
+    Ok(files)
 }
 
 /// The file of a memory that is used no more, as the one output, of this name.
@@ -34,12 +38,9 @@ pub(crate) fn memory_output(
     alloc: Global,
     memory: Memory,
     name: String,
-) -> Result<Vec<Output>, Status>
-    ensures { Writes (string_bytes name) (at memory) result }
+) -> Result<Vec<File>, MakeFault<Reason>>
+    ensures { MakesOr (λ files. IsMemoryFile (map file_of files.items) (string_bytes name) (at memory)) (HasNoFile (at memory)) result }
 {
-    let _sets = memory.sets();
-    match memory.into_file() {
-        Ok(bytes) => Ok(one(alloc, Output { name, bytes })?),
-        Err(fault) => Err(refused(fault)),
-    }
+    let bytes = memory_bytes(memory)?;
+    Ok(one(alloc, File { name, bytes })?)
 }

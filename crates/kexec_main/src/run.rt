@@ -2,94 +2,68 @@
 
 ghost use Rattle.std.specs.Prelude.{◌≡◌, ◌⊎◌, ℕ, List, map, string_bytes, IfSome, Ok};
 ghost use Rattle.kx_edge.specs.Edge.{Rose};
-ghost use Rattle.kexec_main.specs.Answers.{answer_of, done, ended, memory, unread, unsaid, unwritten, moment};
-ghost use Rattle.kexec_main.specs.Planning.{wish_of};
-ghost use Rattle.kexec_main.specs.Call.{Answers, HasBooted, HasExecuted, HasLoaded, IsInOrder, Serves, AnswersCommand, boot_leaves, load_leaves, load_wish};
+ghost use Rattle.file_commands.specs.Answers.{Meets, MeetsTold, done, memory, refused, unread, unsaid, unwritten};
+ghost use Rattle.file_commands.specs.Taking.{by};
+ghost use Rattle.file_commands.specs.Calls.{call_answer};
 ghost use Rattle.kexec_words.specs.Limits.{IsWithinLimits};
 ghost use Rattle.kexec_words.specs.Meaning.{command_of};
-ghost use Rattle.kexec_words.specs.Values as values;
-ghost use Rattle.kexec_words.specs.Values.{BootValue, ExecValue, LoadValue, boot_value, command_value, inputs_value, load_value};
+ghost use Rattle.kexec_words.specs.Values.{CommandValue, command_value};
+ghost use Rattle.kexec_main.specs.Statuses.{answer_of};
+ghost use Rattle.kexec_main.specs.Call.{HasDone, HasTooFew, IsInOrder};
+ghost use Rattle.kexec_main.specs.Commands.{Holds};
+ghost use Rattle.kexec_main.specs.declared.status.Reason.TheVariants.{NoPages};
 
-use crate::boot::{Raw, boot, load_command};
-use crate::check::check;
-use crate::dump::dump;
-use crate::exec::exec;
-use crate::status::{NotBuilt, Status};
-use crate::trace::trace;
-use kexec_words::{Boot, Command, ImageType, Inputs, Load, WordsFault, read};
+use crate::status::{NotBuilt, Reason, Status};
+use crate::words::{BootWords, CheckWords, DumpWords, ExecWords, LoadWords, TraceWords};
+use file_commands::{Stop, run};
+use kexec_words::{Command, WordsFault, read};
 use kx_edge::{Shelf, Sink};
+use list_checker::ListFault;
 use std::alloc::Global;
 
-// Where a raw kernel goes and is entered; or what of the request is not built yet.
-fn served(image: ImageType, inputs: &Inputs) -> Result<Raw, Status>
-    ensures { Serves image (inputs_value inputs.now) result }
-{
-    let ImageType::Raw { at, entry } = image else {
-        return Err(Status::NotBuilt {
-            what: NotBuilt::Format,
-        });
-    };
-    if inputs.purgatory.is_some() {
-        return Err(Status::NotBuilt {
-            what: NotBuilt::Purgatory,
-        });
-    }
-    Ok(Raw { at, entry })
-}
-
-fn run_boot<S: Shelf, O: Sink>(
-    alloc: Global,
-    words: Boot,
-    shelf: &mut S,
-    out: &mut O,
-) -> Result<(), Status>
-    ensures { AnswersCommand (values.boot (boot_value words))
-        (moment (S.files shelf.old) (S.faults shelf.old) (O.said out.old) (O.faults out.old))
-        (moment (S.files shelf.new) (S.faults shelf.new) (O.said out.new) (O.faults out.new))
-        (ended result) }
-{
-    let raw = served(words.image, &words.inputs)?;
-    boot(alloc, words, raw, shelf, out)
-}
-
-fn run_load<S: Shelf, O: Sink>(
-    alloc: Global,
-    words: Load,
-    shelf: &mut S,
-    out: &mut O,
-) -> Result<(), Status>
-    ensures { AnswersCommand (values.load (load_value words))
-        (moment (S.files shelf.old) (S.faults shelf.old) (O.said out.old) (O.faults out.old))
-        (moment (S.files shelf.new) (S.faults shelf.new) (O.said out.new) (O.faults out.new))
-        (ended result) }
-{
-    let raw = served(words.image, &words.inputs)?;
-    load_command(alloc, words, raw, shelf, out)
-}
-
-// Runs a command.
-fn run<S: Shelf, O: Sink>(
+// Runs the command.
+#[tactic(auto, unfolding(file_commands::specs::Taking::Took))]
+fn run_command<S: Shelf, O: Sink>(
     alloc: Global,
     command: Command,
     shelf: &mut S,
     out: &mut O,
-) -> Result<(), Status>
+) -> Result<(), Stop<ListFault, Reason>>
     requires { IsWithinLimits (command_value command) }
-    ensures { AnswersCommand (command_value command)
-        (moment (S.files shelf.old) (S.faults shelf.old) (O.said out.old) (O.faults out.old))
-        (moment (S.files shelf.new) (S.faults shelf.new) (O.said out.new) (O.faults out.new))
-        (ended result) }
+    ensures { Holds (λ X c. Meets S.Shelf O.Sink c shelf.old out.old (call_answer result) shelf.new out.new) (Ok (command_value command)) }
 {
     match command {
-        Command::Boot(words) => run_boot(alloc, words, shelf, out),
-        Command::Load(words) => run_load(alloc, words, shelf, out),
-        Command::Check(words) => check(alloc, words, shelf, out),
-        Command::Dump(words) => dump(alloc, words, shelf, out),
-        Command::Exec(words) => exec(alloc, words, shelf, out),
-        Command::Trace(words) => trace(alloc, words, shelf, out),
-        Command::LoadPanic(_) | Command::Sample { .. } => Err(Status::NotBuilt {
-            what: NotBuilt::Command,
+        Command::Boot(words) => run(alloc, BootWords { words }, shelf, out),
+        Command::Load(words) => run(alloc, LoadWords { words }, shelf, out),
+        Command::Check(words) => run(alloc, CheckWords { words }, shelf, out),
+        Command::Dump(words) => run(alloc, DumpWords { words }, shelf, out),
+        Command::Exec(words) => run(alloc, ExecWords { words }, shelf, out),
+        Command::Trace(words) => run(alloc, TraceWords { words }, shelf, out),
+        Command::LoadPanic(_) | Command::Sample { .. } => Err(Stop::Refused {
+            why: Reason::NotBuilt {
+                what: NotBuilt::Command,
+            },
         }),
+    }
+}
+
+// What each answer says, in one clause.
+#[tactic(auto, unfolding(file_commands::specs::Taking::Took))]
+fn answered<S: Shelf, O: Sink>(
+    alloc: Global,
+    words: &[String],
+    shelf: &mut S,
+    out: &mut O,
+) -> Status
+    ensures { Holds (λ X c. Meets S.Shelf O.Sink c shelf.old out.old (answer_of result) shelf.new out.new) (command_of (map string_bytes words.now)) }
+{
+    match read(alloc, words) {
+        Ok(command) => match run_command(alloc, command, shelf, out) {
+            Ok(()) => Status::Done,
+            Err(stop) => Status::from(stop),
+        },
+        Err(WordsFault::Usage { why }) => Status::Usage { why },
+        Err(WordsFault::Memory) => Status::Memory,
     }
 }
 
@@ -101,40 +75,29 @@ pub fn kexec<S: Shelf, O: Sink>(
     shelf: &mut S,
     out: &mut O,
 ) -> Status
-    // Each answer has its cause, and says what stands after it.
-    ensures answer { Answers (command_of (map string_bytes words.now))
-        (moment (S.files shelf.old) (S.faults shelf.old) (O.said out.old) (O.faults out.old))
-        (moment (S.files shelf.new) (S.faults shelf.new) (O.said out.new) (O.faults out.new))
-        (answer_of result) }
+    // Each answer has its cause over every shelf and sink: the takes that were made, or failed; what was made of them; and
+    // the puts and the say that followed, each once.
+    ensures meets { Holds (λ X c. Meets S.Shelf O.Sink c shelf.old out.old (answer_of result) shelf.new out.new) (command_of (map string_bytes words.now)) }
 
-    // After a boot that is Done the pool sufficed, the load wrote only pages of the pool, the list that was laid is
-    // accepted, each page of the segments has its bytes and then zeros (after a second run each page but the swap page is
-    // as it was before the first), OUT is the file of the memory after the last run, all other files are as they were,
-    // and the text tells the list and each run.
-    ensures headline { (b : BootValue) → command_of (map string_bytes words.now) ≡ Ok (values.boot b) → answer_of result ≡ done → IfSome (S.files shelf.old) (λ held. HasBooted b held
-        (moment (S.files shelf.old) (S.faults shelf.old) (O.said out.old) (O.faults out.old))
-        (moment (S.files shelf.new) (S.faults shelf.new) (O.said out.new) (O.faults out.new))) }
+    // Over files that are told it is so by what is read of them.
+    ensures told { IfSome (S.files shelf.old) (λ held. Holds (λ X c. MeetsTold S.Shelf O.Sink c held shelf.old out.old (answer_of result) shelf.new out.new) (command_of (map string_bytes words.now))) }
 
-    // After a load that is Done the pool sufficed, the load wrote only pages of the pool, the list that was laid is
-    // accepted, OUT is the file of the memory and RECORD that of the load, all other files are as they were, and the text
-    // tells the list.
-    ensures loaded { (l : LoadValue) → command_of (map string_bytes words.now) ≡ Ok (values.load l) → answer_of result ≡ done → IfSome (S.files shelf.old) (λ held. HasLoaded l held
-        (moment (S.files shelf.old) (S.faults shelf.old) (O.said out.old) (O.faults out.old))
-        (moment (S.files shelf.new) (S.faults shelf.new) (O.said out.new) (O.faults out.new))) }
+    // What stands after each command that answered Done.
+    ensures done { (c : CommandValue) → command_of (map string_bytes words.now) ≡ Ok c → answer_of result ≡ done
+        → IfSome (S.files shelf.old) (λ held. HasDone S.Shelf O.Sink held shelf.old out.old shelf.new out.new c) }
 
-    // After an exec that is Done the record's list is accepted in the memory for the record's segments, each page of the
-    // segments has its bytes and then zeros and a plain run changed no other page (after a second run each page but the
-    // swap page is as it was before the first), OUT is the file of that memory, all other files are as they were, and the
-    // text tells the list and each run.
-    ensures executed { (e : ExecValue) → command_of (map string_bytes words.now) ≡ Ok (values.exec e) → answer_of result ≡ done → IfSome (S.files shelf.old) (λ held. HasExecuted e held
-        (moment (S.files shelf.old) (S.faults shelf.old) (O.said out.old) (O.faults out.old))
-        (moment (S.files shelf.new) (S.faults shelf.new) (O.said out.new) (O.faults out.new))) }
+    // What is in order is Done where no device fails, or memory is wanted.
+    ensures complete { (c : CommandValue) → command_of (map string_bytes words.now) ≡ Ok c
+        → IfSome (S.files shelf.old) (λ held. IsInOrder c held
+        → (Rose (S.faults shelf.old) (S.faults shelf.new) → ⊥) → (Rose (O.faults out.old) (O.faults out.new) → ⊥)
+        → (answer_of result ≡ done) ⊎ (answer_of result ≡ memory)) }
 
-    // What nothing refuses is Done, where no count of faults rises, or memory is wanted.
-    ensures boot_complete { (b : BootValue) → command_of (map string_bytes words.now) ≡ Ok (values.boot b) → IfSome (S.files shelf.old) (λ held. IsInOrder b.image b.inputs (wish_of b.kept) (boot_leaves b) held
-        → (Rose (S.faults shelf.old) (S.faults shelf.new) → ⊥) → (Rose (O.faults out.old) (O.faults out.new) → ⊥) → (answer_of result ≡ done) ⊎ (answer_of result ≡ memory)) }
-    ensures load_complete { (l : LoadValue) → command_of (map string_bytes words.now) ≡ Ok (values.load l) → IfSome (S.files shelf.old) (λ held. IsInOrder l.image l.inputs (load_wish l) load_leaves held
-        → (Rose (S.faults shelf.old) (S.faults shelf.new) → ⊥) → (Rose (O.faults out.old) (O.faults out.new) → ⊥) → (answer_of result ≡ done) ⊎ (answer_of result ≡ memory)) }
+    // A load that takes more pages than the pool has is refused with both numbers where no device fails, or memory is
+    // wanted.
+    ensures too_few { (c : CommandValue) → command_of (map string_bytes words.now) ≡ Ok c
+        → IfSome (S.files shelf.old) (λ held. (pool need : ℕ) → HasTooFew c held pool need
+        → (Rose (S.faults shelf.old) (S.faults shelf.new) → ⊥) → (Rose (O.faults out.old) (O.faults out.new) → ⊥)
+        → (answer_of result ≡ refused (by (NoPages pool need))) ⊎ (answer_of result ≡ memory)) }
 
     // An answer that tells of a device comes only where the count of its faults rose.
     ensures unread { (name : List ℕ) → answer_of result ≡ unread name → Rose (S.faults shelf.old) (S.faults shelf.new) }
@@ -142,26 +105,4 @@ pub fn kexec<S: Shelf, O: Sink>(
     ensures unsaid { answer_of result ≡ unsaid → Rose (O.faults out.old) (O.faults out.new) }
 {
     answered(alloc, words, shelf, out)
-}
-
-// What each answer says, in one clause.
-fn answered<S: Shelf, O: Sink>(
-    alloc: Global,
-    words: &[String],
-    shelf: &mut S,
-    out: &mut O,
-) -> Status
-    ensures { Answers (command_of (map string_bytes words.now))
-        (moment (S.files shelf.old) (S.faults shelf.old) (O.said out.old) (O.faults out.old))
-        (moment (S.files shelf.new) (S.faults shelf.new) (O.said out.new) (O.faults out.new))
-        (answer_of result) }
-{
-    match read(alloc, words) {
-        Ok(command) => match run(alloc, command, shelf, out) {
-            Ok(()) => Status::Done,
-            Err(status) => status,
-        },
-        Err(WordsFault::Usage { why }) => Status::Usage { why },
-        Err(WordsFault::Memory) => Status::Memory,
-    }
 }

@@ -1,17 +1,19 @@
 //! How a command ended.
 
 ghost use Rattle.std.specs.Prelude.{◌≡◌};
-ghost use Rattle.kexec_main.specs.Answers.{code_of};
-ghost use Rattle.kexec_main.specs.declared.status.Status.TheVariants.{Memory};
+ghost use Rattle.file_commands.specs.Answers.{refused};
+ghost use Rattle.file_commands.specs.Taking.{by};
+ghost use Rattle.file_commands.specs.Calls.{answer_of as stop_answer};
+ghost use Rattle.kexec_main.specs.Statuses.{answer_of, code_of};
 
+use file_commands::Stop;
+use kexec_plan::PlanFault;
 use kexec_words::UsageWhy;
 use list_checker::ListFault;
 use load_record::RecFault;
 use memory_map::MapFault;
 use page_memory::MemFault;
 use page_pool::PoolFault;
-use segments::SegFault;
-use std::alloc::{AllocError, AllocFailed};
 use thiserror::Error;
 
 /// Why an input file was refused: by its reader, with the place in it.
@@ -27,26 +29,6 @@ pub enum InputFault {
     Rec { fault: RecFault },
 }
 
-/// A part of a request that the kernel's type has no use for.
-#[derive(Clone, Copy, Debug, PartialEq, Eq, Error)]
-pub enum Part {
-    #[error("an initrd")]
-    Initrd,
-    #[error("a module")]
-    Module,
-    #[error("a command line")]
-    Command,
-}
-
-/// Why a request has no plan.
-#[derive(Clone, Copy, Debug, PartialEq, Eq, Error)]
-pub enum PlanFault {
-    #[error("the kernel cannot be placed: {fault}")]
-    Segments { fault: SegFault },
-    #[error("{part} is given, and a kernel of this type takes none")]
-    Unused { part: Part },
-}
-
 /// What the program does not do yet.
 #[derive(Clone, Copy, Debug, PartialEq, Eq, Error)]
 pub enum NotBuilt {
@@ -58,6 +40,25 @@ pub enum NotBuilt {
     Purgatory,
     #[error("crash records are not served yet")]
     Crash,
+}
+
+/// Why a command is refused, in the order in which its work is done.
+#[derive(Clone, Copy, Debug, PartialEq, Eq)]
+pub enum Reason {
+    /// The words are refused.
+    Usage { why: UsageWhy },
+    /// The program does not do this yet.
+    NotBuilt { what: NotBuilt },
+    /// The reader of an input file refused it.
+    Input { fault: InputFault },
+    /// `exec --twice` was given a record that is not in kept mode.
+    NotKept,
+    /// The request has no plan.
+    Plan { fault: PlanFault },
+    /// The pool has fewer pages than the load takes.
+    NoPages { pool: u64, need: u64 },
+    /// The memory to write has more pages that are not all zeros than a memory file can have.
+    Heavy { count: u64 },
 }
 
 /// How a command ended. Its text says in one sentence what was wrong, where, and what was wanted.
@@ -131,18 +132,34 @@ impl Status {
     }
 }
 
-impl From<AllocError> for Status {
-    ghost from_gives = { λ _ e. e ≡ Memory };
+impl From<Reason> for Status {
+    ghost from_gives = { λ why s. answer_of s ≡ refused (by why) };
 
-    fn from(_: AllocError) -> Self {
-        Status::Memory
+    fn from(why: Reason) -> Self {
+        match why {
+            Reason::Usage { why } => Status::Usage { why },
+            Reason::NotBuilt { what } => Status::NotBuilt { what },
+            Reason::Input { fault } => Status::Input { fault },
+            Reason::NotKept => Status::NotKept,
+            Reason::Plan { fault } => Status::Plan { fault },
+            Reason::NoPages { pool, need } => Status::NoPages { pool, need },
+            Reason::Heavy { count } => Status::Heavy { count },
+        }
     }
 }
 
-impl<T: Drop> From<AllocFailed<T>> for Status {
-    ghost from_gives = { λ _ e. e ≡ Memory };
+impl From<Stop<ListFault, Reason>> for Status {
+    ghost from_gives = { λ stop s. answer_of s ≡ stop_answer stop };
 
-    fn from(_: AllocFailed<T>) -> Self {
-        Status::Memory
+    fn from(stop: Stop<ListFault, Reason>) -> Self {
+        match stop {
+            Stop::NotAccepted { fault } => Status::NotAccepted { fault },
+            Stop::Unread { name } => Status::Unread { name },
+            Stop::Unwritten { name } => Status::Unwritten { name },
+            Stop::Unsaid => Status::Unsaid,
+            Stop::TooLong { name, limit } => Status::TooLong { name, limit },
+            Stop::Refused { why } => Status::from(why),
+            Stop::Memory => Status::Memory,
+        }
     }
 }

@@ -2,8 +2,10 @@
 //! line.
 
 ghost use Rattle.std.specs.Prelude.{◌≡◌, ◌++◌, IfOk, OnOk, string_bytes};
+ghost use Rattle.kexec_main.specs.Runs.{ran_text};
 ghost use Rattle.kexec_main.specs.Texts.{accepted_line, head_line, start_line, ran_line, load_lines};
 
+use crate::running::Ran;
 use kx_pages::{Image, Mode, Start};
 use std::alloc::{AllocError, Global};
 
@@ -64,10 +66,22 @@ pub(crate) fn load_lines(
     Ok(text)
 }
 
-/// Adds a run, and how many steps it took.
-pub(crate) fn push_ran_line(alloc: Global, text: &mut String, steps: u64) -> Result<(), AllocError>
+// Adds a run, and how many steps it took.
+fn push_ran_line(alloc: Global, text: &mut String, steps: u64) -> Result<(), AllocError>
     ensures { OnOk result (string_bytes text.new ≡ string_bytes text.old ++ ran_line steps) }
 {
     text.push_str(&format!(in alloc; "ran {steps}\n")?)?;
     Ok(())
+}
+
+/// What is said of a list that ran, and of each run: the one text of a command that runs a list.
+pub(crate) fn ran_text(alloc: Global, ran: &Ran, start: &Start) -> Result<String, AllocError>
+    ensures { IfOk result (λ s. string_bytes s ≡ ran_text ran.now start.now) }
+{
+    let mut text = load_lines(alloc, ran.words, ran.links, ran.pairs, &ran.image, start)?;
+    push_ran_line(alloc, &mut text, ran.steps)?;
+    if let Some(steps) = ran.back {
+        push_ran_line(alloc, &mut text, steps)?;
+    }
+    Ok(text)
 }

@@ -1,24 +1,32 @@
 //! `trace`: runs any list for some steps.
 
-ghost use Rattle.std.specs.Prelude.{◌≡◌, ◌≤◌, ◌<◌, ◌%◌, ◌^◌, ◌∷◌, [], IfSome, IfOk, string_bytes};
-ghost use Rattle.page_memory.specs.Contents.{at};
+ghost use Rattle.std.specs.Prelude.{◌≡◌, ◌<◌, ◌^◌, IfSome, IfOk, string_bytes};
+ghost use Rattle.file_commands.specs.Calls.{Makes, Takes};
 ghost use Rattle.kexec_words.specs.Values.{trace_value};
-ghost use Rattle.kexec_words.specs.Limits.{HasRange};
-ghost use Rattle.kexec_main.specs.Answers.{Meets, ended, moment};
-ghost use Rattle.kexec_main.specs.Files.{memory_file, named};
-ghost use Rattle.kexec_main.specs.Makes.{Makes};
-ghost use Rattle.kexec_main.specs.Trace.{outcome_line, mode_by, traces};
+ghost use Rattle.kexec_main.specs.Trace.{TraceInputs as Inputs, mode_by, outcome_line, trace_files, trace_inputs, traces};
 
-use crate::deliver::{Goods, deliver};
+use crate::files::take_memory;
 use crate::output::memory_output;
-use crate::status::Status;
-use crate::take::take_memory;
+use crate::status::Reason;
+use crate::words::TraceWords;
+use file_commands::{Command, Goods, MakeFault, TakeFault};
 use kexec_words::Trace;
-use kx_edge::{Shelf, Sink};
+use kx_edge::Shelf;
 use kx_pages::{Mode, Page};
+use list_checker::ListFault;
 use page_memory::Memory;
 use relocate_machine::{Outcome, run};
 use std::alloc::{AllocError, Global};
+
+/// What `trace` took, the head word, the mode of the moves, the most steps, and the name of its output.
+#[derive(Drop)]
+pub(crate) struct TraceInputs {
+    pub(crate) memory: Memory,
+    pub(crate) head: u64,
+    pub(crate) mode: Mode,
+    pub(crate) limit: u64,
+    pub(crate) out: String,
+}
 
 // How a run came out.
 fn outcome_line(alloc: Global, outcome: Outcome) -> Result<String, AllocError>
@@ -44,48 +52,77 @@ fn mode_by(swap: Option<u64>) -> Mode
     }
 }
 
-// Runs the list, and makes the file of the memory after the steps and the line that tells how the run came out.
-fn trace_goods(
+// Takes the memory.
+fn take_trace<S: Shelf>(
     alloc: Global,
-    mut memory: Memory,
-    out: String,
-    head: u64,
-    swap: Option<u64>,
-    limit: u64,
-) -> Result<Goods, Status>
-    requires { IfSome swap (λ a. a < 2 ^ 46) }
-    ensures { Makes (traces (string_bytes out) head swap limit) memory result }
+    trace: TraceWords,
+    shelf: &mut S,
+) -> Result<TraceInputs, TakeFault<Reason>>
+    ensures { Takes S.Shelf (trace_files (trace_value trace.words)) trace_inputs shelf.old result shelf.new }
 {
-    let outcome = run(&mut memory, head, mode_by(swap), limit)?;
+    let Trace {
+        memory,
+        out,
+        head,
+        limit,
+        swap,
+    } = trace.words;
+    let mode = mode_by(swap);
+    let memory = take_memory(alloc, memory, shelf)?;
+    Ok(TraceInputs {
+        memory,
+        head,
+        mode,
+        limit,
+        out,
+    })
+}
+
+// Runs the list, and makes the file of the memory after the steps and the line that tells how the run came out.
+fn make_trace(alloc: Global, trace: TraceInputs) -> Result<Goods<ListFault>, MakeFault<Reason>>
+    ensures { Makes traces (trace_inputs trace) result }
+{
+    let TraceInputs {
+        mut memory,
+        head,
+        mode,
+        limit,
+        out,
+    } = trace;
+    let outcome = run(&mut memory, head, mode, limit)?;
+    let text = outcome_line(alloc, outcome)?;
     let outputs = memory_output(alloc, memory, out)?;
     Ok(Goods {
         outputs,
-        text: outcome_line(alloc, outcome)?,
+        text,
         fault: None,
     })
 }
 
-/// Runs the list from its head word on, by at most so many steps, whether it is accepted or not.
-pub(crate) fn trace<S: Shelf, O: Sink>(
-    alloc: Global,
-    trace: Trace,
-    shelf: &mut S,
-    out: &mut O,
-) -> Result<(), Status>
-    requires { HasRange (trace_value trace) }
-    ensures { Meets (named (string_bytes trace.memory ∷ [])) (memory_file (string_bytes trace.memory)) (traces (string_bytes trace.out) trace.head trace.swap trace.limit)
-        (moment (S.files shelf.old) (S.faults shelf.old) (O.said out.old) (O.faults out.old))
-        (moment (S.files shelf.new) (S.faults shelf.new) (O.said out.new) (O.faults out.new))
-        (ended result) }
-{
-    let Trace {
-        memory,
-        out: name,
-        head,
-        limit,
-        swap,
-    } = trace;
-    let memory = take_memory(alloc, memory, shelf)?;
-    let goods = trace_goods(alloc, memory, name, head, swap, limit)?;
-    deliver(goods, shelf, out)
+impl Command for TraceWords {
+    type Taken = TraceInputs;
+
+    type Fault = ListFault;
+
+    type Reason = Reason;
+
+    ghost Inputs = { Inputs };
+
+    ghost inputs = { trace_inputs };
+
+    ghost takes = { λ t. trace_files (trace_value t.words) };
+
+    ghost makes = { traces };
+
+    fn take<S: Shelf>(
+        self,
+        alloc: Global,
+        shelf: &mut S,
+    ) -> Result<TraceInputs, TakeFault<Reason>> {
+        take_trace(alloc, self, shelf)
+    }
+
+    fn make(alloc: Global, trace: TraceInputs) -> Result<Goods<ListFault>, MakeFault<Reason>> {
+        make_trace(alloc, trace)
+    }
 }

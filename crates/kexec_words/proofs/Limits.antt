@@ -5,7 +5,8 @@ use Rattle.clap.specs.Words.{App, Row, Text, first_of, fault_of, matches_of}
 use Rattle.clap.specs.Kinds.{Kinds}
 use Rattle.clap.proofs.WalkLemmas.{both}
 use Rattle.kexec_words.specs.Found.{word_of, flag_of}
-use Rattle.kexec_words.specs.Numbers.{number_of, passing, is_page_address, in_form, some_in_form, hex_of, page_address_of, steps_of, swap_of, head_of, limit_of, trace_numbers_from}
+use Rattle.kx_pages.specs.Numbers.{is_page_address}
+use Rattle.kexec_words.specs.Numbers.{number_of, passing, in_form, some_in_form, hex_of, page_address_of, steps_of, swap_of, head_of, limit_of, trace_numbers_from}
 use Rattle.kexec_words.specs.Values.{InputsValue, CrashInputsValue, ExecValue, CommandValue}
 use Rattle.kexec_words.specs.Values.{boot, load, load_panic, check, dump, exec, trace, sample}
 use Rattle.kexec_words.specs.Meaning.{has_same_name, files_of, crash_files_of, with_numbers, mapped, image_from, needs_map, typed, image_where, inputs_of, boot_by, boot_with, boot_in, load_by, load_with, load_in, with_map, load_panic_with, load_panic_in, crash_inputs_of, exec_of, exec_with, exec_in, trace_with, trace_in, trace_numbers_by, sample_by, sample_in, taken_where, taken_by, command_named, plan_numbers_by}
@@ -15,7 +16,7 @@ use Rattle.kexec_words.specs.Apps.{boot_app, load_app, load_panic_app, check_app
 use Rattle.kexec_words.specs.declared.commands.Command.{Command}
 use Rattle.kexec_words.specs.declared.faults.WordsFault.{WordsFault}
 use Rattle.kexec_words.specs.Limits.{HasParts, IsWithinLimits, HasOutputsApart}
-use Rattle.kexec_words.specs.declared.commands.ImageType.{ImageType}
+use Rattle.kx_pages.specs.declared.image.ImageType.{ImageType}
 use Rattle.kexec_words.specs.declared.numbers.PlanNumbers.{PlanNumbers}
 use Rattle.kexec_words.specs.declared.numbers.TraceNumbers.{TraceNumbers}
 use Rattle.kexec_words.specs.declared.faults.Which.{Which}
@@ -153,9 +154,9 @@ trace_numbers_has (Ok s) (Ok h) (Ok l) p q = (q, p)
 page_has : (s : Option ℕ) → IfSome s (λ a. is_page_address a ≡ true) → IfSome s (λ a. (a < 2 ^ 46) × (a % 4096 ≡ 0))
 page_has None h = tt
 page_has (Some a) h =
-    let p = both (nat_lt a (2 ^ 46)) (a % 4096 == 0) h in
-    let low : a < 2 ^ 46 = search (rules, p.0) in
-    let whole : a % 4096 ≡ 0 = search (rules, p.1) in
+    let p = both (a % 4096 == 0) (nat_lt a (2 ^ 46)) h in
+    let low : a < 2 ^ 46 = search (rules, p.1) in
+    let whole : a % 4096 ≡ 0 = search (rules, p.0) in
     (low, whole)
 
 trace_has : (m o : Text) (n : TraceNumbers) → InRange n → IfOk (trace_with m o n) (λ t. Keeps (trace t))

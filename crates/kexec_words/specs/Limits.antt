@@ -3,7 +3,7 @@ use Rattle.std.specs.Prelude.{◌≡◌, ◌<◌, ◌≤◌, ◌^◌, ◌%◌, t
 use Rattle.kexec_words.specs.Values.{InputsValue, TraceValue, CommandValue}
 use Rattle.kexec_words.specs.Values.{boot, load, load_panic, check, dump, exec, trace, sample}
 use Rattle.kexec_words.specs.Meaning.{needs_map, has_same_name, files_of, crash_files_of}
-use Rattle.kexec_words.specs.declared.commands.ImageType.{ImageType}
+use Rattle.kx_pages.specs.declared.image.ImageType.{ImageType}
 use Rattle.std.specs.Prelude.{Some}
 
 -- at most 12 modules, and a map where the type or a purgatory needs it

@@ -9,8 +9,8 @@ use Rattle.kexec_words.specs.Found.{word_of, words_of, flag_of}
 use Rattle.kexec_words.specs.Numbers.{plan_numbers_of, trace_numbers_of, sample_of}
 use Rattle.kexec_words.specs.Values.{InputsValue, BootValue, LoadValue, CrashInputsValue, LoadPanicValue, LoadedValue, ExecValue, TraceValue, CommandValue}
 use Rattle.kexec_words.specs.Values.{boot, load, load_panic, check, dump, exec, trace, sample}
-use Rattle.kexec_words.specs.declared.commands.ImageType.{ImageType}
-use Rattle.kexec_words.specs.declared.commands.ImageType.TheVariants as image
+use Rattle.kx_pages.specs.declared.image.ImageType.{ImageType}
+use Rattle.kx_pages.specs.declared.image.ImageType.TheVariants as image
 use Rattle.kexec_words.specs.declared.numbers.TypeWord.{TypeWord}
 use Rattle.kexec_words.specs.declared.numbers.TypeWord.TheVariants as kind
 use Rattle.kexec_words.specs.declared.numbers.PlanNumbers.{PlanNumbers}

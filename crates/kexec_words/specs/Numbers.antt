@@ -5,6 +5,7 @@ use Rattle.std.specs.Str.{bytes_eq}
 use Rattle.std.specs.Char.{digit_value}
 use Rattle.std.specs.Str.Parse.{digits_value}
 use Rattle.clap.specs.Words.{Text}
+use Rattle.kx_pages.specs.Numbers.{is_page_address}
 use Rattle.kexec_words.specs.declared.commands.Runs.{Runs}
 use Rattle.kexec_words.specs.declared.commands.Runs.TheVariants.{Once, Twice}
 use Rattle.kexec_words.specs.declared.faults.Which.{Which}
@@ -30,10 +31,7 @@ abbrev pub passing : (ℕ → Bool) → Option ℕ → Option ℕ
 passing test None = None
 passing test (Some n) = if test n then Some n else None
 
--- a multiple of 4,096 below 2^46
-abbrev pub is_page_address : ℕ → Bool
-is_page_address a = nat_lt a (2 ^ 46) && (a % 4096 == 0)
-
+-- the address of a page
 abbrev pub page_address_of : Text → Option ℕ
 page_address_of t = passing is_page_address (hex_of t)
 

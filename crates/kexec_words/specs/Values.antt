@@ -2,7 +2,7 @@
 use Rattle.std.specs.Prelude.{ℕ, Bool, Option, List, map, option_map, string_bytes}
 use Rattle.clap.specs.Words.{Text}
 use Rattle.kexec_words.specs.declared.commands.Runs.{Runs}
-use Rattle.kexec_words.specs.declared.commands.ImageType.{ImageType}
+use Rattle.kx_pages.specs.declared.image.ImageType.{ImageType}
 use Rattle.kexec_words.specs.declared.commands.Inputs.{Inputs}
 use Rattle.kexec_words.specs.declared.commands.CrashInputs.{CrashInputs}
 use Rattle.kexec_words.specs.declared.commands.Boot.{Boot}

@@ -1,5 +1,7 @@
 //! The commands, as their words say.
 
+use kx_pages::ImageType;
+
 /// How often the list is run in kept mode: once, into the new kernel, or twice, and back into the old one.
 #[derive(Clone, Copy, Debug, PartialEq, Eq)]
 pub enum Runs {
@@ -7,21 +9,6 @@ pub enum Runs {
     Once,
     /// Into the new kernel and back.
     Twice,
-}
-
-/// The type of the kernel's file.
-#[derive(Clone, Copy, Debug, PartialEq, Eq)]
-pub enum ImageType {
-    /// The file itself tells.
-    Auto,
-    /// Bytes for the address `at`, entered at the address `entry`.
-    Raw { at: u64, entry: u64 },
-    /// An ELF executable.
-    Elf,
-    /// A Linux/x86 bzImage.
-    Bzimage,
-    /// A Multiboot kernel.
-    Multiboot,
 }
 
 /// What `boot` and `load` read: the names of the files, and the kernel's command line.

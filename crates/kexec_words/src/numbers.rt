@@ -6,6 +6,7 @@ ghost use Rattle.kexec_words.specs.Numbers.{number_of, hex_of, type_of, kept_of,
 
 use crate::commands::Runs;
 use crate::faults::Which;
+use kx_pages::is_page_address;
 
 const HEX_DIGITS: usize = 16;
 
@@ -14,10 +15,6 @@ const LIMIT_DIGITS: usize = 9;
 const NUMBER_DIGITS: usize = 18;
 
 const MOST_STEPS: u64 = 100_000_000;
-
-const PAGE_SIZE: u64 = 4096;
-
-const ADDRESS_LIMIT: u64 = 1 << 46;
 
 // What `--type` says.
 #[derive(Clone, Copy)]
@@ -117,7 +114,7 @@ fn page_address_in(text: &str) -> Option<u64>
     ensures { result ≡ page_address_of text.now }
 {
     match hex_in(text) {
-        Some(address) if address < ADDRESS_LIMIT && address % PAGE_SIZE == 0 => Some(address),
+        Some(address) if is_page_address(address) => Some(address),
         _ => None,
     }
 }

@@ -111,7 +111,8 @@ pub(crate) fn some_name_in(
     matches: &ArgMatches<'_>,
     id: &str,
 ) -> Result<Option<String>, AllocError>
-    ensures { IfOk result (λ t. option_map string_bytes t ≡ first_of id.now (rows_of (found_of matches.now))) }
+    ensures { IfOk result (λ t. option_map string_bytes t
+        ≡ first_of id.now (rows_of (found_of matches.now))) }
 {
     owned(alloc, option_in(matches, id))
 }
@@ -132,7 +133,8 @@ pub(crate) fn names_in(
     matches: &ArgMatches<'_>,
     id: &str,
 ) -> Result<Vec<String>, AllocError>
-    ensures { IfOk result (λ v. map string_bytes v.items ≡ words_of id.now (rows_of (found_of matches.now))) }
+    ensures { IfOk result (λ v. map string_bytes v.items
+        ≡ words_of id.now (rows_of (found_of matches.now))) }
 {
     match matches.get_strs(id) {
         Some(texts) => all_owned(alloc, texts),

@@ -8,12 +8,13 @@ ghost use Rattle.kexec_words.specs.Found.{text_in};
 ghost use Rattle.kexec_words.specs.Values.{inputs_value, boot_value, load_value};
 
 use crate::arguments::{BOOT, LOAD};
-use crate::commands::{Boot, ImageType, Inputs, Load};
+use crate::commands::{Boot, Inputs, Load};
 use crate::faults::{UsageWhy, Which, WordsFault};
 use crate::naming::{is_input, is_repeated};
 use crate::numbers::{PlanNumbers, TypeWord, plan_numbers};
 use crate::parsing::{flag_in, matches_for, name_in, names_in, option_in, some_name_in};
 use clap::ArgMatches;
+use kx_pages::ImageType;
 use std::alloc::{AllocError, Global};
 
 const MOST_MODULES: usize = 12;

@@ -1,6 +1,7 @@
 //! What no clause says: the meaning of the table, on words as people write them.
 
-use crate::{Command, ImageType, Runs, UsageWhy, Which, WordsFault, help_of, read};
+use crate::{Command, Runs, UsageWhy, Which, WordsFault, help_of, read};
+use kx_pages::ImageType;
 use std::alloc::Global;
 use std::test::Fail;
 

@@ -16,7 +16,8 @@ use clap::ArgMatches;
 use std::alloc::{AllocError, Global};
 
 fn crash_inputs_in(alloc: Global, matches: &ArgMatches<'_>) -> Result<CrashInputs, AllocError>
-    ensures { IfOk result (λ i. crash_inputs_value i ≡ crash_inputs_of (rows_of (found_of matches.now))) }
+    ensures { IfOk result (λ i. crash_inputs_value i
+        ≡ crash_inputs_of (rows_of (found_of matches.now))) }
 {
     Ok(CrashInputs {
         memory: name_in(alloc, matches, "MEMORY")?,

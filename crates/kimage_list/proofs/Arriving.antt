@@ -9,10 +9,10 @@ use Rattle.std.proofs.lemmas.Bool.{eqb-true}
 use Rattle.kimage_list.proofs.Entering.{items-move, pages_of-move, number-front, number-new, next-entry, unsourced, apart, item_more, place_more, tight_more}
 use Rattle.kimage_list.proofs.InHand.{count-first, moves}
 use Rattle.kimage_list.proofs.Linking.{place-inside, sources-keys, word-still, word-apart}
-use Rattle.kimage_list.proofs.Lists.{count-append, each-append, eqb-self}
+use Rattle.kimage_list.proofs.Lists.{eqb-self}
 use Rattle.kimage_list.proofs.OpenList.{holds-append}
 use Rattle.kimage_list.proofs.Takes.{destinations-append, sources-append}
-use Rattle.kimage_list.specs.Drafts.{IsHome, Draft, Writes, HasRoom, IsNext, loaded_from, CanTake}
+use Rattle.kimage_list.specs.Drafts.{IsHome, Draft, Renders, HasRoom, IsNext, loaded_from, CanTake}
 use Rattle.kimage_list.specs.Laying.{items, source_pages, Holds}
 use Rattle.kimage_list.specs.Load.{Loading, Move, source_of}
 use Rattle.kimage_list.specs.Opening.{open_pages, entry_place, number}
@@ -22,6 +22,8 @@ use Rattle.kx_pages.specs.Lists.{destinations, sources, count}
 use Rattle.kx_pages.specs.declared.item.Item.TheVariants.{Source}
 use Rattle.page_memory.specs.Contents.{page_of}
 use Rattle.page_memory.specs.Memory.{set_word}
+use Rattle.kx_pages.proofs.Lists.{Each-append}
+use Rattle.kx_pages.proofs.Counting.{count-append}
 
 source_of-new : (p s : ℕ) (ps : List (ℕ × ℕ)) → count p (destinations ps) ≡ 0 → source_of p (ps ++ (p, s) ∷ []) ≡ Some s
 source_of-new p s [] z = ap (λ b. cond b (Some s) None) (eqb-self p)
@@ -39,7 +41,7 @@ source_of-old : (x p s : ℕ) (ps : List (ℕ × ℕ)) → p ≢ x → source_of
 source_of-old x p s [] n = ⊎_elim (λ u. absurd (n u.1)) (λ u. ap (λ b. cond b (Some s) None) u.0) (eqb_tells p x)
 source_of-old x p s (q ∷ ps) n = ap (cond (eqb q.0 x) (Some q.1)) (source_of-old x p s ps n)
 
-module _ (e : Draft) (t : ℕ × Loading) (memory : Contents) (pool : Pages) (table : Slots) (next entries : ℕ) (w : Writes (record e { loading = t.1 }) (t.0 ∷ []) memory pool table next entries) (free : HasRoom e)
+module _ (e : Draft) (t : ℕ × Loading) (memory : Contents) (pool : Pages) (table : Slots) (next entries : ℕ) (w : Renders (record e { loading = t.1 }) (t.0 ∷ []) memory pool table next entries) (free : HasRoom e)
     (p : ℕ) (bytes : List ℕ) (n : IsNext e p bytes) (home : IsHome e.wanted (p, t.0)) (here : at memory t.0 ≡ page_of bytes) where
   mine : count t.0 (t.0 ∷ []) ≡ 1
   mine = count-first t.0 []
@@ -57,7 +59,7 @@ module _ (e : Draft) (t : ℕ × Loading) (memory : Contents) (pool : Pages) (ta
   -- the page is loaded
   pub arrived : (memory' : Contents) (table' : Slots) → at memory' ≡ set_word (at memory) next (code (Source t.0)) → ((q : ℕ) → IsHeld memory q → IsHeld memory' q)
       → slot table' p ≡ Some (Some (record { source = t.0; place = next })) → ((x : ℕ) → p ≢ x → slot table' x ≡ slot table x)
-      → Writes (loaded_from e p t) [] memory' pool table' (next + 8) (entries + 1)
+      → Renders (loaded_from e p t) [] memory' pool table' (next + 8) (entries + 1)
   arrived memory' table' m stay new old = record {
     tracks = record {
       left = w.tracks.left;
@@ -69,7 +71,7 @@ module _ (e : Draft) (t : ℕ × Loading) (memory : Contents) (pool : Pages) (ta
     order = destinations-append t.1.pairs ((p, t.0) ∷ []) ∙ ap (λ ys. ys ++ p ∷ []) w.order ∙ sym (pages_of-move e.entries p);
     spare = w.spare;
     tight = tight_more (record e { loading = t.1 }) (t.0 ∷ []) memory pool table next entries w free (Move p);
-    homes = each-append (IsHome e.wanted) t.1.pairs ((p, t.0) ∷ []) w.homes (home, tt);
+    homes = Each-append (IsHome e.wanted) t.1.pairs ((p, t.0) ∷ []) w.homes (home, tt);
     once = λ x. omega (arith, w.once x, ap (count x) (sources-append t.1.pairs ((p, t.0) ∷ [])), count-append x (sources t.1.pairs) (t.0 ∷ []));
     within = λ x. omega (arith, w.within x, ap (count x) (sources-append t.1.pairs ((p, t.0) ∷ [])), count-append x (sources t.1.pairs) (t.0 ∷ []));
     held = λ x h. stay x (w.held x h);
@@ -113,13 +115,13 @@ module _ (e : Draft) (t : ℕ × Loading) (memory : Contents) (pool : Pages) (ta
           w.places x a g ∙ ap (entry_place e.links) (sym (number-front x e.entries (Move p ∷ []) (place-inside (record e { loading = t.1 }) (t.0 ∷ []) memory pool table next entries w x a g)))
 
 -- a page that was taken for p is p's own or no destination
-pub home_of : (e : Draft) (memory : Contents) (pool : Pages) (table : Slots) (next entries : ℕ) (w : Writes e [] memory pool table next entries) (p : ℕ) (t : ℕ × Loading) → CanTake e (Some p) t → IsHome e.wanted (p, t.0)
+pub home_of : (e : Draft) (memory : Contents) (pool : Pages) (table : Slots) (next entries : ℕ) (w : Renders e [] memory pool table next entries) (p : ℕ) (t : ℕ × Loading) → CanTake e (Some p) t → IsHome e.wanted (p, t.0)
 home_of e memory pool table next entries w p t can =
     let k = moves e memory pool table next entries w (Some p) t can in
     ⊎_elim (λ h. inl (sym (eqb-true p t.0 h))) (λ h. inr h) k.serves
 
 -- the page in hand is held
-pub hand_held : (e : Draft) (t : ℕ × Loading) (memory : Contents) (pool : Pages) (table : Slots) (next entries : ℕ) → Writes (record e { loading = t.1 }) (t.0 ∷ []) memory pool table next entries → IsHeld memory t.0
+pub hand_held : (e : Draft) (t : ℕ × Loading) (memory : Contents) (pool : Pages) (table : Slots) (next entries : ℕ) → Renders (record e { loading = t.1 }) (t.0 ∷ []) memory pool table next entries → IsHeld memory t.0
 hand_held e t memory pool table next entries w = w.held t.0 (omega (arith, w.within t.0, count-first t.0 []))
 
 pub in_hand : (x : ℕ) → 1 ≤ count x (x ∷ [])

@@ -4,39 +4,20 @@ use Rattle.std.specs.Prelude.{◌≢◌, ◌⊎◌, eqb, not, ◌||◌}
 use Rattle.std.proofs.lemmas.Option.{none-some}
 use Rattle.std.proofs.lemmas.Bool.{or_parts, eqb-false, ne_eqb}
 use Rattle.std.proofs.lemmas.Bool.Decides.{eqb_tells}
-use Rattle.kimage_list.proofs.Lists.{each_map, each_both, some_same, each-append, absent}
-use Rattle.kimage_list.proofs.Takes.{Takes, size, not_false, no_destination, destinations-append, Awaited, taken_took, Sound, given_sound, wished, others, length-without}
+use Rattle.kx_pages.proofs.Counting.{Distinct-from_count, count-from_has_not, no_longer}
+use Rattle.kx_pages.proofs.Lists.{Has-either, length-destinations}
+use Rattle.kimage_list.proofs.Takes.{Takes, size, no_destination, destinations-append, Awaited, taken_took, Sound, given_sound, wished, others, length-without}
 use Rattle.kimage_list.specs.Drafts.{one, amount}
 use Rattle.kimage_list.specs.Load.{without, source_of, is_for, Loading, draw, taken, given}
 use Rattle.kx_pages.specs.Lists.{Each, Has, destinations, has, count}
+use Rattle.kx_pages.proofs.Lists.{Each-map, Each-both, Each-append}
+use Rattle.kx_pages.proofs.Counting.{Each-from_no_count}
+use Rattle.kx_laws.proofs.Options.{some_same}
+use Rattle.kx_laws.proofs.Booleans.{not_false}
 
--- a list of distinct members of another is no longer
-has-without : (x y : ℕ) (ys : List ℕ) → x ≢ y → Has y ys → Has y (without x ys)
-has-without x y [] n h = h
-has-without x y (z ∷ ys) n h = go (eqb_tells z x) h (has-without x y ys n)
-  where
-    go : ((eqb z x ≡ true) × (z ≡ x)) ⊎ ((eqb z x ≡ false) × (z ≢ x)) → (z ≡ y) ⊎ Has y ys → (Has y ys → Has y (without x ys)) → Has y (cond (eqb z x) ys (z ∷ without x ys))
-    go (inl e) (inl f) ih = absurd (n (sym e.1 ∙ f))
-    go (inl e) (inr h) ih = rw e.0 h
-    go (inr e) (inl f) ih = rw e.0 (inl f)
-    go (inr e) (inr h) ih = rw e.0 (inr (ih h))
-
-has_test : (x : ℕ) (ys : List ℕ) → Has x ys → has x ys ≡ true
-has_test x [] h = absurd h
-has_test x (y ∷ ys) (inl e) = grind (arith, e)
-has_test x (y ∷ ys) (inr h) = let ih = has_test x ys h in grind (arith, ih)
-
-pub no_longer : (xs ys : List ℕ) → ((x : ℕ) → count x xs ≤ 1) → Each (λ x. Has x ys) xs → length xs ≤ length ys
-no_longer [] ys c h = omega arith
-no_longer (x ∷ xs) ys c h =
-    let z : count x xs ≡ 0 = grind (arith, c x) in
-    let there : Each (λ y. Has y (without x ys)) xs = each_both xs (λ y n k. has-without x y ys (λ e. n (sym e)) k) (absent x xs z) h.1 in
-    let ih = no_longer xs (without x ys) (λ y. omega (arith, c y)) there in
-    omega (arith, ih, length-without x ys (has_test x ys h.0))
-
-count_no_test : (x : ℕ) (ys : List ℕ) → has x ys ≡ false → count x ys ≡ 0
-count_no_test x [] h = refl
-count_no_test x (y ∷ ys) h = let p = or_parts (eqb y x) (has x ys) h in let ih = count_no_test x ys p.1 in rw p.0 (omega (arith, ih))
+-- a list of members of another, none of them twice, is no longer
+pub counted_fit : (xs ys : List ℕ) → ((x : ℕ) → count x xs ≤ 1) → Each (λ x. Has x ys) xs → length xs ≤ length ys
+counted_fit xs ys c h = no_longer xs ys (Distinct-from_count xs c) h
 
 -- a page drawn for d is not filed
 draw_own : (D : ℕ → Bool) (d : ℕ) (pairs : List (ℕ × ℕ)) (spare filed left : List ℕ) (o : ℕ × Loading)
@@ -63,7 +44,7 @@ taken_own D d l t c k e = go (has d l.filed) refl
         let s : d ≡ t.0 = ap (λ u. u.0) i in
         let one_d : one d t.0 ≡ 1 = grind (arith, s) in
         omega (arith, k.conserves d, one_d, c d)
-    go false f = draw_own D d l.pairs l.spare l.filed l.left t (rw (f, taken) at e) (count_no_test d l.filed f)
+    go false f = draw_own D d l.pairs l.spare l.filed l.left t (rw (f, taken) at e) (count-from_has_not d l.filed f)
 
 -- where no page is left that serves, each page left is a destination still to be loaded
 draw_none : (D : ℕ → Bool) (r : Option ℕ) (pairs : List (ℕ × ℕ)) (spare filed left : List ℕ)
@@ -91,17 +72,12 @@ pub record Full (D : ℕ → Bool) (pool spent : List ℕ) (n : ℕ) (l : Loadin
   pub sizes : size l ≡ length pool
   pub ends : (front : List ℕ) × (pool ≡ front ++ l.left)
 
-has-append : (p : ℕ) (xs ys : List ℕ) → Has p (xs ++ ys) → Has p xs ⊎ Has p ys
-has-append p [] ys h = inr h
-has-append p (x ∷ xs) ys (inl e) = inl (inl e)
-has-append p (x ∷ xs) ys (inr h) = ⊎_elim (λ a. inl (inr a)) (λ b. inr b) (has-append p xs ys h)
-
 given_files : (D : ℕ → Bool) (r : Option ℕ) (l : Loading) (t : ℕ × Loading) → ((x : ℕ) → amount x l ≤ 1) → Takes D r l t → taken D r l ≡ Some t
     → Each (Awaited D l.pairs) l.filed → Each (Awaited D (given r t).pairs) (given r t).filed
 given_files D None l t c k e w = k.files w
 given_files D (Some d) l t c k e w =
-    let away : Each (λ p. p ≢ d) t.1.filed = absent d t.1.filed (taken_own D d l t c k e) in
-    each_both t.1.filed (λ p a n. (a.0, λ h. ⊎_elim a.1 (λ g. ⊎_elim (λ f. n (sym f)) (λ f. f) g) (has-append p (destinations t.1.pairs) (d ∷ []) (subst (Has p) (destinations-append t.1.pairs ((d, t.0) ∷ [])) h)))) (k.files w) away
+    let away : Each (λ p. p ≢ d) t.1.filed = Each-from_no_count d t.1.filed (taken_own D d l t c k e) in
+    Each-both t.1.filed (λ p a n. (a.0, λ h. ⊎_elim a.1 (λ g. ⊎_elim (λ f. n (sym f)) (λ f. f) g) (Has-either p (destinations t.1.pairs) (d ∷ []) (subst (Has p) (destinations-append t.1.pairs ((d, t.0) ∷ [])) h)))) (k.files w) away
 
 given_size : (r : Option ℕ) (t : ℕ × Loading) → size (given r t) ≡ size t.1 + 1
 given_size None t = omega (arith, length-append t.1.spare (t.0 ∷ []))
@@ -127,17 +103,13 @@ abbrev pub Waits : (ℕ → Bool) → Option ℕ → List (ℕ × ℕ) → ℕ �
 Waits D r qs p = Awaited D qs p × (is_for r p ≡ false)
 
 pub taken_none : (D : ℕ → Bool) (r : Option ℕ) (l : Loading) → Each (Awaited D l.pairs) l.filed → taken D r l ≡ None → Each (Waits D r l.pairs) (l.left ++ l.filed)
-taken_none D None l w e = each-append (Waits D None l.pairs) l.left l.filed (draw_none D None l.pairs l.spare l.filed l.left e) (each_map l.filed (λ p a. (a, refl)) w)
+taken_none D None l w e = Each-append (Waits D None l.pairs) l.left l.filed (draw_none D None l.pairs l.spare l.filed l.left e) (Each-map l.filed (λ p a. (a, refl)) w)
 taken_none D (Some d) l w e = go (has d l.filed) refl
   where
     go : (b : Bool) → has d l.filed ≡ b → Each (Waits D (Some d) l.pairs) (l.left ++ l.filed)
     go true f = absurd (none-some _ (sym (rw (f, taken) at e)))
-    go false f = each-append (Waits D (Some d) l.pairs) l.left l.filed (draw_none D (Some d) l.pairs l.spare l.filed l.left (rw (f, taken) at e))
-        (each_both l.filed (λ p a n. (a, ne_eqb d p (λ g. n (sym g)))) w (absent d l.filed (count_no_test d l.filed f)))
-
-pub length-destinations : (qs : List (ℕ × ℕ)) → length (destinations qs) ≡ length qs
-length-destinations [] = refl
-length-destinations (q ∷ qs) = ap suc (length-destinations qs)
+    go false f = Each-append (Waits D (Some d) l.pairs) l.left l.filed (draw_none D (Some d) l.pairs l.spare l.filed l.left (rw (f, taken) at e))
+        (Each-both l.filed (λ p a n. (a, ne_eqb d p (λ g. n (sym g)))) w (Each-from_no_count d l.filed (count-from_has_not d l.filed f)))
 
 pub none_filed : (D : ℕ → Bool) (qs : List (ℕ × ℕ)) (xs : List ℕ) → ((p : ℕ) → D p ≡ true → Has p (destinations qs)) → Each (Awaited D qs) xs → xs ≡ []
 none_filed D qs [] all w = refl

@@ -1,5 +1,5 @@
 -- One drawn page, in a pool and a table.
-use Rattle.std.proofs.Common.{◌≡◌, ℕ, ◌+◌, ◌≤◌, List, [], ◌∷◌, ◌++◌, Bool, true, false, cond, Option, Some, None, refl, sym, ap, ◌∙◌, subst, ⊎_elim, inl, inr, arith}
+use Rattle.std.proofs.Common.{◌≡◌, ℕ, ◌+◌, ◌≤◌, List, [], ◌∷◌, ◌++◌, Bool, true, false, cond, Option, Some, None, refl, sym, ap, ◌∙◌, subst, ⊎_elim, inl, inr, arith, append_assoc}
 use Rattle.std.specs.Prelude.{◌≢◌, ◌⊎◌, ◌||◌, not, eqb, is_some, unwrap_or}
 use Rattle.std.proofs.lemmas.Option.{none-some}
 use Rattle.std.proofs.lemmas.Bool.Decides.{eqb_tells}
@@ -7,16 +7,17 @@ use Rattle.std.specs.Ordering.{nat_cmp, is_eq}
 use Rattle.std.specs.Cmp.{nat_cmp_total, eq_by_cmp_equiv}
 use Rattle.std.specs.FinMap.{get, get-insert}
 use Rattle.page_pool.specs.Pages.{Pages, is_filed, marked}
-use Rattle.kimage_list.proofs.Lists.{count-append, eqb-self}
+use Rattle.kimage_list.proofs.Lists.{eqb-self}
 use Rattle.kimage_list.proofs.Tables.{apart}
 use Rattle.kimage_list.specs.Load.{Loading, without, source_of, at_home, is_for, draw, taken}
 use Rattle.kimage_list.specs.Tables.{Slots, slot, source_in, place_in}
-use Rattle.kimage_list.specs.Tracking.{Tracks, fate_of, Took, Gives, Reaches, Draws, Exchanged as Pair}
-use Rattle.kimage_list.specs.declared.table.Loaded.{Loaded}
+use Rattle.kimage_list.specs.Tracking.{Tracks, fate_of, Took, Gives, Reaches, Draws, Exchanged as Pair, whole_pool}
+use Rattle.kimage_list.specs.declared.table.PageSource.{PageSource}
 use Rattle.kimage_list.specs.declared.taking.Fate.{Fate}
 use Rattle.kimage_list.specs.declared.taking.Fate.TheVariants.{Exchanged, Given, Filed}
-use Rattle.kimage_list.specs.declared.taking.Taken.{Taken}
+use Rattle.kimage_list.specs.declared.taking.TakenPage.{TakenPage}
 use Rattle.kx_pages.specs.Lists.{has, count}
+use Rattle.kx_pages.proofs.Counting.{count-append}
 
 abbrev pub loading : List ℕ → List ℕ → List (ℕ × ℕ) → List ℕ → Loading
 loading left filed pairs spare = record { left = left; filed = filed; pairs = pairs; spare = spare }
@@ -27,7 +28,7 @@ Step D r pairs spare filed q left Given = draw D r pairs spare filed (q ∷ left
 Step D r pairs spare filed q left Filed = draw D r pairs spare filed (q ∷ left) ≡ draw D r pairs spare (q ∷ filed) left
 Step D r pairs spare filed q left (Exchanged x) = (draw D r pairs spare filed (q ∷ left) ≡ Some (x.source, loading left filed (at_home q pairs) spare)) × (source_of q pairs ≡ Some x.source)
 
-pub draw_step : (D : ℕ → Bool) (r : Option ℕ) (pairs : List (ℕ × ℕ)) (spare filed : List ℕ) (q : ℕ) (left : List ℕ) (b : Bool) (o : Option (Option Loaded))
+pub draw_step : (D : ℕ → Bool) (r : Option ℕ) (pairs : List (ℕ × ℕ)) (spare filed : List ℕ) (q : ℕ) (left : List ℕ) (b : Bool) (o : Option (Option PageSource))
     → is_for r q ≡ b → D q ≡ is_some o → source_in o ≡ source_of q pairs → Step D r pairs spare filed q left (fate_of b o)
 draw_step D r pairs spare filed q left true o e d s =
     let f : (is_for r q || not (D q)) ≡ true = ap (λ v. v || not (D q)) e in
@@ -44,7 +45,7 @@ draw_step D r pairs spare filed q left false (Some (Some x)) e d s =
     let g : source_of q pairs ≡ Some x.source = sym s in
     (rw (f, draw, g) refl, g)
 
-pub fate-exchanged : (b : Bool) (o : Option (Option Loaded)) (x : Loaded) → fate_of b o ≡ Exchanged x → o ≡ Some (Some x)
+pub fate-exchanged : (b : Bool) (o : Option (Option PageSource)) (x : PageSource) → fate_of b o ≡ Exchanged x → o ≡ Some (Some x)
 fate-exchanged true o x e = cc
 fate-exchanged false None x e = cc
 fate-exchanged false (Some None) x e = cc
@@ -113,7 +114,7 @@ tracks-filed D m pool pool' table q s l k = record {
 }
 
 -- a loaded page is given as its own source
-pub tracks-exchanged : (D : ℕ → Bool) (m : Loading) (pool : Pages) (table table' : Slots) (q : ℕ) (x : Loaded) → Tracks D m pool table → slot table q ≡ Some (Some x)
+pub tracks-exchanged : (D : ℕ → Bool) (m : Loading) (pool : Pages) (table table' : Slots) (q : ℕ) (x : PageSource) → Tracks D m pool table → slot table q ≡ Some (Some x)
     → slot table' q ≡ Some (Some (record { source = q; place = x.place })) → ((p : ℕ) → q ≢ p → slot table' p ≡ slot table p)
     → Tracks D (loading m.left m.filed (at_home q m.pairs) m.spare) pool table'
 tracks-exchanged D m pool table table' q x s o n k = record {
@@ -124,7 +125,7 @@ tracks-exchanged D m pool table table' q x s o n k = record {
   once = s.once;
 }
   where
-    Here : Loaded
+    Here : PageSource
     Here = record { source = q; place = x.place }
 
     wanted : (p : ℕ) → ((eqb q p ≡ true) × (q ≡ p)) ⊎ ((eqb q p ≡ false) × (q ≢ p)) → D p ≡ is_some (slot table' p)
@@ -137,7 +138,7 @@ tracks-exchanged D m pool table table' q x s o n k = record {
         ∙ sym (source_of-at_home q x.source m.pairs (sym (s.loaded q) ∙ ap source_in o)) ∙ ap (λ y. source_of y (at_home q m.pairs)) t.1
     loaded p (inr t) = ap source_in (k p t.1) ∙ s.loaded p ∙ sym (source_of-at_home_other p q m.pairs t.1)
 
-pub places-exchanged : (table table' : Slots) (q : ℕ) (x : Loaded) → slot table q ≡ Some (Some x) → slot table' q ≡ Some (Some (record { source = q; place = x.place }))
+pub places-exchanged : (table table' : Slots) (q : ℕ) (x : PageSource) → slot table q ≡ Some (Some x) → slot table' q ≡ Some (Some (record { source = q; place = x.place }))
     → ((p : ℕ) → q ≢ p → slot table' p ≡ slot table p) → (p : ℕ) → place_in (slot table' p) ≡ place_in (slot table p)
 places-exchanged table table' q x o n k p = go (eqb_tells q p)
   where
@@ -157,7 +158,7 @@ before : (D : ℕ → Bool) (r : Option ℕ) (l : Loading) (pool pool' : Pages) 
 before D r l pool pool' table q h e = sym h.same ∙ ap (draw D r h.now.pairs h.now.spare h.now.filed) (sym h.tracks.left ∙ e)
 
 -- gives at a value of the definition that is known
-pub gives_at : (D : ℕ → Bool) (l : Loading) (o : Option (ℕ × Loading)) (t : ℕ × Loading) (x : Taken) (pool : Pages) (table table' : Slots) → o ≡ Some t → Took D l t x pool table table' → Gives D l o (Some x) pool table table'
+pub gives_at : (D : ℕ → Bool) (l : Loading) (o : Option (ℕ × Loading)) (t : ℕ × Loading) (x : TakenPage) (pool : Pages) (table table' : Slots) → o ≡ Some t → Took D l t x pool table table' → Gives D l o (Some x) pool table table'
 gives_at D l o t x pool table table' e k = subst (λ v. Gives D l v (Some x) pool table table') (sym e) k
 
 pub gives-given : (D : ℕ → Bool) (r : Option ℕ) (l : Loading) (pool pool' : Pages) (table now : Slots) (q : ℕ) → Reaches D r l pool now → now ≡ table → pool.left ≡ q ∷ pool'.left → pool'.marks ≡ pool.marks
@@ -172,7 +173,7 @@ gives-given D r l pool pool' table now q h e left marks f =
       places = λ p. ap (λ t. place_in (slot t p)) e;
     })
 
-pub gives-exchanged : (D : ℕ → Bool) (r : Option ℕ) (l : Loading) (pool pool' : Pages) (table now table' : Slots) (q : ℕ) (x : Loaded) (y : Taken) → Reaches D r l pool now → now ≡ table → pool.left ≡ q ∷ pool'.left → pool'.marks ≡ pool.marks
+pub gives-exchanged : (D : ℕ → Bool) (r : Option ℕ) (l : Loading) (pool pool' : Pages) (table now table' : Slots) (q : ℕ) (x : PageSource) (y : TakenPage) → Reaches D r l pool now → now ≡ table → pool.left ≡ q ∷ pool'.left → pool'.marks ≡ pool.marks
     → Exchanged x ≡ fate_of (is_for r q) (slot now q) → y.page ≡ x.source → y.moved ≡ Some (record { page = q; place = x.place })
     → slot table' q ≡ Some (Some (record { source = q; place = x.place })) → ((p : ℕ) → q ≢ p → slot table' p ≡ slot now p)
     → Gives D l (draw D r l.pairs l.spare l.filed l.left) (Some y) pool' table table'
@@ -189,9 +190,17 @@ gives-exchanged D r l pool pool' table now table' q x y h e left marks f page mo
       places = λ p. places-exchanged now table' q x o here others p ∙ ap (λ t. place_in (slot t p)) e;
     })
 
-pub draws-filed : (r : Option ℕ) (pool pool' pool'' : Pages) (start : Pages) (table now : Slots) (q : ℕ) → Draws r start table pool now → pool.left ≡ q ∷ pool'.left → pool'.marks ≡ pool.marks
+-- drawing a page, and marking one, keep the pool's pages
+pub whole-drawn : (pool pool' : Pages) (q : ℕ) → pool.left ≡ q ∷ pool'.left → pool'.drawn ≡ pool.drawn ++ q ∷ [] → whole_pool pool' ≡ whole_pool pool
+whole-drawn pool pool' q left drawn =
+    ap (λ xs. xs ++ pool'.left) drawn ∙ append_assoc pool.drawn (q ∷ []) pool'.left ∙ ap (λ xs. pool.drawn ++ xs) (sym left)
+
+pub whole-marked : (pool pool' : Pages) (q : ℕ) (b : Bool) → pool' ≡ marked pool q b → whole_pool pool' ≡ whole_pool pool
+whole-marked pool pool' q b e = ap whole_pool e
+
+pub draws-filed : (r : Option ℕ) (pool pool' pool'' : Pages) (start : Pages) (table now : Slots) (q : ℕ) → Draws r start table pool now → pool.left ≡ q ∷ pool'.left → pool'.drawn ≡ pool.drawn ++ q ∷ [] → pool'.marks ≡ pool.marks
     → Filed ≡ fate_of (is_for r q) (slot now q) → pool'' ≡ marked pool' q true → Draws r start table pool'' now
-draws-filed r pool pool' pool'' start table now q d left marks f e = record {
+draws-filed r pool pool' pool'' start table now q d left drawn marks f e = record {
   reaches = λ D l s.
       let h = d.reaches D l s in
       record {
@@ -201,6 +210,7 @@ draws-filed r pool pool' pool'' start table now q d left marks f e = record {
         pairs = h.pairs;
       };
   same = d.same;
+  pages = whole-marked pool' pool'' q true e ∙ whole-drawn pool pool' q left drawn ∙ d.pages;
 }
 
 pub gives-none : (D : ℕ → Bool) (r : Option ℕ) (l : Loading) (pool pool' : Pages) (table now : Slots) → Reaches D r l pool now → pool.left ≡ [] → Gives D l (draw D r l.pairs l.spare l.filed l.left) None pool' table now

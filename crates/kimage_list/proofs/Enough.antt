@@ -3,14 +3,15 @@ use Rattle.std.proofs.Common.{◌≡◌, ℕ, zero, suc, ◌+◌, ◌≤◌, Lis
 use Rattle.std.specs.Prelude.{◌≢◌, ◌⊎◌, eqb}
 use Rattle.std.proofs.lemmas.Bool.{eqb-false, cases_lt}
 use Rattle.std.proofs.lemmas.Bool.Decides.{eqb_tells}
-use Rattle.kimage_list.proofs.Counting.{no_longer, Full, Waits, taken_none, full_on, length-destinations}
-use Rattle.kimage_list.proofs.Lists.{each_map, count-append, each-append}
+use Rattle.kimage_list.proofs.Counting.{counted_fit, Full, Waits, taken_none, full_on}
 use Rattle.kimage_list.proofs.Parts.{served-append}
 use Rattle.kimage_list.proofs.Takes.{sources-append, wished, others}
 use Rattle.kimage_list.specs.Counted.{Counts, Allowed, AlwaysTakes, OneMore}
 use Rattle.kimage_list.specs.Drafts.{one, used, Draft}
 use Rattle.kimage_list.specs.Load.{Loading, taken, given, pages_of, served, begun}
 use Rattle.kx_pages.specs.Lists.{Each, Has, sources, count}
+use Rattle.kx_pages.proofs.Lists.{Each-map, Each-append, length-destinations}
+use Rattle.kx_pages.proofs.Counting.{count-append}
 
 each_at : (P : ℕ → Type 0) (xs : List ℕ) (x : ℕ) → Each P xs → 1 ≤ count x xs → P x
 each_at P [] x h c = absurd (omega (arith, c))
@@ -57,15 +58,15 @@ module _ (D : ℕ → Bool) (pool spent all : List ℕ) (n need : ℕ) (l : Load
   runs_out : (r : Option ℕ) → Allowed r all spent n need → Each (Waits D r l.pairs) (l.left ++ l.filed) → ⊥
   runs_out None a w =
       let xs = l.left ++ l.filed in
-      let apart : Each (λ q. Has q spent → ⊥) (l.left ++ l.filed) = each_map xs (λ q v h. v.0.1 (subst (Has q) (sym f.sound.order) h)) w in
-      let few = no_longer (xs ++ spent) all (disjoint_once xs spent once spent_once apart) (each-append (λ q. Has q all) xs spent (each_map xs (λ q v. wanted q v.0.0) w) inside) in
+      let apart : Each (λ q. Has q spent → ⊥) (l.left ++ l.filed) = Each-map xs (λ q v h. v.0.1 (subst (Has q) (sym f.sound.order) h)) w in
+      let few = counted_fit (xs ++ spent) all (disjoint_once xs spent once spent_once apart) (Each-append (λ q. Has q all) xs spent (Each-map xs (λ q v. wanted q v.0.0) w) inside) in
       omega (arith, few, length-append xs spent, sizes, a, enough)
   runs_out (Some p) a w =
       let xs = l.left ++ l.filed in
       let apart : Each (λ q. Has q (p ∷ spent) → ⊥) (l.left ++ l.filed) =
-      each_map xs (λ q v h. ⊎_elim (λ g. eqb-false p q v.1 g) (λ g. v.0.1 (subst (Has q) (sym f.sound.order) g)) h) w in
-      let few = no_longer (xs ++ p ∷ spent) all (disjoint_once xs (p ∷ spent) once (once_more p spent a.1 spent_once) apart)
-      (each-append (λ q. Has q all) xs (p ∷ spent) (each_map xs (λ q v. wanted q v.0.0) w) (a.0, inside)) in
+      Each-map xs (λ q v h. ⊎_elim (λ g. eqb-false p q v.1 g) (λ g. v.0.1 (subst (Has q) (sym f.sound.order) g)) h) w in
+      let few = counted_fit (xs ++ p ∷ spent) all (disjoint_once xs (p ∷ spent) once (once_more p spent a.1 spent_once) apart)
+      (Each-append (λ q. Has q all) xs (p ∷ spent) (Each-map xs (λ q v. wanted q v.0.0) w) (a.0, inside)) in
       omega (arith, few, length-append xs (p ∷ spent), sizes, a.2, enough)
 
   -- taking never fails
@@ -86,9 +87,9 @@ pub used_first : (D : ℕ → Bool) (pool spent all : List ℕ) (n need : ℕ) (
     → ((p : ℕ) → D p ≡ true → Has p all) → Each (λ p. Has p all) spent → ((x : ℕ) → count x spent ≤ 1) → n + length all ≤ need → (x : ℕ) → used x l ≤ count x (take need pool)
 used_first D pool spent all n need l c f wanted inside spent_once enough x =
     let front = f.ends.0 in
-    let apart : Each (λ q. Has q spent → ⊥) l.filed = each_map l.filed (λ q v h. v.1 (subst (Has q) (sym f.sound.order) h)) f.files in
+    let apart : Each (λ q. Has q spent → ⊥) l.filed = Each-map l.filed (λ q v h. v.1 (subst (Has q) (sym f.sound.order) h)) f.files in
     let once : (y : ℕ) → count y l.filed ≤ 1 = λ y. omega (arith, f.sound.conserved y, c y) in
-    let few = no_longer (l.filed ++ spent) all (disjoint_once l.filed spent once spent_once apart) (each-append (λ q. Has q all) l.filed spent (each_map l.filed (λ q v. wanted q v.0) f.files) inside) in
+    let few = counted_fit (l.filed ++ spent) all (disjoint_once l.filed spent once spent_once apart) (Each-append (λ q. Has q all) l.filed spent (Each-map l.filed (λ q v. wanted q v.0) f.files) inside) in
     let size : length front ≤ need = omega (arith, few, length-append l.filed spent, f.sizes, f.sound.many, ap length f.sound.order, length-destinations l.pairs, ap length f.ends.1, length-append front l.left, enough) in
     omega (arith, count-front x need front l.left size, ap (λ ys. count x (take need ys)) f.ends.1, f.sound.conserved x, ap (count x) f.ends.1, count-append x front l.left)
 
@@ -105,8 +106,8 @@ full_of pool all d k = record {
 }
 
 pub wished-inside : (r : Option ℕ) (all spent : List ℕ) (n need : ℕ) → Allowed r all spent n need → Each (λ p. Has p all) spent → Each (λ p. Has p all) (spent ++ wished (r ∷ []))
-wished-inside None all spent n need a h = each-append (λ p. Has p all) spent [] h tt
-wished-inside (Some p) all spent n need a h = each-append (λ p. Has p all) spent (p ∷ []) h (a.0, tt)
+wished-inside None all spent n need a h = Each-append (λ p. Has p all) spent [] h tt
+wished-inside (Some p) all spent n need a h = Each-append (λ p. Has p all) spent (p ∷ []) h (a.0, tt)
 
 pub wished-once : (r : Option ℕ) (all spent : List ℕ) (n need : ℕ) → Allowed r all spent n need → ((x : ℕ) → count x spent ≤ 1) → (x : ℕ) → count x (spent ++ wished (r ∷ [])) ≤ 1
 wished-once None all spent n need a c x = omega (arith, c x, count-append x spent [])

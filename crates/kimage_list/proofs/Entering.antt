@@ -7,10 +7,10 @@ use Rattle.page_pool.specs.Pages.{Pages}
 use Rattle.kimage_list.proofs.Exchange.{still, keys_are}
 use Rattle.kimage_list.proofs.InHand.{count-first}
 use Rattle.kimage_list.proofs.Linking.{items-full, place-inside, next-listed, sources-keys, word-still, word-apart}
-use Rattle.kimage_list.proofs.Lists.{put-apart, count-append, absent, distinct_from, heads_same, nil_cons}
+use Rattle.kimage_list.proofs.Lists.{heads_same, nil_cons}
 use Rattle.kimage_list.proofs.OpenList.{entry_added}
 use Rattle.kimage_list.proofs.Room.{room}
-use Rattle.kimage_list.specs.Drafts.{Draft, Writes, HasRoom, IsSteady, started}
+use Rattle.kimage_list.specs.Drafts.{Draft, Renders, HasRoom, IsSteady, started}
 use Rattle.kimage_list.specs.Laying.{items, source_pages, Holds}
 use Rattle.kimage_list.specs.Load.{Entry, Start, Move, pages_of}
 use Rattle.kimage_list.specs.Opening.{open_pages, entry_place, next_place, Tight, number}
@@ -20,6 +20,8 @@ use Rattle.kx_pages.specs.Lists.{Each, Distinct, destinations, sources, count}
 use Rattle.kx_pages.specs.declared.item.Item.{Item}
 use Rattle.kx_pages.specs.declared.item.Item.TheVariants.{Destination, Source}
 use Rattle.page_memory.specs.Memory.{Mem, put, set_word}
+use Rattle.kx_pages.proofs.Counting.{count-append, Each-from_no_count, Distinct-from_count}
+use Rattle.page_memory.proofs.Laws.{put-apart}
 
 items-start : (es : List Entry) (ps : List (ℕ × ℕ)) (p : ℕ) → destinations ps ≡ pages_of es → items (es ++ Start p ∷ []) ps ≡ items es ps ++ Destination p ∷ []
 items-start [] ps p o = refl
@@ -94,7 +96,7 @@ each_count_of : (P : ℕ → Type 0) (xs : List ℕ) → ((x : ℕ) → 1 ≤ co
 each_count_of P [] f = tt
 each_count_of P (x ∷ xs) f = (f x (omega (arith, count-first x xs)), each_count_of P xs (λ y h. f y (omega (arith, h))))
 
-module _ (d : Draft) (hand : List ℕ) (memory : Contents) (pool : Pages) (table : Slots) (next entries : ℕ) (w : Writes d hand memory pool table next entries) (free : HasRoom d) where
+module _ (d : Draft) (hand : List ℕ) (memory : Contents) (pool : Pages) (table : Slots) (next entries : ℕ) (w : Renders d hand memory pool table next entries) (free : HasRoom d) where
   pub in_spare : (x : ℕ) → count x d.loading.spare ≡ count x d.first + count x d.links
   in_spare x = ap (count x) w.spare ∙ count-append x d.first d.links
 
@@ -127,7 +129,7 @@ module _ (d : Draft) (hand : List ℕ) (memory : Contents) (pool : Pages) (table
   apart y z f = let m : count (next / 4096) d.links ≡ 0 = ap (λ x. count x d.links) f ∙ z in omega (arith, m, listed)
 
   distinct : Distinct d.links
-  distinct = distinct_from d.links (λ x. omega (arith, w.once x, in_spare x))
+  distinct = Distinct-from_count d.links (λ x. omega (arith, w.once x, in_spare x))
 
   size : length (items d.entries d.loading.pairs) ≡ length d.entries
   size = items-full d.entries d.loading.pairs w.order
@@ -151,7 +153,7 @@ module _ (d : Draft) (hand : List ℕ) (memory : Contents) (pool : Pages) (table
   places_more : (e : Entry) (x a : ℕ) → place_in (slot table x) ≡ Some a → a ≡ entry_place d.links (number x (d.entries ++ e ∷ []))
   places_more e x a h = w.places x a h ∙ ap (entry_place d.links) (sym (number-front x d.entries (e ∷ []) (place-inside d hand memory pool table next entries w x a h)))
 
-  pub entered : (p : ℕ) (memory' : Contents) → at memory' ≡ set_word (at memory) next (code (Destination p)) → ((q : ℕ) → IsHeld memory q → IsHeld memory' q) → Writes (started d p) hand memory' pool table (next + 8) (entries + 1)
+  pub entered : (p : ℕ) (memory' : Contents) → at memory' ≡ set_word (at memory) next (code (Destination p)) → ((q : ℕ) → IsHeld memory q → IsHeld memory' q) → Renders (started d p) hand memory' pool table (next + 8) (entries + 1)
   entered p memory' e stay = record {
     tracks = w.tracks;
     order = w.order ∙ sym (pages_of-start d.entries p);
@@ -179,13 +181,13 @@ module _ (d : Draft) (hand : List ℕ) (memory : Contents) (pool : Pages) (table
   steady_start p = steady_more (Start p)
 
 pub same_writes : (d : Draft) (hand : List ℕ) (memory : Contents) (pool pool' : Pages) (table table' : Slots) (next next' entries entries' : ℕ) → pool ≡ pool' → table ≡ table' → next ≡ next' → entries ≡ entries'
-    → Writes d hand memory pool table next entries → Writes d hand memory pool' table' next' entries'
+    → Renders d hand memory pool table next entries → Renders d hand memory pool' table' next' entries'
 same_writes d hand memory pool pool' table table' next next' entries entries' a b e f w =
-    subst (λ x. Writes d hand memory pool' table' next' x) f (subst (λ x. Writes d hand memory pool' table' x entries) e (subst (λ x. Writes d hand memory pool' x next entries) b (subst (λ x. Writes d hand memory x table next entries) a w)))
+    subst (λ x. Renders d hand memory pool' table' next' x) f (subst (λ x. Renders d hand memory pool' table' x entries) e (subst (λ x. Renders d hand memory pool' x next entries) b (subst (λ x. Renders d hand memory x table next entries) a w)))
 
 -- a page in hand may be written
-pub filled_in : (d : Draft) (hand : List ℕ) (memory memory' : Contents) (pool : Pages) (table : Slots) (next entries p : ℕ) (bytes : (List ℕ)) → Writes d hand memory pool table next entries → 1 ≤ count p hand
-    → at memory' ≡ put (at memory) p bytes → ((q : ℕ) → IsHeld memory q → IsHeld memory' q) → Writes d hand memory' pool table next entries
+pub filled_in : (d : Draft) (hand : List ℕ) (memory memory' : Contents) (pool : Pages) (table : Slots) (next entries p : ℕ) (bytes : (List ℕ)) → Renders d hand memory pool table next entries → 1 ≤ count p hand
+    → at memory' ≡ put (at memory) p bytes → ((q : ℕ) → IsHeld memory q → IsHeld memory' q) → Renders d hand memory' pool table next entries
 filled_in d hand memory memory' pool table next entries p bytes w h e stay =
     let spare = ap (count p) w.spare ∙ count-append p d.first d.links in
     let unlinked : count p d.links ≡ 0 = omega (arith, w.once p, h, spare) in
@@ -201,7 +203,7 @@ filled_in d hand memory memory' pool table next entries p bytes w h e stay =
       held = λ x g. stay x (w.held x g);
       below = w.below;
       list = subst (λ N. Holds N (open_pages d.links (items d.entries d.loading.pairs))) (sym e)
-          (still (at memory) p bytes (open_pages d.links (items d.entries d.loading.pairs)) (keys_are d.links (items d.entries d.loading.pairs) p (absent p d.links unlinked)) w.list);
+          (still (at memory) p bytes (open_pages d.links (items d.entries d.loading.pairs)) (keys_are d.links (items d.entries d.loading.pairs) p (Each-from_no_count p d.links unlinked)) w.list);
       loaded = subst (λ N. Holds N (source_pages d.bytes d.loading.pairs)) (sym e)
           (still (at memory) p bytes (source_pages d.bytes d.loading.pairs) (sources-keys d.bytes p d.loading.pairs unsourced) w.loaded);
       others = λ y z. ap (λ N. N y) e ∙ put-apart (at memory) p y bytes (λ f. away y f (omega (arith, z))) ∙ w.others y z;

@@ -3,15 +3,15 @@ use Rattle.std.proofs.Common.{◌≡◌, ℕ, ◌+◌, ◌<◌, List, [], ◌∷
 use Rattle.kx_pages.specs.Lists.{Has}
 use Rattle.kx_pages.specs.Spans.{Run, in_span, in_spans}
 use Rattle.kimage_list.specs.Load.{Start, Move, page_entries, pages_of, starts}
-use Rattle.kimage_list.specs.Writers.{Load, Writer, StandsAt, IsAwaited, with_destination, with_source, destination_after, pages_from}
-use Rattle.kimage_list.proofs.Lists.{has_count}
+use Rattle.kimage_list.specs.Writers.{History, Writer, StandsAt, IsAwaited, with_destination, with_source, destination_after, pages_from}
 use Rattle.kimage_list.proofs.Spanned.{span_inside, span_tells, has-from, from-above}
 use Rattle.kimage_list.proofs.Segmented.{pages_of-page_entries, starts-page_entries, after-page_entries, page_entries-more}
 use Rattle.kimage_list.proofs.Standings.{awaited_exactly}
+use Rattle.kx_pages.proofs.Counting.{count-from_Has}
 
 -- the writer stands behind n pages of the one segment
 pub record IsOneSegment (wanted : List Run) (first n : ℕ) (w : Writer) : Type 0 where
-  pub load : Load
+  pub load : History
   pub stands : StandsAt load w
   pub wanted_by : load.wanted ≡ wanted
   pub entries : load.entries ≡ Start first ∷ page_entries first n
@@ -29,7 +29,7 @@ module _ (wanted : List Run) (first n : ℕ) (w : Writer) (k : IsOneSegment want
   next_awaited total h l =
       (awaited_exactly k.load w k.stands (first + n)).1 (
         ap (λ rs. in_spans rs (first + n)) k.wanted_by ∙ h (first + n) ∙ span_tells (record { first = first; count = total }) (first + n) (omega arith) (omega (arith, l)),
-        λ g. let one = has_count (first + n) (pages_from first n) (subst (Has (first + n)) pages_so_far g) in omega (arith, one, from-above (first + n) first n (omega arith)),
+        λ g. let one = count-from_Has (first + n) (pages_from first n) (subst (Has (first + n)) pages_so_far g) in omega (arith, one, from-above (first + n) first n (omega arith)),
       )
 
   -- and then the one behind it
@@ -53,10 +53,10 @@ module _ (wanted : List Run) (first n : ℕ) (w : Writer) (k : IsOneSegment want
       t.1 (subst (Has d) (sym pages_so_far) (has-from d first n i.0 i.1))
 
 -- the first step
-pub one_begun : (h : Load) (w : Writer) → StandsAt h w → h.entries ≡ [] → h.segments ≡ 1 → 0 < w.segments_left
+pub one_begun : (h : History) (w : Writer) → StandsAt h w → h.entries ≡ [] → h.segments ≡ 1 → 0 < w.segments_left
 one_begun h w s e n = omega (arith, s.segments_left, ap starts e, n)
 
-pub one_started : (wanted : List Run) (h : Load) (first : ℕ) (v : Writer) → h.wanted ≡ wanted → h.entries ≡ [] → h.segments ≡ 1 → StandsAt (with_destination h first) v → IsOneSegment wanted first 0 v
+pub one_started : (wanted : List Run) (h : History) (first : ℕ) (v : Writer) → h.wanted ≡ wanted → h.entries ≡ [] → h.segments ≡ 1 → StandsAt (with_destination h first) v → IsOneSegment wanted first 0 v
 one_started wanted h first v w e n s = record {
   load = with_destination h first;
   stands = s;

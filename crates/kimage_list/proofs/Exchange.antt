@@ -6,7 +6,7 @@ use Rattle.std.proofs.lemmas.Bool.{cases_lt}
 use Rattle.std.specs.Prelude.{Bool, true, false, cond, eqb, unwrap_or}
 use Rattle.std.proofs.lemmas.Bool.Decides.{eqb_tells}
 use Rattle.std.proofs.lemmas.Option.{none-some}
-use Rattle.kimage_list.proofs.Lists.{some_same, nil_cons, heads_same, length-items, put-apart, put-same, each_map, each_both}
+use Rattle.kimage_list.proofs.Lists.{nil_cons, heads_same, length-items}
 use Rattle.kimage_list.proofs.Words.{word-changed}
 use Rattle.kimage_list.specs.Laying.{in_bytes, items, source_pages, Holds}
 use Rattle.kimage_list.specs.Load.{Entry, Start, Move, source_of, at_home, pages_of}
@@ -17,6 +17,9 @@ use Rattle.kx_pages.specs.declared.item.Item.{Item}
 use Rattle.kx_pages.specs.declared.item.Item.TheVariants.{Destination, Source}
 use Rattle.page_memory.specs.Contents.{page_of, page_with_word}
 use Rattle.page_memory.specs.Memory.{Mem, put, Wants, set_word}
+use Rattle.kx_pages.proofs.Lists.{Each-map, Each-both}
+use Rattle.kx_laws.proofs.Options.{some_same}
+use Rattle.page_memory.proofs.Laws.{put-same, put-apart}
 
 pub short-take : (is : List Item) → length (take 511 is) ≤ 511
 short-take is = omega (arith, length-take 511 is)
@@ -44,7 +47,7 @@ keys_are (l ∷ ls) is p h = (h.0, keys_are ls (drop 511 is) p h.1)
 
 -- a page that is no link page may change
 pub still : (N : Mem) (p : ℕ) (b : (List ℕ)) (xs : List (ℕ × (List ℕ))) → Each (λ x. x.0 ≢ p) xs → Holds N xs → Holds (put N p b) xs
-still N p b xs h k = each_both xs (λ x n e. put-apart N p x.0 b (λ f. n (sym f)) ∙ e) h k
+still N p b xs h k = Each-both xs (λ x n e. put-apart N p x.0 b (λ f. n (sym f)) ∙ e) h k
 
 pub put-written : (N : Mem) (l a o : ℕ) (w : ℕ) (b : (List ℕ)) → a / 4096 ≡ l → a % 4096 ≡ o → page_with_word (N l) o w ≡ b → set_word N a w ≡ put N l b
 put-written N l a o w b e f g =
@@ -102,7 +105,7 @@ entry_changed N (k ∷ ks) xs ys i j l d h = ⊎_elim here (there (entry_changed
         let e : set_word N (entry_place (k ∷ ks) (length xs)) (code j) ≡ put N k B = put-written N k (entry_place (k ∷ ks) (length xs)) (8 * length xs) (code j) B q o b in
         let tail : drop 511 (xs ++ i ∷ ys) ≡ drop 511 (xs ++ j ∷ ys) = (take-inside 511 xs i ys m).1 ∙ sym (take-inside 511 xs j ys m).1 in
         let others : Holds (put N k B) (open_pages ks (drop 511 (xs ++ j ∷ ys))) =
-        subst (λ zs. Holds (put N k B) (open_pages ks zs)) tail (still N k B (open_pages ks (drop 511 (xs ++ i ∷ ys))) (keys_are ks (drop 511 (xs ++ i ∷ ys)) k (each_map ks (λ y n e. n (sym e)) d.0)) h.1) in
+        subst (λ zs. Holds (put N k B) (open_pages ks zs)) tail (still N k B (open_pages ks (drop 511 (xs ++ i ∷ ys))) (keys_are ks (drop 511 (xs ++ i ∷ ys)) k (Each-map ks (λ y n e. n (sym e)) d.0)) h.1) in
         (ap (λ m. m k) e ∙ put-same N k B ∙ ap (λ ws. page_of (in_bytes ws)) (sym wj), subst (λ m. Holds m (open_pages ks (drop 511 (xs ++ j ∷ ys)))) (sym e) others)
 
     there : (length (drop 511 xs) < 511 * length ks → Distinct ks → Holds N (open_pages ks (drop 511 xs ++ i ∷ ys)) → Holds (set_word N (entry_place ks (length (drop 511 xs))) (code j)) (open_pages ks (drop 511 xs ++ j ∷ ys)))
@@ -204,8 +207,8 @@ exchange_at N W ls es ps q s o room d e fl fs hl hs =
     let a = entry_place ls n in
     let page : a / 4096 ≡ slice_index ls (n / 511) = place_page ls n in
     let aq : a / 4096 ≢ q = λ f. nth_has ls (n / 511) (λ l. l ≢ q) inside fl (sym page ∙ f) in
-    let as' : Each (λ r. r.1 ≢ a / 4096) ps = each_map ps (λ r g f. nth_has ls (n / 511) (λ l. r.1 ≢ l) inside g.1 (f ∙ page)) fs in
-    let h3 = sources_moved N W ps q s e (each_map ps (λ r g. g.0) fs) hs in (
+    let as' : Each (λ r. r.1 ≢ a / 4096) ps = Each-map ps (λ r g f. nth_has ls (n / 511) (λ l. r.1 ≢ l) inside g.1 (f ∙ page)) fs in
+    let h3 = sources_moved N W ps q s e (Each-map ps (λ r g. g.0) fs) hs in (
       size,
       subst (λ is. Holds (set_word N1 a (code (Source q))) (open_pages ls is)) (sym k.new) h2,
       still N1 (a / 4096) (page_with_word (N1 (a / 4096)) (a % 4096) (code (Source q))) (source_pages W (at_home q ps)) (sources_off W ps q (a / 4096) aq as') h3,

@@ -6,14 +6,15 @@ use Rattle.std.proofs.lemmas.Bool.{cases_lt}
 use Rattle.page_memory.specs.Contents.{Contents, at, IsHeld}
 use Rattle.page_pool.specs.Pages.{Pages}
 use Rattle.kimage_list.proofs.Linking.{items-full, next-listed, sources-keys, word-still, word-apart}
-use Rattle.kimage_list.proofs.Lists.{count-append, keys, keys-append, keys-link_pages, keys-source_pages, holds_all, put_all_other, distinct_from}
+use Rattle.kimage_list.proofs.Lists.{keys, keys-append, keys-link_pages, keys-source_pages, holds_all, put_all_other}
 use Rattle.kimage_list.proofs.OpenList.{list_ended, holds-append}
-use Rattle.kimage_list.specs.Drafts.{Draft, Writes, HasLink, laid_by}
+use Rattle.kimage_list.specs.Drafts.{Draft, Renders, HasLink, laid_by}
 use Rattle.kimage_list.specs.Laying.{items, source_pages, link_pages, put_all, Holds}
 use Rattle.kimage_list.specs.Opening.{next_place, open_pages}
 use Rattle.kimage_list.specs.Tables.{Slots}
 use Rattle.kx_pages.specs.Lists.{Distinct, sources, count}
 use Rattle.page_memory.specs.Memory.{Mem, set_word}
+use Rattle.kx_pages.proofs.Counting.{count-append, Distinct-from_count}
 
 same_page : (N K : Mem) (xs : List (ℕ × (List ℕ))) (p : ℕ) → Holds N xs → Holds K xs → 1 ≤ count p (keys xs) → N p ≡ K p
 same_page N K [] p h k c = absurd (omega (arith, c))
@@ -32,7 +33,7 @@ all_put N M xs once h out p = ⊎_elim
     (λ z. same_page N (put_all M xs) xs p h (holds_all M xs once) (omega (arith, z)))
     (cases_lt (count p (keys xs)) 1)
 
-module _ (d : Draft) (memory : Contents) (pool : Pages) (table : Slots) (next entries : ℕ) (w : Writes d [] memory pool table next entries) (some : HasLink d) where
+module _ (d : Draft) (memory : Contents) (pool : Pages) (table : Slots) (next entries : ℕ) (w : Renders d [] memory pool table next entries) (some : HasLink d) where
   in_spare : (x : ℕ) → count x d.loading.spare ≡ count x d.first + count x d.links
   in_spare x = ap (count x) w.spare ∙ count-append x d.first d.links
 
@@ -81,7 +82,7 @@ module _ (d : Draft) (memory : Contents) (pool : Pages) (table : Slots) (next en
       list [] l = absurd (omega (arith, ap length l, some))
       list (j ∷ ls) l =
           let is = items d.entries d.loading.pairs in
-          let distinct : Distinct (j ∷ ls) = subst Distinct l (distinct_from d.links (λ x. omega (arith, w.once x, in_spare x))) in
+          let distinct : Distinct (j ∷ ls) = subst Distinct l (Distinct-from_count d.links (λ x. omega (arith, w.once x, in_spare x))) in
           let held : Holds (at memory) (open_pages (j ∷ ls) is) = subst (λ xs. Holds (at memory) (open_pages xs is)) l w.list in
           let place : next_place (j ∷ ls) (length (items d.entries d.loading.pairs)) ≡ next = ap (next_place (j ∷ ls)) size ∙ ap (λ xs. next_place xs (length d.entries)) (sym l) ∙ sym w.place in
           let n : length d.links ≡ length (j ∷ ls) = ap length l in

@@ -7,20 +7,22 @@ use Rattle.page_memory.specs.Contents.{Contents, at, IsHeld}
 use Rattle.page_pool.specs.Pages.{Pages}
 use Rattle.kimage_list.proofs.Drawing.{source_of-at_home}
 use Rattle.kimage_list.proofs.Exchange.{exchange_at}
-use Rattle.kimage_list.proofs.Lists.{each_map, count-append, absent, distinct_from, eqb-self}
+use Rattle.kimage_list.proofs.Lists.{eqb-self}
 use Rattle.kimage_list.proofs.Takes.{Takes as Moves, count-at_home, taken_took}
-use Rattle.kimage_list.specs.Drafts.{one, amount, Draft, Writes, CanTake, CanMove, moved}
+use Rattle.kimage_list.specs.Drafts.{one, amount, Draft, Renders, CanTake, CanMove, moved}
 use Rattle.kimage_list.specs.Laying.{items, source_pages, Holds}
 use Rattle.kimage_list.specs.Load.{Loading, source_of, at_home, taken}
 use Rattle.kimage_list.specs.Opening.{open_pages, entry_place, number}
 use Rattle.kimage_list.specs.Tables.{Slots}
 use Rattle.kimage_list.specs.Tracking.{Gives, Took, Exchanged as Pair}
-use Rattle.kimage_list.specs.declared.taking.Moved.{Moved}
-use Rattle.kimage_list.specs.declared.taking.Taken.{Taken}
+use Rattle.kimage_list.specs.declared.taking.MovedPage.{MovedPage}
+use Rattle.kimage_list.specs.declared.taking.TakenPage.{TakenPage}
 use Rattle.kx_pages.specs.Items.{code}
 use Rattle.kx_pages.specs.Lists.{Each, sources, count}
 use Rattle.kx_pages.specs.declared.item.Item.TheVariants.{Source}
 use Rattle.page_memory.specs.Memory.{Mem, put, set_word}
+use Rattle.kx_pages.proofs.Lists.{Each-map}
+use Rattle.kx_pages.proofs.Counting.{count-append, Each-from_no_count, Distinct-from_count}
 
 pub count-first : (x : ℕ) (xs : List ℕ) → count x (x ∷ xs) ≡ 1 + count x xs
 count-first x xs = ap (λ b. cond b 1 0 + count x xs) (eqb-self x)
@@ -48,9 +50,9 @@ count-nth (x ∷ xs) (suc i) h = omega (arith, count-nth xs i (omega (arith, h))
 sources-apart : (q : ℕ) (ls : List ℕ) (ps : List (ℕ × ℕ)) → count q (sources ps) ≡ 0 → ((x : ℕ) → count x (sources ps) + count x ls ≤ 1) → Each (λ r. (r.1 ≢ q) × Each (λ l. r.1 ≢ l) ls) ps
 sources-apart q ls [] z h = tt
 sources-apart q ls (p ∷ ps) z h =
-    let a = absent q (p.1 ∷ sources ps) z in
+    let a = Each-from_no_count q (p.1 ∷ sources ps) z in
     let n : count p.1 ls ≡ 0 = omega (arith, h p.1, count-first p.1 (sources ps)) in
-    ((a.0, each_map ls (λ l m e. m (sym e)) (absent p.1 ls n)), sources-apart q ls ps (omega (arith, z)) (λ x. omega (arith, h x)))
+    ((a.0, Each-map ls (λ l m e. m (sym e)) (Each-from_no_count p.1 ls n)), sources-apart q ls ps (omega (arith, z)) (λ x. omega (arith, h x)))
 
 -- the facts of an exchange
 record Facts (d : Draft) (N : Mem) (q s : ℕ) : Type 0 where
@@ -59,7 +61,7 @@ record Facts (d : Draft) (N : Mem) (q s : ℕ) : Type 0 where
   loaded : Holds (set_word (put N q (N s)) (entry_place d.links (number q d.entries)) (code (Source q))) (source_pages d.bytes (at_home q d.loading.pairs))
   others : (p : ℕ) → q ≢ p → Each (λ l. l ≢ p) d.links → set_word (put N q (N s)) (entry_place d.links (number q d.entries)) (code (Source q)) p ≡ N p
 
-module _ (d : Draft) (memory : Contents) (pool : Pages) (table : Slots) (next entries : ℕ) (w : Writes d [] memory pool table next entries) (r : Option ℕ) (t : ℕ × Loading) (can : CanTake d r t) where
+module _ (d : Draft) (memory : Contents) (pool : Pages) (table : Slots) (next entries : ℕ) (w : Renders d [] memory pool table next entries) (r : Option ℕ) (t : ℕ × Loading) (can : CanTake d r t) where
   amounts : (x : ℕ) → amount x d.loading ≤ 1
   amounts x = omega (arith, w.once x)
 
@@ -82,11 +84,11 @@ module _ (d : Draft) (memory : Contents) (pool : Pages) (table : Slots) (next en
       let pairs : count q (sources t.1.pairs) ≡ count q (sources (at_home q d.loading.pairs)) = ap (λ ps. count q (sources ps)) f in
       let z : count q (sources d.loading.pairs) ≡ 0 = omega (arith, moves.conserves q, amounts q, now, homed, selves, same, pairs) in
       let n : count q d.links ≡ 0 = omega (arith, moves.conserves q, amounts q, now, in_spare q, ap (count q) moves.spared) in
-      let k = exchange_at (at memory) d.bytes d.links d.entries d.loading.pairs q s w.order w.tight.1 (distinct_from d.links (λ x. omega (arith, amounts x, in_spare x))) e
-      (absent q d.links n) (sources-apart q d.links d.loading.pairs z (λ x. omega (arith, amounts x, in_spare x))) w.list w.loaded in
+      let k = exchange_at (at memory) d.bytes d.links d.entries d.loading.pairs q s w.order w.tight.1 (Distinct-from_count d.links (λ x. omega (arith, amounts x, in_spare x))) e
+      (Each-from_no_count q d.links n) (sources-apart q d.links d.loading.pairs z (λ x. omega (arith, amounts x, in_spare x))) w.list w.loaded in
       record { inside = k.0; list = k.1; loaded = k.2; others = k.3 }
 
-  pub can_move : (v : Option Moved) → Pair v d.loading.pairs t.1.pairs t.0 table → CanMove v memory
+  pub can_move : (v : Option MovedPage) → Pair v d.loading.pairs t.1.pairs t.0 table → CanMove v memory
   can_move None p = tt
   can_move (Some v) p =
       let q = v.page in
@@ -106,8 +108,8 @@ module _ (d : Draft) (memory : Contents) (pool : Pages) (table : Slots) (next en
       )
 
   -- what tracks after the page is taken
-  pub after : (x : Taken) (memory' : Contents) (pool' : Pages) (table' : Slots) → Took d.wanted d.loading t x pool' table table' → at memory' ≡ moved (at memory) x.moved x.page → ((q : ℕ) → IsHeld memory q → IsHeld memory' q)
-      → Writes (record d { loading = t.1 }) (t.0 ∷ []) memory' pool' table' next entries
+  pub after : (x : TakenPage) (memory' : Contents) (pool' : Pages) (table' : Slots) → Took d.wanted d.loading t x pool' table table' → at memory' ≡ moved (at memory) x.moved x.page → ((q : ℕ) → IsHeld memory q → IsHeld memory' q)
+      → Renders (record d { loading = t.1 }) (t.0 ∷ []) memory' pool' table' next entries
   after x memory' pool' table' took e stay = record {
     tracks = took.tracks;
     order = moves.order ∙ w.order;
@@ -126,7 +128,7 @@ module _ (d : Draft) (memory : Contents) (pool : Pages) (table : Slots) (next en
     many = w.many;
   }
     where
-      list : (v : Option Moved) → Pair v d.loading.pairs t.1.pairs t.0 table → Holds (moved (at memory) v x.page) (open_pages d.links (items d.entries t.1.pairs))
+      list : (v : Option MovedPage) → Pair v d.loading.pairs t.1.pairs t.0 table → Holds (moved (at memory) v x.page) (open_pages d.links (items d.entries t.1.pairs))
       list None p = subst (λ ps. Holds (at memory) (open_pages d.links (items d.entries ps))) (sym p) w.list
       list (Some v) p =
           let f = facts v.page x.page (p.0 ∙ ap (λ y. Some y) (sym took.page)) p.1 took.page in
@@ -134,7 +136,7 @@ module _ (d : Draft) (memory : Contents) (pool : Pages) (table : Slots) (next en
           subst (λ ps. Holds (set_word (put (at memory) v.page (at memory x.page)) v.place (code (Source v.page))) (open_pages d.links (items d.entries ps))) (sym p.1)
           (subst (λ a. Holds (set_word (put (at memory) v.page (at memory x.page)) a (code (Source v.page))) (open_pages d.links (items d.entries (at_home v.page d.loading.pairs)))) (sym place) f.list)
 
-      loaded : (v : Option Moved) → Pair v d.loading.pairs t.1.pairs t.0 table → Holds (moved (at memory) v x.page) (source_pages d.bytes t.1.pairs)
+      loaded : (v : Option MovedPage) → Pair v d.loading.pairs t.1.pairs t.0 table → Holds (moved (at memory) v x.page) (source_pages d.bytes t.1.pairs)
       loaded None p = subst (λ ps. Holds (at memory) (source_pages d.bytes ps)) (sym p) w.loaded
       loaded (Some v) p =
           let f = facts v.page x.page (p.0 ∙ ap (λ y. Some y) (sym took.page)) p.1 took.page in
@@ -142,7 +144,7 @@ module _ (d : Draft) (memory : Contents) (pool : Pages) (table : Slots) (next en
           subst (λ ps. Holds (set_word (put (at memory) v.page (at memory x.page)) v.place (code (Source v.page))) (source_pages d.bytes ps)) (sym p.1)
           (subst (λ a. Holds (set_word (put (at memory) v.page (at memory x.page)) a (code (Source v.page))) (source_pages d.bytes (at_home v.page d.loading.pairs))) (sym place) f.loaded)
 
-      others : (v : Option Moved) → Pair v d.loading.pairs t.1.pairs t.0 table → (y : ℕ) → count y d.links + count y (sources t.1.pairs) + count y (t.0 ∷ []) ≡ 0 → moved (at memory) v x.page y ≡ d.before y
+      others : (v : Option MovedPage) → Pair v d.loading.pairs t.1.pairs t.0 table → (y : ℕ) → count y d.links + count y (sources t.1.pairs) + count y (t.0 ∷ []) ≡ 0 → moved (at memory) v x.page y ≡ d.before y
       others None p y z = w.others y (omega (arith, z, ap (λ ps. count y (sources ps)) p))
       others (Some v) p y z =
           let f = facts v.page x.page (p.0 ∙ ap (λ y. Some y) (sym took.page)) p.1 took.page in
@@ -152,7 +154,7 @@ module _ (d : Draft) (memory : Contents) (pool : Pages) (table : Slots) (next en
           let homed : count y (sources (at_home v.page d.loading.pairs)) + one y t.0 ≡ count y (sources d.loading.pairs) + one y v.page = count-at_home y v.page t.0 d.loading.pairs p.0 in
           let pairs : count y (sources t.1.pairs) ≡ count y (sources (at_home v.page d.loading.pairs)) = ap (λ ps. count y (sources ps)) p.1 in
           ap (λ a. set_word (put (at memory) v.page (at memory x.page)) a (code (Source v.page)) y) place
-          ∙ f.others y ne (absent y d.links (omega (arith, z)))
+          ∙ f.others y ne (Each-from_no_count y d.links (omega (arith, z)))
           ∙ w.others y (omega (arith, z, homed, pairs, apart-one y v.page ne))
         where
           none : (y : ℕ) → v.page ≡ y → count y (sources t.1.pairs) ≡ 0 → ⊥
@@ -161,10 +163,10 @@ module _ (d : Draft) (memory : Contents) (pool : Pages) (table : Slots) (next en
           apart-one : (y q : ℕ) → q ≢ y → one y q ≡ 0
           apart-one y q n = ⊎_elim (λ u. absurd (n u.1)) (λ u. ap (λ b. cond b 1 0) u.0) (eqb_tells q y)
 
-pub took_of : (D : ℕ → Bool) (r : Option ℕ) (l : Loading) (t : ℕ × Loading) (x : Taken) (pool' : Pages) (table table' : Slots) → Gives D l (taken D r l) (Some x) pool' table table' → taken D r l ≡ Some t → Took D l t x pool' table table'
+pub took_of : (D : ℕ → Bool) (r : Option ℕ) (l : Loading) (t : ℕ × Loading) (x : TakenPage) (pool' : Pages) (table table' : Slots) → Gives D l (taken D r l) (Some x) pool' table table' → taken D r l ≡ Some t → Took D l t x pool' table table'
 took_of D r l t x pool' table table' g e = let P : Option (ℕ × Loading) → Type 0 = λ o. Gives D l o (Some x) pool' table table' in subst P e g
 
 -- where no page is loaded no exchange is made
-pub unmoved : (N : Mem) (v : Option Moved) (pairs pairs' : List (ℕ × ℕ)) (s x : ℕ) (table : Slots) → Pair v pairs pairs' s table → pairs ≡ [] → moved N v x ≡ N
+pub unmoved : (N : Mem) (v : Option MovedPage) (pairs pairs' : List (ℕ × ℕ)) (s x : ℕ) (table : Slots) → Pair v pairs pairs' s table → pairs ≡ [] → moved N v x ≡ N
 unmoved N None pairs pairs' s x table p z = refl
 unmoved N (Some v) pairs pairs' s x table p z = absurd (none-some s (sym (ap (source_of v.page) z) ∙ p.0))

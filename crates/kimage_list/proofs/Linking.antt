@@ -7,19 +7,22 @@ use Rattle.page_memory.specs.Contents.{Contents, at, IsHeld}
 use Rattle.page_pool.specs.Pages.{Pages}
 use Rattle.kimage_list.proofs.Exchange.{still}
 use Rattle.kimage_list.proofs.InHand.{count-first}
-use Rattle.kimage_list.proofs.Lists.{put-apart, each_map, count-append, absent, distinct_from, heads_same, nil_cons}
+use Rattle.kimage_list.proofs.Lists.{heads_same, nil_cons}
 use Rattle.kimage_list.proofs.OpenList.{next_page, first_link, link_added}
-use Rattle.kimage_list.specs.Drafts.{one, Draft, Writes, linked, IsFull, HeadIs}
+use Rattle.kimage_list.specs.Drafts.{one, Draft, Renders, linked, IsFull, HeadIs}
 use Rattle.kimage_list.specs.Laying.{items, source_pages, Holds}
 use Rattle.kimage_list.specs.Load.{Loading, Entry, Start, Move, source_of, pages_of}
 use Rattle.kimage_list.specs.Opening.{open_pages, entry_place, next_place, Tight, number}
 use Rattle.kimage_list.specs.Tables.{Slots, slot, place_in, source_in}
-use Rattle.kimage_list.specs.declared.table.Loaded.{Loaded}
+use Rattle.kimage_list.specs.declared.table.PageSource.{PageSource}
 use Rattle.kx_pages.specs.Items.{code}
 use Rattle.kx_pages.specs.Lists.{Each, Distinct, destinations, sources, count}
 use Rattle.kx_pages.specs.declared.item.Item.TheVariants.{Link}
 use Rattle.page_memory.specs.Contents.{page_of, page_with_word}
 use Rattle.page_memory.specs.Memory.{Mem, put, Wants, set_word}
+use Rattle.kx_pages.proofs.Lists.{Each-map}
+use Rattle.kx_pages.proofs.Counting.{count-append, Each-from_no_count, Distinct-from_count}
+use Rattle.page_memory.proofs.Laws.{put-apart}
 
 -- each entry has its item
 pub items-full : (es : List Entry) (ps : List (ℕ × ℕ)) → destinations ps ≡ pages_of es → length (items es ps) ≡ length es
@@ -61,7 +64,7 @@ next_place-link (l ∷ (j ∷ ls)) k n e = next_place-link (j ∷ ls) k (n - 511
 -- what source pages keep when another page is written
 pub sources-keys : (W : Wants) (p : ℕ) (ps : List (ℕ × ℕ)) → count p (sources ps) ≡ 0 → Each (λ x. x.0 ≢ p) (source_pages W ps)
 sources-keys W p [] h = tt
-sources-keys W p (q ∷ ps) h = let a = absent p (q.1 ∷ sources ps) h in (a.0, sources-keys W p ps (omega (arith, h)))
+sources-keys W p (q ∷ ps) h = let a = Each-from_no_count p (q.1 ∷ sources ps) h in (a.0, sources-keys W p ps (omega (arith, h)))
 
 pub word-still : (N : Mem) (a v : ℕ) (xs : List (ℕ × (List ℕ))) → Each (λ x. x.0 ≢ a / 4096) xs → Holds N xs → Holds (set_word N a v) xs
 word-still N a v xs n h = still N (a / 4096) (page_with_word (N (a / 4096)) (a % 4096) v) xs n h
@@ -69,13 +72,13 @@ word-still N a v xs n h = still N (a / 4096) (page_with_word (N (a / 4096)) (a %
 pub word-apart : (N : Mem) (a v y : ℕ) → a / 4096 ≢ y → set_word N a v y ≡ N y
 word-apart N a v y n = put-apart N (a / 4096) y (page_with_word (N (a / 4096)) (a % 4096) v) n
 
-place-source : (o : Option (Option Loaded)) (a : ℕ) → place_in o ≡ Some a → (s : ℕ) × (source_in o ≡ Some s)
+place-source : (o : Option (Option PageSource)) (a : ℕ) → place_in o ≡ Some a → (s : ℕ) × (source_in o ≡ Some s)
 place-source None a e = absurd (none-some a e)
 place-source (Some None) a e = absurd (none-some a e)
 place-source (Some (Some x)) a e = (x.source, refl)
 
 -- a place that the table tells is an entry's
-pub place-inside : (d : Draft) (hand : List ℕ) (memory : Contents) (pool : Pages) (table : Slots) (next entries : ℕ) → Writes d hand memory pool table next entries → (x a : ℕ) → place_in (slot table x) ≡ Some a → number x d.entries < length d.entries
+pub place-inside : (d : Draft) (hand : List ℕ) (memory : Contents) (pool : Pages) (table : Slots) (next entries : ℕ) → Renders d hand memory pool table next entries → (x a : ℕ) → place_in (slot table x) ≡ Some a → number x d.entries < length d.entries
 place-inside d hand memory pool table next entries w x a e =
     let s = place-source (slot table x) a e in
     number-inside d.entries d.loading.pairs x s.0 w.order (sym (w.tracks.loaded x) ∙ s.1)
@@ -94,13 +97,13 @@ next-listed [] n t h = absurd (omega (arith, h))
 next-listed (l ∷ ls) n t h = next_page l ls n (λ y. 1 ≤ count y (l ∷ ls)) t (all (l ∷ ls))
   where
     more : (xs : List ℕ) (x : ℕ) (ys : List ℕ) → Each (λ y. 1 ≤ count y xs) ys → Each (λ y. 1 ≤ count y (x ∷ xs)) ys
-    more xs x ys h = each_map ys (λ y g. omega (arith, g)) h
+    more xs x ys h = Each-map ys (λ y g. omega (arith, g)) h
 
     all : (xs : List ℕ) → Each (λ y. 1 ≤ count y xs) xs
     all [] = tt
     all (x ∷ xs) = (omega (arith, count-first x xs), more xs x xs (all xs))
 
-module _ (d : Draft) (t : ℕ × Loading) (memory : Contents) (pool : Pages) (table : Slots) (next entries : ℕ) (w : Writes (record d { loading = t.1 }) (t.0 ∷ []) memory pool table next entries) (full : IsFull d) where
+module _ (d : Draft) (t : ℕ × Loading) (memory : Contents) (pool : Pages) (table : Slots) (next entries : ℕ) (w : Renders (record d { loading = t.1 }) (t.0 ∷ []) memory pool table next entries) (full : IsFull d) where
   k : ℕ
   k = t.0
 
@@ -146,7 +149,7 @@ module _ (d : Draft) (t : ℕ × Loading) (memory : Contents) (pool : Pages) (ta
       → Holds (at memory') (open_pages (d.links ++ t.0 ∷ []) (items d.entries t.1.pairs))
       → Holds (at memory') (source_pages d.bytes t.1.pairs)
       → ((y : ℕ) → t.0 ≢ y → count y d.links ≡ 0 → at memory' y ≡ at memory y)
-      → Writes (linked d t) [] memory' pool table (4096 * t.0) entries
+      → Renders (linked d t) [] memory' pool table (4096 * t.0) entries
   relinked memory' stay list loaded others = record {
     tracks = record { left = w.tracks.left; filed = w.tracks.filed; wanted = w.tracks.wanted; loaded = w.tracks.loaded; once = w.tracks.once };
     order = w.order;
@@ -173,7 +176,7 @@ module _ (d : Draft) (t : ℕ × Loading) (memory : Contents) (pool : Pages) (ta
       away y e z = let m : count t.0 (t.0 ∷ []) ≡ 0 = ap (λ x. count x (t.0 ∷ [])) e ∙ z in omega (arith, m, mine)
 
   -- the first link page
-  pub first : (memory' : Contents) → entries ≡ 0 → at memory' ≡ put (at memory) t.0 (page_of []) → ((q : ℕ) → IsHeld memory q → IsHeld memory' q) → Writes (linked d t) [] memory' pool table (4096 * t.0) entries
+  pub first : (memory' : Contents) → entries ≡ 0 → at memory' ≡ put (at memory) t.0 (page_of []) → ((q : ℕ) → IsHeld memory q → IsHeld memory' q) → Renders (linked d t) [] memory' pool table (4096 * t.0) entries
   first memory' z e stay =
       let es : d.entries ≡ [] = no_entries d.entries (omega (arith, w.many, z)) in
       let ls : d.links ≡ [] = no_links d.links (omega (arith, w.many, z, full)) in
@@ -185,7 +188,7 @@ module _ (d : Draft) (t : ℕ × Loading) (memory : Contents) (pool : Pages) (ta
       (λ y n c. ap (λ N. N y) e ∙ put-apart (at memory) t.0 y (page_of []) n)
 
   -- a later link page
-  pub later : (memory' : Contents) → entries ≢ 0 → at memory' ≡ set_word (put (at memory) t.0 (page_of [])) next (code (Link t.0)) → ((q : ℕ) → IsHeld memory q → IsHeld memory' q) → Writes (linked d t) [] memory' pool table (4096 * t.0) entries
+  pub later : (memory' : Contents) → entries ≢ 0 → at memory' ≡ set_word (put (at memory) t.0 (page_of [])) next (code (Link t.0)) → ((q : ℕ) → IsHeld memory q → IsHeld memory' q) → Renders (linked d t) [] memory' pool table (4096 * t.0) entries
   later memory' n e stay =
       let N' = put (at memory) t.0 (page_of []) in
       let listed = next_listed n in
@@ -205,8 +208,8 @@ module _ (d : Draft) (t : ℕ × Loading) (memory : Contents) (pool : Pages) (ta
           let is = items d.entries t.1.pairs in
           let full' : length (items d.entries t.1.pairs) ≡ length d.entries = items-full d.entries t.1.pairs w.order in
           let size : length (items d.entries t.1.pairs) ≡ 511 * length (j ∷ ls) = full' ∙ full ∙ ap (λ xs. 511 * length xs) l in
-          let distinct : Distinct (j ∷ ls) = subst Distinct l (distinct_from d.links (λ x. omega (arith, w.once x, in_spare x))) in
-          let apart : Each (λ y. y ≢ t.0) (j ∷ ls) = subst (Each (λ y. y ≢ t.0)) l (absent t.0 d.links unlinked) in
+          let distinct : Distinct (j ∷ ls) = subst Distinct l (Distinct-from_count d.links (λ x. omega (arith, w.once x, in_spare x))) in
+          let apart : Each (λ y. y ≢ t.0) (j ∷ ls) = subst (Each (λ y. y ≢ t.0)) l (Each-from_no_count t.0 d.links unlinked) in
           let held : Holds (at memory) (open_pages (j ∷ ls) is) = subst (λ xs. Holds (at memory) (open_pages xs is)) l w.list in
           let place : next_place (j ∷ ls) (length is) ≡ next = ap (next_place (j ∷ ls)) full' ∙ ap (λ xs. next_place xs (length d.entries)) (sym l) ∙ sym w.place in
           subst (λ xs. Holds (set_word (put (at memory) t.0 (page_of [])) next (code (Link t.0))) (open_pages (xs ++ t.0 ∷ []) is)) (sym l)

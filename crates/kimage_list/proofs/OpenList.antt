@@ -4,7 +4,6 @@ use Rattle.std.specs.Prelude.{◌≢◌, ◌/◌, ◌%◌, map}
 use Rattle.std.proofs.lemmas.List.{take_all, length-drop, map-append, length-map}
 use Rattle.kimage_list.proofs.Words.{next-word}
 use Rattle.kimage_list.proofs.Exchange.{put-written, still, keys_are}
-use Rattle.kimage_list.proofs.Lists.{put-apart, put-same}
 use Rattle.kimage_list.specs.Laying.{in_bytes, link_pages, Holds}
 use Rattle.kimage_list.specs.Opening.{open_pages, next_place, Tight, ended_pages}
 use Rattle.kx_pages.specs.Items.{code}
@@ -13,6 +12,7 @@ use Rattle.kx_pages.specs.declared.item.Item.{Item}
 use Rattle.kx_pages.specs.declared.item.Item.TheVariants.{Link, Done}
 use Rattle.page_memory.specs.Contents.{page_of, page_with_word}
 use Rattle.page_memory.specs.Memory.{Mem, put, set_word}
+use Rattle.page_memory.proofs.Laws.{put-same, put-apart}
 
 -- no word is last yet
 pub ended-open : (ls : List ℕ) (is : List Item) → ended_pages ls is [] ≡ open_pages ls is

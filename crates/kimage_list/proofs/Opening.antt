@@ -5,8 +5,6 @@ use Rattle.std.proofs.lemmas.Option.{none-some}
 use Rattle.std.proofs.lemmas.Bool.Decides.{eqb_tells}
 use Rattle.page_memory.specs.Contents.{Contents, at, IsHeld}
 use Rattle.page_pool.specs.Pages.{Pages, is_filed}
-use Rattle.page_pool.specs.Counts.{IsOnce}
-use Rattle.kimage_list.proofs.Lists.{count-append}
 use Rattle.std.specs.List.{slice_get}
 use Rattle.std.specs.Prelude.{◌||◌}
 use Rattle.std.specs.Prelude.{◌^◌, Result, Ok, Err, OnOk, All}
@@ -18,11 +16,12 @@ use Rattle.std.proofs.lemmas.List.Folds.{list_any-append}
 use Rattle.std.proofs.lemmas.Option.{slice_get_within, get_or_from_slice_get}
 use Rattle.kx_pages.specs.Spans.{Run, in_span, in_spans}
 use Rattle.kimage_list.specs.Beginning.{AreHeld, IsFresh}
-use Rattle.kimage_list.specs.Drafts.{initial, first_taken, Draft, Writes}
+use Rattle.kimage_list.specs.Drafts.{initial, first_taken, Draft, Renders}
 use Rattle.kimage_list.specs.Load.{Loading}
 use Rattle.kimage_list.specs.Tables.{Slots, slot, source_in, place_in, fresh_slot}
-use Rattle.kx_pages.specs.Lists.{count}
+use Rattle.kx_pages.specs.Lists.{Distinct, count}
 use Rattle.page_memory.specs.Memory.{Mem, Wants}
+use Rattle.kx_pages.proofs.Counting.{count-from_Distinct, count-append}
 
 -- one of the first n has its place
 at_first : (n : ℕ) (xs : List ℕ) (x : ℕ) → 1 ≤ count x (take n xs) → (k : ℕ) × (k < n) × (slice_index xs k ≡ x)
@@ -38,8 +37,8 @@ at_first (suc n) (y ∷ xs) x c = go (eqb_tells y x) (at_first n xs x)
         (suc k.0, omega (arith, k.1), k.2)
 
 pub opened : (M : Mem) (D : ℕ → Bool) (W : Wants) (need : ℕ) (memory : Contents) (pool : Pages) (table : Slots)
-    → need ≤ length pool.left → ((q : ℕ) → at memory q ≡ M q) → IsOnce (pool.drawn ++ pool.left) → ((p : ℕ) → is_filed pool p ≡ false) → ((p : ℕ) → slot table p ≡ fresh_slot (D p)) → AreHeld need pool.left memory
-    → Writes (initial M D W need pool.left) [] memory pool table 0 0
+    → need ≤ length pool.left → ((q : ℕ) → at memory q ≡ M q) → Distinct (pool.drawn ++ pool.left) → ((p : ℕ) → is_filed pool p ≡ false) → ((p : ℕ) → slot table p ≡ fresh_slot (D p)) → AreHeld need pool.left memory
+    → Renders (initial M D W need pool.left) [] memory pool table 0 0
 opened M D W need memory pool table enough same once unfiled fresh held = record {
   tracks = record {
     left = refl;
@@ -65,7 +64,7 @@ opened M D W need memory pool table enough same once unfiled fresh held = record
 }
   where
     single : (x : ℕ) → count x pool.left ≤ 1
-    single x = omega (arith, once.each x, count-append x pool.drawn pool.left)
+    single x = omega (arith, count-from_Distinct x (pool.drawn ++ pool.left) once, count-append x pool.drawn pool.left)
 
     is_fresh : (b : Bool) → b ≡ is_some (fresh_slot b)
     is_fresh true = refl
@@ -80,8 +79,8 @@ opened M D W need memory pool table enough same once unfiled fresh held = record
     unplaced false a e = none-some a e
 
 -- the page in hand is one of those before the link pages
-pub first_given : (d : Draft) (t : ℕ × Loading) (memory : Contents) (pool : Pages) (table : Slots) (next entries : ℕ) → Writes (record d { loading = t.1 }) (t.0 ∷ []) memory pool table next entries → d.links ≡ []
-    → ((y : ℕ) → at memory y ≡ d.before y) → Writes (first_taken d t) [] memory pool table next entries
+pub first_given : (d : Draft) (t : ℕ × Loading) (memory : Contents) (pool : Pages) (table : Slots) (next entries : ℕ) → Renders (record d { loading = t.1 }) (t.0 ∷ []) memory pool table next entries → d.links ≡ []
+    → ((y : ℕ) → at memory y ≡ d.before y) → Renders (first_taken d t) [] memory pool table next entries
 first_given d t memory pool table next entries w none same = record {
   tracks = record { left = w.tracks.left; filed = w.tracks.filed; wanted = w.tracks.wanted; loaded = w.tracks.loaded; once = w.tracks.once };
   order = w.order;

@@ -2,12 +2,12 @@
 use Rattle.std.proofs.Common.{◌≡◌, ℕ, zero, suc, ◌+◌, List, [], ◌∷◌, ◌++◌, length, length-append, Option, Some, None, refl, sym, ap, ◌∙◌, subst, arith, append_assoc, Bool, true, false, cond, take, replicate, append-nil}
 use Rattle.std.specs.Prelude.{eqb, not, ◌%◌, ◌||◌, filter}
 use Rattle.std.proofs.lemmas.Option.{none-some}
-use Rattle.kimage_list.proofs.Lists.{some_same}
 use Rattle.std.proofs.Math.Seq.{take-append_seam}
 use Rattle.kx_pages.specs.Lists.{has}
 use Rattle.kx_pages.specs.declared.image.Wish.TheVariants.{Plain, Kept}
 use Rattle.kimage_list.specs.Load.{Loading, Entry, Request, is_for, source_of, begun, draw, taken, given, served, own_request, requests_from}
 use Rattle.kimage_list.specs.Writers.{FirstPages}
+use Rattle.kx_laws.proofs.Options.{some_same}
 
 pub served-append : (D : ℕ → Bool) (rs qs : List (Option ℕ)) (l m : Loading) → served D rs l ≡ Some m → served D (rs ++ qs) l ≡ served D qs m
 served-append D [] qs l m e = ap (served D qs) (some_same l m e)

@@ -6,7 +6,8 @@ use Rattle.std.proofs.lemmas.Bool.Decides.{eqb_tells}
 use Rattle.kx_pages.specs.Lists.{Each, Has, count}
 use Rattle.kx_pages.specs.Spans.{Run, end, in_span, in_spans, pages, AreApart}
 use Rattle.kimage_list.specs.Writers.{pages_from, pages_in}
-use Rattle.kimage_list.proofs.Lists.{count-append, each_map, each-append}
+use Rattle.kx_pages.proofs.Lists.{Each-map, Each-append}
+use Rattle.kx_pages.proofs.Counting.{count-append}
 
 length-from : (p n : ℕ) → length (pages_from p n) ≡ n
 length-from p zero = refl
@@ -93,7 +94,7 @@ spans-low b (r ∷ rs) x h m = ⊎_elim
 
 each-from : (p n : ℕ) → Each (λ x. (p ≤ x) × (x < p + n)) (pages_from p n)
 each-from p zero = tt
-each-from p (suc n) = ((omega arith, omega arith), each_map (pages_from (suc p) n) (λ x h. (omega (arith, h.0), omega (arith, h.1))) (each-from (suc p) n))
+each-from p (suc n) = ((omega arith, omega arith), Each-map (pages_from (suc p) n) (λ x h. (omega (arith, h.0), omega (arith, h.1))) (each-from (suc p) n))
 
 pub span_tells : (r : Run) (x : ℕ) → r.first ≤ x → x < end r → in_span r x ≡ true
 span_tells r x a b = grind (arith, a, b)
@@ -106,6 +107,6 @@ or_right false c h = h
 pub each-pages_in : (rs : List Run) → Each (λ x. in_spans rs x ≡ true) (pages_in rs)
 each-pages_in [] = tt
 each-pages_in (r ∷ rs) =
-    each-append (λ x. in_spans (r ∷ rs) x ≡ true) (pages_from r.first r.count) (pages_in rs)
-    (each_map (pages_from r.first r.count) (λ x h. ap (λ b. b || in_spans rs x) (span_tells r x h.0 h.1)) (each-from r.first r.count))
-    (each_map (pages_in rs) (λ x h. or_right (in_span r x) (in_spans rs x) h) (each-pages_in rs))
+    Each-append (λ x. in_spans (r ∷ rs) x ≡ true) (pages_from r.first r.count) (pages_in rs)
+    (Each-map (pages_from r.first r.count) (λ x h. ap (λ b. b || in_spans rs x) (span_tells r x h.0 h.1)) (each-from r.first r.count))
+    (Each-map (pages_in rs) (λ x h. or_right (in_span r x) (in_spans rs x) h) (each-pages_in rs))

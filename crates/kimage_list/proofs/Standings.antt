@@ -9,47 +9,49 @@ use Rattle.page_memory.specs.Contents.{Contents, at, page_of}
 use Rattle.page_memory.specs.Memory.{Wants}
 use Rattle.page_pool.specs.Pages.{Pages}
 use Rattle.std.proofs.lemmas.List.{take-append-drop}
-use Rattle.kimage_list.specs.declared.table.Loaded.{Loaded}
+use Rattle.kimage_list.specs.declared.table.PageSource.{PageSource}
 use Rattle.kx_pages.specs.declared.image.Mode.{Mode}
 use Rattle.kx_pages.specs.declared.image.Image.{Image}
-use Rattle.kx_pages.specs.Lists.{Has, has, count, destinations, sources}
+use Rattle.kx_pages.specs.Lists.{Distinct, Has, has, count, destinations, sources}
 use Rattle.kx_pages.specs.Spans.{Run, AreApart, pages, in_spans}
 use Rattle.kx_pages.specs.Items.{code}
 use Rattle.kx_pages.specs.declared.item.Item.{Item}
 use Rattle.kx_pages.specs.declared.item.Item.TheVariants.{Link}
 use Rattle.kx_pages.specs.declared.image.Wish.{Wish}
 use Rattle.kx_pages.specs.declared.image.Wish.TheVariants.{Plain, Kept}
-use Rattle.kimage_list.specs.Load.{Loading, Request, Entry, Start, Move, pages_of, starts, own_request, requests_from, requests, first_count, need_of, begun, taken, given, served, loaded, source_of}
-use Rattle.kimage_list.specs.Laying.{Holds, items, source_pages, put_all, link_pages, laid, head_of, links_of, control_of, mode_of, mode_with}
+use Rattle.kimage_list.specs.Load.{Loading, Request, Entry, Start, Move, pages_of, starts, own_request, requests_from, requests, begun, taken, given, served, loaded, source_of}
+use Rattle.kimage_list.specs.Laying.{Holds, items, source_pages, put_all, link_pages, laid, head_of, links_of, control_of, load_mode, mode_with}
 use Rattle.kimage_list.specs.Opening.{open_pages, laid_so_far}
 use Rattle.kimage_list.specs.Tables.{Slots, slot, source_in}
-use Rattle.kimage_list.specs.Drafts.{Draft, Writes, CanTake, IsSteady, HasRoom, Room, RoomBy, HasLink, IsNext, laid_by, first_taken, linked, started, loaded_from, HeadIs}
+use Rattle.kimage_list.specs.Drafts.{Draft, Renders, CanTake, IsSteady, HasRoom, Room, RoomBy, HasLink, IsNext, laid_by, first_taken, linked, started, loaded_from, HeadIs}
 use Rattle.kimage_list.specs.Counted.{UnderWay}
 use Rattle.kimage_list.specs.Calls.{IsPrepared, IsWritten, load_begun}
 use Rattle.kimage_list.specs.declared.open_list.OpenList.{OpenList}
 use Rattle.kimage_list.specs.declared.written.Written.{Written}
 use Rattle.kx_pages.specs.declared.image.Mode.TheVariants as mode
 use Rattle.page_pool.specs.Pages.{is_filed}
-use Rattle.kimage_list.specs.Writers.{Load, Writer, StandsAt, IsOpen, IsAwaited, KeepsPages, draft_of, is_wanted, need, pages_in, with_destination, with_bytes, destination_after}
-use Rattle.kimage_list.proofs.Lists.{count-append, keys, keys-append, keys-source_pages, keys-link_pages, put_all_other, has_count, eqb-self, nil_cons, each_map}
+use Rattle.kimage_list.specs.Writers.{History, Writer, StandsAt, IsOpen, IsAwaited, KeepsPages, draft_of, is_wanted, need, pages_in, with_destination, with_bytes, destination_after}
+use Rattle.kimage_list.proofs.Lists.{keys, keys-append, keys-source_pages, keys-link_pages, put_all_other, eqb-self, nil_cons}
 use Rattle.kimage_list.proofs.Takes.{no_destination}
-use Rattle.kimage_list.proofs.Counting.{no_longer, length-destinations}
+use Rattle.kimage_list.proofs.Counting.{counted_fit}
 use Rattle.kimage_list.proofs.Enough.{has_of_count, once_more}
 use Rattle.kimage_list.proofs.Parts.{served-append, requests-append}
 use Rattle.kimage_list.proofs.Opening.{opened}
 use Rattle.kimage_list.specs.Beginning.{IsFresh, AreHeld}
-use Rattle.page_pool.specs.Counts.{IsOnce}
 use Rattle.kimage_list.proofs.OpenList.{holds-append}
 use Rattle.kimage_list.proofs.Finishing.{all_put}
 use Rattle.kimage_list.proofs.Going.{room_is_there, page_is_there, start_is_there, first_is_there, all_drawn, opens_under_way}
 use Rattle.kimage_list.proofs.Spanned.{length-pages_in, has-pages_in, each-pages_in, pages-once, spans-low}
+use Rattle.kx_pages.proofs.Lists.{Each-map, length-destinations}
+use Rattle.kx_pages.proofs.Counting.{count-from_Distinct, count-append, count-from_Has}
+use Rattle.kx_pages.specs.Needs.{first_count, need_of}
 
 keys-open_pages : (ls : List ℕ) (is : List Item) → keys (open_pages ls is) ≡ ls
 keys-open_pages [] is = refl
 keys-open_pages (l ∷ ls) is = ap (λ zs. l ∷ zs) (keys-open_pages ls (drop 511 is))
 
 -- memory is what is laid so far
-laid_open : (d : Draft) (memory : Contents) (pool : Pages) (table : Slots) (next entries : ℕ) → Writes d [] memory pool table next entries → (p : ℕ) → at memory p ≡ laid_so_far d.before d.bytes d.links d.entries d.loading.pairs p
+laid_open : (d : Draft) (memory : Contents) (pool : Pages) (table : Slots) (next entries : ℕ) → Renders d [] memory pool table next entries → (p : ℕ) → at memory p ≡ laid_so_far d.before d.bytes d.links d.entries d.loading.pairs p
 laid_open d memory pool table next entries w =
     let list = open_pages d.links (items d.entries d.loading.pairs) in
     let from = source_pages d.bytes d.loading.pairs in
@@ -82,7 +84,7 @@ pub links_are : (wish : Wish) (spare first links : List ℕ) → spare ≡ first
 links_are wish spare first links e n = ap (drop (first_count wish)) e ∙ ap (λ m. drop m (first ++ links)) (sym n) ∙ drop-append_seam first links
 
 -- what is kept inside tells all
-pub stands_at : (h : Load) (l : Loading) (w : Writer) → loaded (is_wanted h) h.wish h.entries h.pool ≡ Some l → IsOpen h l w → w.segments_left + starts h.entries ≡ h.segments → w.destination ≡ destination_after None h.entries → StandsAt h w
+pub stands_at : (h : History) (l : Loading) (w : Writer) → loaded (is_wanted h) h.wish h.entries h.pool ≡ Some l → IsOpen h l w → w.segments_left + starts h.entries ≡ h.segments → w.destination ≡ destination_after None h.entries → StandsAt h w
 stands_at h l w requests o segments destination = record {
   loading = l;
   requests = requests;
@@ -99,7 +101,7 @@ stands_at h l w requests o segments destination = record {
     links : links_of h.wish l ≡ o.links
     links = links_are h.wish l.spare o.first o.links o.writes.spare o.first_pages
 
-length-entries : (es : List Entry) → length es ≡ starts es + length (pages_of es)
+pub length-entries : (es : List Entry) → length es ≡ starts es + length (pages_of es)
 length-entries [] = refl
 length-entries (Start p ∷ es) = omega (arith, length-entries es)
 length-entries (Move p ∷ es) = omega (arith, length-entries es)
@@ -138,7 +140,7 @@ one_served : (D : ℕ → Bool) (r : Request) (l : Loading) (t : ℕ × Loading)
 one_served D r l t g = rw (g, served) refl
 
 -- room for one more entry
-pub record Roomy (h : Load) (l : Loading) (first links : List ℕ) : Type 0 where
+pub record Roomy (h : History) (l : Loading) (first links : List ℕ) : Type 0 where
   pub then : Loading
   pub more : List ℕ
   pub room : Room (draft_of h l first links) (draft_of h then first more)
@@ -147,12 +149,12 @@ pub record Roomy (h : Load) (l : Loading) (first links : List ℕ) : Type 0 wher
   pub served : served (is_wanted h) (link_request (length h.entries)) l ≡ Some then
   pub bound : 511 * length more ≤ length h.entries + 511
 
-need_is : (h : Load) (first : List ℕ) → length first ≡ first_count h.wish → need h ≡ length (pages_in h.wanted) + (h.segments + length (pages_in h.wanted) + 510) / 511 + length first
+need_is : (h : History) (first : List ℕ) → length first ≡ first_count h.wish → need h ≡ length (pages_in h.wanted) + (h.segments + length (pages_in h.wanted) + 510) / 511 + length first
 need_is h first n =
     ap (λ m. m + (h.segments + m + 510) / 511 + first_count h.wish) (sym (length-pages_in h.wanted))
     ∙ ap (λ m. length (pages_in h.wanted) + (h.segments + length (pages_in h.wanted) + 510) / 511 + m) (sym n)
 
-pub make_room : (h : Load) (l : Loading) (w : Writer) (o : IsOpen h l w) → length h.entries < h.segments + length (pages_in h.wanted) → Roomy h l o.first o.links
+pub make_room : (h : History) (l : Loading) (w : Writer) (o : IsOpen h l w) → length h.entries < h.segments + length (pages_in h.wanted) → Roomy h l o.first o.links
 make_room h l w o few =
     let d = draft_of h l o.first o.links in
     let all = pages_in h.wanted in
@@ -188,16 +190,16 @@ make_room h l w o few =
         }
 
 -- no page stands twice among the entries, and each is wanted
-few_pages : (h : Load) (l : Loading) (w : Writer) (o : IsOpen h l w) → length (pages_of h.entries) ≤ length (pages_in h.wanted)
-few_pages h l w o = no_longer (pages_of h.entries) (pages_in h.wanted) o.under_way.counts.spent o.under_way.counts.inside
+few_pages : (h : History) (l : Loading) (w : Writer) (o : IsOpen h l w) → length (pages_of h.entries) ≤ length (pages_in h.wanted)
+few_pages h l w o = counted_fit (pages_of h.entries) (pages_in h.wanted) o.under_way.counts.spent o.under_way.counts.inside
 
 -- where a destination entry is still to be written there is room
-pub start_room : (h : Load) (w : Writer) (s : StandsAt h w) → 0 < w.segments_left → Roomy h s.loading s.inside.first s.inside.links
+pub start_room : (h : History) (w : Writer) (s : StandsAt h w) → 0 < w.segments_left → Roomy h s.loading s.inside.first s.inside.links
 start_room h w s n = make_room h s.loading w s.inside (omega (arith, length-entries h.entries, few_pages h s.loading w s.inside, s.segments_left, n))
 
 -- the writer after a destination entry
-pub start_added : (h : Load) (w v : Writer) (s : StandsAt h w) (p : ℕ) (r : Roomy h s.loading s.inside.first s.inside.links)
-    → Writes (started (draft_of h r.then s.inside.first r.more) p) [] v.memory v.pool v.table v.next v.entries → IsSteady (started (draft_of h r.then s.inside.first r.more) p) → HeadIs r.more v.head
+pub start_added : (h : History) (w v : Writer) (s : StandsAt h w) (p : ℕ) (r : Roomy h s.loading s.inside.first s.inside.links)
+    → Renders (started (draft_of h r.then s.inside.first r.more) p) [] v.memory v.pool v.table v.next v.entries → IsSteady (started (draft_of h r.then s.inside.first r.more) p) → HeadIs r.more v.head
     → v.control ≡ w.control → v.mode ≡ w.mode → 0 < w.segments_left → v.segments_left ≡ w.segments_left - 1 → v.destination ≡ Some p → StandsAt (with_destination h p) v
 start_added h w v s p r writes steady head control mode some segments destination =
     let o = s.inside in
@@ -223,12 +225,12 @@ count-zero : (x : ℕ) (xs : List ℕ) → (Has x xs → ⊥) → count x xs ≡
 count-zero x xs n = ⊎_elim (λ z. omega (arith, z)) (λ z. absurd (n (has_of_count x xs (omega (arith, z))))) (cases_lt (count x xs) 1)
 
 -- a page that is awaited is wanted and has no entry
-pub record Waits (h : Load) (d : ℕ) : Type 0 where
+pub record Waits (h : History) (d : ℕ) : Type 0 where
   pub wanted : is_wanted h d ≡ true
   pub new : count d (pages_of h.entries) ≡ 0
   pub low : d < 2 ^ 34
 
-pub awaited : (h : Load) (w : Writer) (s : StandsAt h w) (d : ℕ) → IsAwaited w d → Waits h d
+pub awaited : (h : History) (w : Writer) (s : StandsAt h w) (d : ℕ) → IsAwaited w d → Waits h d
 awaited h w s d a =
     let o = s.inside in
     let t = o.writes.tracks in
@@ -241,7 +243,7 @@ awaited h w s d a =
     }
 
 -- the load that is given these bytes of page d
-abbrev pub given_bytes : Load → ℕ → List ℕ → Load
+abbrev pub given_bytes : History → ℕ → List ℕ → History
 given_bytes h d b = record h { bytes = with_bytes h.bytes d b }
 
 sources_same : (W : Wants) (d : ℕ) (b : List ℕ) (ps : List (ℕ × ℕ)) → count d (destinations ps) ≡ 0 → source_pages (with_bytes W d b) ps ≡ source_pages W ps
@@ -257,7 +259,7 @@ sources_same W d b (q ∷ ps) z = go (eqb_tells q.0 d) (sources_same W d b ps)
         ap (λ o. (q.1, unwrap_or o []) ∷ source_pages (with_bytes W d b) ps) (ap (λ c. cond c (Some b) (W q.0)) t.0)
         ∙ ap (λ ys. (q.1, unwrap_or (W q.0) []) ∷ ys) (ih (omega (arith, m, z)))
 
-pub rebytes : (h : Load) (l : Loading) (w : Writer) (d : ℕ) (b : List ℕ) → count d (pages_of h.entries) ≡ 0 → IsOpen h l w → IsOpen (given_bytes h d b) l w
+pub rebytes : (h : History) (l : Loading) (w : Writer) (d : ℕ) (b : List ℕ) → count d (pages_of h.entries) ≡ 0 → IsOpen h l w → IsOpen (given_bytes h d b) l w
 rebytes h l w d b z o = record {
   first = o.first;
   links = o.links;
@@ -308,18 +310,18 @@ rebytes h l w d b z o = record {
 }
 
 -- room for the entry of an awaited page, and a page for it
-pub record Ready (h : Load) (l : Loading) (first links : List ℕ) (d : ℕ) : Type 0 where
+pub record Ready (h : History) (l : Loading) (first links : List ℕ) (d : ℕ) : Type 0 where
   pub room : Roomy h l first links
   pub page : ℕ × Loading
   pub can : CanTake (draft_of h room.then first room.more) (Some d) page
   pub under_way : UnderWay h.pool (pages_in h.wanted) (need h) (loaded_from (draft_of h room.then first room.more) d page)
 
-pub source_ready : (h : Load) (l : Loading) (w : Writer) (o : IsOpen h l w) → starts h.entries ≤ h.segments → (d : ℕ) → Waits h d → Ready h l o.first o.links d
+pub source_ready : (h : History) (l : Loading) (w : Writer) (o : IsOpen h l w) → starts h.entries ≤ h.segments → (d : ℕ) → Waits h d → Ready h l o.first o.links d
 source_ready h l w o starts_few d a =
     let es = h.entries in
     let all = pages_in h.wanted in
     let there : Has d (pages_in h.wanted) = has-pages_in h.wanted d a.wanted in
-    let more = no_longer (d ∷ pages_of h.entries) (pages_in h.wanted) (once_more d (pages_of h.entries) a.new o.under_way.counts.spent) (there, o.under_way.counts.inside) in
+    let more = counted_fit (d ∷ pages_of h.entries) (pages_in h.wanted) (once_more d (pages_of h.entries) a.new o.under_way.counts.spent) (there, o.under_way.counts.inside) in
     let few : length h.entries < h.segments + length (pages_in h.wanted) = omega (arith, length-entries h.entries, more, starts_few) in
     let r = make_room h l w o few in
     let n = need_is h o.first o.first_pages in
@@ -327,8 +329,8 @@ source_ready h l w o starts_few d a =
     let p = page_is_there h.pool (pages_in h.wanted) (need h) d (draft_of h r.then o.first r.more) r.under_way r.has_room there a.new (omega (arith, n, size, r.bound, few)) in
     record { room = r; page = p.0; can = p.1; under_way = p.2 }
 
-pub source_added : (h : Load) (l : Loading) (w v : Writer) (o : IsOpen h l w) (d : ℕ) (r : Ready h l o.first o.links d) → loaded (is_wanted h) h.wish h.entries h.pool ≡ Some l → w.segments_left + starts h.entries ≡ h.segments
-    → Writes (loaded_from (draft_of h r.room.then o.first r.room.more) d r.page) [] v.memory v.pool v.table v.next v.entries → IsSteady (loaded_from (draft_of h r.room.then o.first r.room.more) d r.page) → HeadIs r.room.more v.head
+pub source_added : (h : History) (l : Loading) (w v : Writer) (o : IsOpen h l w) (d : ℕ) (r : Ready h l o.first o.links d) → loaded (is_wanted h) h.wish h.entries h.pool ≡ Some l → w.segments_left + starts h.entries ≡ h.segments
+    → Renders (loaded_from (draft_of h r.room.then o.first r.room.more) d r.page) [] v.memory v.pool v.table v.next v.entries → IsSteady (loaded_from (draft_of h r.room.then o.first r.room.more) d r.page) → HeadIs r.room.more v.head
     → v.control ≡ w.control → v.mode ≡ w.mode → v.segments_left ≡ w.segments_left → v.destination ≡ Some (d + 1) → StandsAt (record h { entries = h.entries ++ Move d ∷ [] }) v
 source_added h l w v o d r requests segments writes steady head control mode same destination =
     let next : d + 1 ≡ suc d = omega arith in
@@ -351,12 +353,12 @@ source_added h l w v o d r requests segments writes steady head control mode sam
     (destination ∙ ap (λ n. Some n) next ∙ sym (after-append None h.entries (Move d ∷ [])))
 
 -- the first page that a load takes
-pub record First (h : Load) (l : Loading) (first : List ℕ) : Type 0 where
+pub record First (h : History) (l : Loading) (first : List ℕ) : Type 0 where
   pub page : ℕ × Loading
   pub can : CanTake (draft_of h l first []) None page
   pub under_way : UnderWay h.pool (pages_in h.wanted) (need h) (first_taken (draft_of h l first []) page)
 
-pub first_page : (h : Load) (l : Loading) (first : List ℕ) → UnderWay h.pool (pages_in h.wanted) (need h) (draft_of h l first []) → length first < first_count h.wish → First h l first
+pub first_page : (h : History) (l : Loading) (first : List ℕ) → UnderWay h.pool (pages_in h.wanted) (need h) (draft_of h l first []) → length first < first_count h.wish → First h l first
 first_page h l first u few =
     let size : length l.spare ≡ length first = ap length u.spare ∙ ap length (append-nil first) in
     let p = first_is_there h.pool (pages_in h.wanted) (need h) (draft_of h l first []) u refl (omega (arith, size, few, length-pages_in h.wanted)) in
@@ -367,7 +369,7 @@ pub no_pairs : (ps : List (ℕ × ℕ)) (es : List Entry) → destinations ps �
 no_pairs [] es o e = refl
 no_pairs (p ∷ ps) es o e = absurd (nil_cons (o ∙ ap pages_of e))
 
-module _ (h : Load) (list : OpenList) (n : ℕ) (asked : Wish) (k : IsPrepared h list n asked) where
+module _ (h : History) (list : OpenList) (n : ℕ) (asked : Wish) (k : IsPrepared h list n asked) where
   pub control_page : First h (begun h.pool) []
   control_page = first_page h (begun h.pool) [] k.under_way (some-first h.wish)
 
@@ -377,7 +379,7 @@ module _ (h : Load) (list : OpenList) (n : ℕ) (asked : Wish) (k : IsPrepared h
   none_started : n + starts h.entries ≡ h.segments
   none_started = let z : starts h.entries ≡ 0 = ap starts k.nothing in omega (arith, z, k.segments)
 
-  pub plain_begun : asked ≡ Plain → (v : Writer) → Writes (first_taken (draft_of h (begun h.pool) [] []) control_page.page) [] v.memory v.pool v.table v.next v.entries
+  pub plain_begun : asked ≡ Plain → (v : Writer) → Renders (first_taken (draft_of h (begun h.pool) [] []) control_page.page) [] v.memory v.pool v.table v.next v.entries
       → v.control ≡ control_page.page.0 → v.mode ≡ mode.Plain → v.segments_left ≡ n → v.destination ≡ None → StandsAt h v
   plain_begun e v w control mode segments destination =
       let wish : h.wish ≡ Plain = sym k.wish ∙ e in
@@ -405,7 +407,7 @@ module _ (h : Load) (list : OpenList) (n : ℕ) (asked : Wish) (k : IsPrepared h
   pub swap_page : asked ≡ Kept → First h (given None control_page.page) (control_page.page.0 ∷ [])
   swap_page e = first_page h (given None control_page.page) (control_page.page.0 ∷ []) control_page.under_way (let two : first_count h.wish ≡ 2 = ap first_count (sym k.wish ∙ e) in omega (arith, two))
 
-  pub kept_begun : (e : asked ≡ Kept) (v : Writer) → Writes (first_taken (draft_of h (given None control_page.page) (control_page.page.0 ∷ []) []) (swap_page e).page) [] v.memory v.pool v.table v.next v.entries
+  pub kept_begun : (e : asked ≡ Kept) (v : Writer) → Renders (first_taken (draft_of h (given None control_page.page) (control_page.page.0 ∷ []) []) (swap_page e).page) [] v.memory v.pool v.table v.next v.entries
       → v.control ≡ control_page.page.0 → v.mode ≡ mode.Kept (swap_page e).page.0 → v.segments_left ≡ n → v.destination ≡ None → StandsAt h v
   kept_begun e v w control mode segments destination =
       let wish : h.wish ≡ Kept = sym k.wish ∙ e in
@@ -442,7 +444,7 @@ has_destination p s (q ∷ ps) e = go (eqb_tells q.0 p) (has_destination p s ps)
 abbrev pub image_with : ℕ → Mode → ℕ → Image
 image_with a m c = record { head = a; mode = m; control = c }
 
-module _ (h : Load) (w : Writer) (s : StandsAt h w) (started_all : w.segments_left ≡ 0) (loaded_all : (d : ℕ) → IsAwaited w d → ⊥) where
+module _ (h : History) (w : Writer) (s : StandsAt h w) (started_all : w.segments_left ≡ 0) (loaded_all : (d : ℕ) → IsAwaited w d → ⊥) where
   d : Draft
   d = draft_of h s.loading s.inside.first s.inside.links
 
@@ -450,13 +452,13 @@ module _ (h : Load) (w : Writer) (s : StandsAt h w) (started_all : w.segments_le
   every : (p : ℕ) → is_wanted h p ≡ true → Has p (pages_of h.entries)
   every p t = go (slot w.table p) refl
     where
-      go : (o : Option (Option Loaded)) → slot w.table p ≡ o → Has p (pages_of h.entries)
+      go : (o : Option (Option PageSource)) → slot w.table p ≡ o → Has p (pages_of h.entries)
       go None e = absurd (false≢true (sym (s.inside.writes.tracks.wanted p ∙ ap is_some e) ∙ t))
       go (Some None) e = absurd (loaded_all p e)
       go (Some (Some x)) e = subst (Has p) s.inside.writes.order (has_destination p x.source s.loading.pairs (sym (s.inside.writes.tracks.loaded p) ∙ ap source_in e))
 
   all_pages : length (pages_of h.entries) ≡ length (pages_in h.wanted)
-  all_pages = omega (arith, few_pages h s.loading w s.inside, no_longer (pages_in h.wanted) (pages_of h.entries) (λ x. pages-once 0 h.wanted x s.inside.apart) (each_map (pages_in h.wanted) every (each-pages_in h.wanted)))
+  all_pages = omega (arith, few_pages h s.loading w s.inside, counted_fit (pages_in h.wanted) (pages_of h.entries) (λ x. pages-once 0 h.wanted x s.inside.apart) (Each-map (pages_in h.wanted) every (each-pages_in h.wanted)))
 
   entry_count : length h.entries ≡ h.segments + length (pages_in h.wanted)
   entry_count = omega (arith, length-entries h.entries, all_pages, s.segments_left, started_all)
@@ -511,7 +513,7 @@ module _ (h : Load) (w : Writer) (s : StandsAt h w) (started_all : w.segments_le
       record {
         loading = s.loading;
         requests = s.requests;
-        image = image ∙ same_image w.head (head_of h.wish s.loading) w.mode (mode_of h.wish s.loading) w.control (control_of s.loading) (head_is s.inside.links w.head s.inside.head has_link ∙ ap (λ ls. code (Link (slice_index ls 0))) (sym links_same)) s.mode s.control;
+        image = image ∙ same_image w.head (head_of h.wish s.loading) w.mode (load_mode h.wish s.loading) w.control (control_of s.loading) (head_is s.inside.links w.head s.inside.head has_link ∙ ap (λ ls. code (Link (slice_index ls 0))) (sym links_same)) s.mode s.control;
         memory = laid_there;
         drawn = ap (λ v. v.left) pool ∙ s.left ∙ drawn_all.1;
         in_use = in_use;
@@ -524,53 +526,53 @@ module _ (h : Load) (w : Writer) (s : StandsAt h w) (started_all : w.segments_le
       same_image : (a b : ℕ) (m n : Mode) (c d : ℕ) → a ≡ b → m ≡ n → c ≡ d → image_with a m c ≡ image_with b n d
       same_image a b m n c d e f g = λ i. record { head = e i; mode = f i; control = g i }
 
-pub starts_few : (h : Load) (w : Writer) → StandsAt h w → starts h.entries ≤ h.segments
+pub starts_few : (h : History) (w : Writer) → StandsAt h w → starts h.entries ≤ h.segments
 starts_few h w s = omega (arith, s.segments_left)
 
 -- the page is the next one to load
-pub is_next : (h : Load) (l : Loading) (first links : List ℕ) (d : ℕ) (bytes : List ℕ) → Waits h d → IsNext (draft_of (given_bytes h d (page_of bytes)) l first links) d bytes
+pub is_next : (h : History) (l : Loading) (first links : List ℕ) (d : ℕ) (bytes : List ℕ) → Waits h d → IsNext (draft_of (given_bytes h d (page_of bytes)) l first links) d bytes
 is_next h l first links d bytes a = record { wanted = a.wanted; new = a.new; same = ap (λ b. cond b (Some (page_of bytes)) (h.bytes d)) (eqb-self d) }
 
 -- a load for which all memory is taken
-pub prepared : (M : Contents) (pool : Pages) (wanted : List Run) (segments : ℕ) (wish : Wish) (memory : Contents) (table : Slots) (n : ℕ) (list : OpenList) → n ≡ need_of wish (pages wanted) segments → n ≤ length pool.left
-    → ((q : ℕ) → at memory q ≡ at M q) → IsOnce (pool.drawn ++ pool.left) → ((p : ℕ) → is_filed pool p ≡ false) → IsFresh wanted table → AreApart 0 wanted → AreHeld n pool.left memory → 1 ≤ segments
+pub prepared : (M : Contents) (pool : Pages) (wanted : List Run) (segments : ℕ) (wish : Wish) (memory : Contents) (table : Slots) (n : ℕ) (list : OpenList) → n ≡ need_of wish segments (pages wanted) → n ≤ length pool.left
+    → ((q : ℕ) → at memory q ≡ at M q) → Distinct (pool.drawn ++ pool.left) → ((p : ℕ) → is_filed pool p ≡ false) → IsFresh wanted table → AreApart 0 wanted → AreHeld n pool.left memory → 1 ≤ segments
     → list ≡ record { memory = memory; pool = pool; table = table; next = 0; entries = 0; head = 0 } → IsPrepared (load_begun (at M) pool.left wanted segments wish) list segments wish
 prepared M pool wanted segments wish memory table n list size enough same once unfiled fresh apart held some is =
-    let need = need_of wish (pages wanted) segments in
-    let fits : need_of wish (pages wanted) segments ≤ length pool.left = omega (arith, size, enough) in
-    let single : (x : ℕ) → count x pool.left ≤ 1 = λ x. omega (arith, once.each x, count-append x pool.drawn pool.left) in
-    let o = opens_under_way.0 (at M) (in_spans wanted) (λ p. None) (need_of wish (pages wanted) segments) pool.left (pages_in wanted) single (has-pages_in wanted) fits in
+    let need = need_of wish segments (pages wanted) in
+    let fits : need_of wish segments (pages wanted) ≤ length pool.left = omega (arith, size, enough) in
+    let single : (x : ℕ) → count x pool.left ≤ 1 = λ x. omega (arith, count-from_Distinct x (pool.drawn ++ pool.left) once, count-append x pool.drawn pool.left) in
+    let o = opens_under_way.0 (at M) (in_spans wanted) (λ p. None) (need_of wish segments (pages wanted)) pool.left (pages_in wanted) single (has-pages_in wanted) fits in
     subst (λ l. IsPrepared (load_begun (at M) pool.left wanted segments wish) l segments wish) (sym is) (record {
       nothing = refl;
       segments = refl;
       wish = refl;
-      writes = opened (at M) (in_spans wanted) (λ p. None) (need_of wish (pages wanted) segments) memory pool table fits same once unfiled fresh.each (subst (λ m. AreHeld m pool.left memory) size held);
+      writes = opened (at M) (in_spans wanted) (λ p. None) (need_of wish segments (pages wanted)) memory pool table fits same once unfiled fresh.each (subst (λ m. AreHeld m pool.left memory) size held);
       under_way = o.0;
       apart = apart;
       some = some;
     })
 
-pub pages_kept : (h : Load) (w : Writer) (s : StandsAt h w) → KeepsPages h s.loading
+pub pages_kept : (h : History) (w : Writer) (s : StandsAt h w) → KeepsPages h s.loading
 pages_kept h w s =
     let k = s.inside.under_way.counts in
     record {
       drawn = k.front;
       ends = k.ends;
       in_use = λ x. omega (arith, k.conserved x, ap (count x) k.ends, count-append x k.front s.loading.left);
-      filed = each_map s.loading.filed (λ p a. (a.0, λ g. a.1 (subst (Has p) (sym k.order) g))) k.files;
+      filed = Each-map s.loading.filed (λ p a. (a.0, λ g. a.1 (subst (Has p) (sym k.order) g))) k.files;
       sources = k.homes;
     }
 
-waiting : (h : Load) (w : Writer) (s : StandsAt h w) (d : ℕ) → is_wanted h d ≡ true → (Has d (pages_of h.entries) → ⊥) → IsAwaited w d
+waiting : (h : History) (w : Writer) (s : StandsAt h w) (d : ℕ) → is_wanted h d ≡ true → (Has d (pages_of h.entries) → ⊥) → IsAwaited w d
 waiting h w s d t n = go (slot w.table d) refl
   where
-    go : (o : Option (Option Loaded)) → slot w.table d ≡ o → slot w.table d ≡ Some None
+    go : (o : Option (Option PageSource)) → slot w.table d ≡ o → slot w.table d ≡ Some None
     go None e = absurd (false≢true (sym (s.inside.writes.tracks.wanted d ∙ ap is_some e) ∙ t))
     go (Some None) e = e
     go (Some (Some x)) e = absurd (n (subst (Has d) s.inside.writes.order (has_destination d x.source s.loading.pairs (sym (s.inside.writes.tracks.loaded d) ∙ ap source_in e))))
 
-pub awaited_exactly : (h : Load) (w : Writer) → StandsAt h w → (d : ℕ) → IsAwaited w d ↔ ((is_wanted h d ≡ true) × (Has d (pages_of h.entries) → ⊥))
+pub awaited_exactly : (h : History) (w : Writer) → StandsAt h w → (d : ℕ) → IsAwaited w d ↔ ((is_wanted h d ≡ true) × (Has d (pages_of h.entries) → ⊥))
 awaited_exactly h w s d = (
-  λ a. let t = awaited h w s d a in (t.wanted, λ g. let one = has_count d (pages_of h.entries) g in omega (arith, one, t.new)),
+  λ a. let t = awaited h w s d a in (t.wanted, λ g. let one = count-from_Has d (pages_of h.entries) g in omega (arith, one, t.new)),
   λ b. waiting h w s d b.0 b.1,
 )

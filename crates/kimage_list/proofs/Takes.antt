@@ -4,10 +4,13 @@ use Rattle.std.specs.Prelude.{◌≢◌, ◌⊎◌, eqb, not, ◌||◌}
 use Rattle.std.proofs.lemmas.Option.{none-some}
 use Rattle.std.proofs.lemmas.Bool.{or_cases, or_parts, eqb-true, eq-eqb, false≢true}
 use Rattle.std.proofs.lemmas.Bool.Decides.{eqb_tells}
-use Rattle.kimage_list.proofs.Lists.{each_map, some_same, count-append, each-append}
 use Rattle.kimage_list.specs.Drafts.{one, amount, IsHome}
 use Rattle.kimage_list.specs.Load.{without, source_of, at_home, is_for, Loading, draw, taken, given, served}
+use Rattle.kx_laws.proofs.Booleans.{not_false, not_true}
 use Rattle.kx_pages.specs.Lists.{Each, Has, destinations, sources, count, has}
+use Rattle.kx_pages.proofs.Lists.{Each-map, Each-append}
+use Rattle.kx_pages.proofs.Counting.{count-append}
+use Rattle.kx_laws.proofs.Options.{some_same}
 
 count-without : (x d : ℕ) (xs : List ℕ) → has d xs ≡ true → count x (without d xs) + one x d ≡ count x xs
 count-without x d [] h = absurd (false≢true h)
@@ -51,10 +54,6 @@ source_free D q s (p ∷ ps) h e c = go (eqb_tells p.0 q) h.0 (source_free D q s
     go (inl t) (inr m) ih = let f : p.1 ≡ s = some_same p.1 s (rw t.0 at e) in rw f at m
     go (inr t) m ih = ih (rw t.0 at e) (omega (arith, c))
 
-pub not_true : (b : Bool) → not b ≡ true → b ≡ false
-not_true true e = sym e
-not_true false e = refl
-
 -- how many pages are left, filed or in use
 abbrev pub size : Loading → ℕ
 size l = length l.left + length l.filed + length l.spare + length l.pairs
@@ -95,10 +94,6 @@ no_destination q (p ∷ ps) e (inr h) = go (eqb p.0 q) refl (no_destination q ps
     go : (b : Bool) → eqb p.0 q ≡ b → (source_of q ps ≡ None → Has q (destinations ps) → ⊥) → ⊥
     go true t ih = none-some p.1 (sym (rw t at e))
     go false t ih = ih (rw t at e) h
-
-pub not_false : (b : Bool) → not b ≡ false → b ≡ true
-not_false true e = refl
-not_false false e = sym e
 
 -- what taking a page for r from l gave: a page, and the loading after it
 pub record Takes (D : ℕ → Bool) (r : Option ℕ) (l : Loading) (o : ℕ × Loading) : Type 0 where
@@ -148,7 +143,7 @@ draw_took D r pairs spare filed (q ∷ left) o h c e = go (is_for r q || not (D 
           spared = refl;
           sizes = omega (arith, length-at_home q pairs);
           ends = (q ∷ [], refl);
-          files = λ w. each_map filed (λ p m. (m.0, λ h. m.1 (subst (Has p) (destinations-at_home q pairs) h))) w;
+          files = λ w. Each-map filed (λ p m. (m.0, λ h. m.1 (subst (Has p) (destinations-at_home q pairs) h))) w;
         })
 
     go : (b : Bool) → (is_for r q || not (D q)) ≡ b → Later → Takes D r (at pairs spare filed (q ∷ left)) o
@@ -230,14 +225,14 @@ given_sound D pool spent n None l t s k =
       conserved = λ x. omega (arith, s.conserved x, k.conserves x, count-append x t.1.spare (t.0 ∷ []));
       homes = k.homes;
       order = k.order ∙ s.order ∙ sym (append-nil spent);
-      free = each-append (λ p. D p ≡ false) t.1.spare (t.0 ∷ []) (rw k.spared s.free) (free, tt);
+      free = Each-append (λ p. D p ≡ false) t.1.spare (t.0 ∷ []) (rw k.spared s.free) (free, tt);
       many = omega (arith, length-append t.1.spare (t.0 ∷ []), ap length k.spared, s.many);
     }
 given_sound D pool spent n (Some d) l t s k =
     let home : IsHome D (d, t.0) = ⊎_elim (λ e. inl (sym (eqb-true d t.0 e))) (λ e. inr e) k.serves in
     record {
       conserved = λ x. omega (arith, s.conserved x, k.conserves x, ap (count x) (sources-append t.1.pairs ((d, t.0) ∷ [])), count-append x (sources t.1.pairs) (t.0 ∷ []));
-      homes = each-append (IsHome D) t.1.pairs ((d, t.0) ∷ []) k.homes (home, tt);
+      homes = Each-append (IsHome D) t.1.pairs ((d, t.0) ∷ []) k.homes (home, tt);
       order = destinations-append t.1.pairs ((d, t.0) ∷ []) ∙ ap (λ ys. ys ++ d ∷ []) (k.order ∙ s.order);
       free = rw k.spared s.free;
       many = ap length k.spared ∙ s.many ∙ (omega arith);

@@ -13,12 +13,12 @@ use Rattle.kimage_list.specs.declared.open_list.OpenList.{OpenList}
 use Rattle.kimage_list.specs.declared.writer.ListWriter.TheInside.{Inside}
 use Rattle.kimage_list.specs.Load.{Loading, begun, loaded}
 use Rattle.kimage_list.specs.Laying.{image_of, laid}
-use Rattle.kimage_list.specs.Drafts.{Writes}
+use Rattle.kimage_list.specs.Drafts.{Renders}
 use Rattle.kimage_list.specs.Counted.{UnderWay}
-use Rattle.kimage_list.specs.Writers.{Load, Writer, is_wanted, need, pages_in, draft_of}
+use Rattle.kimage_list.specs.Writers.{History, Writer, is_wanted, need, pages_in, draft_of}
 
 -- a load that is asked for these pages, and has no entry yet
-abbrev pub load_begun : Mem → List ℕ → List Run → ℕ → Wish → Load
+abbrev pub load_begun : Mem → List ℕ → List Run → ℕ → Wish → History
 load_begun M pool wanted segments wish = record { before = M; pool = pool; wanted = wanted; segments = segments; wish = wish; entries = []; bytes = λ p. None }
 
 -- why a list is not begun: too few pages exactly where the pool has fewer than the load takes
@@ -31,17 +31,17 @@ abbrev pub writer_of : Inside → Writer
 writer_of s = record { memory = s.list.memory; pool = s.list.pool; table = s.list.table; next = s.list.next; entries = s.list.entries; head = s.list.head; mode = s.mode; control = s.control; segments_left = s.segments_left; destination = s.destination }
 
 -- a load for which all memory is taken, and no page
-pub record IsPrepared (h : Load) (list : OpenList) (n : ℕ) (asked : Wish) : Type 0 where
+pub record IsPrepared (h : History) (list : OpenList) (n : ℕ) (asked : Wish) : Type 0 where
   pub nothing : h.entries ≡ []
   pub segments : n ≡ h.segments
   pub wish : asked ≡ h.wish
-  pub writes : Writes (draft_of h (begun h.pool) [] []) [] list.memory list.pool list.table list.next list.entries
+  pub writes : Renders (draft_of h (begun h.pool) [] []) [] list.memory list.pool list.table list.next list.entries
   pub under_way : UnderWay h.pool (pages_in h.wanted) (need h) (draft_of h (begun h.pool) [] [])
   pub apart : AreApart 0 h.wanted
   pub some : 1 ≤ h.segments
 
 -- What a load leaves that was asked for all its pages.
-pub record IsWritten (h : Load) (w : Written) : Type 0 where
+pub record IsWritten (h : History) (w : Written) : Type 0 where
   pub loading : Loading
   pub requests : loaded (is_wanted h) h.wish h.entries h.pool ≡ Some loading
   -- the head word, the mode and the control page

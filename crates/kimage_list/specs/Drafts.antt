@@ -6,7 +6,7 @@ use Rattle.page_pool.specs.Pages.{Pages}
 use Rattle.kx_pages.specs.Items.{code}
 use Rattle.kx_pages.specs.Lists.{Each, count, destinations, sources}
 use Rattle.kx_pages.specs.declared.item.Item.TheVariants.{Source, Link}
-use Rattle.kimage_list.specs.declared.taking.Moved.{Moved}
+use Rattle.kimage_list.specs.declared.taking.MovedPage.{MovedPage}
 use Rattle.kimage_list.specs.Load.{Loading, Request, Entry, Start, Move, pages_of, begun, taken, given}
 use Rattle.kimage_list.specs.Laying.{Holds, items, source_pages, link_pages, put_all}
 use Rattle.kimage_list.specs.Opening.{open_pages, entry_place, next_place, Tight, number}
@@ -38,8 +38,9 @@ pub record Draft : Type 0 where
   pub entries : List Entry
   pub loading : Loading
 
--- memory, pool, table and the next place are those of a draft, where the pages in hand are not yet written
-pub record Writes (d : Draft) (hand : List ℕ) (memory : Contents) (pool : Pages) (table : Slots) (next entries : ℕ) : Type 0 where
+-- Memory, pool, table, the next place and the number of entries render a draft: the pages in hand are taken, and not yet
+-- written.
+pub record Renders (d : Draft) (hand : List ℕ) (memory : Contents) (pool : Pages) (table : Slots) (next entries : ℕ) : Type 0 where
   pub tracks : Tracks d.wanted d.loading pool table
   pub order : destinations d.loading.pairs ≡ pages_of d.entries
   pub spare : d.loading.spare ≡ d.first ++ d.links
@@ -62,12 +63,12 @@ pub record CanTake (d : Draft) (r : Request) (t : ℕ × Loading) : Type 0 where
   pub within : (x : ℕ) → used x t.1 + one x t.0 ≤ count x d.room
 
 -- an exchange can be made in this memory
-abbrev pub CanMove : Option Moved → Contents → Type 0
+abbrev pub CanMove : Option MovedPage → Contents → Type 0
 CanMove None m = Unit {0}
 CanMove (Some v) m = (v.place < 2 ^ 46) × (v.place % 8 ≡ 0) × IsHeld m v.page × IsHeld m (v.place / 4096)
 
 -- memory after the exchange that freed page s
-abbrev pub moved : Mem → Option Moved → ℕ → Mem
+abbrev pub moved : Mem → Option MovedPage → ℕ → Mem
 moved N None s = N
 moved N (Some v) s = set_word (put N v.page (N s)) v.place (code (Source v.page))
 

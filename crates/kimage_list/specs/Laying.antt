@@ -12,7 +12,8 @@ use Rattle.kx_pages.specs.declared.image.Wish.TheVariants.{Plain, Kept}
 use Rattle.kx_pages.specs.declared.image.Mode.{Mode}
 use Rattle.kx_pages.specs.declared.image.Mode.TheVariants as mode
 use Rattle.kx_pages.specs.declared.image.Image.{Image}
-use Rattle.kimage_list.specs.Load.{Loading, Entry, Start, Move, first_count}
+use Rattle.kimage_list.specs.Load.{Loading, Entry, Start, Move}
+use Rattle.kx_pages.specs.Needs.{first_count}
 
 -- the control page, the swap page, the link pages: the pages taken for no destination, in order
 abbrev pub control_of : Loading → ℕ
@@ -76,9 +77,9 @@ abbrev pub mode_with : Wish → ℕ → Mode
 mode_with Plain swap = mode.Plain
 mode_with Kept swap = mode.Kept swap
 
-abbrev pub mode_of : Wish → Loading → Mode
-mode_of wish l = mode_with wish (swap_of l)
+abbrev pub load_mode : Wish → Loading → Mode
+load_mode wish l = mode_with wish (swap_of l)
 
 -- what running the list takes
 abbrev pub image_of : Wish → Loading → Image
-image_of wish l = record { head = head_of wish l; mode = mode_of wish l; control = control_of l }
+image_of wish l = record { head = head_of wish l; mode = load_mode wish l; control = control_of l }

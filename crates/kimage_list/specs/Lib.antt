@@ -4,6 +4,7 @@ pub mod Opening
 pub mod Tables
 pub mod Tracking
 pub mod Drafts
+pub mod OpenLists
 pub mod Counted
 pub mod Writers
 pub mod Beginning

@@ -3,8 +3,8 @@
 -- its own request (kimage_alloc_page).
 use Rattle.std.specs.Prelude.{ℕ, zero, suc, ◌+◌, ◌/◌, ◌%◌, Bool, true, false, cond, not, ◌||◌, eqb, List, [], ◌∷◌, ◌++◌, replicate, Option, Some, None}
 use Rattle.kx_pages.specs.Lists.{has}
+use Rattle.kx_pages.specs.Needs.{first_count}
 use Rattle.kx_pages.specs.declared.image.Wish.{Wish}
-use Rattle.kx_pages.specs.declared.image.Wish.TheVariants.{Plain, Kept}
 
 -- the entries of a list: the destination entry of a segment that starts at this page, and the source entry of this
 -- destination page
@@ -37,11 +37,6 @@ abbrev pub is_for : Request → ℕ → Bool
 is_for None q = false
 is_for (Some d) q = eqb d q
 
--- the pages before the link pages: the control page, and with context preserved the swap page
-abbrev pub first_count : Wish → ℕ
-first_count Plain = 1
-first_count Kept = 2
-
 abbrev pub own_request : Entry → List Request
 own_request (Start p) = []
 own_request (Move p) = Some p ∷ []
@@ -54,10 +49,6 @@ requests_from n (e ∷ es) = cond (eqb (n % 511) 0) (None ∷ []) [] ++ (own_req
 -- the requests of a load, in order
 abbrev pub requests : Wish → List Entry → List Request
 requests wish es = replicate (first_count wish) None ++ requests_from 0 es
-
--- how many pages a load takes that has so many destination pages and segments
-abbrev pub need_of : Wish → ℕ → ℕ → ℕ
-need_of wish pages segments = pages + (segments + pages + 510) / 511 + first_count wish
 
 -- where a load stands
 pub record Loading : Type 0 where

@@ -1,10 +1,10 @@
 -- Where a pool and a table stand while a list is written.
-use Rattle.std.specs.Prelude.{◌≡◌, ℕ, ◌+◌, ◌≤◌, List, Bool, true, false, Option, Some, None, is_some}
+use Rattle.std.specs.Prelude.{◌≡◌, ℕ, ◌+◌, ◌≤◌, List, ◌++◌, Bool, true, false, Option, Some, None, is_some}
 use Rattle.page_pool.specs.Pages.{Pages, is_filed}
 use Rattle.kx_pages.specs.Lists.{has, count}
-use Rattle.kimage_list.specs.declared.table.Loaded.{Loaded}
-use Rattle.kimage_list.specs.declared.taking.Moved.{Moved}
-use Rattle.kimage_list.specs.declared.taking.Taken.{Taken}
+use Rattle.kimage_list.specs.declared.table.PageSource.{PageSource}
+use Rattle.kimage_list.specs.declared.taking.MovedPage.{MovedPage}
+use Rattle.kimage_list.specs.declared.taking.TakenPage.{TakenPage}
 use Rattle.kimage_list.specs.declared.taking.Fate.{Fate}
 use Rattle.kimage_list.specs.declared.taking.Fate.TheVariants as fate
 use Rattle.kimage_list.specs.Load.{Loading, source_of, at_home, draw}
@@ -19,26 +19,26 @@ pub record Tracks (D : ℕ → Bool) (l : Loading) (pool : Pages) (table : Slots
   pub once : (p : ℕ) → count p l.left + count p l.filed ≤ 1
 
 -- the pair that was exchanged on the way from pairs to pairs', which freed page s
-abbrev pub Exchanged : Option Moved → List (ℕ × ℕ) → List (ℕ × ℕ) → ℕ → Slots → Type 0
+abbrev pub Exchanged : Option MovedPage → List (ℕ × ℕ) → List (ℕ × ℕ) → ℕ → Slots → Type 0
 Exchanged None pairs pairs' s table = pairs' ≡ pairs
 Exchanged (Some m) pairs pairs' s table = (source_of m.page pairs ≡ Some s) × (pairs' ≡ at_home m.page pairs) × (place_in (slot table m.page) ≡ Some m.place)
 
 -- x is the page that taking gave, and t tells it with the loading after it
-pub record Took (D : ℕ → Bool) (l : Loading) (t : ℕ × Loading) (x : Taken) (pool : Pages) (table table' : Slots) : Type 0 where
+pub record Took (D : ℕ → Bool) (l : Loading) (t : ℕ × Loading) (x : TakenPage) (pool : Pages) (table table' : Slots) : Type 0 where
   pub page : x.page ≡ t.0
   pub tracks : Tracks D t.1 pool table'
   pub exchanged : Exchanged x.moved l.pairs t.1.pairs t.0 table
   pub places : (p : ℕ) → place_in (slot table' p) ≡ place_in (slot table p)
 
 -- a call gave what taking gives
-abbrev pub Gives : (ℕ → Bool) → Loading → Option (ℕ × Loading) → Option Taken → Pages → Slots → Slots → Type 0
+abbrev pub Gives : (ℕ → Bool) → Loading → Option (ℕ × Loading) → Option TakenPage → Pages → Slots → Slots → Type 0
 Gives D l (Some t) (Some x) pool table table' = Took D l t x pool table table'
 Gives D l None None pool table table' = Unit {0}
 Gives D l None (Some x) pool table table' = ⊥
 Gives D l (Some t) None pool table table' = ⊥
 
 -- what becomes of a drawn page
-abbrev pub fate_of : Bool → Option (Option Loaded) → Fate
+abbrev pub fate_of : Bool → Option (Option PageSource) → Fate
 fate_of true o = fate.Given
 fate_of false None = fate.Given
 fate_of false (Some None) = fate.Filed
@@ -51,7 +51,12 @@ pub record Reaches (D : ℕ → Bool) (r : Option ℕ) (l : Loading) (pool : Pag
   pub same : draw D r now.pairs now.spare now.filed now.left ≡ draw D r l.pairs l.spare l.filed l.left
   pub pairs : now.pairs ≡ l.pairs
 
+-- all pages of a pool: those drawn, then those left
+abbrev pub whole_pool : Pages → List ℕ
+whole_pool pool = pool.drawn ++ pool.left
+
 -- the loop that draws
 pub record Draws (r : Option ℕ) (pool : Pages) (table : Slots) (pool' : Pages) (table' : Slots) : Type 0 where
   pub reaches : (D : ℕ → Bool) (l : Loading) → Tracks D l pool table → Reaches D r l pool' table'
   pub same : table' ≡ table
+  pub pages : whole_pool pool' ≡ whole_pool pool

@@ -8,16 +8,18 @@ use Rattle.kx_pages.specs.Spans.{Run, in_spans, pages, AreApart}
 use Rattle.kx_pages.specs.Lists.{Each, Has, has, count, sources}
 use Rattle.kx_pages.specs.declared.image.Wish.{Wish}
 use Rattle.kx_pages.specs.declared.image.Mode.{Mode}
-use Rattle.kx_pages.specs.declared.image.Mode.TheVariants as mode
-use Rattle.kimage_list.specs.Load.{Loading, Entry, Start, Move, pages_of, starts, first_count, need_of, loaded}
-use Rattle.kimage_list.specs.Laying.{control_of, mode_of, mode_with, links_of}
+use Rattle.kx_pages.specs.Modes.{mode_of, swap_page}
+use Rattle.kx_pages.proofs.Modes.{mode_of-swap_page}
+use Rattle.kimage_list.specs.Load.{Loading, Entry, Start, Move, pages_of, starts, loaded}
+use Rattle.kimage_list.specs.Laying.{control_of, load_mode, mode_with, links_of}
 use Rattle.kimage_list.specs.Opening.{laid_so_far}
 use Rattle.kimage_list.specs.Tables.{Slots, slots_code, slot}
-use Rattle.kimage_list.specs.Drafts.{Draft, Writes, IsSteady, HeadIs}
+use Rattle.kimage_list.specs.Drafts.{Draft, Renders, IsSteady, HeadIs}
 use Rattle.kimage_list.specs.Counted.{UnderWay}
+use Rattle.kx_pages.specs.Needs.{first_count, need_of}
 
 -- What a load was asked for so far.
-pub record Load : Type 0 where
+pub record History : Type 0 where
   pub before : Mem  -- memory before it
   pub pool : List ℕ  -- the pages that the pool had left before it
   pub wanted : List Run  -- the destination pages
@@ -26,15 +28,15 @@ pub record Load : Type 0 where
   pub entries : List Entry  -- so far
   pub bytes : Wants  -- given so far
 
-abbrev pub is_wanted : Load → ℕ → Bool
+abbrev pub is_wanted : History → ℕ → Bool
 is_wanted h = in_spans h.wanted
 
 -- how many pages it takes
-abbrev pub need : Load → ℕ
-need h = need_of h.wish (pages h.wanted) h.segments
+abbrev pub need : History → ℕ
+need h = need_of h.wish h.segments (pages h.wanted)
 
 -- the load with the destination entry of a segment that starts at page d
-abbrev pub with_destination : Load → ℕ → Load
+abbrev pub with_destination : History → ℕ → History
 with_destination h d = record h { entries = h.entries ++ Start d ∷ [] }
 
 -- the bytes given, with those of page d
@@ -42,7 +44,7 @@ abbrev pub with_bytes : Wants → ℕ → List ℕ → Wants
 with_bytes W d bytes p = cond (eqb p d) (Some bytes) (W p)
 
 -- the load with the source entry of destination page d, for which these bytes were given
-abbrev pub with_source : Load → ℕ → List ℕ → Load
+abbrev pub with_source : History → ℕ → List ℕ → History
 with_source h d bytes = record h { entries = h.entries ++ Move d ∷ []; bytes = with_bytes h.bytes d bytes }
 
 -- where the next source goes: to the page behind the last destination
@@ -64,20 +66,8 @@ pub record Writer : Type 0 where
   pub segments_left : ℕ  -- destination entries still to be written
   pub destination : Option ℕ  -- where the next source goes
 
-abbrev pub mode_back : Option ℕ → Mode
-mode_back None = mode.Plain
-mode_back (Some p) = mode.Kept p
-
-abbrev pub mode_told : Mode → Option ℕ
-mode_told mode.Plain = None
-mode_told (mode.Kept p) = Some p
-
-pub mode_again : (m : Mode) → mode_back (mode_told m) ≡ m
-mode_again mode.Plain = refl
-mode_again (mode.Kept p) = refl
-
 abbrev pub mode_code : Coded Mode
-mode_code = code_by (Option ℕ) (coded_option coded_ℕ) mode_told mode_back mode_again
+mode_code = code_by (Option ℕ) (coded_option coded_ℕ) swap_page mode_of mode_of-swap_page
 
 -- stored as its fields
 abbrev pub writer_code : Coded Writer
@@ -93,7 +83,7 @@ abbrev pub IsAwaited : Writer → ℕ → Type 0
 IsAwaited w d = slot w.table d ≡ Some None
 
 -- how far the load is, as the writer's steps see it
-abbrev pub draft_of : Load → Loading → List ℕ → List ℕ → Draft
+abbrev pub draft_of : History → Loading → List ℕ → List ℕ → Draft
 draft_of h l first links = record { before = h.before; wanted = is_wanted h; bytes = h.bytes; room = take (need h) h.pool; first = first; links = links; entries = h.entries; loading = l }
 
 -- the destination pages of spans, one by one
@@ -106,10 +96,10 @@ pages_in [] = []
 pages_in (r ∷ rs) = pages_from r.first r.count ++ pages_in rs
 
 -- what the writer keeps while the list is open
-pub record IsOpen (h : Load) (l : Loading) (w : Writer) : Type 0 where
+pub record IsOpen (h : History) (l : Loading) (w : Writer) : Type 0 where
   pub first : List ℕ
   pub links : List ℕ
-  pub writes : Writes (draft_of h l first links) [] w.memory w.pool w.table w.next w.entries
+  pub writes : Renders (draft_of h l first links) [] w.memory w.pool w.table w.next w.entries
   pub under_way : UnderWay h.pool (pages_in h.wanted) (need h) (draft_of h l first links)
   pub steady : IsSteady (draft_of h l first links)
   pub head : HeadIs links w.head
@@ -120,7 +110,7 @@ pub record IsOpen (h : Load) (l : Loading) (w : Writer) : Type 0 where
   pub some : 1 ≤ h.segments
 
 -- The writer stands where a load stands that was asked for this.
-pub record StandsAt (h : Load) (w : Writer) : Type 0 where
+pub record StandsAt (h : History) (w : Writer) : Type 0 where
   pub loading : Loading
   -- pages left, pages filed, pairs, link pages are those of the requests so far
   pub requests : loaded (is_wanted h) h.wish h.entries h.pool ≡ Some loading
@@ -129,14 +119,14 @@ pub record StandsAt (h : Load) (w : Writer) : Type 0 where
   -- memory is as it was, but for the list and the sources so far
   pub memory : (p : ℕ) → at w.memory p ≡ laid_so_far h.before h.bytes (links_of h.wish loading) h.entries loading.pairs p
   pub control : w.control ≡ control_of loading
-  pub mode : w.mode ≡ mode_of h.wish loading
+  pub mode : w.mode ≡ load_mode h.wish loading
   pub segments_left : w.segments_left + starts h.entries ≡ h.segments
   pub destination : w.destination ≡ destination_after None h.entries
   pub inside : IsOpen h loading w
 
 -- Where the pages of a load are: each page drawn so far is filed or in use, a filed page is a destination that is not
 -- loaded yet, and a source is its own destination or no destination.
-pub record KeepsPages (h : Load) (l : Loading) : Type 0 where
+pub record KeepsPages (h : History) (l : Loading) : Type 0 where
   pub drawn : List ℕ
   pub ends : h.pool ≡ drawn ++ l.left
   pub in_use : (x : ℕ) → count x drawn ≡ count x l.filed + count x l.spare + count x (sources l.pairs)

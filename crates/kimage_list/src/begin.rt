@@ -4,35 +4,14 @@ ghost use Rattle.std.specs.Prelude.{◌≡◌, ℕ, ◌≤◌, ◌<◌, ◌+◌,
 ghost use Rattle.std.specs.List.Sorted.{IsPermutation};
 ghost use Rattle.page_memory.specs.Contents.{at, IsHeld};
 ghost use Rattle.kx_pages.specs.Spans.{AreApart, in_spans, in_span};
-ghost use Rattle.kimage_list.specs.Load.{need_of, first_count};
 ghost use Rattle.kimage_list.specs.Tables.{slot, fresh_slot};
 ghost use Rattle.kimage_list.specs.Beginning.{IsFresh, AreHeld};
 
 use crate::table::Table;
-use kx_pages::{Page, PageSet, Span, Wish};
+use kx_pages::{Page, PageSet, Span};
 use page_memory::Memory;
 use page_pool::Pool;
 use std::alloc::{AllocError, Global};
-
-/// How many pages a load takes.
-pub fn need(pages: u64, segments: usize, wish: Wish) -> u64
-    requires pages { pages ≤ 65536 }
-    requires segments { segments ≤ 16 }
-    ensures { result ≡ need_of wish pages segments }
-{
-    let links = (segments as u64 + pages + 510) / 511;
-    pages + links + first_pages(wish)
-}
-
-// The pages before the link pages.
-fn first_pages(wish: Wish) -> u64
-    ensures { result ≡ first_count wish }
-{
-    match wish {
-        Wish::Plain => 1,
-        Wish::Kept => 2,
-    }
-}
 
 /// All memory of a load: the table of the wanted pages, and the first pages of the pool.
 pub fn prepare(
@@ -67,17 +46,9 @@ fn add_span(table: &mut Table, span: Span) -> Result<(), AllocError>
     ensures { IfOk result (λ _. (q : ℕ) → slot table.new q ≡ cond (in_span span q) (Some None) (slot table.old q)) }
 {
     for number in span.first()..span.first() + span.count() {
-        table.add(page_of_number(number))?;
+        table.add(Page::from_number(number))?;
     }
     Ok(())
-}
-
-/// The page of a number that is one.
-pub fn page_of_number(number: u64) -> Page
-    requires { number < 2 ^ 34 }
-    ensures { result ≡ number }
-{
-    Page::new(number).unwrap()
 }
 
 // The first n pages of the pool, in rising order.

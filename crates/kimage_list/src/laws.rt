@@ -3,7 +3,7 @@
 ghost use Rattle.std.specs.Prelude.{◌≡◌, ◌↔◌, ℕ, true};
 ghost use Rattle.kx_pages.specs.Lists.{Has};
 ghost use Rattle.kimage_list.specs.Load.{pages_of};
-ghost use Rattle.kimage_list.specs.Writers.{FirstPages, IsAwaited, KeepsPages, Load, StandsAt, Writer, is_wanted};
+ghost use Rattle.kimage_list.specs.Writers.{FirstPages, IsAwaited, KeepsPages, History, StandsAt, Writer, is_wanted};
 ghost use Rattle.kimage_list.specs.Counted.{AlwaysTakes, OneMore, RoomIsThere, PageIsThere, StartIsThere, AllDrawn, OpensUnderWay};
 
 /// Taking never fails below the need.
@@ -36,7 +36,7 @@ pub fn opens_under_way()
 /// After each call the pages drawn are those filed and those in use, a filed page is a wanted page that is not loaded
 /// yet, and a source is its own destination or no wanted page.
 pub fn pages_are_kept()
-    ensures { (h : Load) (w : Writer) (s : StandsAt h w) → KeepsPages h s.loading }
+    ensures { (h : History) (w : Writer) (s : StandsAt h w) → KeepsPages h s.loading }
 {}
 
 /// The control page is the first page of the pool that is not wanted, the swap page the second, and the first link page
@@ -47,5 +47,5 @@ pub fn first_pages_are_not_wanted()
 
 /// A page is awaited exactly where it is wanted and has no source entry yet.
 pub fn awaited_pages_have_no_entry()
-    ensures { (h : Load) (w : Writer) → StandsAt h w → (d : ℕ) → IsAwaited w d ↔ ((is_wanted h d ≡ true) × (Has d (pages_of h.entries) → ⊥)) }
+    ensures { (h : History) (w : Writer) → StandsAt h w → (d : ℕ) → IsAwaited w d ↔ ((is_wanted h d ≡ true) × (Has d (pages_of h.entries) → ⊥)) }
 {}

@@ -4,10 +4,12 @@ ghost use Rattle.std.specs.Prelude.{◌≡◌, ℕ, ◌<◌, ◌≤◌, ◌+◌,
 ghost use Rattle.page_memory.specs.Contents.{at, IsHeld};
 ghost use Rattle.page_memory.specs.Memory.{set_word};
 ghost use Rattle.kimage_list.specs.Load.{Loading};
-ghost use Rattle.kimage_list.specs.Drafts.{Draft, Writes, CanTake, IsFull, linked, Room, HasRoom, IsSteady, IsNext, first_taken, started, loaded_from, HasLink, laid_by, HeadIs};
+ghost use Rattle.kimage_list.specs.OpenLists.{IsRendered, IsRenderedBut};
+ghost use Rattle.kimage_list.specs.Tracking.{whole_pool};
+ghost use Rattle.kimage_list.specs.Drafts.{Draft, CanTake, IsFull, linked, Room, HasRoom, IsSteady, IsNext, first_taken, started, loaded_from, HasLink, laid_by, HeadIs};
 
 use crate::pages::{destination_word, fill, link_word, settle, source_word, write_word};
-use crate::table::{Loaded, Table};
+use crate::table::{PageSource, Table};
 use crate::taking::take_page;
 use kx_pages::{Item, Page};
 use page_memory::Memory;
@@ -52,16 +54,23 @@ impl OpenList {
 
     // A page before the link pages: the control page, or the swap page.
     pub(crate) fn take_first(&mut self) -> Page
-        requires { (d : Draft) × (t : ℕ × Loading) × Writes d [] self.old.memory self.old.pool self.old.table self.old.next self.old.entries × CanTake d None t × (d.links ≡ []) × (d.loading.pairs ≡ []) }
-        ensures { (d : Draft) (t : ℕ × Loading) → Writes d [] self.old.memory self.old.pool self.old.table self.old.next self.old.entries → CanTake d None t → d.links ≡ [] → d.loading.pairs ≡ [] → (result ≡ t.0) × Writes (first_taken d t) [] self.new.memory self.new.pool self.new.table self.new.next self.new.entries }
+        requires { (d : Draft) × (t : ℕ × Loading) × IsRendered self.old d × CanTake d None t ×
+            (d.links ≡ []) × (d.loading.pairs ≡ []) }
+        ensures given { (d : Draft) (t : ℕ × Loading) → IsRendered self.old d → CanTake d None t → d.links ≡ [] →
+            d.loading.pairs ≡ [] → (result ≡ t.0) × IsRendered self.new (first_taken d t) }
+        ensures pages { whole_pool self.new.pool ≡ whole_pool self.old.pool }
     {
         self.take(&None)
     }
 
     // A page for a wanted page, or for none.
     fn take(&mut self, wanted: &Option<Page>) -> Page
-        requires { (d : Draft) × (t : ℕ × Loading) × Writes d [] self.old.memory self.old.pool self.old.table self.old.next self.old.entries × CanTake d wanted.now t }
-        ensures { (d : Draft) (t : ℕ × Loading) → Writes d [] self.old.memory self.old.pool self.old.table self.old.next self.old.entries → CanTake d wanted.now t → (result ≡ t.0) × Writes (record d { loading = t.1 }) (t.0 ∷ []) self.new.memory self.new.pool self.new.table self.new.next self.new.entries × (self.new.next ≡ self.old.next) × (self.new.entries ≡ self.old.entries) × (self.new.head ≡ self.old.head) × (d.loading.pairs ≡ [] → at self.new.memory ≡ at self.old.memory) }
+        requires { (d : Draft) × (t : ℕ × Loading) × IsRendered self.old d × CanTake d wanted.now t }
+        ensures given { (d : Draft) (t : ℕ × Loading) → IsRendered self.old d → CanTake d wanted.now t → (result ≡ t.0) ×
+            IsRenderedBut (t.0 ∷ []) self.new (record d { loading = t.1 }) × (self.new.next ≡ self.old.next) ×
+            (self.new.entries ≡ self.old.entries) × (self.new.head ≡ self.old.head) ×
+            (d.loading.pairs ≡ [] → at self.new.memory ≡ at self.old.memory) }
+        ensures pages { whole_pool self.new.pool ≡ whole_pool self.old.pool }
     {
         match take_page(&mut self.pool, &mut self.table, wanted) {
             Some(taken) => {
@@ -74,9 +83,12 @@ impl OpenList {
 
     // A link page more, cleared, and the word that leads to it.
     fn take_link(&mut self)
-        requires { (d : Draft) × (t : ℕ × Loading) × Writes d [] self.old.memory self.old.pool self.old.table self.old.next self.old.entries × CanTake d None t × IsFull d }
-        ensures written { (d : Draft) (t : ℕ × Loading) → Writes d [] self.old.memory self.old.pool self.old.table self.old.next self.old.entries → CanTake d None t → IsFull d → Writes (linked d t) [] self.new.memory self.new.pool self.new.table self.new.next self.new.entries }
-        ensures head { (d : Draft) (t : ℕ × Loading) → Writes d [] self.old.memory self.old.pool self.old.table self.old.next self.old.entries → CanTake d None t → IsFull d → HeadIs d.links self.old.head → HeadIs (linked d t).links self.new.head }
+        requires { (d : Draft) × (t : ℕ × Loading) × IsRendered self.old d × CanTake d None t × IsFull d }
+        ensures written { (d : Draft) (t : ℕ × Loading) → IsRendered self.old d → CanTake d None t → IsFull d →
+            IsRendered self.new (linked d t) }
+        ensures head { (d : Draft) (t : ℕ × Loading) → IsRendered self.old d → CanTake d None t → IsFull d →
+            HeadIs d.links self.old.head → HeadIs (linked d t).links self.new.head }
+        ensures pages { whole_pool self.new.pool ≡ whole_pool self.old.pool }
     {
         let link = self.take(&None);
         fill(&mut self.memory, link, &[]);
@@ -90,9 +102,12 @@ impl OpenList {
 
     // A link page more, where the next entry needs one.
     fn make_room(&mut self)
-        requires { (d : Draft) × (e : Draft) × Writes d [] self.old.memory self.old.pool self.old.table self.old.next self.old.entries × Room d e }
-        ensures written { (d : Draft) (e : Draft) → Writes d [] self.old.memory self.old.pool self.old.table self.old.next self.old.entries → Room d e → Writes e [] self.new.memory self.new.pool self.new.table self.new.next self.new.entries × HasRoom e }
-        ensures head { (d : Draft) (e : Draft) → Writes d [] self.old.memory self.old.pool self.old.table self.old.next self.old.entries → Room d e → HeadIs d.links self.old.head → HeadIs e.links self.new.head }
+        requires { (d : Draft) × (e : Draft) × IsRendered self.old d × Room d e }
+        ensures written { (d : Draft) (e : Draft) → IsRendered self.old d → Room d e →
+            IsRendered self.new e × HasRoom e }
+        ensures head { (d : Draft) (e : Draft) → IsRendered self.old d → Room d e →
+            HeadIs d.links self.old.head → HeadIs e.links self.new.head }
+        ensures pages { whole_pool self.new.pool ≡ whole_pool self.old.pool }
     {
         if self.entries % ENTRIES == 0 {
             self.take_link();
@@ -101,10 +116,11 @@ impl OpenList {
 
     // The next word.
     fn write_entry(&mut self, word: u64)
-        requires { (d : Draft) × (hand : List ℕ) × Writes d hand self.old.memory self.old.pool self.old.table self.old.next self.old.entries × HasRoom d }
+        requires { (d : Draft) × (hand : List ℕ) × IsRenderedBut hand self.old d × HasRoom d }
         ensures value { at self.new.memory ≡ set_word (at self.old.memory) self.old.next word }
         ensures stay { (q : ℕ) → IsHeld self.old.memory q → IsHeld self.new.memory q }
-        ensures others { (self.new.pool ≡ self.old.pool) × (self.new.table ≡ self.old.table) × (self.new.head ≡ self.old.head) }
+        ensures others { (self.new.pool ≡ self.old.pool) × (self.new.table ≡ self.old.table) ×
+            (self.new.head ≡ self.old.head) }
         ensures next { (self.new.next ≡ self.old.next + 8) × (self.new.entries ≡ self.old.entries + 1) }
     {
         write_word(&mut self.memory, self.next, word);
@@ -114,9 +130,12 @@ impl OpenList {
 
     // The entry of a segment's start.
     pub(crate) fn add_start(&mut self, p: Page)
-        requires { (d : Draft) × (e : Draft) × Writes d [] self.old.memory self.old.pool self.old.table self.old.next self.old.entries × Room d e }
-        ensures written { (d : Draft) (e : Draft) → Writes d [] self.old.memory self.old.pool self.old.table self.old.next self.old.entries → Room d e → Writes (started e p) [] self.new.memory self.new.pool self.new.table self.new.next self.new.entries × IsSteady (started e p) }
-        ensures head { (d : Draft) (e : Draft) → Writes d [] self.old.memory self.old.pool self.old.table self.old.next self.old.entries → Room d e → HeadIs d.links self.old.head → HeadIs e.links self.new.head }
+        requires { (d : Draft) × (e : Draft) × IsRendered self.old d × Room d e }
+        ensures written { (d : Draft) (e : Draft) → IsRendered self.old d → Room d e →
+            IsRendered self.new (started e p) × IsSteady (started e p) }
+        ensures head { (d : Draft) (e : Draft) → IsRendered self.old d → Room d e →
+            HeadIs d.links self.old.head → HeadIs e.links self.new.head }
+        ensures pages { whole_pool self.new.pool ≡ whole_pool self.old.pool }
     {
         self.make_room();
         self.write_entry(destination_word(p));
@@ -125,22 +144,27 @@ impl OpenList {
     // Page p is loaded with these bytes, then zeros.
     pub(crate) fn load_page(&mut self, p: Page, bytes: &[u8])
         requires fits { length bytes.now ≤ 4096 }
-        requires ready { (d : Draft) × (e : Draft) × (t : ℕ × Loading) × Writes d [] self.old.memory self.old.pool self.old.table self.old.next self.old.entries × Room d e × CanTake e (Some p) t × IsNext e p bytes.now }
-        ensures written { (d : Draft) (e : Draft) (t : ℕ × Loading) → Writes d [] self.old.memory self.old.pool self.old.table self.old.next self.old.entries → Room d e → CanTake e (Some p) t → IsNext e p bytes.now → Writes (loaded_from e p t) [] self.new.memory self.new.pool self.new.table self.new.next self.new.entries × IsSteady (loaded_from e p t) }
-        ensures head { (d : Draft) (e : Draft) (t : ℕ × Loading) → Writes d [] self.old.memory self.old.pool self.old.table self.old.next self.old.entries → Room d e → CanTake e (Some p) t → HeadIs d.links self.old.head → HeadIs e.links self.new.head }
+        requires ready { (d : Draft) × (e : Draft) × (t : ℕ × Loading) × IsRendered self.old d × Room d e ×
+            CanTake e (Some p) t × IsNext e p bytes.now }
+        ensures written { (d : Draft) (e : Draft) (t : ℕ × Loading) → IsRendered self.old d → Room d e →
+            CanTake e (Some p) t → IsNext e p bytes.now →
+            IsRendered self.new (loaded_from e p t) × IsSteady (loaded_from e p t) }
+        ensures head { (d : Draft) (e : Draft) (t : ℕ × Loading) → IsRendered self.old d → Room d e →
+            CanTake e (Some p) t → HeadIs d.links self.old.head → HeadIs e.links self.new.head }
+        ensures pages { whole_pool self.new.pool ≡ whole_pool self.old.pool }
     {
         self.make_room();
         let source = self.take(&Some(p));
         fill(&mut self.memory, source, bytes);
         let place = self.next;
         self.write_entry(source_word(source));
-        self.table.set(p, Loaded { source, place });
+        self.table.set(p, PageSource { source, place });
     }
 
     // Writes the done word.
     pub(crate) fn end(self) -> EndedList
-        requires { (d : Draft) × Writes d [] self.memory self.pool self.table self.next self.entries × HasLink d }
-        ensures memory { (d : Draft) → Writes d [] self.memory self.pool self.table self.next self.entries → HasLink d → (p : ℕ) → at result.memory p ≡ laid_by d p }
+        requires { (d : Draft) × IsRendered self d × HasLink d }
+        ensures memory { (d : Draft) → IsRendered self d → HasLink d → (p : ℕ) → at result.memory p ≡ laid_by d p }
         ensures pool { result.pool ≡ self.pool }
         ensures head { result.head ≡ self.head }
     {

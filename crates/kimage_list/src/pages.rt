@@ -7,7 +7,7 @@ ghost use Rattle.kx_pages.specs.Items.{code};
 ghost use Rattle.kx_pages.specs.declared.item.Item.TheVariants.{Source, Link, Destination};
 ghost use Rattle.kimage_list.specs.Drafts.{CanMove, moved};
 
-use crate::taking::Taken;
+use crate::taking::TakenPage;
 use kx_pages::{Item, Page};
 use page_memory::Memory;
 
@@ -67,7 +67,7 @@ pub fn destination_word(p: Page) -> u64
 }
 
 /// Makes the exchange that freed the page.
-pub fn settle(memory: &mut Memory, taken: &Taken)
+pub fn settle(memory: &mut Memory, taken: &TakenPage)
     requires { CanMove taken.now.moved memory.old }
     ensures value { at memory.new ≡ moved (at memory.old) taken.now.moved taken.now.page }
     ensures stay { (q : ℕ) → IsHeld memory.old q → IsHeld memory.new q }

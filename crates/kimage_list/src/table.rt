@@ -10,7 +10,7 @@ use std::marker::Model;
 
 /// Where a loaded page's bytes are, and the address of its word in the list.
 #[derive(Clone, Copy, Debug, PartialEq, Eq)]
-pub struct Loaded {
+pub struct PageSource {
     pub source: Page,
     pub place: u64,
 }
@@ -18,7 +18,7 @@ pub struct Loaded {
 /// The wanted pages, and where each is loaded from.
 #[derive(Drop)]
 pub struct Table {
-    slots: BTreeMap<Page, Option<Loaded>>,
+    slots: BTreeMap<Page, Option<PageSource>>,
 }
 
 impl Model for Table {
@@ -50,7 +50,7 @@ impl Table {
     }
 
     /// What the table has of a page: None where it is not wanted.
-    pub(crate) fn get(&self, p: Page) -> Option<Option<Loaded>>
+    pub(crate) fn get(&self, p: Page) -> Option<Option<PageSource>>
         ensures { result ≡ slot self.now p }
     {
         match self.slots.get(&p) {
@@ -60,7 +60,7 @@ impl Table {
     }
 
     /// The wanted page is now loaded so.
-    pub(crate) fn set(&mut self, d: Page, loaded: Loaded)
+    pub(crate) fn set(&mut self, d: Page, loaded: PageSource)
         requires { IsSome (slot self.old d) }
         ensures here { slot self.new d ≡ Some (Some loaded) }
         ensures others { (p : ℕ) → d ≢ p → slot self.new p ≡ slot self.old p }

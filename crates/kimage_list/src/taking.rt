@@ -3,24 +3,24 @@
 ghost use Rattle.std.specs.Prelude.{◌≡◌, ◌≢◌, ℕ, Bool, Some, IsSome, ◌==◌};
 ghost use Rattle.kimage_list.specs.Load.{Loading, is_for, draw, taken};
 ghost use Rattle.kimage_list.specs.Tables.{slot};
-ghost use Rattle.kimage_list.specs.Tracking.{Tracks, Gives, fate_of};
+ghost use Rattle.kimage_list.specs.Tracking.{Tracks, Gives, fate_of, whole_pool};
 
-use crate::table::{Loaded, Table};
+use crate::table::{PageSource, Table};
 use kx_pages::Page;
 use page_pool::Pool;
 
 /// A pair that was exchanged: its page became its own source, at this word.
 #[derive(Clone, Copy, Debug, PartialEq, Eq)]
-pub struct Moved {
+pub struct MovedPage {
     pub page: Page,
     pub place: u64,
 }
 
 /// A page to use, and the pair whose bytes it has until they are moved.
 #[derive(Clone, Copy, Debug, PartialEq, Eq)]
-pub struct Taken {
+pub struct TakenPage {
     pub page: Page,
-    pub moved: Option<Moved>,
+    pub moved: Option<MovedPage>,
 }
 
 /// What becomes of a drawn page.
@@ -28,7 +28,7 @@ pub struct Taken {
 enum Fate {
     Given,
     Filed,
-    Exchanged(Loaded),
+    Exchanged(PageSource),
 }
 
 fn fate_at(table: &Table, wanted: &Option<Page>, q: Page) -> Fate
@@ -54,13 +54,15 @@ fn is_wanted(wanted: &Option<Page>, q: Page) -> bool
 }
 
 // Draws pages until one serves.
-fn draw_page(pool: &mut Pool, table: &mut Table, wanted: &Option<Page>) -> Option<Taken>
-    ensures { (D : ℕ → Bool) (l : Loading) → Tracks D l pool.old table.old → Gives D l (draw D wanted.now l.pairs l.spare l.filed l.left) result pool.new table.old table.new }
+fn draw_page(pool: &mut Pool, table: &mut Table, wanted: &Option<Page>) -> Option<TakenPage>
+    ensures gives { (D : ℕ → Bool) (l : Loading) → Tracks D l pool.old table.old →
+        Gives D l (draw D wanted.now l.pairs l.spare l.filed l.left) result pool.new table.old table.new }
+    ensures pages { whole_pool pool.new ≡ whole_pool pool.old }
 {
     while let Some(q) = pool.draw() {
         match fate_at(table, wanted, q) {
             Fate::Given => {
-                return Some(Taken {
+                return Some(TakenPage {
                     page: q,
                     moved: None,
                 });
@@ -73,7 +75,7 @@ fn draw_page(pool: &mut Pool, table: &mut Table, wanted: &Option<Page>) -> Optio
 }
 
 // The loaded page q becomes its own source, and its old source is free.
-fn exchange(table: &mut Table, q: Page, loaded: Loaded) -> Taken
+fn exchange(table: &mut Table, q: Page, loaded: PageSource) -> TakenPage
     requires { slot table.old q ≡ Some (Some loaded) }
     ensures page { result.page ≡ loaded.source }
     ensures moved { result.moved ≡ Some (record { page = q; place = loaded.place }) }
@@ -82,14 +84,14 @@ fn exchange(table: &mut Table, q: Page, loaded: Loaded) -> Taken
 {
     table.set(
         q,
-        Loaded {
+        PageSource {
             source: q,
             place: loaded.place,
         },
     );
-    Taken {
+    TakenPage {
         page: loaded.source,
-        moved: Some(Moved {
+        moved: Some(MovedPage {
             page: q,
             place: loaded.place,
         }),
@@ -97,12 +99,18 @@ fn exchange(table: &mut Table, q: Page, loaded: Loaded) -> Taken
 }
 
 /// Takes a page for a wanted page, or for none.
-pub(crate) fn take_page(pool: &mut Pool, table: &mut Table, wanted: &Option<Page>) -> Option<Taken>
-    ensures { (D : ℕ → Bool) (l : Loading) → Tracks D l pool.old table.old → Gives D l (taken D wanted.now l) result pool.new table.old table.new }
+pub(crate) fn take_page(
+    pool: &mut Pool,
+    table: &mut Table,
+    wanted: &Option<Page>,
+) -> Option<TakenPage>
+    ensures gives { (D : ℕ → Bool) (l : Loading) → Tracks D l pool.old table.old →
+        Gives D l (taken D wanted.now l) result pool.new table.old table.new }
+    ensures pages { whole_pool pool.new ≡ whole_pool pool.old }
 {
     if let Some(d) = wanted {
         if let Some(page) = pool.take_filed(*d) {
-            return Some(Taken { page, moved: None });
+            return Some(TakenPage { page, moved: None });
         }
     }
     draw_page(pool, table, wanted)

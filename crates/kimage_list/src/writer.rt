@@ -5,16 +5,17 @@ ghost use Rattle.page_memory.specs.Contents.{at, IsHeld, page_of};
 ghost use Rattle.page_pool.specs.Pages.{is_filed};
 ghost use Rattle.kx_pages.specs.Lists.{count, sources};
 ghost use Rattle.kx_pages.specs.Spans.{pages};
-ghost use Rattle.kimage_list.specs.Load.{need_of};
+ghost use Rattle.kx_pages.specs.Needs.{need_of};
 ghost use Rattle.kimage_list.specs.Laying.{image_of, laid};
 ghost use Rattle.kimage_list.specs.Tables.{slot};
-ghost use Rattle.kimage_list.specs.Writers.{Load, StandsAt, IsAwaited, with_destination, with_source, need};
+ghost use Rattle.kimage_list.specs.Tracking.{whole_pool};
+ghost use Rattle.kimage_list.specs.Writers.{History, StandsAt, IsAwaited, with_destination, with_source, need};
 ghost use Rattle.kimage_list.specs.Calls.{load_begun, Refuses, IsPrepared, IsWritten};
 
-use crate::begin::{need, page_of_number, prepare};
+use crate::begin::prepare;
 use crate::open_list::OpenList;
 use crate::written::{BeginFault, BeginRefused, Written};
-use kx_pages::{Image, Mode, Page, PageSet, Wish};
+use kx_pages::{Image, Mode, Page, PageSet, Wish, pages_needed};
 use page_memory::Memory;
 use page_pool::Pool;
 use std::alloc::Global;
@@ -33,7 +34,7 @@ pub struct ListWriter {
 }
 
 impl Model for ListWriter {
-    ghost use Rattle.kimage_list.specs.Writers.{Writer, writer_code, Load, StandsAt};
+    ghost use Rattle.kimage_list.specs.Writers.{Writer, writer_code, History, StandsAt};
 
     ghost Value = { Writer };
 
@@ -43,7 +44,7 @@ impl Model for ListWriter {
 
     ghost view = { writer_of };
 
-    ghost invariant = { λ s. (h : Load) × StandsAt h (writer_of s) };
+    ghost invariant = { λ s. (h : History) × StandsAt h (writer_of s) };
 }
 
 impl ListWriter {
@@ -63,15 +64,18 @@ impl ListWriter {
         requires segments { segments ≤ 16 }
         requires pages { pages wanted.now ≤ 65536 }
         requires unfiled { (p : ℕ) → is_filed pool p ≡ false }
-        ensures begun { IfOk result (λ w. StandsAt (load_begun (at memory) pool.left wanted.now segments wish) w) }
-        ensures enough { IfOk result (λ _. need_of wish (pages wanted.now) segments ≤ length pool.left) }
-        ensures why { IfErr result (λ r. Refuses r.why (length pool.left) (need_of wish (pages wanted.now) segments)) }
+        ensures begun { IfOk result (λ w.
+            StandsAt (load_begun (at memory) pool.left wanted.now segments wish) w) }
+        ensures pages { IfOk result (λ w. whole_pool w.pool ≡ whole_pool pool) }
+        ensures enough { IfOk result (λ _. need_of wish segments (pages wanted.now) ≤ length pool.left) }
+        ensures why { IfErr result (λ r.
+            Refuses r.why (length pool.left) (need_of wish segments (pages wanted.now))) }
         ensures pool_back { IfErr result (λ r. r.pool ≡ pool) }
         ensures memory_back { IfErr result (λ r. (q : ℕ) → at r.memory q ≡ at memory q) }
         ensures sets_back { IfErr result (λ r. r.memory.sets ≡ memory.sets) }
         ensures held_back { IfErr result (λ r. (q : ℕ) → IsHeld memory q → IsHeld r.memory q) }
     {
-        let need = need(wanted.total(), segments, wish);
+        let need = pages_needed(wish, segments, wanted.total());
         let left = pool.left();
         if left < need {
             return Err(BeginRefused {
@@ -90,11 +94,12 @@ impl ListWriter {
         }
     }
 
-    /// Writes the destination entry of a segment that starts at page `d`: the next source goes to `d`. Fewer than
+    /// Renders the destination entry of a segment that starts at page `d`: the next source goes to `d`. Fewer than
     /// all destination entries were written.
     pub fn add_destination(&mut self, d: Page)
         requires { 0 < self.old.segments_left }
-        ensures { (h : Load) → StandsAt h self.old → StandsAt (with_destination h d) self.new }
+        ensures stands { (h : History) → StandsAt h self.old → StandsAt (with_destination h d) self.new }
+        ensures pages { whole_pool self.new.pool ≡ whole_pool self.old.pool }
     {
         self.list.add_start(d);
         self.segments_left -= 1;
@@ -106,11 +111,13 @@ impl ListWriter {
     pub fn add_source(&mut self, bytes: &[u8])
         requires destination { (d : ℕ) × (self.old.destination ≡ Some d) × IsAwaited self.old d }
         requires fits { length bytes.now ≤ 4096 }
-        ensures { (h : Load) (d : ℕ) → self.old.destination ≡ Some d → StandsAt h self.old → StandsAt (with_source h d (page_of bytes.now)) self.new }
+        ensures stands { (h : History) (d : ℕ) → self.old.destination ≡ Some d → StandsAt h self.old →
+            StandsAt (with_source h d (page_of bytes.now)) self.new }
+        ensures pages { whole_pool self.new.pool ≡ whole_pool self.old.pool }
     {
         match self.destination {
             Some(number) => {
-                self.list.load_page(page_of_number(number), bytes);
+                self.list.load_page(Page::from_number(number), bytes);
                 self.destination = Some(number + 1);
             }
             None => unreachable!(),
@@ -121,7 +128,8 @@ impl ListWriter {
     pub fn finish(self) -> Written
         requires segments { self.segments_left ≡ 0 }
         requires loaded { (d : ℕ) → IsAwaited self d → ⊥ }
-        ensures { (h : Load) → StandsAt h self → IsWritten h result }
+        ensures written { (h : History) → StandsAt h self → IsWritten h result }
+        ensures pages { whole_pool result.pool ≡ whole_pool self.pool }
     {
         let ListWriter {
             list,
@@ -145,8 +153,9 @@ impl ListWriter {
 
 // Takes the control page and, with context preserved, the swap page.
 fn open(mut list: OpenList, segments: usize, wish: Wish) -> ListWriter
-    requires { (h : Load) × IsPrepared h list segments wish }
-    ensures { (h : Load) → IsPrepared h list segments wish → StandsAt h result }
+    requires { (h : History) × IsPrepared h list segments wish }
+    ensures stands { (h : History) → IsPrepared h list segments wish → StandsAt h result }
+    ensures pages { whole_pool result.pool ≡ whole_pool list.pool }
 {
     let first = list.take_first();
     let mode = match wish {

@@ -2,6 +2,21 @@
 
 use crate::page::Page;
 
+/// The type of a kernel's file.
+#[derive(Clone, Copy, Debug, PartialEq, Eq)]
+pub enum ImageType {
+    /// The file itself tells.
+    Auto,
+    /// Bytes for the address `at`, entered at the address `entry`.
+    Raw { at: u64, entry: u64 },
+    /// An ELF executable (ELF gABI, `ET_EXEC`).
+    Elf,
+    /// A Linux/x86 bzImage (Linux/x86 boot protocol).
+    Bzimage,
+    /// A Multiboot kernel (Multiboot Specification, version 0.6.96).
+    Multiboot,
+}
+
 /// What a load asks for: plain, or with context preserved (`KEXEC_PRESERVE_CONTEXT` of kexec_load(2)).
 #[derive(Clone, Copy, Debug, PartialEq, Eq)]
 pub enum Wish {

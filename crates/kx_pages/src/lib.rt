@@ -7,15 +7,19 @@
 
 mod image;
 mod item;
+mod limits;
+mod needs;
 mod page;
 mod page_set;
 mod room;
 mod search;
 mod span;
 
-pub use image::{Image, Mode, Start, Wish};
+pub use image::{Image, ImageType, Mode, Start, Wish};
 pub use item::Item;
-pub use page::{ADDRESS_LIMIT, PAGE_LIMIT, PAGE_SIZE, Page};
+pub use limits::{KERNEL_LIMIT, SEGMENT_LIMIT, SEGMENT_PAGE_LIMIT};
+pub use needs::{first_pages, pages_needed};
+pub use page::{ADDRESS_LIMIT, PAGE_LIMIT, PAGE_SIZE, Page, is_page_address};
 pub use page_set::{PageSet, have_one_form};
 pub use room::room_for;
 pub use span::Span;

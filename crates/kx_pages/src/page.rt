@@ -1,7 +1,7 @@
 //! Page numbers.
 
-ghost use Rattle.std.specs.Prelude.{◌≡◌, ◌*◌, ◌<◌, ◌^◌, ◌↔◌, IsSome, IfSome};
-ghost use Rattle.kx_pages.specs.Numbers.{IsPage};
+ghost use Rattle.std.specs.Prelude.{◌≡◌, ◌*◌, ◌/◌, ◌<◌, ◌^◌, ◌↔◌, IsSome, IfSome};
+ghost use Rattle.kx_pages.specs.Numbers.{IsPage, is_page_address};
 
 use std::marker::Model;
 
@@ -45,6 +45,22 @@ impl Page {
         }
     }
 
+    /// The page of this number, which is known to be one.
+    pub fn from_number(number: u64) -> Page
+        requires { IsPage number }
+        ensures { result ≡ number }
+    {
+        Page { number }
+    }
+
+    /// The page that has this address. The address is known to be below 2^46.
+    pub fn from_address(address: u64) -> Page
+        requires { address < 2 ^ 46 }
+        ensures { result ≡ address / 4096 }
+    {
+        Page::from_number(address / PAGE_SIZE)
+    }
+
     /// The page's number.
     pub fn number(self) -> u64
         ensures value { result ≡ self }
@@ -60,4 +76,11 @@ impl Page {
     {
         self.number * PAGE_SIZE
     }
+}
+
+/// Whether a page starts at this address: a multiple of 4,096 below 2^46.
+pub fn is_page_address(address: u64) -> bool
+    ensures { result ≡ is_page_address address }
+{
+    address.is_multiple_of(PAGE_SIZE) && address < ADDRESS_LIMIT
 }

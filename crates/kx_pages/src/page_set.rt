@@ -41,7 +41,8 @@ impl PageSet {
 
     /// The span's pages come in. After want of memory the set is as before.
     pub fn add(&mut self, span: Span) -> Result<(), AllocError>
-        ensures pages { IfOk result (λ _. (q : ℕ) → in_spans self.new q ≡ (in_spans self.old q || in_span span q)) }
+        ensures pages { IfOk result (λ _. (q : ℕ) → in_spans self.new q
+            ≡ (in_spans self.old q || in_span span q)) }
         ensures failed { IfErr result (λ _. self.new ≡ self.old) }
     {
         if span.count() > 0 {
@@ -52,7 +53,8 @@ impl PageSet {
 
     /// The span's pages go out. After want of memory the set is as before.
     pub fn cut(&mut self, span: Span) -> Result<(), AllocError>
-        ensures pages { IfOk result (λ _. (q : ℕ) → in_spans self.new q ≡ (in_spans self.old q && not (in_span span q))) }
+        ensures pages { IfOk result (λ _. (q : ℕ) → in_spans self.new q
+            ≡ (in_spans self.old q && not (in_span span q))) }
         ensures failed { IfErr result (λ _. self.new ≡ self.old) }
     {
         if span.count() > 0 {
@@ -63,7 +65,8 @@ impl PageSet {
 
     /// Whether one of the span's pages is in the set.
     pub fn meets(&self, span: Span) -> bool
-        ensures { IsTrue result ↔ ((q : ℕ) × IsTrue (in_spans self.now q) × IsTrue (in_span span q)) }
+        ensures { IsTrue result ↔ ((q : ℕ) × IsTrue (in_spans self.now q)
+            × IsTrue (in_span span q)) }
     {
         any_meets(&self.spans, span)
     }
@@ -115,7 +118,8 @@ impl PageSet {
 
     /// The pages of this set that are not in the other, found in one pass over both.
     pub fn difference(&self, other: &PageSet) -> Result<PageSet, AllocError>
-        ensures { IfOk result (λ s. (q : ℕ) → in_spans s q ≡ (in_spans self.now q && not (in_spans other.now q))) }
+        ensures { IfOk result (λ s. (q : ℕ) → in_spans s q
+            ≡ (in_spans self.now q && not (in_spans other.now q))) }
     {
         let alloc = *self.spans.allocator();
         let mut out = gaps(alloc, &self.spans)?;
@@ -172,7 +176,8 @@ fn put_among(spans: &mut Vec<Span>, span: Span) -> Result<(), AllocError>
 /// Puts `s` behind the spans, after or into what is still to come in.
 #[tactic(auto, using(crate::proofs::Sets::join_rules))]
 fn put(made: &mut Vec<Span>, rest: Option<Span>, s: Span) -> Result<Option<Span>, AllocError>
-    ensures { IfOk result (λ r. (xs : List Run) → made.new.items ++ with_rest r xs ≡ made.old.items ++ with_rest rest (s ∷ xs)) }
+    ensures { IfOk result (λ r. (xs : List Run) → made.new.items ++ with_rest r xs
+        ≡ made.old.items ++ with_rest rest (s ∷ xs)) }
 {
     match rest {
         None => {
@@ -210,7 +215,8 @@ fn join(alloc: Global, spans: &[Span], span: Span) -> Result<Vec<Span>, AllocErr
 
 fn push_some(spans: &mut Vec<Span>, first: u64, end: u64) -> Result<(), AllocError>
     requires { end ≤ 2 ^ 34 }
-    ensures { IfOk result (λ _. spans.new.items ≡ spans.old.items ++ if_some (record { first = first; count = end - first })) }
+    ensures { IfOk result (λ _. spans.new.items ≡ spans.old.items
+        ++ if_some (record { first = first; count = end - first })) }
 {
     if first < end {
         spans.push(Span::between(first, end))?;
@@ -232,7 +238,8 @@ fn cut_out(alloc: Global, spans: &[Span], span: Span) -> Result<Vec<Span>, Alloc
 
 // Takes in the span `s` after `last`: one over both where they meet or touch, else `last` goes to the set.
 fn take_in(set: &mut PageSet, last: Span, s: Span) -> Result<Span, AllocError>
-    ensures { IfOk result (λ r. (q : ℕ) → (in_spans set.new q || in_span r q) ≡ ((in_spans set.old q || in_span last q) || in_span s q)) }
+    ensures { IfOk result (λ r. (q : ℕ) → (in_spans set.new q || in_span r q)
+        ≡ ((in_spans set.old q || in_span last q) || in_span s q)) }
 {
     if s.first() <= last.end() && last.first() <= s.end() {
         Ok(last.hull(s))
@@ -258,7 +265,8 @@ fn gathered(alloc: Global, spans: &[Span]) -> Result<PageSet, AllocError>
 // The runs of pages that are in none of the spans.
 fn gaps(alloc: Global, spans: &[Span]) -> Result<Vec<Span>, AllocError>
     requires { AreApart 0 spans.now }
-    ensures pages { IfOk result (λ v. (q : ℕ) → in_spans v.items q ≡ (nat_lt q (2 ^ 34) && not (in_spans spans.now q))) }
+    ensures pages { IfOk result (λ v. (q : ℕ) → in_spans v.items q
+        ≡ (nat_lt q (2 ^ 34) && not (in_spans spans.now q))) }
     ensures apart { IfOk result (λ v. AreApart 0 v.items) }
 {
     let mut made = Vec::new(alloc);

@@ -13,9 +13,11 @@ use Rattle.kx_pages.specs.Lists.{Each, Has, Distinct, destinations, sources, has
 use Rattle.list_checker.specs.Walk.{Reads, Walk, links, DestinationFirst, pairs_from, pairs, InOrder, Accepted, IsAccepted}
 use Rattle.list_checker.specs.Faults.{Earlier, nothing_earlier, with_item, following, are_wanted, is_swap, is_kept, reasons, swap_meets_control, Faultless}
 use Rattle.list_checker.specs.Laws.{AcceptedWith, CheckExact}
-use Rattle.segments.specs.Elements.{Each-map, Each-both, Each-at, Each-from_Has, Each-append, Each-left, Each-right, Each-from_has_not, has_not-from_Each, Has-from_has, has-from_Has}
-use Rattle.list_checker.proofs.Lists.{not_false, none_holds, none_first, equal-same_bytes, wanted_bytes, over, under, Distinct-push, Distinct-split, InOrder-push, InOrder-split}
+use Rattle.list_checker.proofs.Lists.{none_holds, none_first, equal-same_bytes, wanted_bytes, InOrder-push, InOrder-split}
 use Rattle.list_checker.proofs.Kept.{Keeps, keeps_none, keeps_link, keeps_pair, link_keeps, pair_keeps}
+use Rattle.kx_pages.proofs.Lists.{Each-map, Each-both, Each-append, Each-left, Each-right, Each-at, Each-from_Has, Has-from_has, has-from_Has, Each-from_has_not, has_not-from_Each, Each-from_destinations, Each-destinations}
+use Rattle.kx_laws.proofs.Booleans.{not_false}
+use Rattle.kx_pages.proofs.Counting.{Distinct-push, Distinct-split}
 
 pub decoded : (w : ℕ) (i : Item) → decode w ≡ Some i → w ≡ code i
 decoded w i e = grind arith
@@ -51,7 +53,7 @@ module _ (M : Mem) (W : Wants) (all : List ℕ) (control : ℕ) (swap : Option �
     once = Distinct-push ls p f.once (Each-from_has_not p ls a);
     in_order = f.in_order;
     right_bytes = f.right_bytes;
-    stays = Each-both qs (λ q s n. Each-append (λ l. q.0 ≢ l) ls (p ∷ []) s (n, tt)) f.stays (over (λ x. x ≢ p) qs (Each-from_has_not p (destinations qs) m.0));
+    stays = Each-both qs (λ q s n. Each-append (λ l. q.0 ≢ l) ls (p ∷ []) s (n, tt)) f.stays (Each-from_destinations (λ x. x ≢ p) qs (Each-from_has_not p (destinations qs) m.0));
     links_apart = Each-append (λ l. l ≢ control) ls (p ∷ []) f.links_apart (eqb-false p control c, tt);
     pairs_apart = f.pairs_apart;
     keeps = keeps_link swap ls qs p f.keeps m.1 d;
@@ -62,7 +64,7 @@ module _ (M : Mem) (W : Wants) (all : List ℕ) (control : ℕ) (swap : Option �
   fine_pair ls qs t p f a b c d g h e =
       let n = or_parts (eqb t control) (eqb p control) d in
       let m = or_parts (has t ls) ((is_kept swap && has p ls)) c in
-      let u : Each (λ q. (q.0 ≢ t) × (q.0 ≢ p)) qs = Each-both qs (λ q x y. (x, y)) (over (λ x. x ≢ t) qs (Each-from_has_not t (destinations qs) a)) (over (λ x. x ≢ p) qs (Each-from_has_not p (destinations qs) b)) in
+      let u : Each (λ q. (q.0 ≢ t) × (q.0 ≢ p)) qs = Each-both qs (λ q x y. (x, y)) (Each-from_destinations (λ x. x ≢ t) qs (Each-from_has_not t (destinations qs) a)) (Each-from_destinations (λ x. x ≢ p) qs (Each-from_has_not p (destinations qs) b)) in
       record {
         once = f.once;
         in_order = InOrder-push qs (t, p) f.in_order u;
@@ -228,7 +230,7 @@ module _ (M : Mem) (W : Wants) (all : List ℕ) (control : ℕ) (swap : Option �
   link_fits : (ls : List ℕ) (qs : List (ℕ × ℕ)) (p : ℕ) (ys : List ℕ) (rs : List (ℕ × ℕ)) → p < 2 ^ 34 → Fine M W control swap (ls ++ p ∷ ys) (qs ++ rs) → (place : Option ℕ) (o : Option ℕ) → swap_meets_control control swap place ≡ false → Each (λ r. r.0 ≡ false) (reasons M W all control swap place (so_far ls qs o) (Link p))
   link_fits ls qs p ys rs l f place o z =
       let k = link_keeps swap ls qs p ys rs f.keeps in
-      let first : has p (destinations qs) ≡ false = has_not-from_Each p (destinations qs) (under (λ x. x ≢ p) qs (Each-map qs (λ q s. (Each-right (λ l. q.0 ≢ l) ls (p ∷ ys) s).0) (Each-left (λ q. Each (λ l. q.0 ≢ l) (ls ++ p ∷ ys)) qs rs f.stays))) in
+      let first : has p (destinations qs) ≡ false = has_not-from_Each p (destinations qs) (Each-destinations (λ x. x ≢ p) qs (Each-map qs (λ q s. (Each-right (λ l. q.0 ≢ l) ls (p ∷ ys) s).0) (Each-left (λ q. Each (λ l. q.0 ≢ l) (ls ++ p ∷ ys)) qs rs f.stays))) in
       (in_limit p l, (has_not-from_Each p ls (Distinct-split ls p ys f.once), (rw first k.0, (ne_eqb p control (Each-right (λ l. l ≢ control) ls (p ∷ ys) f.links_apart).0, (rw k.1 z, tt)))))
 
   source_fits : (ls : List ℕ) (qs : List (ℕ × ℕ)) (u p : ℕ) (ys : List ℕ) (rs : List (ℕ × ℕ)) (a : ℕ) → p < 2 ^ 34 → a % 4096 < 4088 → Fine M W control swap (ls ++ ys) (qs ++ (u, p) ∷ rs) → Each (λ r. r.0 ≡ false) (reasons M W all control swap (Some a) (so_far ls qs (Some u)) (Source p))
@@ -248,9 +250,9 @@ module _ (M : Mem) (W : Wants) (all : List ℕ) (control : ℕ) (swap : Option �
             (
               rw b refl,
               (
-                has_not-from_Each u (destinations qs) (under (λ x. x ≢ u) qs (Each-map qs (λ q x. x.0) s)),
+                has_not-from_Each u (destinations qs) (Each-destinations (λ x. x ≢ u) qs (Each-map qs (λ q x. x.0) s)),
                 (
-                  has_not-from_Each p (destinations qs) (under (λ x. x ≢ p) qs (Each-map qs (λ q x. x.1) s)),
+                  has_not-from_Each p (destinations qs) (Each-destinations (λ x. x ≢ p) qs (Each-map qs (λ q x. x.1) s)),
                   (rw not_link k.0, (ne, (k.1, (k.2, (rw (b, equal-same_bytes (M p)) refl, tt))))),
                 ),
               ),

@@ -14,10 +14,11 @@ use Rattle.kx_pages.specs.Lists.{Each}
 use Rattle.list_checker.specs.Faults.{first_of, are_wanted}
 use Rattle.list_checker.specs.Laws.{ListsWanted}
 use Rattle.list_checker.specs.Crash.{AcceptedCrash, crash_reason, crash_reasons, lacks}
-use Rattle.segments.specs.Elements.{Each-at, Each-from_Has}
-use Rattle.list_checker.proofs.Lists.{none_holds, none_first, not_false, wanted_bytes, equal-same_bytes}
-use Rattle.segments.specs.Laws.{some_same}
+use Rattle.list_checker.proofs.Lists.{none_holds, none_first, wanted_bytes, equal-same_bytes}
+use Rattle.kx_laws.proofs.Options.{some_same}
 use Rattle.list_checker.proofs.Checking.{decoded}
+use Rattle.kx_pages.proofs.Lists.{Each-at, Each-from_Has}
+use Rattle.kx_laws.proofs.Booleans.{not_false}
 
 module _ (M : Mem) (W : Wants) where
   abbrev Right : ℕ → Type 0

@@ -14,11 +14,12 @@ use Rattle.kx_pages.specs.Items.{decode}
 use Rattle.kx_pages.specs.Lists.{Each, Distinct}
 use Rattle.list_checker.specs.Faults.{Earlier, nothing_earlier, with_item, with_pair, following, reason, reasons, Faulty, Faultless}
 use Rattle.list_checker.specs.Laws.{CheckEnds}
-use Rattle.segments.specs.Elements.{Each-append, Each-from_has_not}
-use Rattle.segments.specs.Laws.{some_same}
-use Rattle.list_checker.proofs.Lists.{none_holds, Distinct-push}
+use Rattle.kx_laws.proofs.Options.{some_same}
+use Rattle.list_checker.proofs.Lists.{none_holds}
 use Rattle.list_checker.proofs.Checking.{check_exact}
 use Rattle.list_checker.proofs.OneWay.{not_both_by}
+use Rattle.kx_pages.proofs.Lists.{Each-append, Each-from_has_not}
+use Rattle.kx_pages.proofs.Counting.{Distinct-push}
 
 -- distinct numbers below n are at most n
 distinct_by_test : (xs : List ℕ) → Distinct xs → IsDistinct eqb xs

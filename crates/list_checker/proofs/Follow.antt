@@ -16,10 +16,10 @@ use Rattle.list_checker.specs.Faults.{Earlier, nothing_earlier, with_item, with_
 use Rattle.list_checker.specs.Checked.{Leads, IsPlace}
 use Rattle.list_checker.specs.Reading.{words_from, IsWalk, ShowsLinks, FitsLinks}
 use Rattle.list_checker.proofs.Lists.{none_holds}
-use Rattle.segments.specs.Elements.{Each-from_has_not}
 use Rattle.list_checker.proofs.Checking.{decoded}
 use Rattle.list_checker.proofs.Ending.{Linked, linked_none, linked_more, reach, reach_link, reach_next}
 use Rattle.list_checker.proofs.OneWay.{no_walk}
+use Rattle.kx_pages.proofs.Lists.{Each-from_has_not}
 
 -- the items from a place on
 abbrev From : Mem → Option ℕ → ℕ → List Item → Type 0

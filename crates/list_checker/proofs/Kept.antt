@@ -5,8 +5,7 @@ use Rattle.std.proofs.lemmas.Bool.{or_parts, eqb-false, ne_eqb}
 use Rattle.kx_pages.specs.Lists.{Each, sources, has}
 use Rattle.list_checker.specs.Walk.{PairsApart}
 use Rattle.list_checker.specs.Faults.{is_swap, is_kept}
-use Rattle.segments.specs.Elements.{Each-map, Each-both, Each-append, Each-left, Each-right, Each-from_has_not, has_not-from_Each}
-use Rattle.list_checker.proofs.Lists.{over_sources, under_sources}
+use Rattle.kx_pages.proofs.Lists.{Each-map, Each-both, Each-append, Each-left, Each-right, Each-from_has_not, has_not-from_Each, Each-from_sources, Each-sources}
 
 pub record FineKept (s : ℕ) (ls : List ℕ) (qs : List (ℕ × ℕ)) : Type 0 where
   pub apart : PairsApart qs
@@ -26,7 +25,7 @@ pub keeps_link : (swap : Option ℕ) (ls : List ℕ) (qs : List (ℕ × ℕ)) (p
 keeps_link None ls qs p f a b = tt
 keeps_link (Some s) ls qs p f a b = record {
   apart = f.apart;
-  links_no_sources = Each-both qs (λ q x n. Each-append (λ l. q.1 ≢ l) ls (p ∷ []) x (n, tt)) f.links_no_sources (over_sources (λ x. x ≢ p) qs (Each-from_has_not p (sources qs) a));
+  links_no_sources = Each-both qs (λ q x n. Each-append (λ l. q.1 ≢ l) ls (p ∷ []) x (n, tt)) f.links_no_sources (Each-from_sources (λ x. x ≢ p) qs (Each-from_has_not p (sources qs) a));
   links_apart = Each-append (λ l. l ≢ s) ls (p ∷ []) f.links_apart (eqb-false p s b, tt);
   pairs_apart = f.pairs_apart;
 }
@@ -45,7 +44,7 @@ keeps_pair None ls qs t p f u a b c = tt
 keeps_pair (Some s) ls qs t p f u a b c =
     let m = or_parts (has t (sources qs)) (has p (sources qs)) b in
     let n = or_parts (eqb t s) (eqb p s) c in
-    let v : Each (λ q. (q.1 ≢ t) × (q.1 ≢ p)) qs = Each-both qs (λ q x y. (x, y)) (over_sources (λ x. x ≢ t) qs (Each-from_has_not t (sources qs) m.0)) (over_sources (λ x. x ≢ p) qs (Each-from_has_not p (sources qs) m.1)) in
+    let v : Each (λ q. (q.1 ≢ t) × (q.1 ≢ p)) qs = Each-both qs (λ q x y. (x, y)) (Each-from_sources (λ x. x ≢ t) qs (Each-from_has_not t (sources qs) m.0)) (Each-from_sources (λ x. x ≢ p) qs (Each-from_has_not p (sources qs) m.1)) in
     record {
       apart = PairsApart-push qs (t, p) f.apart (Each-both qs (λ q x y. (x.0, x.1, y.0, y.1)) u v);
       links_no_sources = Each-append (λ q. Each (λ l. q.1 ≢ l) ls) qs ((t, p) ∷ []) f.links_no_sources (Each-map ls (λ l x y. x (sym y)) (Each-from_has_not p ls a), tt);
@@ -57,7 +56,7 @@ pub link_keeps : (swap : Option ℕ) (ls : List ℕ) (qs : List (ℕ × ℕ)) (p
     → ((is_kept swap && has p (sources qs)) ≡ false) × (is_swap swap p ≡ false)
 link_keeps None ls qs p ys rs f = (refl, refl)
 link_keeps (Some s) ls qs p ys rs f = (
-  has_not-from_Each p (sources qs) (under_sources (λ x. x ≢ p) qs (Each-map qs (λ q x. (Each-right (λ l. q.1 ≢ l) ls (p ∷ ys) x).0) (Each-left (λ q. Each (λ l. q.1 ≢ l) (ls ++ p ∷ ys)) qs rs f.links_no_sources))),
+  has_not-from_Each p (sources qs) (Each-sources (λ x. x ≢ p) qs (Each-map qs (λ q x. (Each-right (λ l. q.1 ≢ l) ls (p ∷ ys) x).0) (Each-left (λ q. Each (λ l. q.1 ≢ l) (ls ++ p ∷ ys)) qs rs f.links_no_sources))),
   ne_eqb p s (Each-right (λ l. l ≢ s) ls (p ∷ ys) f.links_apart).0,
 )
 
@@ -68,6 +67,6 @@ pair_keeps (Some s) ls qs t p ys rs f =
     let stay : Each (λ l. p ≢ l) ls = Each-left (λ l. p ≢ l) ls ys (Each-right (λ q. Each (λ l. q.1 ≢ l) (ls ++ ys)) qs ((t, p) ∷ rs) f.links_no_sources).0 in
     let a = PairsApart-split qs (t, p) rs f.apart in
     let c : (t ≢ s) × (p ≢ s) = (Each-right (λ q. (q.0 ≢ s) × (q.1 ≢ s)) qs ((t, p) ∷ rs) f.pairs_apart).0 in
-    let first : has t (sources qs) ≡ false = has_not-from_Each t (sources qs) (under_sources (λ x. x ≢ t) qs (Each-map qs (λ q x. x.2) a)) in
-    let second : has p (sources qs) ≡ false = has_not-from_Each p (sources qs) (under_sources (λ x. x ≢ p) qs (Each-map qs (λ q x. x.3) a)) in
+    let first : has t (sources qs) ≡ false = has_not-from_Each t (sources qs) (Each-sources (λ x. x ≢ t) qs (Each-map qs (λ q x. x.2) a)) in
+    let second : has p (sources qs) ≡ false = has_not-from_Each p (sources qs) (Each-sources (λ x. x ≢ p) qs (Each-map qs (λ q x. x.3) a)) in
     (has_not-from_Each p ls (Each-map ls (λ l x y. x (sym y)) stay), rw first second, rw (ne_eqb t s c.0) (ne_eqb p s c.1))

@@ -4,14 +4,10 @@ use Rattle.std.specs.Prelude.{◌≢◌, not}
 use Rattle.std.proofs.lemmas.Option.{none-some}
 use Rattle.std.proofs.lemmas.Bool.{eq-eqb, false≢true}
 use Rattle.list_checker.specs.declared.fault.Why.{Why}
-use Rattle.segments.specs.Elements.{Each-append, Each-right}
-use Rattle.kx_pages.specs.Lists.{Each, Distinct, destinations, sources}
+use Rattle.kx_pages.specs.Lists.{Each}
 use Rattle.list_checker.specs.Walk.{InOrder}
 use Rattle.list_checker.specs.Faults.{first_of, same_bytes, are_wanted}
-
-pub not_false : (b : Bool) → not b ≡ false → b ≡ true
-not_false true e = refl
-not_false false e = sym e
+use Rattle.kx_pages.proofs.Lists.{Each-append, Each-right}
 
 -- no reason holds exactly where there is no first one
 pub none_holds : (rs : List (Bool × Why)) → first_of rs ≡ None → Each (λ r. r.0 ≡ false) rs
@@ -39,30 +35,6 @@ equal-same_bytes (x ∷ xs) = rw (eq-eqb x x refl) (equal-same_bytes xs)
 pub wanted_bytes : (o : Option (List ℕ)) (c : List ℕ) → are_wanted o c ≡ true → o ≡ Some c
 wanted_bytes None c e = absurd (false≢true e)
 wanted_bytes (Some b) c e = ap Some (same_bytes-equal b c e)
-
-pub over : (P : ℕ → Type 0) (qs : List (ℕ × ℕ)) → Each P (destinations qs) → Each (λ q. P q.0) qs
-over P [] h = tt
-over P (q ∷ qs) h = (h.0, over P qs h.1)
-
-pub under : (P : ℕ → Type 0) (qs : List (ℕ × ℕ)) → Each (λ q. P q.0) qs → Each P (destinations qs)
-under P [] h = tt
-under P (q ∷ qs) h = (h.0, under P qs h.1)
-
-pub over_sources : (P : ℕ → Type 0) (qs : List (ℕ × ℕ)) → Each P (sources qs) → Each (λ q. P q.1) qs
-over_sources P [] h = tt
-over_sources P (q ∷ qs) h = (h.0, over_sources P qs h.1)
-
-pub under_sources : (P : ℕ → Type 0) (qs : List (ℕ × ℕ)) → Each (λ q. P q.1) qs → Each P (sources qs)
-under_sources P [] h = tt
-under_sources P (q ∷ qs) h = (h.0, under_sources P qs h.1)
-
-pub Distinct-push : (xs : List ℕ) (p : ℕ) → Distinct xs → Each (λ x. x ≢ p) xs → Distinct (xs ++ p ∷ [])
-Distinct-push [] p d h = (tt, tt)
-Distinct-push (x ∷ xs) p d h = (Each-append (λ y. x ≢ y) xs (p ∷ []) d.0 (h.0, tt), Distinct-push xs p d.1 h.1)
-
-pub Distinct-split : (xs : List ℕ) (p : ℕ) (ys : List ℕ) → Distinct (xs ++ p ∷ ys) → Each (λ x. x ≢ p) xs
-Distinct-split [] p ys d = tt
-Distinct-split (x ∷ xs) p ys d = ((Each-right (λ y. x ≢ y) xs (p ∷ ys) d.0).0, Distinct-split xs p ys d.1)
 
 pub InOrder-push : (qs : List (ℕ × ℕ)) (r : ℕ × ℕ) → InOrder qs → Each (λ q. (q.0 ≢ r.0) × (q.0 ≢ r.1)) qs → InOrder (qs ++ r ∷ [])
 InOrder-push [] r d h = (tt, tt)

@@ -6,7 +6,7 @@ use Rattle.std.proofs.lemmas.Bool.{true≢false}
 use Rattle.std.proofs.lemmas.Option.{none-some}
 use Rattle.kx_pages.specs.declared.image.Image.{Image}
 use Rattle.page_memory.specs.Contents.{Contents, at}
-use Rattle.segments.specs.Parts.{Part, want, pages}
+use Rattle.segments.specs.Values.{SegmentValue, want, pages}
 use Rattle.segments.specs.Rules.{IsBare}
 use Rattle.kx_pages.specs.declared.item.Item.{Item}
 use Rattle.kx_pages.specs.declared.item.Item.TheVariants.{Link, Destination, Source, Done}
@@ -18,12 +18,13 @@ use Rattle.kx_pages.specs.Items.{decode}
 use Rattle.kx_pages.specs.Lists.{Each}
 use Rattle.list_checker.specs.Faults.{Earlier, nothing_earlier, with_item, with_pair, following, is_wanted, reasons, pair_reasons, Faulty, Faultless}
 use Rattle.list_checker.specs.Checked.{Shows, as_pair, why_refused, Fits, Leads, IsPlace, IsAccept, IsFirstFault}
-use Rattle.list_checker.specs.Walk.{swap_page}
-use Rattle.list_checker.proofs.Lists.{none_holds, not_false}
-use Rattle.segments.specs.Elements.{Each-from_has_not}
+use Rattle.list_checker.proofs.Lists.{none_holds}
 use Rattle.list_checker.proofs.Checking.{check_exact}
 use Rattle.list_checker.proofs.Ending.{Linked, linked_none, linked_more, reach, reach_link, reach_next, check_ends}
 use Rattle.list_checker.proofs.Wanted.{wanted_below, parts_listed}
+use Rattle.kx_pages.proofs.Lists.{Each-from_has_not}
+use Rattle.kx_laws.proofs.Booleans.{not_false}
+use Rattle.kx_pages.specs.Modes.{swap_page}
 
 pub following_on : (place : Option ℕ) (a : ℕ) (i : Item) → place ≡ Some a → ((p : ℕ) → i ≡ Link p → ⊥) → following place i ≡ a + 8
 following_on place a (Link p) e n = absurd (n p refl)
@@ -34,7 +35,7 @@ following_on (Some b) a (Destination p) e n = let s : b ≡ a = grind (arith, e)
 following_on (Some b) a (Source p) e n = let s : b ≡ a = grind (arith, e) in ap (λ x. x + 8) s
 following_on (Some b) a (Done p) e n = let s : b ≡ a = grind (arith, e) in ap (λ x. x + 8) s
 
-module _ (m : Contents) (S : List Part) (im : Image) where
+module _ (m : Contents) (S : List SegmentValue) (im : Image) where
   abbrev FaultyIn : Option ℕ → Earlier → ℕ → ℕ → Why → Type 0
   FaultyIn place s w n why = Faulty (at m) (want S) (pages S) im.control (swap_page im.mode) place s w n why
 

@@ -10,10 +10,11 @@ use Rattle.kx_pages.specs.Items.{code, decode}
 use Rattle.list_checker.specs.Walk.{Reads, Walk, links}
 use Rattle.kx_pages.specs.Lists.{Distinct}
 use Rattle.list_checker.specs.Faults.{Reasons, Earlier, nothing_earlier, with_item, with_pair, following, why_by, walk_reasons, FaultyBy, FaultlessBy}
-use Rattle.segments.specs.Laws.{some_same}
-use Rattle.list_checker.proofs.Lists.{none_first, Distinct-split}
-use Rattle.segments.specs.Elements.{has_not-from_Each}
+use Rattle.kx_laws.proofs.Options.{some_same}
+use Rattle.list_checker.proofs.Lists.{none_first}
 use Rattle.list_checker.proofs.Checking.{decode-code}
+use Rattle.kx_pages.proofs.Lists.{has_not-from_Each}
+use Rattle.kx_pages.proofs.Counting.{Distinct-split}
 
 pub not_both_by : (M : Mem) (R : Reasons) (n m : ℕ) (place : Option ℕ) (s : Earlier) (w : ℕ) (why : Why) (last : Earlier) → FaultyBy M R place s w n why → FaultlessBy M R place s w m last → ⊥
 not_both_by M R zero zero place s w why last f k = none-some why (sym k.2 ∙ ap (why_by R place s) (sym k.1) ∙ f)

@@ -9,8 +9,8 @@ use Rattle.std.proofs.Common.{get_or, drop-cons}
 use Rattle.std.proofs.lemmas.Grind.{common_steps}
 use Rattle.kx_pages.specs.Lists.{Each}
 use Rattle.segments.specs.Rules.{IsBare}
-use Rattle.segments.specs.Laws.{IsPlaced, AreSegments-from_IsBare}
-use Rattle.segments.specs.Parts.{Part, pages_of_part, pages}
+use Rattle.segments.proofs.Laws.{IsPlaced, AreSegments-from_IsBare}
+use Rattle.segments.specs.Values.{SegmentValue, pages_of_segment, pages}
 
 pub run_more : (n e : ℕ) → n < e → range_with_len n (e - n) ≡ n ∷ range_with_len (n + 1) (e - (n + 1))
 run_more n e l =
@@ -31,25 +31,25 @@ found_front test xs ys p e = find-append test xs ys ∙ ap (λ o. option_or o (f
 pub found_back : (test : ℕ → Bool) (xs ys : List ℕ) → find test xs ≡ None → find test (xs ++ ys) ≡ find test ys
 found_back test xs ys e = find-append test xs ys ∙ ap (λ o. option_or o (find test ys)) e
 
-pub drop_at : (ss : List Part) (i : ℕ) (s : Part) → i < length ss → s ≡ get_or ss i s → drop i ss ≡ s ∷ drop (i + 1) ss
+pub drop_at : (ss : List SegmentValue) (i : ℕ) (s : SegmentValue) → i < length ss → s ≡ get_or ss i s → drop i ss ≡ s ∷ drop (i + 1) ss
 drop_at ss i s l e = grind (arith, common_steps, drop-cons)
 
 -- the first page outside is in the segment at i
-pub found_in_part : (test : ℕ → Bool) (ss : List Part) (i : ℕ) (s : Part) (p : ℕ) → i < length ss → s ≡ get_or ss i s → find test (pages_of_part s) ≡ Some p → find test (pages (drop i ss)) ≡ Some p
-found_in_part test ss i s p l e f = ap (λ xs. find test (pages xs)) (drop_at ss i s l e) ∙ found_front test (pages_of_part s) (pages (drop (i + 1) ss)) p f
+pub found_in_part : (test : ℕ → Bool) (ss : List SegmentValue) (i : ℕ) (s : SegmentValue) (p : ℕ) → i < length ss → s ≡ get_or ss i s → find test (pages_of_segment s) ≡ Some p → find test (pages (drop i ss)) ≡ Some p
+found_in_part test ss i s p l e f = ap (λ xs. find test (pages xs)) (drop_at ss i s l e) ∙ found_front test (pages_of_segment s) (pages (drop (i + 1) ss)) p f
 
-pub found_past_part : (test : ℕ → Bool) (ss : List Part) (i : ℕ) (s : Part) → i < length ss → s ≡ get_or ss i s → find test (pages_of_part s) ≡ None → find test (pages (drop (i + 1) ss)) ≡ find test (pages (drop i ss))
-found_past_part test ss i s l e f = sym (ap (λ xs. find test (pages xs)) (drop_at ss i s l e) ∙ found_back test (pages_of_part s) (pages (drop (i + 1) ss)) f)
+pub found_past_part : (test : ℕ → Bool) (ss : List SegmentValue) (i : ℕ) (s : SegmentValue) → i < length ss → s ≡ get_or ss i s → find test (pages_of_segment s) ≡ None → find test (pages (drop (i + 1) ss)) ≡ find test (pages (drop i ss))
+found_past_part test ss i s l e f = sym (ap (λ xs. find test (pages xs)) (drop_at ss i s l e) ∙ found_back test (pages_of_segment s) (pages (drop (i + 1) ss)) f)
 
 -- the same, where the part is known by its place
-pub got : (ss : List Part) (i : ℕ) (s : Part) → slice_get ss i ≡ Some s → s ≡ get_or ss i s
+pub got : (ss : List SegmentValue) (i : ℕ) (s : SegmentValue) → slice_get ss i ≡ Some s → s ≡ get_or ss i s
 got ss i s e = sym (get_or_from_slice_get ss i s s e)
 
 -- each segment has whole pages
-pub placed_at : (ss : List Part) → IsBare ss → (i : ℕ) (s : Part) → i < length ss → slice_get ss i ≡ Some s → IsPlaced s
+pub placed_at : (ss : List SegmentValue) → IsBare ss → (i : ℕ) (s : SegmentValue) → i < length ss → slice_get ss i ≡ Some s → IsPlaced s
 placed_at ss k i s l e = each_at ss i s l (got ss i s e) (AreSegments-from_IsBare ss k).placed
   where
-    each_at : (ss : List Part) (i : ℕ) (s : Part) → i < length ss → s ≡ get_or ss i s → Each IsPlaced ss → IsPlaced s
+    each_at : (ss : List SegmentValue) (i : ℕ) (s : SegmentValue) → i < length ss → s ≡ get_or ss i s → Each IsPlaced ss → IsPlaced s
     each_at [] i s l e h = absurd (omega (arith, l))
     each_at (t ∷ ss) zero s l e h = subst IsPlaced (sym e) h.0
     each_at (t ∷ ss) (suc i) s l e h = each_at ss i s (omega (arith, l)) e h.1

@@ -2,8 +2,6 @@
 use Rattle.std.proofs.Common.{◌≡◌, ℕ, ◌++◌, List, [], ◌∷◌, Option, Bool, true, false, refl, sym, ap, ◌∙◌, subst, ⊎_elim}
 use Rattle.std.specs.Prelude.{eqb, ◌||◌, ◌&&◌, is_some, map}
 use Rattle.std.specs.Ordering.{nat_cmp, is_eq}
-use Rattle.std.specs.declared.cmp.Ordering.{Ordering}
-use Rattle.std.specs.declared.cmp.Ordering.TheVariants.{Less, Equal, Greater}
 use Rattle.std.specs.FinMap.{nat_cmp-IsAntisymmetric}
 use Rattle.std.specs.BTreeSet.{BTreeSet, contains, Updates}
 use Rattle.std.proofs.lemmas.Bool.{cases_eq, eq-eqb, ne_eqb}
@@ -11,39 +9,17 @@ use Rattle.std.proofs.lemmas.List.{map-append}
 use Rattle.kx_pages.specs.Lists.{has}
 use Rattle.list_checker.specs.Faults.{is_kept}
 use Rattle.list_checker.specs.Checked.{is_among}
-
-or_last : (a b : Bool) → (a || (b || false)) ≡ (a || b)
-or_last true true = refl
-or_last true false = refl
-or_last false true = refl
-or_last false false = refl
-
-or_right : (a b c : Bool) → (a || (b || c)) ≡ ((a || b) || c)
-or_right true b c = refl
-or_right false b c = refl
+use Rattle.kx_laws.proofs.Booleans.{is_eq-false, or_false, or_shift, or_true}
 
 pub has-push : (q k : ℕ) (xs : List ℕ) → has q (xs ++ k ∷ []) ≡ (has q xs || eqb k q)
-has-push q k [] = or_last false (eqb k q)
-has-push q k (x ∷ xs) = ap (λ b. eqb x q || b) (has-push q k xs) ∙ or_right (eqb x q) (has q xs) (eqb k q)
-
-or_true : (b : Bool) → true ≡ (b || true)
-or_true true = refl
-or_true false = refl
-
-or_false : (b : Bool) → b ≡ (b || false)
-or_false true = refl
-or_false false = refl
-
-not_equal : (r : Ordering) → (r ≡ Equal → ⊥) → is_eq r ≡ false
-not_equal Less h = refl
-not_equal Equal h = absurd (h refl)
-not_equal Greater h = refl
+has-push q k [] = or_false (eqb k q)
+has-push q k (x ∷ xs) = ap (λ b. eqb x q || b) (has-push q k xs) ∙ sym (or_shift (eqb x q) (has q xs) (eqb k q))
 
 -- a key that was inserted is at the end of the list that the set shows
 pub inserted : (o n : BTreeSet ℕ) (k : ℕ) (xs : List ℕ) → Updates nat_cmp o n k true → ((q : ℕ) → contains nat_cmp o q ≡ has q xs) → (q : ℕ) → contains nat_cmp n q ≡ has q (xs ++ k ∷ [])
 inserted o n k xs u h q = ⊎_elim
-    (λ e. subst (λ p. contains nat_cmp n p ≡ (has p xs || eqb k p)) e (u.1 ∙ or_true (has k xs) ∙ ap (λ b. has k xs || b) (sym (eq-eqb k k refl))) ∙ sym (has-push q k xs))
-    (λ e. u.2 q (not_equal (nat_cmp k q) (λ z. e (nat_cmp-IsAntisymmetric k q z))) ∙ h q ∙ or_false (has q xs) ∙ ap (λ b. has q xs || b) (sym (ne_eqb k q e)) ∙ sym (has-push q k xs))
+    (λ e. subst (λ p. contains nat_cmp n p ≡ (has p xs || eqb k p)) e (u.1 ∙ sym (or_true (has k xs)) ∙ ap (λ b. has k xs || b) (sym (eq-eqb k k refl))) ∙ sym (has-push q k xs))
+    (λ e. u.2 q (is_eq-false (nat_cmp k q) (λ z. e (nat_cmp-IsAntisymmetric k q z))) ∙ h q ∙ sym (or_false (has q xs)) ∙ ap (λ b. has q xs || b) (sym (ne_eqb k q e)) ∙ sym (has-push q k xs))
     (cases_eq k q)
 
 absorbed : (k b e : Bool) → (k && ((k && b) || e)) ≡ (k && (b || e))

@@ -5,8 +5,8 @@ use Rattle.std.specs.Option.{option_map, is_some, IsSome}
 use Rattle.std.specs.List.{find}
 use Rattle.std.proofs.lemmas.Bool.{true≢false, false≢true}
 use Rattle.page_memory.specs.Contents.{page_of}
-use Rattle.segments.specs.Parts.{Part, want, pages}
-use Rattle.segments.specs.Laws.{AreSegments-from_IsBare, pages_below, Has-from_want, want-from_Has}
+use Rattle.segments.specs.Values.{SegmentValue, want, pages}
+use Rattle.segments.proofs.Laws.{AreSegments-from_IsBare, pages_below, Has-from_want, want-from_Has}
 use Rattle.segments.specs.Rules.{IsBare}
 use Rattle.list_checker.specs.declared.fault.Why.{Why}
 use Rattle.list_checker.specs.declared.fault.Why.TheVariants.{Missing}
@@ -41,14 +41,14 @@ pub past_limit : (t : ℕ) (o : Option ℕ) → o ≡ None → (t < 2 ^ 34 → I
 past_limit t o e h = ⊎_elim (λ l. l) (λ l. absurd (false≢true (ap is_some (sym e) ∙ h l))) (cases_le (2 ^ 34) t)
 
 -- no page from 2 ^ 34 on is wanted
-pub wanted_below : (S : List Part) → IsBare S → (t : ℕ) → is_wanted (want S t) ≡ true → t < 2 ^ 34
+pub wanted_below : (S : List SegmentValue) → IsBare S → (t : ℕ) → is_wanted (want S t) ≡ true → t < 2 ^ 34
 wanted_below S k t w = go (want S t) refl w
   where
     go : (o : Option (List ℕ)) → want S t ≡ o → is_wanted o ≡ true → t < 2 ^ 34
     go None e u = absurd (false≢true u)
     go (Some b) e u = let a = AreSegments-from_IsBare S k in pages_below S t a.placed (Has-from_want S t b a.placed e)
 
-pub none_past : (S : List Part) → IsBare S → (t : ℕ) → 2 ^ 34 ≤ t → want S t ≡ None
+pub none_past : (S : List SegmentValue) → IsBare S → (t : ℕ) → 2 ^ 34 ≤ t → want S t ≡ None
 none_past S k t l = go (want S t) refl
   where
     go : (o : Option (List ℕ)) → want S t ≡ o → want S t ≡ None
@@ -56,5 +56,5 @@ none_past S k t l = go (want S t) refl
     go (Some b) e = let f = wanted_below S k t (ap is_wanted e) in absurd (omega (arith, l, f))
 
 -- the pages of segments are the wanted pages
-pub parts_listed : (S : List Part) → IsBare S → ListsWanted (want S) (pages S)
+pub parts_listed : (S : List SegmentValue) → IsBare S → ListsWanted (want S) (pages S)
 parts_listed S k = let a = AreSegments-from_IsBare S k in record { each = λ p h. want-from_Has S p a.placed h; whole = λ p b e. Has-from_want S p b a.placed e }

@@ -3,8 +3,6 @@
 use Rattle.std.specs.Prelude.{◌≡◌, ◌≢◌, ℕ, suc, ◌+◌, ◌*◌, ◌%◌, ◌^◌, ◌<◌, List, [], ◌∷◌, Option, Some, None}
 use Rattle.kx_pages.specs.declared.item.Item.{Item}
 use Rattle.kx_pages.specs.declared.item.Item.TheVariants.{Link, Destination, Source, Done}
-use Rattle.kx_pages.specs.declared.image.Mode.{Mode}
-use Rattle.kx_pages.specs.declared.image.Mode.TheVariants.{Plain, Kept}
 use Rattle.kx_pages.specs.Items.{code}
 use Rattle.kx_pages.specs.Lists.{Each, Has, Distinct, destinations}
 use Rattle.page_memory.specs.Memory.{Mem, Wants, word}
@@ -86,11 +84,6 @@ pub record AcceptedKept (M : Mem) (W : Wants) (head control swap : ℕ) (is : Li
   pub apart : PairsApart (pairs is)
   pub links_no_sources : Each (λ q. Each (λ l. q.1 ≢ l) (links is)) (pairs is)
   pub swap_apart : (swap ≢ control) × Each (λ l. l ≢ swap) (links is) × Each (λ q. (q.0 ≢ swap) × (q.1 ≢ swap)) (pairs is)
-
--- in plain mode there is no swap page
-abbrev pub swap_page : Mode → Option ℕ
-swap_page Plain = None
-swap_page (Kept swap) = Some swap
 
 abbrev pub IsAccepted : Mem → Wants → ℕ → ℕ → Option ℕ → List Item → Type 0
 IsAccepted M W head control None is = Accepted M W head control is

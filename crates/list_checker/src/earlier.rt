@@ -4,11 +4,11 @@ ghost use Rattle.std.specs.Prelude.{◌≡◌, ℕ, ◌&&◌, ◌||◌, OnOk, Op
 ghost use Rattle.std.specs.Ordering.{nat_cmp};
 ghost use Rattle.std.specs.BTreeSet.{contains, btree_set_len};
 ghost use Rattle.std.specs.List.{find};
-ghost use Rattle.segments.specs.Parts.{pages};
+ghost use Rattle.segments.specs.Values.{pages};
 ghost use Rattle.kx_pages.specs.Lists.{has};
 ghost use Rattle.list_checker.specs.Faults as spec;
 ghost use Rattle.list_checker.specs.Faults.{nothing_earlier};
-ghost use Rattle.list_checker.specs.Walk.{swap_page};
+ghost use Rattle.kx_pages.specs.Modes.{swap_page};
 ghost use Rattle.list_checker.specs.Checked.{Shows, Fits, is_among};
 
 use crate::missing::first_outside;

@@ -5,7 +5,7 @@ ghost use Rattle.std.specs.List.{find, range_with_len};
 ghost use Rattle.std.specs.Ordering.{nat_cmp};
 ghost use Rattle.std.specs.BTreeSet.{contains};
 ghost use Rattle.page_memory.specs.Contents.{at};
-ghost use Rattle.segments.specs.Parts.{want, pages};
+ghost use Rattle.segments.specs.Values.{want, pages};
 ghost use Rattle.list_checker.specs.Crash.{lacks};
 
 use crate::reasons::has_its_bytes;

@@ -5,26 +5,26 @@ use Rattle.std.proofs.lemmas.Bool.Decides.{nat_tests}
 use Rattle.std.proofs.lemmas.Nat.Bits.{and_pow}
 use Rattle.kx_pages.specs.declared.image.Mode.{Mode}
 use Rattle.kx_pages.specs.declared.image.Mode.TheVariants.{Plain, Kept}
-use Rattle.page_memory.specs.Contents.{Contents, at, IsHeld}
-use Rattle.page_memory.specs.Laws.{frame_at-insert_same, frame_at-insert_other, held-insert, word-same_page}
+use Rattle.page_memory.specs.Contents.{Contents, at, copied, IsHeld}
+use Rattle.page_memory.proofs.Laws.{frame_at-insert_same, frame_at-insert_other, held-insert, word-same_page}
 use Rattle.relocate_machine.specs.declared.step.Step.{Step}
 use Rattle.relocate_machine.specs.declared.step.Step.TheVariants as steps
 use Rattle.relocate_machine.specs.declared.step.Outcome.TheVariants as outcomes
-use Rattle.relocate_machine.specs.declared.word.Kind.TheVariants as kinds
-use Rattle.relocate_machine.specs.Machine.{State, start_of, step_of, writes_of, HoldsWrites, AreHeld, kind_of, masked, copied}
+use Rattle.relocate_machine.specs.declared.word.WordKind.TheVariants as kinds
+use Rattle.relocate_machine.specs.Machine.{State, after_move, kind_of, start_at, step_of, word_address}
+use Rattle.relocate_machine.specs.Writes.{AreHeld, HoldsWrites, move_writes, writes_of}
 use Rattle.relocate_machine.specs.Run.{run_from, run_after, HeldFrom, HeldAfter}
-use Rattle.relocate_machine.specs.Machine.{moved, move_writes}
 use Rattle.kx_pages.specs.declared.item.Item.{Item}
 use Rattle.kx_pages.specs.declared.item.Item.TheVariants.{Link, Destination, Source, Done}
 use Rattle.kx_pages.specs.Items.{code}
 use Rattle.kx_pages.specs.Lists.{Each, Has}
 use Rattle.page_memory.specs.Memory.{Mem, Wants, word, copied_page}
 use Rattle.list_checker.specs.Walk.{Reads, Walk, links, pairs_from, pairs, Accepted, AcceptedKept}
-use Rattle.segments.specs.Parts.{overlay}
-use Rattle.segments.specs.Elements.{Each-both, Each-at}
+use Rattle.segments.specs.Values.{overlay}
 use Rattle.load_states.specs.Exchange.{exchange}
 use Rattle.load_states.proofs.Moves.{moves, moved_in, moved-apart, moves_alike, copied_alike, lays_over, Spares}
 use Rattle.load_states.proofs.Exchange.{exchanges}
+use Rattle.kx_pages.proofs.Lists.{Each-both, Each-at}
 
 -- kinds
 test_one : (w : ℕ) → (bit_and w 1 == 1) ≡ (w % 2 == 1)
@@ -70,13 +70,13 @@ kind-source p =
     let d : bit_and (4096 * p + 8) 8 ≡ 8 = omega (arith, bit_eight (4096 * p + 8)) in
     rw (a, b, c, d) refl
 
-masked-destination : (p : ℕ) → masked (code (Destination p)) ≡ 4096 * p
+masked-destination : (p : ℕ) → word_address (code (Destination p)) ≡ 4096 * p
 masked-destination p = omega arith
 
-masked-link : (p : ℕ) → masked (code (Link p)) ≡ 4096 * p
+masked-link : (p : ℕ) → word_address (code (Link p)) ≡ 4096 * p
 masked-link p = omega arith
 
-masked-source : (p : ℕ) → masked (code (Source p)) ≡ 4096 * p
+masked-source : (p : ℕ) → word_address (code (Source p)) ≡ 4096 * p
 masked-source p = omega arith
 
 -- the state before the word at a, where the next destination is page t
@@ -120,7 +120,7 @@ step-done mode a t p m l e =
     let k = kind-done p in
     (rw (near, w, k) refl, rw (near, w, k) (no_held m))
 
-step-source : (mode : Mode) (a t p : ℕ) (m : Contents) → a / 4096 < 2 ^ 34 → p < 2 ^ 34 → t < 2 ^ 34 → AreHeld m (move_writes mode t p) → word (at m) a ≡ code (Source p) → Steps (state_at mode a t m) (state_at mode (a + 8) (suc t) (moved mode m t p), steps.Went)
+step-source : (mode : Mode) (a t p : ℕ) (m : Contents) → a / 4096 < 2 ^ 34 → p < 2 ^ 34 → t < 2 ^ 34 → AreHeld m (move_writes mode t p) → word (at m) a ≡ code (Source p) → Steps (state_at mode a t m) (state_at mode (a + 8) (suc t) (after_move mode m t p), steps.Went)
 unfolding step_of writes_of
 step-source mode a t p m l lp lt held e =
     let near : nat_le (2 ^ 46) a ≡ false = grind (arith, nat_tests) in
@@ -178,7 +178,7 @@ at_copied m d s q = by_test (eqb q d) refl
     by_test true e = let same : q ≡ d = grind (arith, nat_tests) in subst (λ q. at (copied m d s) q ≡ at m s) (sym same) (frame_at-insert_same m.pages d (at m s))
     by_test false e = let ne : q ≢ d = grind (arith, nat_tests) in frame_at-insert_other m.pages d (at m s) q ne
 
-at_moved : (mode : Mode) (m : Contents) (d s q : ℕ) → at (moved mode m d s) q ≡ moved_in mode (at m) s d q
+at_moved : (mode : Mode) (m : Contents) (d s q : ℕ) → at (after_move mode m d s) q ≡ moved_in mode (at m) s d q
 at_moved Plain m d s q = at_copied m d s q
 at_moved (Kept w) m d s q =
     let m1 = copied m w s in
@@ -187,11 +187,11 @@ at_moved (Kept w) m d s q =
     ∙ copied_alike (at m2) (copied_page (at m1) d s) w d (at_copied m1 s d) q
     ∙ copied_alike (copied_page (at m1) d s) (copied_page (copied_page (at m) s w) d s) w d (copied_alike (at m1) (copied_page (at m) s w) d s (at_copied m w s)) q
 
-sets_moved : (mode : Mode) (m : Contents) (d s : ℕ) → (moved mode m d s).sets ≡ m.sets
+sets_moved : (mode : Mode) (m : Contents) (d s : ℕ) → (after_move mode m d s).sets ≡ m.sets
 sets_moved Plain m d s = refl
 sets_moved (Kept w) m d s = refl
 
-stays_moved : (mode : Mode) (m : Contents) (d s q : ℕ) → IsHeld m q → IsHeld (moved mode m d s) q
+stays_moved : (mode : Mode) (m : Contents) (d s q : ℕ) → IsHeld m q → IsHeld (after_move mode m d s) q
 stays_moved Plain m d s q h = held-insert m.pages d (at m s) q h
 stays_moved (Kept w) m d s q h =
     let m1 = copied m w s in
@@ -206,9 +206,9 @@ still_held (Kept w) m n d s stay h = (stay d h.0, stay s h.1, stay w h.2)
 abbrev pub Ready : Mode → Contents → (ℕ → Type 0) → ℕ × ℕ → Type 0
 Ready mode m K q = (q.0 < 2 ^ 34) × AreHeld m (move_writes mode q.0 q.1) × ((p : ℕ) → K p → Spares mode q p)
 
-still_ready : (mode : Mode) (m : Contents) (K : ℕ → Type 0) (d s : ℕ) (qs : List (ℕ × ℕ)) → Each (Ready mode m K) qs → Each (Ready mode (moved mode m d s) K) qs
+still_ready : (mode : Mode) (m : Contents) (K : ℕ → Type 0) (d s : ℕ) (qs : List (ℕ × ℕ)) → Each (Ready mode m K) qs → Each (Ready mode (after_move mode m d s) K) qs
 still_ready mode m K d s [] h = tt
-still_ready mode m K d s (q ∷ qs) h = ((h.0.0, still_held mode m (moved mode m d s) q.0 q.1 (stays_moved mode m d s) h.0.1, h.0.2), still_ready mode m K d s qs h.1)
+still_ready mode m K d s (q ∷ qs) h = ((h.0.0, still_held mode m (after_move mode m d s) q.0 q.1 (stays_moved mode m d s) h.0.1, h.0.2), still_ready mode m K d s qs h.1)
 
 -- K says which pages hold the list
 finishes : (mode : Mode) (M₀ : Mem) (K : ℕ → Type 0) (is : List Item) (a t k : ℕ) (m : Contents)
@@ -236,15 +236,12 @@ finishes mode M₀ K (Destination p ∷ is) a t k m la ka same list ready r =
 finishes mode M₀ K (Source p ∷ is) a t k m la ka same list ready r =
     let w : word (at m) a ≡ code (Source p) = word-same_page (at m) M₀ a (same (a / 4096) ka) ∙ r.0 in
     let e : (a + 8) / 4096 ≡ a / 4096 = omega (arith, r.2) in
-    let same' : (q : ℕ) → K q → at (moved mode m t p) q ≡ M₀ q = λ q h. at_moved mode m t p q ∙ moved-apart mode (at m) (t, p) q (ready.0.2 q h) ∙ same q h in
+    let same' : (q : ℕ) → K q → at (after_move mode m t p) q ≡ M₀ q = λ q h. at_moved mode m t p q ∙ moved-apart mode (at m) (t, p) q (ready.0.2 q h) ∙ same q h in
     one_more (length is) k _ _ _ (step-source mode a t p m la r.1 ready.0.0 ready.0.1 w) (sets_moved mode m t p) (stays_moved mode m t p)
-    (alike _ _ _ _ _ (moves_alike mode (at (moved mode m t p)) (moved_in mode (at m) p t) (pairs_from (suc t) is) (at_moved mode m t p))
-    (finishes mode M₀ K is (a + 8) (suc t) (k + 1) (moved mode m t p) (rw e la) (rw e ka) same' list (still_ready mode m K t p (pairs_from (suc t) is) ready.1) r.3))
+    (alike _ _ _ _ _ (moves_alike mode (at (after_move mode m t p)) (moved_in mode (at m) p t) (pairs_from (suc t) is) (at_moved mode m t p))
+    (finishes mode M₀ K is (a + 8) (suc t) (k + 1) (after_move mode m t p) (rw e la) (rw e ka) same' list (still_ready mode m K t p (pairs_from (suc t) is) ready.1) r.3))
 
-abbrev pub begin_at : Mode → ℕ → Contents → State
-begin_at mode head m = record { machine = start_of head mode; memory = m }
-
-begin-link : (mode : Mode) (p : ℕ) (m : Contents) (head : ℕ) → head ≡ code (Link p) → Steps (begin_at mode head m) (state_at mode (4096 * p) 0 m, steps.Went)
+begin-link : (mode : Mode) (p : ℕ) (m : Contents) (head : ℕ) → head ≡ code (Link p) → Steps (start_at m head mode) (state_at mode (4096 * p) 0 m, steps.Went)
 unfolding step_of writes_of
 begin-link mode p m head e =
     let w : head ≡ 4096 * p + 2 = e in
@@ -252,7 +249,7 @@ begin-link mode p m head e =
     let x = masked-link p in
     (rw (w, k, x) refl, rw (w, k) (no_held m))
 
-begin-done : (mode : Mode) (p : ℕ) (m : Contents) (head : ℕ) → head ≡ code (Done p) → Steps (begin_at mode head m) (end_at mode 0 0 m, steps.Ended)
+begin-done : (mode : Mode) (p : ℕ) (m : Contents) (head : ℕ) → head ≡ code (Done p) → Steps (start_at m head mode) (end_at mode 0 0 m, steps.Ended)
 unfolding step_of writes_of
 begin-done mode p m head e =
     let w : head ≡ 4096 * p + 4 = e in
@@ -264,12 +261,12 @@ pub finishes_from : (mode : Mode) (M₀ : Mem) (m : Contents) (K : ℕ → Type 
     → ((p : ℕ) → Has p (links is) → K p)
     → Each (Ready mode m K) (pairs_from 0 is)
     → Walk M₀ head is
-    → Comes (length is) 0 (begin_at mode head m) (moves mode (at m) (pairs_from 0 is))
+    → Comes (length is) 0 (start_at m head mode) (moves mode (at m) (pairs_from 0 is))
 finishes_from mode M₀ m K head [] same list ready r = absurd r
 finishes_from mode M₀ m K head (Destination p ∷ is) same list ready r = absurd r
 finishes_from mode M₀ m K head (Source p ∷ is) same list ready r = absurd r
 finishes_from mode M₀ m K head (Done p ∷ is) same list ready r =
-    subst (λ l. Comes (length (Done p ∷ l)) 0 (begin_at mode head m) (moves mode (at m) (pairs_from 0 l))) (sym r.1) (last_one 0 (begin_at mode head m) (end_at mode 0 0 m) (begin-done mode p m head r.0) refl)
+    subst (λ l. Comes (length (Done p ∷ l)) 0 (start_at m head mode) (moves mode (at m) (pairs_from 0 l))) (sym r.1) (last_one 0 (start_at m head mode) (end_at mode 0 0 m) (begin-done mode p m head r.0) refl)
 finishes_from mode M₀ m K head (Link p ∷ is) same list ready r =
     let e : 4096 * p / 4096 ≡ p = omega arith in
     let l' : 4096 * p / 4096 < 2 ^ 34 = rw e r.1 in
@@ -280,7 +277,7 @@ finishes_from mode M₀ m K head (Link p ∷ is) same list ready r =
 pub kept_runs : (M₀ : Mem) (m : Contents) (W : Wants) (head control swap : ℕ) (is : List Item) → AcceptedKept M₀ W head control swap is
     → ((p : ℕ) → Has p (links is) → at m p ≡ M₀ p)
     → Each (λ q. (q.0 < 2 ^ 34) × AreHeld m (move_writes (Kept swap) q.0 q.1)) (pairs is)
-    → Comes (length is) 0 (begin_at (Kept swap) head m) (exchange (at m) (pairs is) swap)
+    → Comes (length is) 0 (start_at m head (Kept swap)) (exchange (at m) (pairs is) swap)
 kept_runs M₀ m W head control swap is a same held =
     let K : ℕ → Type 0 = λ p. Has p (links is) in
     let one : Each (λ q. (p : ℕ) → K p → (q.0 ≢ p) × (q.1 ≢ p)) (pairs is) = Each-both (pairs is) (λ q x y p h. (Each-at (λ l. q.0 ≢ l) (links is) p x h, Each-at (λ l. q.1 ≢ l) (links is) p y h)) a.plain.links_unwritten a.links_no_sources in
@@ -290,15 +287,15 @@ kept_runs M₀ m W head control swap is a same held =
 -- the run of a plain list that is accepted
 pub plain_runs : (m : Contents) (W : Wants) (head control : ℕ) (is : List Item) → Accepted (at m) W head control is
     → Each (λ q. (q.0 < 2 ^ 34) × AreHeld m (move_writes Plain q.0 q.1)) (pairs is)
-    → Comes (length is) 0 (begin_at Plain head m) (overlay (at m) W)
+    → Comes (length is) 0 (start_at m head Plain) (overlay (at m) W)
 plain_runs m W head control is a held =
     let K : ℕ → Type 0 = λ p. Has p (links is) in
     let ready : Each (Ready Plain m K) (pairs is) = Each-both (pairs is) (λ q x b. (b.0, b.1, λ p h. Each-at (λ l. q.0 ≢ l) (links is) p x h)) a.links_unwritten held in
     alike _ _ _ _ _ (λ p. lays_over (at m) W (pairs is) a.in_order a.whole a.right_bytes p) (finishes_from Plain (at m) m K head is (λ p h. refl) (λ p h. h) ready a.walk)
 
 -- the run of a list that is a done word alone
-pub done_runs : (mode : Mode) (m : Contents) (head : ℕ) → head % 4096 ≡ 4 → Comes 1 0 (begin_at mode head m) (at m)
+pub done_runs : (mode : Mode) (m : Contents) (head : ℕ) → head % 4096 ≡ 4 → Comes 1 0 (start_at m head mode) (at m)
 done_runs mode m head e =
     let p = head / 4096 in
     let w : head ≡ code (Done p) = omega (arith, e) in
-    last_one 0 (begin_at mode head m) (end_at mode 0 0 m) (begin-done mode p m head w) refl
+    last_one 0 (start_at m head mode) (end_at mode 0 0 m) (begin-done mode p m head w) refl

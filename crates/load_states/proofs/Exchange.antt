@@ -7,10 +7,11 @@ use Rattle.kx_pages.specs.declared.item.Item.{Item}
 use Rattle.kx_pages.specs.Lists.{Each, Has, destinations, sources}
 use Rattle.list_checker.specs.Walk.{PairsApart, links, pairs, AcceptedKept}
 use Rattle.load_states.specs.Exchange.{partner, last_source, exchange}
-use Rattle.segments.specs.Elements.{Each-map, Each-both, Each-at}
 use Rattle.load_states.proofs.Moves.{moved_in, moves}
 use Rattle.kx_pages.specs.declared.image.Mode.TheVariants.{Kept}
 use Rattle.std.proofs.Common.{Option, Some, None}
+use Rattle.kx_pages.proofs.Lists.{Each-map, Each-both, Each-at}
+use Rattle.kx_laws.proofs.Options.{some_same}
 
 -- one exchange
 one-exchange : (swap : ℕ) (M : Mem) (q : ℕ × ℕ) (p : ℕ) → q.0 ≢ swap → q.1 ≢ swap → p ≢ swap → moved_in (Kept swap) M q.1 q.0 p ≡ M (cond (eqb q.0 p) q.1 (cond (eqb q.1 p) q.0 p))
@@ -147,9 +148,6 @@ partner_has M W (q ∷ qs) p a r (inl e) =
 partner_has M W (q ∷ qs) p a r (inr h) =
     let o = away_from q qs p a.0 h in
     let f : partner qs p ≡ partner (q ∷ qs) p = grind (arith, o.0, o.1) in partner_has M W qs p a.1 r.1 h ∙ ap (λ x. Some (M x)) f
-
-some_same : (x y : List ℕ) → Some x ≡ Some y → x ≡ y
-some_same x y e = cc
 
 -- one run leaves each destination what it is to have
 pub arrives : (M : Mem) (W : Wants) (head control swap : ℕ) (is : List Item) → AcceptedKept M W head control swap is → (p : ℕ) (b : List ℕ) → W p ≡ Some b → exchange M (pairs is) swap p ≡ b

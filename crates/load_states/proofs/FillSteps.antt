@@ -12,31 +12,31 @@ use Rattle.kx_pages.specs.declared.image.Wish.{Wish}
 use Rattle.kx_pages.specs.declared.image.Wish.TheVariants.{Plain, Kept}
 use Rattle.page_memory.specs.Contents.{Contents, at}
 use Rattle.page_memory.specs.Memory.{Mem}
-use Rattle.segments.specs.Parts.{Part, is_destination, want, page_count, pages_of_part, pages, need}
-use Rattle.segments.specs.Laws.{AreSegments, is_destination-from_Has, Has-from_is_destination, Distinct-pages}
-use Rattle.segments.specs.Elements.{Each-from_Has, Has-either, Has-left, Has-right, Has-range, range-Has}
-use Rattle.kimage_list.specs.Load.{Entry, Start, Move, page_entries, pages_of, starts, need_of}
+use Rattle.segments.specs.Values.{SegmentValue, is_destination, want, page_count, pages_of_segment, pages, need}
+use Rattle.segments.proofs.Laws.{AreSegments, is_destination-from_Has, Has-from_is_destination, Distinct-pages}
+use Rattle.kimage_list.specs.Load.{Entry, Start, Move, page_entries, pages_of, starts}
 use Rattle.kimage_list.specs.Writers.{Writer, StandsAt, IsAwaited, with_destination, with_source, with_bytes, destination_after, pages_in}
 use Rattle.kimage_list.specs.Calls.{load_begun}
-use Rattle.kimage_list.proofs.Lists.{count-append, has_count, each_map, some_same}
-use Rattle.kimage_list.proofs.Counting.{no_longer}
+use Rattle.kimage_list.proofs.Counting.{counted_fit}
 use Rattle.kimage_list.proofs.Entering.{pages_of-start, pages_of-move}
 use Rattle.kimage_list.proofs.Spanned.{length-pages_in, has-pages_in, each-pages_in, pages-once}
 use Rattle.kimage_list.proofs.Segmented.{starts-page_entries, after-page_entries, page_entries-more}
 use Rattle.kimage_list.proofs.Standings.{awaited_exactly, starts-append, after-append}
 use Rattle.load_states.specs.Loads.{entries_of}
 use Rattle.load_states.specs.Fillings.{Fills, FillsFrom}
-use Rattle.load_states.proofs.LaidPlan.{pages_of-entries_of, pages_of-append, pages_of-range, count-distinct}
+use Rattle.load_states.proofs.LaidPlan.{pages_of-entries_of, pages_of-append, pages_of-range}
+use Rattle.kx_pages.proofs.Lists.{Each-from_Has, Has-left, Has-right, Has-either, Has-range, range-Has, Each-map}
+use Rattle.kx_pages.proofs.Counting.{count-append, count-from_Has}
+use Rattle.kx_laws.proofs.Options.{some_same}
+use Rattle.kx_pages.specs.Needs.{need_of}
+use Rattle.kx_pages.proofs.Counting.{count-from_Distinct}
+use Rattle.kx_laws.proofs.Booleans.{or_false, or_shift, or_true}
 
 has-more : (q p : ℕ) (xs : List ℕ) → has q (xs ++ p ∷ []) ≡ (has q xs || (eqb p q || false))
 has-more q p [] = refl
-has-more q p (x ∷ xs) = ap (λ b. eqb x q || b) (has-more q p xs) ∙ or_assoc (eqb x q) (has q xs) (eqb p q || false)
-  where
-    or_assoc : (a b c : Bool) → (a || (b || c)) ≡ ((a || b) || c)
-    or_assoc true b c = refl
-    or_assoc false b c = refl
+has-more q p (x ∷ xs) = ap (λ b. eqb x q || b) (has-more q p xs) ∙ sym (or_shift (eqb x q) (has q xs) (eqb p q || false))
 
-module _ (M : Mem) (pool : List ℕ) (wish : Wish) (ss : List Part) (es : List Entry) (w : Writer) (k : Fills M pool wish ss es w) where
+module _ (M : Mem) (pool : List ℕ) (wish : Wish) (ss : List SegmentValue) (es : List Entry) (w : Writer) (k : Fills M pool wish ss es w) where
   pub goes_to : (p : ℕ) → destination_after None es ≡ Some p → w.destination ≡ Some p
   goes_to p e = k.stands.destination ∙ ap (destination_after None) k.entries ∙ e
 
@@ -57,14 +57,6 @@ module _ (M : Mem) (pool : List ℕ) (wish : Wish) (ss : List Part) (es : List E
     bytes = λ q. here q (eqb_tells q p) ∙ sym (ap (λ c. cond c (want ss q) None) (ap (has q) (pages_of-move es p) ∙ has-more q p (pages_of es)));
   }
     where
-      or_last : (a : Bool) → (a || true) ≡ true
-      or_last true = refl
-      or_last false = refl
-
-      or_none : (a : Bool) → (a || false) ≡ a
-      or_none true = refl
-      or_none false = refl
-
       turned : (q : ℕ) → q ≢ p → eqb p q ≡ false
       turned q n = ⊎_elim (λ t. absurd (n (sym t.1))) (λ t. t.0) (eqb_tells p q)
 
@@ -73,10 +65,10 @@ module _ (M : Mem) (pool : List ℕ) (wish : Wish) (ss : List Part) (es : List E
 
       here : (q : ℕ) → ((eqb q p ≡ true) × (q ≡ p)) ⊎ ((eqb q p ≡ false) × (q ≢ p)) → with_bytes k.load.bytes p b q ≡ cond (has q (pages_of es) || (eqb p q || false)) (want ss q) None
       here q (inl t) =
-          let now : (has q (pages_of es) || (eqb p q || false)) ≡ true = ap (λ c. has q (pages_of es) || (c || false)) (selves q t.1) ∙ or_last (has q (pages_of es)) in
+          let now : (has q (pages_of es) || (eqb p q || false)) ≡ true = ap (λ c. has q (pages_of es) || (c || false)) (selves q t.1) ∙ or_true (has q (pages_of es)) in
           ap (λ c. cond c (Some b) (k.load.bytes q)) t.0 ∙ sym wants ∙ ap (want ss) (sym t.1) ∙ sym (ap (λ c. cond c (want ss q) None) now)
       here q (inr t) =
-          let now : (has q (pages_of es) || (eqb p q || false)) ≡ has q (pages_of es) = ap (λ c. has q (pages_of es) || (c || false)) (turned q t.1) ∙ or_none (has q (pages_of es)) in
+          let now : (has q (pages_of es) || (eqb p q || false)) ≡ has q (pages_of es) = ap (λ c. has q (pages_of es) || (c || false)) (turned q t.1) ∙ or_false (has q (pages_of es)) in
           ap (λ c. cond c (Some b) (k.load.bytes q)) t.0 ∙ k.bytes q ∙ sym (ap (λ c. cond c (want ss q) None) now)
 
   pub some_left : starts es < length ss → 0 < w.segments_left
@@ -96,36 +88,36 @@ module _ (M : Mem) (pool : List ℕ) (wish : Wish) (ss : List Part) (es : List E
     bytes = λ q. k.bytes q ∙ sym (ap (λ xs. cond (has q xs) (want ss q) None) (pages_of-start es p));
   }
 
-pub starts-entries_of : (ss : List Part) → starts (entries_of ss) ≡ length ss
+pub starts-entries_of : (ss : List SegmentValue) → starts (entries_of ss) ≡ length ss
 starts-entries_of [] = refl
 starts-entries_of (s ∷ ss) = ap suc (omega (arith, starts-append (page_entries (s.mem / 4096) (page_count s)) (entries_of ss), starts-page_entries (s.mem / 4096) (page_count s), starts-entries_of ss))
 
-pub started_few : (ss : List Part) (i : ℕ) → i < length ss → starts (entries_of (take i ss)) < length ss
+pub started_few : (ss : List SegmentValue) (i : ℕ) → i < length ss → starts (entries_of (take i ss)) < length ss
 started_few ss i l = omega (arith, starts-entries_of (take i ss), length-take i ss, l)
 
-entries_of-append : (xs ys : List Part) → entries_of (xs ++ ys) ≡ entries_of xs ++ entries_of ys
+entries_of-append : (xs ys : List SegmentValue) → entries_of (xs ++ ys) ≡ entries_of xs ++ entries_of ys
 entries_of-append [] ys = refl
 entries_of-append (s ∷ xs) ys =
     ap (λ es. Start (s.mem / 4096) ∷ page_entries (s.mem / 4096) (page_count s) ++ es) (entries_of-append xs ys)
     ∙ ap (λ es. Start (s.mem / 4096) ∷ es) (sym (append_assoc (page_entries (s.mem / 4096) (page_count s)) (entries_of xs) (entries_of ys)))
 
-pages-append : (xs ys : List Part) → pages (xs ++ ys) ≡ pages xs ++ pages ys
+pages-append : (xs ys : List SegmentValue) → pages (xs ++ ys) ≡ pages xs ++ pages ys
 pages-append [] ys = refl
-pages-append (s ∷ xs) ys = ap (λ ps. pages_of_part s ++ ps) (pages-append xs ys) ∙ sym (append_assoc (pages_of_part s) (pages xs) (pages ys))
+pages-append (s ∷ xs) ys = ap (λ ps. pages_of_segment s ++ ps) (pages-append xs ys) ∙ sym (append_assoc (pages_of_segment s) (pages xs) (pages ys))
 
-split_at : (ss : List Part) (i : ℕ) (s : Part) → slice_get ss i ≡ Some s → (rest : List Part) × (ss ≡ take i ss ++ s ∷ rest)
+split_at : (ss : List SegmentValue) (i : ℕ) (s : SegmentValue) → slice_get ss i ≡ Some s → (rest : List SegmentValue) × (ss ≡ take i ss ++ s ∷ rest)
 split_at [] i s e = absurd (none-some s e)
 split_at (r ∷ ss) zero s e = (ss, ap (λ x. x ∷ ss) (some_same r s e))
 split_at (r ∷ ss) (suc i) s e = let k = split_at ss i s e in (k.0, ap (λ xs. r ∷ xs) k.1)
 
 -- the entries while segment i, which starts at page first, is written up to this page
-abbrev pub so_far : List Part → ℕ → ℕ → ℕ → List Entry
+abbrev pub so_far : List SegmentValue → ℕ → ℕ → ℕ → List Entry
 so_far ss i first number = entries_of (take i ss) ++ Start first ∷ page_entries first (number - first)
 
-pub so_far-start : (ss : List Part) (i first : ℕ) → entries_of (take i ss) ++ Start first ∷ [] ≡ so_far ss i first first
+pub so_far-start : (ss : List SegmentValue) (i first : ℕ) → entries_of (take i ss) ++ Start first ∷ [] ≡ so_far ss i first first
 so_far-start ss i first = let z : 0 ≡ first - first = omega arith in ap (λ n. entries_of (take i ss) ++ Start first ∷ page_entries first n) z
 
-pub so_far-more : (ss : List Part) (i first number : ℕ) → first ≤ number → so_far ss i first number ++ Move number ∷ [] ≡ so_far ss i first (number + 1)
+pub so_far-more : (ss : List SegmentValue) (i first number : ℕ) → first ≤ number → so_far ss i first number ++ Move number ∷ [] ≡ so_far ss i first (number + 1)
 so_far-more ss i first number l =
     let n = number - first in
     let next : number + 1 - first ≡ number - first + 1 = omega (arith, l) in
@@ -135,12 +127,12 @@ so_far-more ss i first number l =
     ∙ ap (λ es. entries_of (take i ss) ++ Start first ∷ es) (sym (page_entries-more first (number - first)))
     ∙ ap (λ m. entries_of (take i ss) ++ Start first ∷ page_entries first m) (sym next)
 
-pub so_far-goes : (ss : List Part) (i first number : ℕ) → first ≤ number → destination_after None (so_far ss i first number) ≡ Some number
+pub so_far-goes : (ss : List SegmentValue) (i first number : ℕ) → first ≤ number → destination_after None (so_far ss i first number) ≡ Some number
 so_far-goes ss i first number l =
     let same : first + (number - first) ≡ number = omega (arith, l) in
     after-append None (entries_of (take i ss)) (Start first ∷ page_entries first (number - first)) ∙ after-page_entries first (number - first) ∙ ap (λ p. Some p) same
 
-module _ (ss : List Part) (i : ℕ) (s : Part) (e : slice_get ss i ≡ Some s) where
+module _ (ss : List SegmentValue) (i : ℕ) (s : SegmentValue) (e : slice_get ss i ≡ Some s) where
   pub so_far-end : so_far ss i (s.mem / 4096) (s.mem / 4096 + page_count s) ≡ entries_of (take (i + 1) ss)
   so_far-end =
       let first = s.mem / 4096 in
@@ -150,13 +142,13 @@ module _ (ss : List Part) (i : ℕ) (s : Part) (e : slice_get ss i ≡ Some s) w
       ∙ ap (λ es. entries_of (take i ss) ++ Start (s.mem / 4096) ∷ es) (sym (append-nil (page_entries (s.mem / 4096) (page_count s))))
       ∙ sym (entries_of-append (take i ss) (s ∷ [])) ∙ ap entries_of (sym next)
 
-  whole : (rest : List Part) × (ss ≡ take i ss ++ s ∷ rest)
+  whole : (rest : List SegmentValue) × (ss ≡ take i ss ++ s ∷ rest)
   whole = split_at ss i s e
 
-  in_pages : (number : ℕ) → Has number (pages_of_part s) → Has number (pages ss)
-  in_pages number h = subst (λ xs. Has number (pages xs)) (sym whole.1) (subst (Has number) (sym (pages-append (take i ss) (s ∷ whole.0))) (Has-right number (pages (take i ss)) (pages (s ∷ whole.0)) (Has-left number (pages_of_part s) (pages whole.0) h)))
+  in_pages : (number : ℕ) → Has number (pages_of_segment s) → Has number (pages ss)
+  in_pages number h = subst (λ xs. Has number (pages xs)) (sym whole.1) (subst (Has number) (sym (pages-append (take i ss) (s ∷ whole.0))) (Has-right number (pages (take i ss)) (pages (s ∷ whole.0)) (Has-left number (pages_of_segment s) (pages whole.0) h)))
 
-  inside : (number : ℕ) → s.mem / 4096 ≤ number → number < s.mem / 4096 + page_count s → Has number (pages_of_part s)
+  inside : (number : ℕ) → s.mem / 4096 ≤ number → number < s.mem / 4096 + page_count s → Has number (pages_of_segment s)
   inside number a b = range-Has (page_count s) (s.mem / 4096) number a b
 
   pub is_page : AreSegments ss → (number : ℕ) → s.mem / 4096 ≤ number → number < s.mem / 4096 + page_count s → is_destination ss number ≡ true
@@ -171,31 +163,31 @@ module _ (ss : List Part) (i : ℕ) (s : Part) (e : slice_get ss i ≡ Some s) w
       ∙ ap (λ xs. pages (take i ss) ++ xs) (pages_of-range (number - s.mem / 4096) (s.mem / 4096)) in
       ⊎_elim
       (λ g.
-      let one = has_count number (pages (take i ss)) g in
-      let two = has_count number (pages_of_part s) (inside number a b) in
-      let once = count-distinct number (pages ss) (Distinct-pages ss k.placed k.apart) in
-      let parts : count number (pages ss) ≡ count number (pages (take i ss)) + (count number (pages_of_part s) + count number (pages whole.0)) =
-      ap (λ xs. count number (pages xs)) whole.1 ∙ ap (count number) (pages-append (take i ss) (s ∷ whole.0)) ∙ count-append number (pages (take i ss)) (pages (s ∷ whole.0)) ∙ ap (λ m. count number (pages (take i ss)) + m) (count-append number (pages_of_part s) (pages whole.0)) in
+      let one = count-from_Has number (pages (take i ss)) g in
+      let two = count-from_Has number (pages_of_segment s) (inside number a b) in
+      let once = count-from_Distinct number (pages ss) (Distinct-pages ss k.placed k.apart) in
+      let parts : count number (pages ss) ≡ count number (pages (take i ss)) + (count number (pages_of_segment s) + count number (pages whole.0)) =
+      ap (λ xs. count number (pages xs)) whole.1 ∙ ap (count number) (pages-append (take i ss) (s ∷ whole.0)) ∙ count-append number (pages (take i ss)) (pages (s ∷ whole.0)) ∙ ap (λ m. count number (pages (take i ss)) + m) (count-append number (pages_of_segment s) (pages whole.0)) in
       omega (arith, one, two, once, parts))
       (λ g. let r = Has-range (number - s.mem / 4096) (s.mem / 4096) number g in omega (arith, r.1, a))
       (Has-either number (pages (take i ss)) (range_with_len (s.mem / 4096) (number - s.mem / 4096)) (subst (Has number) same h))
 
 -- the spans of the segments' pages have as many pages
-pub span_pages : (ss : List Part) (wanted : List Run) → AreSegments ss → AreApart 0 wanted → ((q : ℕ) → in_spans wanted q ≡ is_destination ss q) → spans.pages wanted ≡ length (pages ss)
+pub span_pages : (ss : List SegmentValue) (wanted : List Run) → AreSegments ss → AreApart 0 wanted → ((q : ℕ) → in_spans wanted q ≡ is_destination ss q) → spans.pages wanted ≡ length (pages ss)
 span_pages ss wanted k apart same =
-    let few = no_longer (pages_in wanted) (pages ss) (λ x. pages-once 0 wanted x apart) (each_map (pages_in wanted) (λ x t. Has-from_is_destination ss x k.placed (sym (same x) ∙ t)) (each-pages_in wanted)) in
-    let many = no_longer (pages ss) (pages_in wanted) (λ x. count-distinct x (pages ss) (Distinct-pages ss k.placed k.apart)) (Each-from_Has (λ x. Has x (pages_in wanted)) (pages ss) (λ x h. has-pages_in wanted x (same x ∙ is_destination-from_Has ss x k.placed h))) in
+    let few = counted_fit (pages_in wanted) (pages ss) (λ x. pages-once 0 wanted x apart) (Each-map (pages_in wanted) (λ x t. Has-from_is_destination ss x k.placed (sym (same x) ∙ t)) (each-pages_in wanted)) in
+    let many = counted_fit (pages ss) (pages_in wanted) (λ x. count-from_Distinct x (pages ss) (Distinct-pages ss k.placed k.apart)) (Each-from_Has (λ x. Has x (pages_in wanted)) (pages ss) (λ x h. has-pages_in wanted x (same x ∙ is_destination-from_Has ss x k.placed h))) in
     omega (arith, few, many, length-pages_in wanted)
 
-pub need_same : (wish : Wish) (ss : List Part) (m n : ℕ) → m ≡ length (pages ss) → n ≡ length ss → need_of wish m n ≡ need wish ss
-need_same wish ss m n e f = ap (λ x. need_of wish x n) e ∙ ap (need_of wish (length (pages ss))) f ∙ either wish
+pub need_same : (wish : Wish) (ss : List SegmentValue) (n m : ℕ) → n ≡ length ss → m ≡ length (pages ss) → need_of wish n m ≡ need wish ss
+need_same wish ss n m f e = ap (λ x. need_of wish x m) f ∙ ap (need_of wish (length ss)) e ∙ either wish
   where
-    either : (w : Wish) → need_of w (length (pages ss)) (length ss) ≡ need w ss
+    either : (w : Wish) → need_of w (length ss) (length (pages ss)) ≡ need w ss
     either Plain = refl
     either Kept = refl
 
 -- a load is begun
-pub filling_begun : (M : Contents) (pool : List ℕ) (wanted : List Run) (wish : Wish) (ss : List Part) (n : ℕ) (w : Writer) → AreSegments ss → n ≡ length ss → ((q : ℕ) → in_spans wanted q ≡ is_destination ss q)
+pub filling_begun : (M : Contents) (pool : List ℕ) (wanted : List Run) (wish : Wish) (ss : List SegmentValue) (n : ℕ) (w : Writer) → AreSegments ss → n ≡ length ss → ((q : ℕ) → in_spans wanted q ≡ is_destination ss q)
     → StandsAt (load_begun (at M) pool wanted n wish) w → FillsFrom (at M) pool wish (record { writer = w; segments = ss; written = 0 })
 filling_begun M pool wanted wish ss n w k size same s = record {
   good = k;

@@ -5,17 +5,14 @@ use Rattle.kx_pages.specs.declared.image.Mode.{Mode}
 use Rattle.kx_pages.specs.declared.image.Mode.TheVariants.{Plain, Kept}
 use Rattle.kx_pages.specs.Lists.{Each, destinations, sources}
 use Rattle.page_memory.specs.Contents.{Contents, IsHeld}
-use Rattle.relocate_machine.specs.Machine.{AreHeld, move_writes}
-use Rattle.segments.specs.Elements.{Each-left, Each-right}
+use Rattle.relocate_machine.specs.Writes.{AreHeld, move_writes}
 use Rattle.load_states.specs.Ready.{written_pages}
+use Rattle.kx_pages.proofs.Lists.{Each-left, Each-right}
+use Rattle.kx_pages.proofs.Lists.{Each-from_All}
 
 -- the pages of the pairs' moves are held
 abbrev pub Holds : Contents → Mode → List (ℕ × ℕ) → Type 0
 Holds m mode qs = Each (λ q. AreHeld m (move_writes mode q.0 q.1)) qs
-
-each_of_all : (P : ℕ → Type 0) (xs : List ℕ) → All P xs → Each P xs
-each_of_all P [] all = tt
-each_of_all P (x ∷ xs) all = (all 0 x (omega arith), each_of_all P xs (λ k d inside. all (suc k) d (omega (arith, inside))))
 
 held_plain : (m : Contents) (qs : List (ℕ × ℕ)) → Each (λ p. IsHeld m p) (destinations qs) → Holds m Plain qs
 held_plain m [] h = tt
@@ -34,4 +31,4 @@ held_written (Kept swap) m qs h =
 -- where the pages that the moves write are held, the moves' pages are
 pub holds_written : {T E : Type 0} (r : Result T E) (mode : Mode) (m : Contents) (qs : List (ℕ × ℕ)) (pages : List ℕ) → pages ≡ written_pages mode qs → OnOk r (All (λ p. IsHeld m p) pages) → OnOk r (Holds m mode qs)
 holds_written (Err e) mode m qs pages same held = held
-holds_written (Ok x) mode m qs pages same held = held_written mode m qs (subst (Each (λ p. IsHeld m p)) same (each_of_all (λ p. IsHeld m p) pages held))
+holds_written (Ok x) mode m qs pages same held = held_written mode m qs (subst (Each (λ p. IsHeld m p)) same (Each-from_All (λ p. IsHeld m p) pages held))

@@ -12,12 +12,17 @@ use Rattle.kx_pages.specs.declared.image.Wish.{Wish}
 use Rattle.kx_pages.specs.declared.image.Wish.TheVariants.{Plain, Kept}
 use Rattle.page_memory.specs.Memory.{Mem, Wants}
 use Rattle.list_checker.specs.Walk.{links, pairs_from, pairs, DestinationFirst, InOrder, PairsApart, Accepted, AcceptedKept}
-use Rattle.kimage_list.specs.Load.{Loading, Request, Entry, Start, Move, begun, pages_of, own_request, requests_from, requests, first_count, loaded}
+use Rattle.kimage_list.specs.Load.{Loading, Request, Entry, Start, Move, begun, pages_of, own_request, requests_from, requests, loaded}
 use Rattle.kimage_list.specs.Laying.{Holds, items, chained, link_pages, source_pages, put_all, laid, head_of, control_of, swap_of, list_of}
 use Rattle.kimage_list.specs.Drafts.{one, IsHome}
-use Rattle.kimage_list.proofs.Lists.{each_map, each_both, count-append, absent, distinct_from, keys, holds_all, keys-append, keys-link_pages, keys-source_pages, length-items, heads_same, nil_cons}
+use Rattle.kimage_list.proofs.Lists.{keys, holds_all, keys-append, keys-link_pages, keys-source_pages, length-items, heads_same, nil_cons}
 use Rattle.kimage_list.proofs.Takes.{Sound, wished, others, served_sound}
-use Rattle.load_states.proofs.LaidWords.{IsMove, lead, walks, each_take, each_drop}
+use Rattle.load_states.proofs.LaidWords.{IsMove, lead, walks}
+use Rattle.kx_pages.proofs.Lists.{Each-map, Each-both, Each-take, Each-drop}
+use Rattle.kx_pages.proofs.Counting.{count-append, Each-from_no_count, Distinct-from_count}
+use Rattle.kx_pages.specs.Needs.{first_count}
+use Rattle.kx_pages.proofs.Lists.{Each-left, Each-right, Each-from_destinations, Each-from_sources}
+use Rattle.kx_pages.proofs.Counting.{Each-from_count}
 
 -- each page follows the one before it, or the start of its segment
 abbrev pub Follows : ℕ → List Entry → Type 0
@@ -38,14 +43,6 @@ pub record Plan (D : ℕ → Bool) (W : Wants) (es : List Entry) : Type 0 where
   pub once : (x : ℕ) → count x (pages_of es) ≤ 1
   pub wanted : Each (λ p. (D p ≡ true) × (bytes : List ℕ) × (W p ≡ Some bytes)) (pages_of es)
   pub only : (p : ℕ) (bytes : List ℕ) → W p ≡ Some bytes → Has p (pages_of es)
-
-each_left : {X : Type 0} (P : X → Type 0) (xs ys : List X) → Each P (xs ++ ys) → Each P xs
-each_left P [] ys h = tt
-each_left P (x ∷ xs) ys h = (h.0, each_left P xs ys h.1)
-
-each_right : {X : Type 0} (P : X → Type 0) (xs ys : List X) → Each P (xs ++ ys) → Each P ys
-each_right P [] ys h = h
-each_right P (x ∷ xs) ys h = each_right P xs ys h.1
 
 each_count : (xs ys : List ℕ) → ((x : ℕ) → count x xs + count x ys ≤ 1) → Each (λ x. count x ys ≡ 0) xs
 each_count [] ys h = tt
@@ -130,7 +127,7 @@ links-moves (Source p ∷ is) r m = links-moves is r m.1
 pub links-chained : (ls : List ℕ) (is : List Item) → Each IsMove is → links (chained ls is) ≡ ls
 links-chained [] is m = refl
 links-chained (l ∷ ls) is m =
-    ap (λ ys. l ∷ ys) (links-moves (take 511 is) (chained ls (drop 511 is)) (each_take IsMove 511 is m) ∙ links-chained ls (drop 511 is) (each_drop IsMove 511 is m))
+    ap (λ ys. l ∷ ys) (links-moves (take 511 is) (chained ls (drop 511 is)) (Each-take IsMove 511 is m) ∙ links-chained ls (drop 511 is) (Each-drop IsMove 511 is m))
 
 -- what follows a page's words
 pairs-split : (n : ℕ) (t : ℕ) (is : List Item) (r : List Item → List Item) → ((u : ℕ) → pairs_from u (r (drop n is)) ≡ pairs_from u (drop n is)) → pairs_from t (take n is ++ r (drop n is)) ≡ pairs_from t is
@@ -153,18 +150,6 @@ led-chained (l ∷ ls) [] qs b = absurd b
 led-chained (l ∷ ls) (Start p ∷ es) qs b = tt
 led-chained (l ∷ ls) (Move p ∷ es) qs b = absurd b
 
-pub each_of_count : (P : ℕ → Type 0) (xs : List ℕ) → ((x : ℕ) → 1 ≤ count x xs → P x) → Each P xs
-each_of_count P [] h = tt
-each_of_count P (x ∷ xs) h = (h x (grind arith), each_of_count P xs (λ y n. h y (omega (arith, n))))
-
-over_destinations : (P : ℕ → Type 0) (qs : List (ℕ × ℕ)) → Each P (destinations qs) → Each (λ q. P q.0) qs
-over_destinations P [] h = tt
-over_destinations P (q ∷ qs) h = (h.0, over_destinations P qs h.1)
-
-over_sources : (P : ℕ → Type 0) (qs : List (ℕ × ℕ)) → Each P (sources qs) → Each (λ q. P q.1) qs
-over_sources P [] h = tt
-over_sources P (q ∷ qs) h = (h.0, over_sources P qs h.1)
-
 -- a destination is no page that D denies
 differ : (D : ℕ → Bool) (x y : ℕ) → D x ≡ true → D y ≡ false → x ≢ y
 differ D x y t f e = true≢false (sym t ∙ ap D e ∙ f)
@@ -173,8 +158,8 @@ ordered : (D : ℕ → Bool) (qs : List (ℕ × ℕ)) → Each (λ q. D q.0 ≡ 
 ordered D [] t h c = tt
 ordered D (q ∷ qs) t h c =
     let z : count q.0 (destinations qs) ≡ 0 = grind (arith, c q.0) in
-    let away : Each (λ r. r.0 ≢ q.0) qs = over_destinations (λ x. x ≢ q.0) qs (absent q.0 (destinations qs) z) in
-    (each_both qs (λ r n m. ((λ e. n (sym e)), ⊎_elim (λ s e. n (sym (e ∙ s))) (λ f. differ D q.0 r.1 t.0 f) m)) away h.1, ordered D qs t.1 h.1 (λ x. omega (arith, c x)))
+    let away : Each (λ r. r.0 ≢ q.0) qs = Each-from_destinations (λ x. x ≢ q.0) qs (Each-from_no_count q.0 (destinations qs) z) in
+    (Each-both qs (λ r n m. ((λ e. n (sym e)), ⊎_elim (λ s e. n (sym (e ∙ s))) (λ f. differ D q.0 r.1 t.0 f) m)) away h.1, ordered D qs t.1 h.1 (λ x. omega (arith, c x)))
 
 -- no page stands in two pairs
 apart_pairs : (D : ℕ → Bool) (qs : List (ℕ × ℕ)) → Each (λ q. D q.0 ≡ true) qs → Each (IsHome D) qs → ((x : ℕ) → count x (destinations qs) ≤ 1) → ((x : ℕ) → count x (sources qs) ≤ 1) → PairsApart qs
@@ -182,10 +167,10 @@ apart_pairs D [] t h c s = tt
 apart_pairs D (q ∷ qs) t h c s =
     let u = ordered D (q ∷ qs) t h c in
     let z : count q.1 (sources qs) ≡ 0 = grind (arith, s q.1) in
-    let away : Each (λ r. r.1 ≢ q.1) qs = over_sources (λ x. x ≢ q.1) qs (absent q.1 (sources qs) z) in
-    let back : Each (λ r. q.1 ≢ r.0) qs = ⊎_elim (λ m. each_map qs (λ r a e. a.0 (sym m ∙ e)) u.0) (λ f. each_map qs (λ r d e. differ D r.0 q.1 d f (sym e)) t.1) h.0 in
-    let both : Each (λ r. (q.1 ≢ r.0) × (r.1 ≢ q.1)) qs = each_both qs (λ r a b. (a, b)) back away in
-    (each_both qs (λ r a b. (a.0, a.1, b.0, λ e. b.1 (sym e))) u.0 both, apart_pairs D qs t.1 h.1 (λ x. omega (arith, c x)) (λ x. omega (arith, s x)))
+    let away : Each (λ r. r.1 ≢ q.1) qs = Each-from_sources (λ x. x ≢ q.1) qs (Each-from_no_count q.1 (sources qs) z) in
+    let back : Each (λ r. q.1 ≢ r.0) qs = ⊎_elim (λ m. Each-map qs (λ r a e. a.0 (sym m ∙ e)) u.0) (λ f. Each-map qs (λ r d e. differ D r.0 q.1 d f (sym e)) t.1) h.0 in
+    let both : Each (λ r. (q.1 ≢ r.0) × (r.1 ≢ q.1)) qs = Each-both qs (λ r a b. (a, b)) back away in
+    (Each-both qs (λ r a b. (a.0, a.1, b.0, λ e. b.1 (sym e))) u.0 both, apart_pairs D qs t.1 h.1 (λ x. omega (arith, c x)) (λ x. omega (arith, s x)))
 
 -- what a load comes to, by its control page, link pages and pairs
 pub record Comes (D : ℕ → Bool) (es : List Entry) (c : ℕ) (ls : List ℕ) (qs : List (ℕ × ℕ)) : Type 0 where
@@ -202,16 +187,16 @@ module _ (M : Mem) (D : ℕ → Bool) (W : Wants) (es : List Entry) (c : ℕ) (l
   M1 = put_all M (link_pages ls (items es qs) ++ source_pages W qs)
 
   known : Each (λ q. (D q.0 ≡ true) × (bytes : List ℕ) × (W q.0 ≡ Some bytes)) qs
-  known = over_destinations (λ p. (D p ≡ true) × (bytes : List ℕ) × (W p ≡ Some bytes)) qs (rw k.order plan.wanted)
+  known = Each-from_destinations (λ p. (D p ≡ true) × (bytes : List ℕ) × (W p ≡ Some bytes)) qs (rw k.order plan.wanted)
 
   true_at : Each (λ q. D q.0 ≡ true) qs
-  true_at = each_map qs (λ q h. h.0) known
+  true_at = Each-map qs (λ q h. h.0) known
 
   dest_once : (x : ℕ) → count x (destinations qs) ≤ 1
   dest_once x = rw k.order (plan.once x)
 
   are_moves : Each IsMove (items es qs)
-  are_moves = moves_only 0 es qs plan.follows (over_sources (λ x. x < 2 ^ 34) qs (each_of_count (λ x. x < 2 ^ 34) (sources qs) (λ x n. k.below x (omega (arith, n)))))
+  are_moves = moves_only 0 es qs plan.follows (Each-from_sources (λ x. x < 2 ^ 34) qs (Each-from_count (λ x. x < 2 ^ 34) (sources qs) (λ x n. k.below x (omega (arith, n)))))
 
   pairs_are : pairs (chained ls (items es qs)) ≡ qs
   pairs_are = pairs-chained ls 0 (items es qs) (omega (arith, length-items es qs, k.room)) ∙ pairs-items 0 es qs plan.follows k.order
@@ -229,24 +214,24 @@ module _ (M : Mem) (D : ℕ → Bool) (W : Wants) (es : List Entry) (c : ℕ) (l
   holds = holds_all M (link_pages ls (items es qs) ++ source_pages W qs) keys_once
 
   brings : Each (λ q. W q.0 ≡ Some (M1 q.1)) qs
-  brings = each_both qs (λ q a b. a.2 ∙ ap Some (sym (b ∙ ap (λ o. unwrap_or o []) a.2))) known
-      (source_holds M1 W qs (each_right (λ x. M1 x.0 ≡ x.1) (link_pages ls (items es qs)) (source_pages W qs) holds))
+  brings = Each-both qs (λ q a b. a.2 ∙ ap Some (sym (b ∙ ap (λ o. unwrap_or o []) a.2))) known
+      (source_holds M1 W qs (Each-right (λ x. M1 x.0 ≡ x.1) (link_pages ls (items es qs)) (source_pages W qs) holds))
 
   links_below : Each (λ l. l < 2 ^ 34) ls
-  links_below = each_of_count (λ x. x < 2 ^ 34) ls (λ x n. k.below x (omega (arith, n)))
+  links_below = Each-from_count (λ x. x < 2 ^ 34) ls (λ x n. k.below x (omega (arith, n)))
 
   accepted : Accepted M1 W (lead (chained ls (items es qs))) c (chained ls (items es qs))
   accepted = record {
-    walk = walks M1 ls (items es qs) links_below are_moves (each_left (λ x. M1 x.0 ≡ x.1) (link_pages ls (items es qs)) (source_pages W qs) holds);
-    once = rw links_are (distinct_from ls (λ x. omega (arith, k.apart x)));
+    walk = walks M1 ls (items es qs) links_below are_moves (Each-left (λ x. M1 x.0 ≡ x.1) (link_pages ls (items es qs)) (source_pages W qs) holds);
+    once = rw links_are (Distinct-from_count ls (λ x. omega (arith, k.apart x)));
     destination_first = led-chained ls es qs plan.begins;
     in_order = rw pairs_are (ordered D qs true_at k.homes dest_once);
     whole = λ p b e. rw (pairs_are, k.order) (plan.only p b e);
     right_bytes = rw pairs_are brings;
-    links_unwritten = rw (pairs_are, links_are) (each_map qs (λ q t. each_map ls (λ l f. differ D q.0 l t f) k.links_free) true_at);
+    links_unwritten = rw (pairs_are, links_are) (Each-map qs (λ q t. Each-map ls (λ l f. differ D q.0 l t f) k.links_free) true_at);
     control_apart = (
-      rw links_are (absent c ls (grind (arith, k.apart c))),
-      rw pairs_are (each_both qs (λ q t n. (differ D q.0 c t k.control_free, n)) true_at (over_sources (λ x. x ≢ c) qs (absent c (sources qs) (grind (arith, k.apart c))))),
+      rw links_are (Each-from_no_count c ls (grind (arith, k.apart c))),
+      rw pairs_are (Each-both qs (λ q t n. (differ D q.0 c t k.control_free, n)) true_at (Each-from_sources (λ x. x ≢ c) qs (Each-from_no_count c (sources qs) (grind (arith, k.apart c))))),
     );
   }
 
@@ -255,29 +240,30 @@ module _ (M : Mem) (D : ℕ → Bool) (W : Wants) (es : List Entry) (c : ℕ) (l
   accepted_kept w apart free = record {
     plain = accepted;
     apart = rw pairs_are (apart_pairs D qs true_at k.homes dest_once (λ x. omega (arith, apart x)));
-    links_no_sources = rw (pairs_are, links_are) (over_sources (λ x. Each (λ l. x ≢ l) ls) qs
-        (each_map (sources qs) (λ x z. each_map ls (λ l n e. n (sym e)) (absent x ls z)) (each_count (sources qs) ls (λ x. omega (arith, apart x)))));
+    links_no_sources = rw (pairs_are, links_are) (Each-from_sources (λ x. Each (λ l. x ≢ l) ls) qs
+        (Each-map (sources qs) (λ x z. Each-map ls (λ l n e. n (sym e)) (Each-from_no_count x ls z)) (each_count (sources qs) ls (λ x. omega (arith, apart x)))));
     swap_apart = (
       λ e. grind (arith, apart c, e),
-      rw links_are (absent w ls (grind (arith, apart w))),
-      rw pairs_are (each_both qs (λ q t n. (differ D q.0 w t free, n)) true_at (over_sources (λ x. x ≢ w) qs (absent w (sources qs) (grind (arith, apart w))))),
+      rw links_are (Each-from_no_count w ls (grind (arith, apart w))),
+      rw pairs_are (Each-both qs (λ q t n. (differ D q.0 w t free, n)) true_at (Each-from_sources (λ x. x ≢ w) qs (Each-from_no_count w (sources qs) (grind (arith, apart w))))),
     );
   }
 
-served_well : (wish : Wish) (D : ℕ → Bool) (es : List Entry) (pool : List ℕ) (l : Loading) → ((x : ℕ) → count x pool ≤ 1) → loaded D wish es pool ≡ Some l
+-- the requests of a load: for its pages, for the pages before the link pages, and for the link pages
+pub wished_in : (w : Wish) (es : List Entry) → wished (requests w es) ≡ pages_of es
+wished_in Kept es = wished-requests 0 es
+wished_in Plain es = wished-requests 0 es
+
+pub others_in : (w : Wish) (es : List Entry) → others (requests w es) ≡ first_count w + (length es + 510) / 511
+others_in Kept es = let h = others-requests 0 es in omega (arith, h)
+others_in Plain es = let h = others-requests 0 es in omega (arith, h)
+
+pub served_well : (wish : Wish) (D : ℕ → Bool) (es : List Entry) (pool : List ℕ) (l : Loading) → ((x : ℕ) → count x pool ≤ 1) → loaded D wish es pool ≡ Some l
     → Sound D pool (pages_of es) (first_count wish + (length es + 510) / 511) l
 served_well wish D es pool l once e =
     let s = served_sound D pool [] 0 (requests wish es) (begun pool) l once (record { conserved = λ x. omega arith; homes = tt; order = refl; free = tt; many = refl }) e in
-    subst (λ ys. Sound D pool ys (first_count wish + (length es + 510) / 511) l) (pages wish)
-    (subst (λ n. Sound D pool (wished (requests wish es)) n l) (number wish) s)
-  where
-    pages : (w : Wish) → wished (requests w es) ≡ pages_of es
-    pages Kept = wished-requests 0 es
-    pages Plain = wished-requests 0 es
-
-    number : (w : Wish) → 0 + others (requests w es) ≡ first_count w + (length es + 510) / 511
-    number Kept = let h = others-requests 0 es in omega (arith, h)
-    number Plain = let h = others-requests 0 es in omega (arith, h)
+    subst (λ ys. Sound D pool ys (first_count wish + (length es + 510) / 511) l) (wished_in wish es)
+    (subst (λ n. Sound D pool (wished (requests wish es)) n l) (others_in wish es) s)
 
 lead_is : (ls : List ℕ) (is : List Item) → 1 ≤ length ls → lead (chained ls is) ≡ code (Link (slice_index ls 0))
 lead_is [] is n = absurd (omega (arith, n))

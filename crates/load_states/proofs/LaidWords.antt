@@ -14,6 +14,7 @@ use Rattle.kx_pages.specs.declared.item.Item.TheVariants.{Link, Destination, Sou
 use Rattle.list_checker.specs.Walk.{Reads, Walk}
 use Rattle.kimage_list.specs.Laying.{chained, in_bytes, link_pages, Holds}
 use Rattle.kimage_list.proofs.Words.{length-in_bytes, page-split}
+use Rattle.kx_pages.proofs.Lists.{Each-drop, Each-take}
 
 -- the word after those of xs
 at_place : (xs ys : List ℕ) (w : ℕ) → length (xs ++ w ∷ ys) ≤ 512 → w < 2 ^ 64 → little_number 8 (drop (8 * length xs) (page_of (in_bytes (xs ++ w ∷ ys)))) ≡ w
@@ -91,21 +92,11 @@ lead_fits : (ls : List ℕ) (is : List Item) → Each (λ l. l < 2 ^ 34) ls → 
 lead_fits [] is h = omega arith
 lead_fits (l ∷ ls) is h = omega (arith, h.0)
 
-pub each_take : {X : Type 0} (P : X → Type 0) (n : ℕ) (xs : List X) → Each P xs → Each P (take n xs)
-each_take P zero xs h = tt
-each_take P (suc n) [] h = tt
-each_take P (suc n) (x ∷ xs) h = (h.0, each_take P n xs h.1)
-
-pub each_drop : {X : Type 0} (P : X → Type 0) (n : ℕ) (xs : List X) → Each P xs → Each P (drop n xs)
-each_drop P zero xs h = h
-each_drop P (suc n) [] h = tt
-each_drop P (suc n) (x ∷ xs) h = each_drop P n xs h.1
-
 pub walks : (M : Mem) (ls : List ℕ) (is : List Item) → Each (λ l. l < 2 ^ 34) ls → Each IsMove is → Holds M (link_pages ls is) → Walk M (lead (chained ls is)) (chained ls is)
 walks M [] is h m k = (refl, refl)
 walks M (l ∷ ls) is h m k =
     let r = chained ls (drop 511 is) in
-    let w = walks M ls (drop 511 is) h.1 (each_drop IsMove 511 is m) k.1 in
+    let w = walks M ls (drop 511 is) h.1 (Each-drop IsMove 511 is m) k.1 in
     let z : 4096 * l + 8 * length {A = Item} [] ≡ 4096 * l = omega arith in
     let n : length {A = Item} [] + length (take 511 is) ≤ 511 = omega (arith, length-take 511 is) in
-    (refl, h.0, subst (λ a. Reads M a (take 511 is ++ r)) z (reads_page M l [] (take 511 is) r k.0 n (each_take IsMove 511 is m) (lead_fits ls (drop 511 is) h.1) w))
+    (refl, h.0, subst (λ a. Reads M a (take 511 is ++ r)) z (reads_page M l [] (take 511 is) r k.0 n (Each-take IsMove 511 is m) (lead_fits ls (drop 511 is) h.1) w))

@@ -7,28 +7,28 @@ use Rattle.std.proofs.lemmas.List.Folds.{Any-from_list_any}
 use Rattle.kx_pages.specs.Spans.{Run, in_span, in_spans, IsMaximal}
 use Rattle.page_memory.specs.Memory.{Mem}
 use Rattle.page_memory.specs.Contents.{Contents, at, after_set}
-use Rattle.page_memory.specs.Laws.{frame_at-insert_same, frame_at-insert_other}
-use Rattle.segments.specs.Parts.{Part, want, overlay}
-use Rattle.segments.specs.Laws.{some_same}
+use Rattle.page_memory.proofs.Laws.{frame_at-insert_same, frame_at-insert_other}
+use Rattle.segments.specs.Values.{SegmentValue, want, overlay}
+use Rattle.kx_laws.proofs.Options.{some_same}
 use Rattle.load_states.specs.Laying.{Lays}
 
-pub lays_more : (S : List Part) (M N L : Mem) → Lays S M N → Lays S N L → Lays S M L
+pub lays_more : (S : List SegmentValue) (M N L : Mem) → Lays S M N → Lays S N L → Lays S M L
 lays_more S M N L h k q = ⊎_elim
     (λ e. ⊎_elim (λ f. inl (e ∙ f)) (λ w. inr (w ∙ ap Some (sym e))) (h q))
     (λ w. inr w)
     (k q)
 
-pub right_stays : (S : List Part) (N L : Mem) (p : ℕ) → Lays S N L → want S p ≡ Some (N p) → want S p ≡ Some (L p)
+pub right_stays : (S : List SegmentValue) (N L : Mem) (p : ℕ) → Lays S N L → want S p ≡ Some (N p) → want S p ≡ Some (L p)
 right_stays S N L p k w = ⊎_elim (λ e. w ∙ ap Some (sym e)) (λ v. v) (k p)
 
 -- one page was set to what it is to have
-pub lays_page : (S : List Part) (m : Contents) (p : ℕ) (bytes : List ℕ) → Some bytes ≡ want S p → Lays S (at m) (at (after_set m p bytes))
+pub lays_page : (S : List SegmentValue) (m : Contents) (p : ℕ) (bytes : List ℕ) → Some bytes ≡ want S p → Lays S (at m) (at (after_set m p bytes))
 lays_page S m p bytes w q = ⊎_elim
     (λ t. inr (ap (want S) t.1 ∙ sym w ∙ ap Some (sym (ap (at (after_set m p bytes)) t.1 ∙ frame_at-insert_same m.pages p bytes))))
     (λ t. inl (frame_at-insert_other m.pages p bytes q t.1))
     (eqb_tells q p)
 
-pub right_page : (S : List Part) (m : Contents) (p : ℕ) (bytes : List ℕ) → Some bytes ≡ want S p → want S p ≡ Some (at (after_set m p bytes) p)
+pub right_page : (S : List SegmentValue) (m : Contents) (p : ℕ) (bytes : List ℕ) → Some bytes ≡ want S p → want S p ≡ Some (at (after_set m p bytes) p)
 right_page S m p bytes w = sym w ∙ ap Some (sym (frame_at-insert_same m.pages p bytes))
 
 -- a page of the set is in a span
@@ -53,7 +53,7 @@ next_span P rs i s at here before k l r e = ⊎_elim
     last k i h = grind arith
 
 -- all pages of the segments are in their place
-pub laid_overlay : (S : List Part) (M N : Mem) → Lays S M N → ((p : ℕ) → IsSome (want S p) → want S p ≡ Some (N p)) → (p : ℕ) → N p ≡ overlay M (want S) p
+pub laid_overlay : (S : List SegmentValue) (M N : Mem) → Lays S M N → ((p : ℕ) → IsSome (want S p) → want S p ≡ Some (N p)) → (p : ℕ) → N p ≡ overlay M (want S) p
 laid_overlay S M N h right p = go (want S p) refl
   where
     go : (o : Option (List ℕ)) → want S p ≡ o → N p ≡ overlay M (want S) p

@@ -3,12 +3,12 @@ use Rattle.std.proofs.Common.{◌≡◌, ℕ, List, [], ◌∷◌, Option, Some,
 use Rattle.std.specs.Prelude.{◌≢◌, cond, eqb, unwrap_or}
 use Rattle.kx_pages.specs.declared.image.Mode.{Mode}
 use Rattle.kx_pages.specs.declared.image.Mode.TheVariants.{Plain, Kept}
-use Rattle.segments.specs.Elements.{Each-map, Each-both}
 use Rattle.page_memory.specs.Memory.{Mem, Wants, copied_page, put}
 use Rattle.kx_pages.specs.Lists.{Each, Has, destinations}
 use Rattle.list_checker.specs.Walk.{InOrder}
-use Rattle.segments.specs.Parts.{overlay}
+use Rattle.segments.specs.Values.{overlay}
 use Rattle.std.proofs.lemmas.Option.{none-some}
+use Rattle.kx_pages.proofs.Lists.{Each-map, Each-both}
 
 put-apart : (M : Mem) (p q : ℕ) (b : (List ℕ)) → p ≢ q → put M p b q ≡ M q
 put-apart M p q b apart = grind arith

@@ -5,31 +5,35 @@ use Rattle.kx_pages.specs.declared.item.Item.{Item}
 use Rattle.kx_pages.specs.declared.image.Mode.TheVariants.{Plain, Kept}
 use Rattle.kx_pages.specs.Lists.{Each, Has, destinations, sources}
 use Rattle.page_memory.specs.Contents.{Contents, at, IsHeld, after_set}
-use Rattle.page_memory.specs.Laws.{frame_at-insert_other, held-insert}
+use Rattle.page_memory.proofs.Laws.{frame_at-insert_other, held-insert}
 use Rattle.std.proofs.lemmas.Option.{none-some}
 use Rattle.page_memory.specs.Memory.{Mem}
-use Rattle.segments.specs.Parts.{Part, want, overlay}
+use Rattle.segments.specs.Values.{SegmentValue, want, overlay}
 use Rattle.segments.specs.Rules.{IsBare}
-use Rattle.segments.specs.Laws.{AreSegments-from_IsBare, Has-from_want, pages_below}
-use Rattle.segments.specs.Elements.{Each-map, Each-both}
+use Rattle.segments.proofs.Laws.{AreSegments-from_IsBare, Has-from_want, pages_below}
 use Rattle.list_checker.specs.declared.earlier.Accept.{Accept}
-use Rattle.list_checker.specs.Walk.{Accepted, AcceptedKept, PairsApart, IsAccepted, swap_page, links, pairs}
+use Rattle.list_checker.specs.Walk.{Accepted, AcceptedKept, PairsApart, IsAccepted, links, pairs}
 use Rattle.list_checker.specs.Checked.{as_pair, IsAccept}
 use Rattle.load_states.specs.States.{Load, Checked, checked_of, swap_of}
 use Rattle.load_states.specs.Exchange.{exchange, partner}
 use Rattle.load_states.proofs.Exchange.{arrives, link_kept, link_unwanted, restores, returns, no_source_wanted, sources_get}
+use Rattle.load_states.specs.Runs.{EndsAfter, RunsTo}
 use Rattle.load_states.specs.Ready.{Told, HoldsPairs, IsReadyPlain, IsKept, IsReadyKept, IsToGoBack}
-use Rattle.load_states.proofs.Bridge.{Comes, begin_at, plain_runs, kept_runs, done_runs}
+use Rattle.load_states.proofs.Bridge.{Comes, plain_runs, kept_runs, done_runs}
 use Rattle.load_states.proofs.Holding.{Holds}
 use Rattle.kx_pages.specs.declared.image.Image.{Image}
+use Rattle.relocate_machine.specs.Machine.{start_at}
 use Rattle.relocate_machine.specs.Run.{HeldFrom, run_of}
 use Rattle.relocate_machine.specs.declared.step.Outcome.TheVariants as outcomes
+use Rattle.kx_pages.proofs.Lists.{Each-map, Each-both}
+use Rattle.kx_pages.specs.Modes.{swap_page}
+use Rattle.kx_laws.proofs.Options.{some_of}
 
 -- each destination of an accepted list is a page
 below : (W : ℕ → Option (List ℕ)) (M : Mem) (qs : List (ℕ × ℕ)) → ((p : ℕ) (b : List ℕ) → W p ≡ Some b → p < 2 ^ 34) → Each (λ q. W q.0 ≡ Some (M q.1)) qs → Each (λ q. q.0 < 2 ^ 34) qs
 below W M qs h k = Each-map qs (λ q e. h q.0 (M q.1) e) k
 
-wanted_below : (S : List Part) → IsBare S → (p : ℕ) (b : List ℕ) → want S p ≡ Some b → p < 2 ^ 34
+wanted_below : (S : List SegmentValue) → IsBare S → (p : ℕ) (b : List ℕ) → want S p ≡ Some b → p < 2 ^ 34
 wanted_below S k p b e = let a = AreSegments-from_IsBare S k in pages_below S p a.placed (Has-from_want S p b a.placed e)
 
 told_of : (s : Load) (a : Accept) → IsAccept s.memory s.segments s.image a → Told s a.words a.links (map as_pair a.pairs.items)
@@ -67,29 +71,37 @@ kept_ready s a swap h k m held =
     }
 
 -- the run of a plain list
-pub ready_runs : (c : Checked) → IsReadyPlain c → Comes c.words 0 (begin_at c.load.image.mode c.load.image.head c.load.memory) (overlay (at c.load.memory) (want c.load.segments))
+pub ready_runs : (c : Checked) → IsReadyPlain c → Comes c.words 0 (start_at c.load.memory c.load.image.head c.load.image.mode) (overlay (at c.load.memory) (want c.load.segments))
 ready_runs c r =
     let items = r.told.items in
     let plain : Accepted (at c.load.memory) (want c.load.segments) c.load.image.head c.load.image.control items = subst (λ mode. IsAccepted (at c.load.memory) (want c.load.segments) c.load.image.head c.load.image.control (swap_page mode) items) r.mode r.told.accepted in
     let held : HoldsPairs c.load.memory Plain (pairs items) = subst (HoldsPairs c.load.memory Plain) (sym r.told.same_pairs) r.held in
     let run = plain_runs c.load.memory (want c.load.segments) c.load.image.head c.load.image.control items plain held in
-    let counted = subst (λ n. Comes n 0 (begin_at Plain c.load.image.head c.load.memory) (overlay (at c.load.memory) (want c.load.segments))) r.told.count run in
-    subst (λ mode. Comes c.words 0 (begin_at mode c.load.image.head c.load.memory) (overlay (at c.load.memory) (want c.load.segments))) (sym r.mode) counted
+    let counted = subst (λ n. Comes n 0 (start_at c.load.memory c.load.image.head Plain) (overlay (at c.load.memory) (want c.load.segments))) r.told.count run in
+    subst (λ mode. Comes c.words 0 (start_at c.load.memory c.load.image.head mode) (overlay (at c.load.memory) (want c.load.segments))) (sym r.mode) counted
 
 -- the run of the image's list ends after exactly so many steps, its pages are held, and it leaves M
 pub record Ends (m : Contents) (i : Image) (words : ℕ) (M : Mem) : Type 0 where
-  pub held : HeldFrom words (begin_at i.mode i.head m)
+  pub held : HeldFrom words (start_at m i.head i.mode)
   pub ends : (run_of m i.head i.mode words).1 ≡ outcomes.Done words
   pub leaves : (p : ℕ) → at (run_of m i.head i.mode words).0.memory p ≡ M p
   pub sets : (run_of m i.head i.mode words).0.memory.sets ≡ m.sets
   pub stay : (q : ℕ) → IsHeld m q → IsHeld (run_of m i.head i.mode words).0.memory q
 
-ends_of : (m : Contents) (i : Image) (words : ℕ) (M : Mem) → Comes words 0 (begin_at i.mode i.head m) M → Ends m i words M
+ends_of : (m : Contents) (i : Image) (words : ℕ) (M : Mem) → Comes words 0 (start_at m i.head i.mode) M → Ends m i words M
 ends_of m i words M f = let z : 0 + words ≡ words = omega arith in record { held = f.held; ends = f.out ∙ ap outcomes.Done z; leaves = f.leaves; sets = f.sets; stay = f.stay }
 
 -- the same of a memory and an image that were handed over
 handed : (m n : Contents) (i j : Image) (words : ℕ) (M : Mem) → m ≡ n → i ≡ j → Ends n j words M → Ends m i words M
 handed m n i j words M e f h = subst (λ i. Ends m i words M) (sym f) (subst (λ m. Ends m j words M) (sym e) h)
+
+-- the machine's run, as the load has it
+pub runs_to : (s : Load) (m n : Contents) (i : Image) (words : ℕ) (M : Mem) → m ≡ s.memory → i ≡ s.image → Ends m i words M
+    → n ≡ (run_of m i.head i.mode words).0.memory → RunsTo s words n
+runs_to s m n i words M e f runs left = (
+  ap (λ i. (run_of s.memory i.head i.mode words).1) (sym f) ∙ ap (λ m. (run_of m i.head i.mode words).1) (sym e) ∙ runs.ends,
+  left ∙ ap (λ m. (run_of m i.head i.mode words).0.memory) e ∙ ap (λ i. (run_of s.memory i.head i.mode words).0.memory) f,
+)
 
 pub plain_ends : (c : Checked) (m : Contents) (i : Image) → IsReadyPlain c → m ≡ c.load.memory → i ≡ c.load.image → Ends m i c.words (overlay (at c.load.memory) (want c.load.segments))
 plain_ends c m i r e f = handed m c.load.memory i c.load.image c.words _ e f (ends_of c.load.memory c.load.image c.words _ (ready_runs c r))
@@ -98,17 +110,24 @@ plain_ends c m i r e f = handed m c.load.memory i c.load.image c.words _ e f (en
 pub swap_is : (M : Mem) (c : Checked) (swap : ℕ) (items : List Item) → IsKept M c swap items → swap_of c.load ≡ swap
 swap_is M c swap items k = ap (λ mode. unwrap_or (swap_page mode) 0) k.mode
 
-kept_comes : (M : Mem) (c : Checked) (swap : ℕ) (items : List Item) → IsKept M c swap items → Comes c.words 0 (begin_at c.load.image.mode c.load.image.head c.load.memory) (exchange (at c.load.memory) c.pairs (swap_of c.load))
+kept_comes : (M : Mem) (c : Checked) (swap : ℕ) (items : List Item) → IsKept M c swap items → Comes c.words 0 (start_at c.load.memory c.load.image.head c.load.image.mode) (exchange (at c.load.memory) c.pairs (swap_of c.load))
 kept_comes M c swap items k =
     let held : HoldsPairs c.load.memory (Kept swap) (pairs items) = subst (HoldsPairs c.load.memory (Kept swap)) (sym k.same_pairs) k.held in
     let run = kept_runs M c.load.memory (want c.load.segments) c.load.image.head c.load.image.control swap items k.accepted k.words held in
-    let counted = subst (λ n. Comes n 0 (begin_at (Kept swap) c.load.image.head c.load.memory) (exchange (at c.load.memory) (pairs items) swap)) k.count run in
-    let paired = subst (λ qs. Comes c.words 0 (begin_at (Kept swap) c.load.image.head c.load.memory) (exchange (at c.load.memory) qs swap)) k.same_pairs counted in
-    let swapped = subst (λ w. Comes c.words 0 (begin_at (Kept swap) c.load.image.head c.load.memory) (exchange (at c.load.memory) c.pairs w)) (sym (swap_is M c swap items k)) paired in
-    subst (λ mode. Comes c.words 0 (begin_at mode c.load.image.head c.load.memory) (exchange (at c.load.memory) c.pairs (swap_of c.load))) (sym k.mode) swapped
+    let counted = subst (λ n. Comes n 0 (start_at c.load.memory c.load.image.head (Kept swap)) (exchange (at c.load.memory) (pairs items) swap)) k.count run in
+    let paired = subst (λ qs. Comes c.words 0 (start_at c.load.memory c.load.image.head (Kept swap)) (exchange (at c.load.memory) qs swap)) k.same_pairs counted in
+    let swapped = subst (λ w. Comes c.words 0 (start_at c.load.memory c.load.image.head (Kept swap)) (exchange (at c.load.memory) c.pairs w)) (sym (swap_is M c swap items k)) paired in
+    subst (λ mode. Comes c.words 0 (start_at c.load.memory c.load.image.head mode) (exchange (at c.load.memory) c.pairs (swap_of c.load))) (sym k.mode) swapped
 
 pub kept_ends : (M : Mem) (c : Checked) (swap : ℕ) (items : List Item) (m : Contents) (i : Image) → IsKept M c swap items → m ≡ c.load.memory → i ≡ c.load.image → Ends m i c.words (exchange (at c.load.memory) c.pairs (swap_of c.load))
 kept_ends M c swap items m i k e f = handed m c.load.memory i c.load.image c.words _ e f (ends_of c.load.memory c.load.image c.words _ (kept_comes M c swap items k))
+
+-- the runs of accepted lists end after as many steps as their walks have words
+pub plain_done : (c : Checked) → IsReadyPlain c → EndsAfter c.load c.words
+plain_done c r = (plain_ends c c.load.memory c.load.image r refl refl).ends
+
+pub kept_done : (c : Checked) → IsReadyKept c → EndsAfter c.load c.words
+kept_done c r = (kept_ends (at c.load.memory) c r.swap r.items c.load.memory c.load.image r.kept refl refl).ends
 
 -- the pairs and the swap page have no page in common
 pub pairs_apart : (M : Mem) (c : Checked) (swap : ℕ) (items : List Item) → IsKept M c swap items → PairsApart c.pairs × Each (λ q. (q.0 ≢ swap_of c.load) × (q.1 ≢ swap_of c.load)) c.pairs
@@ -177,10 +196,6 @@ undoes c r N leaves =
           (same (partner c.pairs p) (no_source_wanted (want c.load.segments) c.pairs (swap_of c.load) a.0 a.1 (at c.load.memory) N leaves whole p s));
       sources = sources_get (want c.load.segments) c.pairs (swap_of c.load) a.0 a.1 (at c.load.memory) N leaves;
     }
-
-some_of : (o : Option (List ℕ)) → IsSome o → (b : List ℕ) × (o ≡ Some b)
-some_of None h = absurd cc
-some_of (Some b) h = (b, refl)
 
 destination_held : (m : Contents) (swap p : ℕ) (qs : List (ℕ × ℕ)) → HoldsPairs m (Kept swap) qs → Has p (destinations qs) → IsHeld m p
 destination_held m swap p [] h i = absurd i

@@ -7,21 +7,22 @@ use Rattle.kx_pages.specs.declared.image.Wish.{Wish}
 use Rattle.kx_pages.specs.declared.image.Image.{Image}
 use Rattle.page_memory.specs.Contents.{at}
 use Rattle.page_memory.specs.Memory.{Mem}
-use Rattle.segments.specs.Parts.{is_destination, want, pages, need}
-use Rattle.segments.specs.Laws.{Has-from_is_destination, Has-from_want}
-use Rattle.segments.specs.Elements.{has-from_Has}
+use Rattle.segments.specs.Values.{is_destination, want, pages, need}
+use Rattle.segments.proofs.Laws.{Has-from_is_destination, Has-from_want}
 use Rattle.kimage_list.specs.Load.{pages_of, starts, loaded}
 use Rattle.kimage_list.specs.Laying.{list_of}
-use Rattle.kimage_list.specs.Writers.{Load, StandsAt, IsAwaited}
+use Rattle.kimage_list.specs.Writers.{History, StandsAt, IsAwaited}
 use Rattle.kimage_list.specs.Writers as writers
 use Rattle.kimage_list.specs.Calls.{IsWritten}
 use Rattle.kimage_list.specs.declared.written.Written.{Written}
 use Rattle.kimage_list.proofs.Standings.{awaited_exactly}
-use Rattle.list_checker.specs.Walk.{IsAccepted, swap_page}
+use Rattle.list_checker.specs.Walk.{IsAccepted}
 use Rattle.load_states.specs.Loads.{entries_of, loading_of, memory_of}
 use Rattle.load_states.specs.Fillings.{Fill, FillsFrom, IsSealed, left}
 use Rattle.load_states.proofs.LaidPlan.{pages_of-entries_of, load_is_accepted}
 use Rattle.load_states.proofs.FillSteps.{span_pages, need_same, starts-entries_of}
+use Rattle.kx_pages.proofs.Lists.{has-from_Has}
+use Rattle.kx_pages.specs.Modes.{swap_page}
 
 module _ (M : Mem) (pool : List ℕ) (wish : Wish) (f : Fill) (k : FillsFrom M pool wish f) (done : left f ≡ 0) where
   all : take f.written f.segments ≡ f.segments
@@ -51,14 +52,14 @@ module _ (M : Mem) (pool : List ℕ) (wish : Wish) (f : Fill) (k : FillsFrom M p
       either (Some b) e = ap (λ c. cond c (want f.segments q) None) (has-from_Has q (pages f.segments) (Has-from_want f.segments q b k.good.placed e))
 
   -- the load that was asked for
-  abbrev whole : Load
+  abbrev whole : History
   whole = record { before = M; pool = pool; wanted = k.fills.load.wanted; segments = k.fills.load.segments; wish = wish; entries = entries_of f.segments; bytes = want f.segments }
 
   same_load : k.fills.load ≡ whole
   same_load = λ i. record { before = k.fills.from_memory i; pool = k.fills.from_pool i; wanted = k.fills.load.wanted; segments = k.fills.load.segments; wish = k.fills.as_wished i; entries = entries_whole i; bytes = λ q. bytes_whole q i }
 
   need_is : writers.need whole ≡ need wish f.segments
-  need_is = need_same wish f.segments _ k.fills.load.segments (span_pages f.segments k.fills.load.wanted k.good k.fills.stands.inside.apart k.fills.all_pages) k.fills.all_segments
+  need_is = need_same wish f.segments k.fills.load.segments _ k.fills.all_segments (span_pages f.segments k.fills.load.wanted k.good k.fills.stands.inside.apart k.fills.all_pages)
 
   pub sealed : (r : Written) → IsWritten k.fills.load r → IsSealed M pool wish f.segments (record { memory = r.memory; pool = r.pool; image = r.image; segments = f.segments })
   sealed r written =
@@ -73,6 +74,7 @@ module _ (M : Mem) (pool : List ℕ) (wish : Wish) (f : Fill) (k : FillsFrom M p
       record {
         loading = l;
         requests = requests;
+        once = w.once;
         image = w.image;
         memory = w.memory;
         segments = refl;

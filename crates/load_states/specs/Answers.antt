@@ -1,12 +1,12 @@
 -- What accept answers.
 use Rattle.std.specs.Prelude.{◌≡◌, IsSome}
 use Rattle.kx_pages.specs.declared.image.Mode.TheVariants.{Plain}
-use Rattle.list_checker.specs.Walk.{swap_page}
 use Rattle.load_states.specs.declared.accepted.Accepted.{Accepted}
 use Rattle.load_states.specs.declared.accepted.Accepted.TheVariants as variants
 use Rattle.load_states.specs.States.{Load, IsLeftAs, checked_of}
 use Rattle.list_checker.specs.declared.earlier.Accept.{Accept}
 use Rattle.load_states.specs.Ready.{Told}
+use Rattle.kx_pages.specs.Modes.{swap_page}
 
 -- the state of the list's mode: the list is accepted, this is told of it, and nothing has changed but for which pages
 -- are held

@@ -11,20 +11,21 @@ use Rattle.kimage_list.specs.Load.{Loading, Entry, pages_of}
 use Rattle.kimage_list.specs.Laying.{image_of, list_of}
 use Rattle.kimage_list.specs.Writers.{Writer, writer_code, StandsAt}
 use Rattle.kimage_list.specs.Writers as writers
-use Rattle.segments.specs.Parts.{Part, is_destination, want, need}
-use Rattle.segments.specs.Laws.{AreSegments}
-use Rattle.list_checker.specs.Walk.{IsAccepted, swap_page}
+use Rattle.segments.specs.Values.{SegmentValue, is_destination, want, need}
+use Rattle.segments.proofs.Laws.{AreSegments}
+use Rattle.list_checker.specs.Walk.{IsAccepted}
 use Rattle.load_states.specs.States.{Load, part_code}
 use Rattle.load_states.specs.Loads.{entries_of, loading_of, memory_of}
+use Rattle.kx_pages.specs.Modes.{swap_page}
 
 -- What a clause sees of a load while its segments are written.
 pub record Fill : Type 0 where
   pub writer : Writer
-  pub segments : List Part
+  pub segments : List SegmentValue
   pub written : ℕ  -- how many of them are written
 
 abbrev pub fill_code : Coded Fill
-fill_code = code_by (Writer × (List Part × ℕ)) (coded× writer_code (coded× (coded_list part_code) coded_ℕ)) (λ f. (f.writer, (f.segments, f.written))) (λ p. record { writer = p.0; segments = p.1.0; written = p.1.1 }) (λ _. refl)
+fill_code = code_by (Writer × (List SegmentValue × ℕ)) (coded× writer_code (coded× (coded_list part_code) coded_ℕ)) (λ f. (f.writer, (f.segments, f.written))) (λ p. record { writer = p.0; segments = p.1.0; written = p.1.1 }) (λ _. refl)
 
 -- how many segments are not yet written
 abbrev pub left : Fill → ℕ
@@ -32,8 +33,8 @@ left f = length f.segments - f.written
 
 -- The writer stands behind these entries of a load of the segments, which began with memory M and a pool of these pages,
 -- and each destination so far was given what it is to have.
-pub record Fills (M : Mem) (pool : List ℕ) (wish : Wish) (ss : List Part) (es : List Entry) (w : Writer) : Type 0 where
-  pub load : writers.Load
+pub record Fills (M : Mem) (pool : List ℕ) (wish : Wish) (ss : List SegmentValue) (es : List Entry) (w : Writer) : Type 0 where
+  pub load : writers.History
   pub stands : StandsAt load w
   pub from_memory : load.before ≡ M
   pub from_pool : load.pool ≡ pool
@@ -50,9 +51,10 @@ pub record FillsFrom (M : Mem) (pool : List ℕ) (wish : Wish) (f : Fill) : Type
   pub fills : Fills M pool wish f.segments (entries_of (take f.written f.segments)) f.writer
 
 -- What a load of the segments is that is written whole.
-pub record IsSealed (M : Mem) (pool : List ℕ) (wish : Wish) (ss : List Part) (r : Load) : Type 0 where
+pub record IsSealed (M : Mem) (pool : List ℕ) (wish : Wish) (ss : List SegmentValue) (r : Load) : Type 0 where
   pub loading : Loading
   pub requests : loading_of wish ss pool ≡ Some loading
+  pub once : (x : ℕ) → count x pool ≤ 1
   pub image : r.image ≡ image_of wish loading
   pub memory : (p : ℕ) → at r.memory p ≡ memory_of M wish ss loading p
   pub segments : r.segments ≡ ss

@@ -1,8 +1,8 @@
 -- Putting pages in their place.
 use Rattle.std.specs.Prelude.{◌≡◌, ◌⊎◌, ℕ, List, Some}
 use Rattle.page_memory.specs.Memory.{Mem}
-use Rattle.segments.specs.Parts.{Part, want}
+use Rattle.segments.specs.Values.{SegmentValue, want}
 
 -- each page is as it was, or as the segments want it
-abbrev pub Lays : List Part → Mem → Mem → Type 0
+abbrev pub Lays : List SegmentValue → Mem → Mem → Type 0
 Lays S M N = (q : ℕ) → (N q ≡ M q) ⊎ (want S q ≡ Some (N q))

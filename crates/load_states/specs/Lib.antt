@@ -4,4 +4,5 @@ pub mod Ready
 pub mod Answers
 pub mod Loads
 pub mod Fillings
+pub mod Runs
 pub mod Laying

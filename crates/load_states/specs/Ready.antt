@@ -6,10 +6,11 @@ use Rattle.kx_pages.specs.declared.image.Mode.TheVariants.{Plain, Kept}
 use Rattle.kx_pages.specs.Lists.{Each, Has, destinations, sources}
 use Rattle.page_memory.specs.Contents.{Contents, at}
 use Rattle.page_memory.specs.Memory.{Mem}
-use Rattle.relocate_machine.specs.Machine.{AreHeld, move_writes}
-use Rattle.segments.specs.Parts.{want}
-use Rattle.list_checker.specs.Walk.{AcceptedKept, IsAccepted, swap_page, links, pairs}
+use Rattle.relocate_machine.specs.Writes.{AreHeld, move_writes}
+use Rattle.segments.specs.Values.{want}
+use Rattle.list_checker.specs.Walk.{AcceptedKept, IsAccepted, links, pairs}
 use Rattle.load_states.specs.States.{Load, Checked}
+use Rattle.kx_pages.specs.Modes.{swap_page}
 
 -- the list of the load is accepted for its segments in its memory and mode, by a walk of so many words with so many link
 -- pages and these pairs

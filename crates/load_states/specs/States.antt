@@ -3,21 +3,20 @@ use Rattle.std.specs.Prelude.{◌≡◌, ℕ, List, Option, Some, None, unwrap_o
 use Rattle.std.proofs.Common.{ap}
 use Rattle.std.specs.Coded.{Coded, code_by, coded×, coded_ℕ, coded_list, coded_option}
 use Rattle.kx_pages.specs.declared.image.Image.{Image}
-use Rattle.kx_pages.specs.declared.image.Mode.{Mode}
-use Rattle.kx_pages.specs.declared.image.Mode.TheVariants.{Plain, Kept}
 use Rattle.page_memory.specs.Contents.{Contents, contents_code, at, IsHeld}
 use Rattle.page_pool.specs.Pages.{Pages, pages_code}
-use Rattle.segments.specs.Parts.{Part}
-use Rattle.list_checker.specs.Walk.{swap_page}
+use Rattle.segments.specs.Values.{SegmentValue}
 use Rattle.list_checker.specs.declared.earlier.Accept.{Accept}
 use Rattle.list_checker.specs.Checked.{as_pair}
+use Rattle.kx_pages.specs.Modes.{mode_of, swap_page}
+use Rattle.kx_pages.proofs.Modes.{mode_of-swap_page}
 
 -- a memory with a list in it: the memory, the pool, what running the list takes, and the segments that it is for
 pub record Load : Type 0 where
   pub memory : Contents
   pub pool : Pages
   pub image : Image
-  pub segments : List Part
+  pub segments : List SegmentValue
 
 -- a load and what is told of its list: how many words its walk has, how many link pages, and its pairs
 pub record Checked : Type 0 where
@@ -40,15 +39,7 @@ pub record Returned : Type 0 where
 pub record CrashLoad : Type 0 where
   pub memory : Contents
   pub head : ℕ
-  pub segments : List Part
-
-abbrev pub mode_of : Option ℕ → Mode
-mode_of None = Plain
-mode_of (Some swap) = Kept swap
-
-abbrev pub mode_of-swap_page : (mode : Mode) → mode_of (swap_page mode) ≡ mode
-mode_of-swap_page Plain = refl
-mode_of-swap_page (Kept swap) = refl
+  pub segments : List SegmentValue
 
 -- records are stored as their fields
 abbrev pub image_code : Coded Image
@@ -57,12 +48,12 @@ image_code =
     (λ i. (i.head, (swap_page i.mode, i.control))) (λ p. record { head = p.0; mode = mode_of p.1.0; control = p.1.1 })
     (λ i. ap (λ mode. record { head = i.head; mode = mode; control = i.control }) (mode_of-swap_page i.mode))
 
-abbrev pub part_code : Coded Part
+abbrev pub part_code : Coded SegmentValue
 part_code = code_by (List ℕ × (ℕ × ℕ)) (coded× (coded_list coded_ℕ) (coded× coded_ℕ coded_ℕ)) (λ s. (s.bytes, (s.mem, s.memsz))) (λ p. record { bytes = p.0; mem = p.1.0; memsz = p.1.1 }) (λ _. refl)
 
 abbrev pub load_code : Coded Load
 load_code =
-    code_by (Contents × (Pages × (Image × List Part))) (coded× contents_code (coded× pages_code (coded× image_code (coded_list part_code))))
+    code_by (Contents × (Pages × (Image × List SegmentValue))) (coded× contents_code (coded× pages_code (coded× image_code (coded_list part_code))))
     (λ s. (s.memory, (s.pool, (s.image, s.segments)))) (λ p. record { memory = p.0; pool = p.1.0; image = p.1.1.0; segments = p.1.1.1 }) (λ _. refl)
 
 abbrev pub checked_code : Coded Checked
@@ -74,7 +65,7 @@ abbrev pub ran_code : Coded Ran
 ran_code = code_by (Contents × ℕ) (coded× contents_code coded_ℕ) (λ s. (s.memory, s.steps)) (λ p. record { memory = p.0; steps = p.1 }) (λ _. refl)
 
 abbrev pub crash_code : Coded CrashLoad
-crash_code = code_by (Contents × (ℕ × List Part)) (coded× contents_code (coded× coded_ℕ (coded_list part_code))) (λ s. (s.memory, (s.head, s.segments))) (λ p. record { memory = p.0; head = p.1.0; segments = p.1.1 }) (λ _. refl)
+crash_code = code_by (Contents × (ℕ × List SegmentValue)) (coded× contents_code (coded× coded_ℕ (coded_list part_code))) (λ s. (s.memory, (s.head, s.segments))) (λ p. record { memory = p.0; head = p.1.0; segments = p.1.1 }) (λ _. refl)
 
 abbrev pub returned_code : Coded Returned
 returned_code = code_by (Load × ℕ) (coded× load_code coded_ℕ) (λ s. (s.load, s.steps)) (λ p. record { load = p.0; steps = p.1 }) (λ _. refl)

@@ -3,14 +3,15 @@
 ghost use Rattle.std.specs.Prelude.{◌≡◌, ℕ, List, map, IsSome, Some};
 ghost use Rattle.kx_pages.specs.Lists.{Each};
 ghost use Rattle.page_memory.specs.Contents.{at};
-ghost use Rattle.relocate_machine.specs.Machine.{AreHeld, move_writes};
-ghost use Rattle.segments.specs.Parts.{overlay, want};
+ghost use Rattle.relocate_machine.specs.Writes.{AreHeld, move_writes};
+ghost use Rattle.segments.specs.Values.{overlay, want};
 ghost use Rattle.segments.specs.Rules.{IsBare};
-ghost use Rattle.list_checker.specs.Walk.{swap_page};
+ghost use Rattle.kx_pages.specs.Modes.{swap_page};
 ghost use Rattle.list_checker.specs.Checked.{as_pair, IsAccept};
 ghost use Rattle.load_states.specs.Exchange.{exchange};
 ghost use Rattle.load_states.specs.States.{swap_of, with_memory, checked_of};
 ghost use Rattle.load_states.specs.Ready.{Told};
+ghost use Rattle.load_states.specs.Runs.{EndsAfter, RunsTo};
 ghost use Rattle.load_states.specs.Answers.{IsMadeOf};
 
 use crate::loaded::Loaded;
@@ -71,6 +72,8 @@ impl AcceptedPlain {
         ensures links { result.now.links ≡ self.now.links }
         ensures pairs { map as_pair result.now.pairs.items ≡ self.now.pairs }
         ensures accepted { Told self.now.load self.now.words self.now.links self.now.pairs }
+        // The machine's run of it, from the memory that this owns, is done after as many steps as the walk has words.
+        ensures ends { EndsAfter self.now.load self.now.words }
     {
         &self.accept
     }
@@ -101,6 +104,7 @@ impl AcceptedPlain {
     /// each page of the segments what it is to have, and every other page as it was.
     pub fn exec(self) -> RanPlain
         ensures steps { result.steps ≡ self.words }
+        ensures run { RunsTo self.load self.words result.memory }
         ensures memory { (p : ℕ) → at result.memory p ≡ overlay (at self.load.memory) (want self.load.segments) p }
         ensures sets { result.memory.sets ≡ self.load.memory.sets }
     {
@@ -138,6 +142,8 @@ impl AcceptedKept {
         ensures links { result.now.links ≡ self.now.links }
         ensures pairs { map as_pair result.now.pairs.items ≡ self.now.pairs }
         ensures accepted { Told self.now.load self.now.words self.now.links self.now.pairs }
+        // The machine's run of it, from the memory that this owns, is done after as many steps as the walk has words.
+        ensures ends { EndsAfter self.now.load self.now.words }
     {
         &self.accept
     }
@@ -168,6 +174,7 @@ impl AcceptedKept {
     /// `steps` tells of what ran, and exchanges the two pages of each pair, so that each page of the segments is what it
     /// is to be. All else stays.
     pub fn exec(self) -> RanKept
+        ensures run { RunsTo self.load self.words result.load.memory }
         ensures memory { (p : ℕ) → at result.load.memory p ≡ exchange (at self.load.memory) self.pairs (swap_of self.load) p }
         ensures arrived { (p : ℕ) (bytes : List ℕ) → want self.load.segments p ≡ Some bytes → at result.load.memory p ≡ bytes }
         ensures sets { result.load.memory.sets ≡ self.load.memory.sets }

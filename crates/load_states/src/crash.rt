@@ -2,7 +2,7 @@
 
 ghost use Rattle.std.specs.Prelude.{◌≡◌, ℕ, IfOk, IfErr};
 ghost use Rattle.page_memory.specs.Contents.{at};
-ghost use Rattle.segments.specs.Parts.{want, overlay, pages};
+ghost use Rattle.segments.specs.Values.{want, overlay, pages};
 ghost use Rattle.kx_pages.specs.Items.{decode};
 ghost use Rattle.list_checker.specs.Crash.{AcceptedCrash as IsAcceptedCrash, crash_reason};
 
@@ -44,7 +44,7 @@ pub struct AcceptedCrash {
 
 impl Model for AcceptedCrash {
     ghost use Rattle.page_memory.specs.Contents.{at};
-    ghost use Rattle.segments.specs.Parts.{want};
+    ghost use Rattle.segments.specs.Values.{want};
     ghost use Rattle.list_checker.specs.Crash.{AcceptedCrash as IsAcceptedCrash};
     ghost use Rattle.load_states.specs.States.{CrashLoad, crash_code};
 

@@ -10,9 +10,9 @@ ghost use Rattle.page_pool.specs.Pages.{is_filed};
 ghost use Rattle.kimage_list.specs.Load.{Entry, Move, pages_of};
 ghost use Rattle.kimage_list.specs.Writers.{destination_after};
 ghost use Rattle.kimage_list.specs.Calls.{Refuses};
-ghost use Rattle.segments.specs.Parts.{is_destination, need};
-ghost use Rattle.segments.specs.Laws.{AreSegments};
-ghost use Rattle.load_states.specs.Loads.{entries_of};
+ghost use Rattle.segments.specs.Values.{is_destination, need};
+ghost use Rattle.segments.proofs.Laws.{AreSegments};
+ghost use Rattle.load_states.specs.Loads.{LoadsExactly, entries_of};
 ghost use Rattle.load_states.specs.Fillings.{Fills, FillsFrom, IsSealed, left};
 
 use crate::loaded::Loaded;
@@ -63,7 +63,8 @@ impl Model for Filling {
 
 impl Filling {
     /// Begins a load of the segments. Refuses where the pool has fewer pages left than the load takes, or for want of
-    /// memory: nothing has changed then, but that more pages may be held. Nothing is filed.
+    /// memory: nothing has changed then, but that more pages may be held. Nothing is filed. With so many pages, and with
+    /// no fewer, the rules of taking pages bring a load of the segments to its end.
     pub fn begin(
         alloc: Global,
         memory: Memory,
@@ -75,6 +76,7 @@ impl Filling {
         ensures begun { IfOk result (λ f. FillsFrom (at memory) pool.left wish f) }
         ensures segments { IfOk result (λ f. (f.segments ≡ segments) × (f.written ≡ 0)) }
         ensures enough { IfOk result (λ _. need wish segments ≤ length pool.left) }
+        ensures exactly { LoadsExactly wish segments pool.left }
         ensures why { IfErr result (λ r. Refuses r.why (length pool.left) (need wish segments)) }
         ensures pool_back { IfErr result (λ r. r.pool ≡ pool) }
         ensures segments_back { IfErr result (λ r. r.segments ≡ segments) }
@@ -83,6 +85,8 @@ impl Filling {
         ensures held_back { IfErr result (λ r. (q : ℕ) → IsHeld memory q → IsHeld r.memory q) }
     {
         let count = segments.count();
+        // for its clause: what every value of the type keeps
+        let _left = pool.left();
         let begun = ListWriter::begin(alloc, memory, pool, pages_of(&segments), count, wish);
         match begun {
             Ok(writer) => Ok(Filling {

@@ -3,7 +3,7 @@
 ghost use Rattle.std.specs.Prelude.{◌≡◌, ℕ, ◌++◌, map, IfOk, OnOk};
 ghost use Rattle.kx_pages.specs.Lists.{Each, destinations, sources};
 ghost use Rattle.page_memory.specs.Contents.{at, IsHeld};
-ghost use Rattle.relocate_machine.specs.Machine.{AreHeld, move_writes};
+ghost use Rattle.relocate_machine.specs.Writes.{AreHeld, move_writes};
 ghost use Rattle.list_checker.specs.Checked.{as_pair};
 ghost use Rattle.load_states.specs.Ready.{written_pages};
 

@@ -3,7 +3,7 @@
 ghost use Rattle.std.specs.Prelude.{◌≡◌, ℕ, ◌+◌, ◌<◌, ◌≤◌, Some, IsSome, IsTrue, OnOk};
 ghost use Rattle.kx_pages.specs.Spans.{in_spans};
 ghost use Rattle.page_memory.specs.Contents.{at, IsHeld};
-ghost use Rattle.segments.specs.Parts.{want};
+ghost use Rattle.segments.specs.Values.{want};
 ghost use Rattle.load_states.specs.Laying.{Lays};
 
 use kx_pages::{Page, PageSet, Span};

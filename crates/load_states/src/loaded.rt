@@ -3,11 +3,12 @@
 ghost use Rattle.std.specs.Prelude.{◌≡◌, ◌≤◌, length, map, IfOk, IfErr, OnOk};
 ghost use Rattle.kx_pages.specs.Lists.{Each};
 ghost use Rattle.page_memory.specs.Contents.{IsHeld, after_set, page_of};
-ghost use Rattle.relocate_machine.specs.Machine.{AreHeld, move_writes};
+ghost use Rattle.relocate_machine.specs.Writes.{AreHeld, move_writes};
 ghost use Rattle.list_checker.specs.Checked.{as_pair, IsAccept, IsCheckFault};
 ghost use Rattle.segments.specs.Rules.{IsBare};
 ghost use Rattle.load_states.specs.States.{IsLeftAs, with_memory};
 ghost use Rattle.load_states.specs.Answers.{IsAcceptedAs};
+ghost use Rattle.load_states.specs.Runs.{TellsAlike, checked_in};
 
 use crate::accepted::{Accepted, of_mode};
 use crate::hold::hold_pairs;
@@ -117,6 +118,8 @@ impl Loaded {
     /// aside. The load is as it was, but that more pages may be held, on Ok and after a refusal.
     pub fn accept(self, alloc: Global) -> Result<Accepted, NotAccepted>
         ensures accepted { IfOk result (λ a. IsAcceptedAs self a) }
+        // Of a load that reads alike the same is told, and its runs leave the same.
+        ensures alike { IfOk result (λ a. TellsAlike (checked_in a)) }
         ensures refused { IfErr result (λ e. IsCheckFault self.memory self.segments self.image e.why) }
         ensures given_back { IfErr result (λ e. IsLeftAs self e.loaded) }
     {

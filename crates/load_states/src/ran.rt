@@ -4,10 +4,11 @@ ghost use Rattle.std.specs.Prelude.{◌≡◌, ◌≢◌, ℕ, ◌≤◌, None, 
 ghost use Rattle.kx_pages.specs.Lists.{Each, Has, sources};
 ghost use Rattle.page_memory.specs.Contents.{at, after_set, page_of};
 ghost use Rattle.page_memory.specs.Memory.{Mem};
-ghost use Rattle.segments.specs.Parts.{want};
+ghost use Rattle.segments.specs.Values.{want};
 ghost use Rattle.load_states.specs.Exchange.{exchange};
 ghost use Rattle.load_states.specs.States.{swap_of, with_memory, checked_of};
 ghost use Rattle.load_states.specs.Ready.{IsToGoBack};
+ghost use Rattle.load_states.specs.Runs.{RestoresOthers, RunsTo};
 
 use crate::loaded::Loaded;
 use crate::run::run_to_end;
@@ -126,11 +127,14 @@ impl RanKept {
     /// again: where nothing was written since the first run, each page but the swap page is as it was before that run.
     pub fn back(self) -> Back
         ensures steps { result.steps ≡ self.words }
+        ensures run { RunsTo self.load self.words result.load.memory }
         ensures memory { (p : ℕ) → at result.load.memory p ≡ exchange (at self.load.memory) self.pairs (swap_of self.load) p }
         ensures restored { (M : Mem) → ((q : ℕ) → at self.load.memory q ≡ exchange M self.pairs (swap_of self.load) q) → (p : ℕ) → p ≢ swap_of self.load → at result.load.memory p ≡ M p }
         // Where at most pages of the segments were written since the first run, from memory M.
         ensures undone { (M : Mem) → ((q : ℕ) → want self.load.segments q ≡ None → at self.load.memory q ≡ exchange M self.pairs (swap_of self.load) q)
             → (p : ℕ) → p ≢ swap_of self.load → (Has p (sources self.pairs) → ⊥) → at result.load.memory p ≡ M p }
+        // Of a list that `Filling::seal` made, whatever was written to pages of the segments.
+        ensures others { RestoresOthers self result }
         // Each source holds what its destination held.
         ensures sources { Each (λ q. at result.load.memory q.1 ≡ at self.load.memory q.0) self.pairs }
         ensures sets { result.load.memory.sets ≡ self.load.memory.sets }

@@ -4,3 +4,4 @@ pub mod PageLemmas
 pub mod Reading
 pub mod Sets
 pub mod Parts
+pub mod Forms

@@ -5,6 +5,7 @@ use Rattle.std.specs.List.{list_any}
 use Rattle.std.proofs.lemmas.Bool.Decides.{nat_tests}
 use Rattle.std.proofs.lemmas.Bool.{cases_lt, lt-ltb, le-ltb, le-leb, lt-leb, eq-eqb, ne_eqb, false≢true}
 use Rattle.std.proofs.lemmas.List.Folds.{list_any-append, list_any_more}
+use Rattle.kx_laws.proofs.Booleans.{or_false, or_shift}
 use Rattle.kx_pages.specs.Spans.{Run, in_span, in_spans, passing}
 use Rattle.memory_map.specs.declared.row.Row.{Row}
 use Rattle.memory_map.specs.Rows.{row_end, holds_page, meets_page}
@@ -57,19 +58,11 @@ pub has_no_met : (r : Row) (p : ℕ) → r.size ≡ 0 → false ≡ meets_page p
 has_no_met r p none = met_none r.start r.size (4096 * p) none
 
 -- ---- lists of spans
-or_false : (b : Bool) → (b || false) ≡ b
-or_false true = refl
-or_false false = refl
-
 pub in_more : (xs ys : List Run) (s : Run) (o : Option Run) (p : ℕ) → ys ≡ xs ++ s ∷ [] → o ≡ Some s → in_spans ys p ≡ (in_spans xs p || has_page o p)
 in_more xs ys s o p e is = ap (λ (zs : List Run). in_spans zs p) e ∙ list_any-append (λ r. in_span r p) xs (s ∷ []) ∙ ap (λ b. in_spans xs p || b) (or_false (in_span s p)) ∙ ap (λ (w : Option Run). in_spans xs p || has_page w p) (sym is)
 
 pub in_same : (xs : List Run) (o : Option Run) (p : ℕ) → o ≡ None → in_spans xs p ≡ (in_spans xs p || has_page o p)
 in_same xs o p is = sym (or_false (in_spans xs p)) ∙ ap (λ (w : Option Run). in_spans xs p || has_page w p) (sym is)
-
-or_shift : (a b c : Bool) → ((a || b) || c) ≡ (a || (b || c))
-or_shift true b c = refl
-or_shift false b c = refl
 
 -- a turn over a row
 pub turn : (t : Row → Bool) (rows : List Row) (i : ℕ) (d : Row) (a b c : Bool) → i < length rows → c ≡ (b || t (get_or rows i d)) → b ≡ (a || list_any t (take i rows)) → c ≡ (a || list_any t (take (i + 1) rows))

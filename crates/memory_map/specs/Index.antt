@@ -1,18 +1,14 @@
--- The System RAM rows in order, by their starts.
-use Rattle.std.specs.Prelude.{◌≡◌, ℕ, ◌<◌, ◌≤◌, ◌==◌, ◌&&◌, Bool, true, List, Some}
+-- The index of the System RAM rows.
+use Rattle.std.specs.Prelude.{◌≡◌, ◌&&◌, Bool, List}
 use Rattle.std.specs.List.{list_any}
-use Rattle.std.specs.Ordering.{nat_cmp}
-use Rattle.std.specs.BTreeMap as tree
+use Rattle.range_index.specs.Ranges.{Range}
 use Rattle.memory_map.specs.declared.row.Row.{Row}
 use Rattle.memory_map.specs.Rows.{row_end, is_ram_row}
 
--- a System RAM row begins at s and ends before e
-abbrev pub has_ram : ℕ → ℕ → List Row → Bool
-has_ram s e rows = list_any (λ r. is_ram_row r && (r.start == s && row_end r == e)) rows
+-- the bytes of a row
+abbrev pub range_of : Row → Range
+range_of r = (r.start, row_end r)
 
--- the table has the start and the end of each System RAM row and no more, each has bytes, and no two meet
-pub record IsIndex (rows : List Row) (m : tree.BTreeMap ℕ ℕ) : Type 0 where
-  pub found : (s e : ℕ) → has_ram s e rows ≡ true → tree.get nat_cmp m s ≡ Some e
-  pub there : (s e : ℕ) → tree.get nat_cmp m s ≡ Some e → has_ram s e rows ≡ true
-  pub some : (s e : ℕ) → tree.get nat_cmp m s ≡ Some e → s < e
-  pub apart : (s e t f : ℕ) → tree.get nat_cmp m s ≡ Some e → tree.get nat_cmp m t ≡ Some f → s < t → e ≤ t
+-- the index has the ranges of the System RAM rows, and no more
+abbrev pub IsIndex : List Row → List Range → Type 0
+IsIndex rows index = (test : Range → Bool) → list_any test index ≡ list_any (λ r. is_ram_row r && test (range_of r)) rows

@@ -4,3 +4,4 @@ pub mod Walk
 pub mod Text
 pub mod Index
 pub mod Reader
+pub mod Grammar

@@ -10,6 +10,18 @@ pub record Named : Type 0 where
   pub rows : List Row
   pub areas : List Row
 
+-- no row and no area
+abbrev pub nothing : Named
+nothing = record { rows = []; areas = [] }
+
+-- one more row
+abbrev pub with_row : Row → Named → Named
+with_row r m = record { rows = m.rows ++ r ∷ []; areas = m.areas }
+
+-- one more crash area
+abbrev pub with_area : Row → Named → Named
+with_area r m = record { rows = m.rows; areas = m.areas ++ r ∷ [] }
+
 -- page p lies wholly in one System RAM range
 abbrev pub is_whole : List Row → ℕ → Bool
 is_whole rows p = list_any (λ r. is_ram_row r && holds_page p r) rows

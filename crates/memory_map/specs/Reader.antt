@@ -11,5 +11,5 @@ pub record IsReader (r : Reader) : Type 0 where
   pub index : IsIndex r.rows.items r.ram
 
 -- what the lines so far say
-abbrev pub named : Reader → Named
-named r = record { rows = r.rows.items; areas = r.areas.items }
+abbrev pub named_of : Reader → Named
+named_of r = record { rows = r.rows.items; areas = r.areas.items }

@@ -3,6 +3,7 @@
 use Rattle.std.specs.Prelude.{◌≡◌, ℕ, ◌+◌, ◌-◌, ◌^◌, ◌++◌, ◌==◌, ◌&&◌, Bool, List, [], ◌∷◌, drop, codes, not, nat_lt, nat_eq, min, if◌then◌else◌, Option, Some, None, Result, Ok, Err}
 use Rattle.std.specs.List.{list_any, starts_with}
 use Rattle.std.specs.Str.{bytes_eq}
+use Rattle.kx_laws.specs.Results.{◌>>=◌}
 use Rattle.text_lines.specs.Lines.{cut, lines, number}
 use Rattle.memory_map.specs.declared.fault.MapFault.{MapFault}
 use Rattle.memory_map.specs.declared.fault.MapFault.TheVariants as faults
@@ -10,12 +11,7 @@ use Rattle.memory_map.specs.declared.row.Class.{Class}
 use Rattle.memory_map.specs.declared.row.Class.TheVariants as classes
 use Rattle.memory_map.specs.declared.row.Row.{Row}
 use Rattle.memory_map.specs.Rows.{rows_meet, is_ram_row}
-use Rattle.memory_map.specs.Named.{Named, ram_pages}
-
-infixl 10 ◌>>=◌
-abbrev pub ◌>>=◌ : {A B : Type 0} → Result A MapFault → (A → Result B MapFault) → Result B MapFault
-(Ok x) >>= f = f x
-(Err e) >>= f = Err e
+use Rattle.memory_map.specs.Named.{Named, nothing, with_row, with_area, ram_pages}
 
 -- what a name says of a range
 unfoldable pub class_of : List ℕ → Class
@@ -69,11 +65,11 @@ abbrev pub row_onto : ℕ → Named → Row → Result Named MapFault
 row_onto n m r =
     if r.size == 0 then Ok m
     else if is_ram_row r && meets_ram r m.rows then Err (faults.RamOverlaps n)
-    else Ok (record { rows = m.rows ++ r ∷ []; areas = m.areas })
+    else Ok (with_row r m)
 
 abbrev pub class_onto : ℕ → Named → Class → ℕ → ℕ → Result Named MapFault
 class_onto n m classes.Other first last = Ok m
-class_onto n m classes.CrashArea first last = Ok (record { rows = m.rows; areas = m.areas ++ below_limit first last 0 ∷ [] })
+class_onto n m classes.CrashArea first last = Ok (with_area (below_limit first last 0) m)
 class_onto n m (classes.Listed kind) first last = row_onto n m (below_limit first last kind)
 
 -- what the lines before say, and the line number n
@@ -95,14 +91,5 @@ if_ram m = if ram_pages m == 0 then Err faults.NoRam else Ok m
 -- what a map says, or its first fault
 unfoldable pub map_reading : List ℕ → Result Named MapFault
 map_reading text = do
-  m ← lines_onto 1 (record { rows = []; areas = [] }) (lines text)
+  m ← lines_onto 1 nothing (lines text)
   if_ram m
-
-abbrev pub Fails : {Y : Type 0} → MapFault → Result Y MapFault → Type 0
-Fails faults.Memory r = Unit {0}
-Fails e r = r ≡ Err e
-
--- what a call gave, seen by view, is this reading or its fault, unless memory ran out
-abbrev pub Gives : {X Y : Type 0} → (X → Y) → Result X MapFault → Result Y MapFault → Type 0
-Gives view (Ok x) r = r ≡ Ok (view x)
-Gives view (Err e) r = Fails e r

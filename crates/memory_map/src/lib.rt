@@ -6,12 +6,16 @@
 //! protocol. Bytes at 2^46 and above are passed over (this project's own limit).
 #![tactic(auto)]
 
-ghost use Rattle.std.specs.Prelude.{◌≡◌, ◌↔◌, ℕ, ◌/◌, ◌&&◌, not, filter, IsTrue};
+ghost use Rattle.std.specs.Prelude.{◌≡◌, ◌↔◌, ℕ, ◌/◌, ◌&&◌, not, filter, IsTrue, List, Some};
+ghost use Rattle.kx_laws.specs.Results.{Gives};
 ghost use Rattle.kx_pages.specs.Spans.{in_spans};
 ghost use Rattle.memory_map.specs.declared.row.Row.{Row};
 ghost use Rattle.memory_map.specs.Rows.{is_inside, covers, rows_meet, holds_page, meets_page, is_ram_row, AreBelow};
 ghost use Rattle.memory_map.specs.Named.{is_ram, reserved_area, crash_rows, core_ranges};
-ghost use Rattle.memory_map.specs.Text.{map_reading, Gives};
+ghost use Rattle.memory_map.specs.Text.{map_reading, entry_of};
+ghost use Rattle.memory_map.specs.Grammar.{IsEntry};
+ghost use Rattle.memory_map.specs.declared.row.Class.{Class};
+ghost use Rattle.memory_map.specs.declared.fault.MapFault.TheVariants as faults;
 
 mod fault;
 mod line;
@@ -46,7 +50,8 @@ impl Model for Map {
 
     ghost view = { λ m. record { rows = m.rows.items; areas = m.areas.items } };
 
-    ghost invariant = { λ m. IsMap (record { rows = m.rows.items; areas = m.areas.items }) m.ram m.crash_rows.items m.core_ranges.items };
+    ghost invariant = { λ m. IsMap (record { rows = m.rows.items; areas = m.areas.items })
+        m.ram m.crash_rows.items m.core_ranges.items };
 }
 
 impl Map {
@@ -57,7 +62,7 @@ impl Map {
     /// no page is RAM. Memory comes only where memory ran out.
     #[tactic(auto, unfolding(crate::specs::Text::map_reading))]
     pub fn read(alloc: Global, text: &[u8]) -> Result<Map, MapFault>
-        ensures { Gives (λ m. m) result (map_reading text.now) }
+        ensures { Gives faults.Memory (λ m. m) result (map_reading text.now) }
     {
         let Reader { rows, areas, .. } = match Reader::read(alloc, text) {
             Ok(reader) => reader,
@@ -114,7 +119,9 @@ impl Map {
     /// text's order.
     pub fn core_ranges(&self) -> &[Row]
         ensures value { result.now ≡ core_ranges self.now }
-        ensures bytes { (b : ℕ) → covers b result.now ≡ (covers b (filter (λ r. is_ram_row r) self.now.rows) && not (covers b self.now.areas)) }
+        ensures bytes { (b : ℕ) → covers b result.now
+            ≡ (covers b (filter (λ r. is_ram_row r) self.now.rows)
+            && not (covers b self.now.areas)) }
         ensures below { AreBelow result.now }
     {
         &self.core_ranges
@@ -124,7 +131,17 @@ impl Map {
 /// What the tests of rows and pages in the contracts say of single bytes, where page `p` has the bytes `b` with
 /// `b / 4096` equal to `p`.
 pub fn tests_speak_of_bytes()
-    ensures holds { (r : Row) (p : ℕ) → IsTrue (holds_page p r) ↔ ((b : ℕ) → b / 4096 ≡ p → IsTrue (is_inside b r)) }
-    ensures meets { (r : Row) (p : ℕ) → IsTrue (meets_page p r) ↔ ((b : ℕ) × (b / 4096 ≡ p) × IsTrue (is_inside b r)) }
-    ensures rows { (r s : Row) → IsTrue (rows_meet r s) ↔ ((b : ℕ) × IsTrue (is_inside b r) × IsTrue (is_inside b s)) }
+    ensures holds { (r : Row) (p : ℕ) → IsTrue (holds_page p r)
+        ↔ ((b : ℕ) → b / 4096 ≡ p → IsTrue (is_inside b r)) }
+    ensures meets { (r : Row) (p : ℕ) → IsTrue (meets_page p r)
+        ↔ ((b : ℕ) × (b / 4096 ≡ p) × IsTrue (is_inside b r)) }
+    ensures rows { (r s : Row) → IsTrue (rows_meet r s)
+        ↔ ((b : ℕ) × IsTrue (is_inside b r) × IsTrue (is_inside b s)) }
+{}
+
+/// A line reads as a first and a last byte and what its name says exactly where it has the form of a map line: spaces, a
+/// number, `-`, a number, ` : ` and the name.
+pub fn entries_are_map_lines()
+    ensures { (line : List ℕ) (first last : ℕ) (class : Class)
+        → (entry_of line ≡ Some (first, last, class)) ↔ IsEntry line first last class }
 {}

@@ -60,7 +60,8 @@ pub(crate) fn reserved_area(areas: &[Row]) -> Option<Span>
 }
 
 fn push_some(spans: &mut Vec<Span>, span: Option<Span>) -> Result<(), AllocError>
-    ensures { IfOk result (λ _. (p : ℕ) → in_spans spans.new.items p ≡ (in_spans spans.old.items p || has_page span p)) }
+    ensures { IfOk result (λ _. (p : ℕ) → in_spans spans.new.items p
+        ≡ (in_spans spans.old.items p || has_page span p)) }
 {
     match span {
         Some(s) => {
@@ -74,7 +75,8 @@ fn push_some(spans: &mut Vec<Span>, span: Option<Span>) -> Result<(), AllocError
 /// Adds the pages that lie wholly in a row of System RAM.
 fn push_whole(spans: &mut Vec<Span>, row: Row) -> Result<(), AllocError>
     requires { IsBelow row }
-    ensures { IfOk result (λ _. (p : ℕ) → in_spans spans.new.items p ≡ (in_spans spans.old.items p || (is_ram_row row && holds_page p row))) }
+    ensures { IfOk result (λ _. (p : ℕ) → in_spans spans.new.items p
+        ≡ (in_spans spans.old.items p || (is_ram_row row && holds_page p row))) }
 {
     if row.kind != 1 {
         return Ok(());
@@ -86,7 +88,8 @@ fn push_whole(spans: &mut Vec<Span>, row: Row) -> Result<(), AllocError>
 /// Adds the pages that meet a row of another kind than System RAM.
 fn push_other(spans: &mut Vec<Span>, row: Row) -> Result<(), AllocError>
     requires { IsBelow row }
-    ensures { IfOk result (λ _. (p : ℕ) → in_spans spans.new.items p ≡ (in_spans spans.old.items p || (not (is_ram_row row) && meets_page p row))) }
+    ensures { IfOk result (λ _. (p : ℕ) → in_spans spans.new.items p
+        ≡ (in_spans spans.old.items p || (not (is_ram_row row) && meets_page p row))) }
 {
     if row.kind == 1 {
         return Ok(());
@@ -110,7 +113,9 @@ fn whole_spans(alloc: Global, rows: &[Row]) -> Result<Vec<Span>, AllocError>
 /// Adds spans of the pages that meet a row of another kind than System RAM.
 fn push_other_rows(spans: &mut Vec<Span>, rows: &[Row]) -> Result<(), AllocError>
     requires { AreBelow rows.now }
-    ensures { IfOk result (λ _. (p : ℕ) → in_spans spans.new.items p ≡ (in_spans spans.old.items p || list_any (λ r. not (is_ram_row r) && meets_page p r) rows.now)) }
+    ensures { IfOk result (λ _. (p : ℕ) → in_spans spans.new.items p
+        ≡ (in_spans spans.old.items p
+        || list_any (λ r. not (is_ram_row r) && meets_page p r) rows.now)) }
 {
     for row in rows {
         push_other(spans, *row)?;
@@ -121,7 +126,8 @@ fn push_other_rows(spans: &mut Vec<Span>, rows: &[Row]) -> Result<(), AllocError
 /// Adds spans of the pages that meet an area.
 fn push_areas(spans: &mut Vec<Span>, areas: &[Row]) -> Result<(), AllocError>
     requires { AreBelow areas.now }
-    ensures { IfOk result (λ _. (p : ℕ) → in_spans spans.new.items p ≡ (in_spans spans.old.items p || list_any (λ r. meets_page p r) areas.now)) }
+    ensures { IfOk result (λ _. (p : ℕ) → in_spans spans.new.items p
+        ≡ (in_spans spans.old.items p || list_any (λ r. meets_page p r) areas.now)) }
 {
     for area in areas {
         push_some(spans, met_pages(*area))?;
@@ -133,7 +139,8 @@ fn push_areas(spans: &mut Vec<Span>, areas: &[Row]) -> Result<(), AllocError>
 pub(crate) fn ram_pages(alloc: Global, rows: &[Row], areas: &[Row]) -> Result<PageSet, AllocError>
     requires rows { AreBelow rows.now }
     requires areas { AreBelow areas.now }
-    ensures { IfOk result (λ s. (p : ℕ) → in_spans s p ≡ is_ram (record { rows = rows.now; areas = areas.now }) p) }
+    ensures { IfOk result (λ s. (p : ℕ) → in_spans s p
+        ≡ is_ram (record { rows = rows.now; areas = areas.now }) p) }
 {
     let whole = PageSet::from_spans(alloc, whole_spans(alloc, rows)?)?;
     let mut taken = Vec::new(alloc);

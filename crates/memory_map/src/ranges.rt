@@ -19,7 +19,8 @@ fn push_area(made: &mut Vec<Row>, area: Row) -> Result<(), AllocError>
     requires area { IsBelow area }
     ensures parts { OnOk result (AreParts 0 0 made.new.items) }
     ensures order { OnOk result ((n : ℕ) → area.start ≤ n → StartUpTo n made.new.items) }
-    ensures bytes { OnOk result ((q : ℕ) → covers q made.new.items ≡ (covers q made.old.items || is_inside q area)) }
+    ensures bytes { OnOk result ((q : ℕ) → covers q made.new.items
+        ≡ (covers q made.old.items || is_inside q area)) }
 {
     if area.size == 0 {
         return Ok(());
@@ -38,7 +39,11 @@ fn push_area(made: &mut Vec<Row>, area: Row) -> Result<(), AllocError>
 fn joined(last: Row, area: Row) -> Row
     requires last { IsBelow last }
     requires area { IsBelow area }
-    ensures { result ≡ record { start = last.start; size = max (row_end last) (row_end area) - last.start; kind = 0 } }
+    ensures { result ≡ record {
+      start = last.start;
+      size = max (row_end last) (row_end area) - last.start;
+      kind = 0;
+    } }
 {
     let end = (last.start + last.size).max(area.start + area.size);
     Row {
@@ -58,7 +63,8 @@ fn push_behind(made: &mut Vec<Row>, last: Row, area: Row) -> Result<(), AllocErr
     requires last { IsBelow last }
     ensures parts { OnOk result (AreParts 0 0 made.new.items) }
     ensures order { OnOk result ((n : ℕ) → area.start ≤ n → StartUpTo n made.new.items) }
-    ensures bytes { OnOk result ((q : ℕ) → covers q made.new.items ≡ (covers q (made.old.items ++ last ∷ []) || is_inside q area)) }
+    ensures bytes { OnOk result ((q : ℕ) → covers q made.new.items
+        ≡ (covers q (made.old.items ++ last ∷ []) || is_inside q area)) }
 {
     if area.start <= last.start + last.size {
         made.push(joined(last, area))?;
@@ -126,7 +132,8 @@ fn area_before(areas: &[Row], i: usize, end: u64) -> Option<Row>
     requires { AreParts 0 0 areas.now }
     ensures none { IfNone result ((at k : ℕ) → walk at end k (drop i areas.now) ≡ part at end k) }
     ensures next { IfSome result (λ a. drop i areas.now ≡ a ∷ drop (i + 1) areas.now) }
-    ensures within { IfSome result (λ a. (i < length areas.now) × (a.start < end) × (row_end a ≤ 2 ^ 46)) }
+    ensures within { IfSome result (λ a. (i < length areas.now) × (a.start < end)
+        × (row_end a ≤ 2 ^ 46)) }
 {
     if i >= areas.len() {
         return None;
@@ -144,7 +151,8 @@ fn push_outside(out: &mut Vec<Row>, areas: &[Row], row: Row) -> Result<(), Alloc
     requires row { IsBelow row }
     requires some { HasBytes row }
     requires out { AreBelow out.old.items }
-    ensures items { OnOk result ((all : List Row) → ((q : ℕ) → covers q all ≡ covers q areas.now) → out.new.items ≡ out.old.items ++ outside all (row ∷ [])) }
+    ensures items { OnOk result ((all : List Row) → ((q : ℕ) → covers q all ≡ covers q areas.now)
+        → out.new.items ≡ out.old.items ++ outside all (row ∷ [])) }
     ensures below { OnOk result (AreBelow out.new.items) }
 {
     let end = row.start + row.size;
@@ -180,7 +188,8 @@ fn all_outside(alloc: Global, areas: &[Row], rows: &[Row]) -> Result<Vec<Row>, A
     requires areas { AreParts 0 0 areas.now }
     requires below { AreBelow rows.now }
     requires some { HaveBytes rows.now }
-    ensures items { IfOk result (λ v. (all : List Row) → ((q : ℕ) → covers q all ≡ covers q areas.now) → v.items ≡ outside all rows.now) }
+    ensures items { IfOk result (λ v. (all : List Row)
+        → ((q : ℕ) → covers q all ≡ covers q areas.now) → v.items ≡ outside all rows.now) }
     ensures below { IfOk result (λ v. AreBelow v.items) }
 {
     let mut out = Vec::new(alloc);
@@ -199,7 +208,8 @@ pub(crate) fn core_ranges(
     requires rows { AreBelow rows.now }
     requires some { HaveBytes rows.now }
     requires areas { AreBelow areas.now }
-    ensures items { IfOk result (λ v. v.items ≡ core_ranges (record { rows = rows.now; areas = areas.now })) }
+    ensures items { IfOk result (λ v. v.items
+        ≡ core_ranges (record { rows = rows.now; areas = areas.now })) }
     ensures below { IfOk result (λ v. AreBelow v.items) }
 {
     let areas = merged(alloc, areas)?;
@@ -211,7 +221,8 @@ pub(crate) fn core_ranges(
 fn push_other_rows(out: &mut Vec<Row>, rows: &[Row]) -> Result<(), AllocError>
     requires rows { AreBelow rows.now }
     requires out { AreBelow out.old.items }
-    ensures items { OnOk result (out.new.items ≡ out.old.items ++ filter (λ r. not (is_ram_row r)) rows.now) }
+    ensures items { OnOk result (out.new.items ≡ out.old.items
+        ++ filter (λ r. not (is_ram_row r)) rows.now) }
     ensures below { OnOk result (AreBelow out.new.items) }
 {
     for row in rows {
@@ -229,7 +240,8 @@ pub(crate) fn crash_rows(
     rows: &[Row],
 ) -> Result<Vec<Row>, AllocError>
     requires { AreBelow rows.now }
-    ensures items { IfOk result (λ v. v.items ≡ reserved_row reserved ++ filter (λ r. not (is_ram_row r)) rows.now) }
+    ensures items { IfOk result (λ v. v.items ≡ reserved_row reserved
+        ++ filter (λ r. not (is_ram_row r)) rows.now) }
     ensures below { IfOk result (λ v. AreBelow v.items) }
 {
     let mut out = Vec::new(alloc);

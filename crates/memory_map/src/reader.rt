@@ -1,80 +1,67 @@
 //! The rows and crash areas of a text, line by line.
 
-ghost use Rattle.std.specs.Prelude.{◌≡◌, ℕ, List, ◌+◌, ◌++◌, ◌∷◌, ◌<◌, ◌≤◌, ◌^◌, [], true, false, OnOk, IfOk, IfSome, IfNone, IsSome};
-ghost use Rattle.std.specs.Ordering.{nat_cmp};
-ghost use Rattle.std.specs.BTreeMap as tree;
+ghost use Rattle.std.specs.Prelude.{◌≡◌, ℕ, List, ◌+◌, ◌++◌, ◌∷◌, ◌<◌, ◌≤◌, ◌^◌, [], true, false, OnOk, IfOk};
+ghost use Rattle.kx_laws.specs.Results.{Gives};
 ghost use Rattle.text_lines.specs.Lines.{lines};
+ghost use Rattle.range_index.specs.Ranges.{meets_any};
+ghost use Rattle.memory_map.specs.declared.fault.MapFault.TheVariants as faults;
 ghost use Rattle.memory_map.specs.declared.row.Row.{Row};
-ghost use Rattle.memory_map.specs.Index.{IsIndex};
-ghost use Rattle.memory_map.specs.Rows.{row_end, is_ram_row, IsBelow};
-ghost use Rattle.memory_map.specs.Text.{meets_ram, row_onto, line_onto, lines_onto, Gives};
+ghost use Rattle.memory_map.specs.Index.{range_of, IsIndex};
+ghost use Rattle.memory_map.specs.Rows.{is_ram_row, IsBelow};
+ghost use Rattle.memory_map.specs.Text.{meets_ram, row_onto, line_onto, lines_onto};
 
 use crate::fault::MapFault;
 use crate::line::checked_entry;
 use crate::row::{Class, Row, below_limit};
+use range_index::RangeIndex;
 use std::alloc::{AllocError, Global};
-use std::collections::BTreeMap;
 use text_lines::next_line;
 
-/// The rows and the crash areas so far in the text's order, and the ends of the System RAM rows by their starts.
+/// The rows and the crash areas so far in the text's order, and an index of the System RAM rows.
 #[derive(Drop)]
 pub(crate) struct Reader {
     pub(crate) rows: Vec<Row>,
     pub(crate) areas: Vec<Row>,
-    pub(crate) ram: BTreeMap<u64, u64>,
+    pub(crate) ram: RangeIndex,
 }
 
-/// The start and the end of the range that starts last of those that start before `end`.
-fn last_before(ram: &BTreeMap<u64, u64>, end: u64) -> Option<(u64, u64)>
-    ensures none { IfNone result ((q : ℕ) → q < end → tree.get nat_cmp ram.now q ≡ None) }
-    ensures before { IfSome result (λ e. e.0 < end) }
-    ensures some { IfSome result (λ e. tree.get nat_cmp ram.now e.0 ≡ Some e.1) }
-    ensures last { IfSome result (λ e. (q : ℕ) → q < end → IsSome (tree.get nat_cmp ram.now q) → q ≤ e.0) }
-{
-    match ram.range(..end).next_back() {
-        Some((start, end)) => Some((*start, *end)),
-        None => None,
-    }
-}
-
-/// Puts a row of System RAM into the table.
-fn index_row(ram: &mut BTreeMap<u64, u64>, row: Row) -> Result<(), AllocError>
+/// Puts a row of System RAM into the index.
+fn index_row(ram: &mut RangeIndex, row: Row) -> Result<(), AllocError>
     requires some { 0 < row.size }
     requires below { IsBelow row }
-    ensures { OnOk result ((rows : List Row) → IsIndex rows ram.old → (is_ram_row row ≡ true → meets_ram row rows ≡ false) → IsIndex (rows ++ row ∷ []) ram.new) }
+    requires apart { is_ram_row row ≡ true → meets_any (range_of row) ram.old ≡ false }
+    ensures { OnOk result ((rows : List Row) → IsIndex rows ram.old
+        → IsIndex (rows ++ row ∷ []) ram.new) }
 {
     if row.kind != 1 {
         return Ok(());
     }
-    ram.insert(row.start, row.start + row.size)?;
+    ram.add(row.start, row.start + row.size)?;
     Ok(())
 }
 
 impl Reader {
-    ghost use Rattle.memory_map.specs.Reader.{IsReader, named};
+    ghost use Rattle.memory_map.specs.Named.{nothing, with_row};
+    ghost use Rattle.memory_map.specs.Reader.{IsReader, named_of};
 
     fn new(alloc: Global) -> Reader
-        ensures value { named result ≡ record { rows = []; areas = [] } }
+        ensures value { named_of result ≡ nothing }
         ensures valid { IsReader result }
     {
         Reader {
             rows: Vec::new(alloc),
             areas: Vec::new(alloc),
-            ram: BTreeMap::new(alloc),
+            ram: RangeIndex::new(alloc),
         }
     }
 
     /// Whether the row has a byte of an earlier System RAM row.
     fn meets_ram(&self, row: Row) -> bool
         requires reader { IsReader self.now }
-        requires some { 0 < row.size }
         requires row { IsBelow row }
         ensures { result ≡ meets_ram row self.now.rows.items }
     {
-        match last_before(&self.ram, row.start + row.size) {
-            Some(last) => row.start < last.1,
-            None => false,
-        }
+        self.ram.meets(row.start, row.start + row.size)
     }
 
     /// Puts a row behind the others. A row of System RAM meets no earlier one.
@@ -83,7 +70,7 @@ impl Reader {
         requires some { 0 < row.size }
         requires row { IsBelow row }
         requires apart { is_ram_row row ≡ true → meets_ram row self.old.rows.items ≡ false }
-        ensures value { OnOk result (named self.new ≡ record { rows = self.old.rows.items ++ row ∷ []; areas = self.old.areas.items }) }
+        ensures value { OnOk result (named_of self.new ≡ with_row row (named_of self.old)) }
         ensures valid { OnOk result (IsReader self.new) }
     {
         index_row(&mut self.ram, row)?;
@@ -95,7 +82,8 @@ impl Reader {
     fn add_row(&mut self, line: u64, row: Row) -> Result<(), MapFault>
         requires reader { IsReader self.old }
         requires row { IsBelow row }
-        ensures exact { Gives (λ _. named self.new) result (row_onto line (named self.old) row) }
+        ensures exact { Gives faults.Memory (λ _. named_of self.new) result
+            (row_onto line (named_of self.old) row) }
         ensures valid { OnOk result (IsReader self.new) }
     {
         if row.size == 0 {
@@ -112,7 +100,8 @@ impl Reader {
     #[tactic(auto, unfolding(crate::specs::Text::line_onto))]
     fn add_line(&mut self, line: u64, text: &[u8]) -> Result<(), MapFault>
         requires { IsReader self.old }
-        ensures exact { Gives (λ _. named self.new) result (line_onto line (named self.old) text.now) }
+        ensures exact { Gives faults.Memory (λ _. named_of self.new) result
+            (line_onto line (named_of self.old) text.now) }
         ensures valid { OnOk result (IsReader self.new) }
     {
         let (first, last, class) = match checked_entry(line, text) {
@@ -131,7 +120,8 @@ impl Reader {
 
     /// What the lines of a text say, or the first fault of a line.
     pub(crate) fn read(alloc: Global, text: &[u8]) -> Result<Reader, MapFault>
-        ensures exact { Gives (λ r. named r) result (lines_onto 1 (record { rows = []; areas = [] }) (lines text.now)) }
+        ensures exact { Gives faults.Memory (λ r. named_of r) result
+            (lines_onto 1 nothing (lines text.now)) }
         ensures valid { IfOk result (λ r. IsReader r) }
     {
         let mut reader = Reader::new(alloc);

@@ -1,7 +1,6 @@
 -- A page that is added, and two pages whose frames change places.
 use Rattle.std.proofs.Common.{append_assoc, take, drop, ◌-◌, ◌*◌, ◌/◌, ◌%◌, ◌≡◌, ◌≢◌, ℕ, ◌+◌, ◌<◌, ◌≤◌, ◌^◌, List, [], ◌∷◌, ◌++◌, length, Bool, true, false, cond, refl, sym, ap, ◌∙◌, subst, arith, Some, None, Option, ◌⊎◌, inl, inr}
 use Rattle.std.specs.Prelude.{is_some, IsSome, replicate}
-use Rattle.std.proofs.lemmas.Grind.{common_steps}
 use Rattle.page_memory.specs.File.{is_all_zeros}
 use Rattle.std.specs.Option.{option_map, IfSome}
 use Rattle.std.specs.Ordering.{nat_cmp}
@@ -18,15 +17,19 @@ use Rattle.std.specs.BTreeMap as tree
 use Rattle.std.specs.FinMap.{FinMap, get, insert, same_map, empty, nat_cmp-IsAntisymmetric}
 use Rattle.std.proofs.lemmas.List.{length-append, length-drop, take-append-drop}
 use Rattle.page_memory.specs.View.{pages_by, AreFrames}
-use Rattle.page_memory.specs.Laws.{frame_at-found, frame_at-insert_other, frame_at-insert_same, page_of-fits}
-use Rattle.page_memory.specs.OneFile.{list_zeros, zeros_are}
-use Rattle.page_memory.specs.Contents.{IsBytes, IsPageOfBytes, frame_at, page_of}
+use Rattle.page_memory.proofs.Laws.{frame_at-found, frame_at-insert_other, frame_at-insert_same, page_of-fits}
+use Rattle.page_memory.proofs.OneFile.{list_zeros, zeros_are}
+use Rattle.kx_fields.specs.Fields.{AreBytes, IsBlock}
+use Rattle.kx_fields.proofs.Bytes.{AreBytes-append}
+use Rattle.kx_laws.proofs.Booleans.{true_false}
+use Rattle.kx_laws.proofs.Lists.{take_front, drop_front}
+use Rattle.kx_laws.proofs.Options.{none_some, some_same}
+use Rattle.page_memory.specs.Contents.{frame_at, page_of}
 use Rattle.page_memory.specs.Frames.{frame_in, IsTable, pages_in, Differs}
 use Rattle.page_memory.specs.InPlace.{AreInSlots, slots_of}
 use Rattle.page_memory.proofs.Stored.{all_kept, distinct_kept, kept_in}
-use Rattle.page_memory.proofs.Bytes.{IsBytes-append}
 use Rattle.page_memory.proofs.Tables.{get-pages_by, equal_of_is_eq, pages_by-differs, some_held}
-use Rattle.page_memory.proofs.Frames.{other_frames, inside_found, frame_in-append, frame_in-last, IsPageOfBytes-frame_in}
+use Rattle.page_memory.proofs.Frames.{other_frames, inside_found, frame_in-append, frame_in-last, IsBlock-frame_in}
 
 -- what is asked of a frame
 abbrev Inside : List ℕ → ℕ → ℕ → Type 0
@@ -50,9 +53,6 @@ pages-added xs heads bytes m n p i is last whole h =
     ∙ ap (insert (pages_in (xs ++ heads ++ bytes) m) p) (frame_in-last (xs ++ heads) bytes i last whole)
     ∙ ap (λ zs. insert (pages_in zs m) p bytes) (append_assoc xs heads bytes)
     ∙ ap (λ k. insert k p bytes) (pages-longer xs (heads ++ bytes) m is)
-
-some_same : (a b : ℕ) → ◌≡◌ {A = Option ℕ} (Some a) (Some b) → a ≡ b
-some_same a b h = cc
 
 -- where a value at q comes from
 here_or_old : (p q i k : ℕ) (b : Bool) (o : Option ℕ) → is_at (nat_cmp p) q ≡ b → cond b (Some i) o ≡ Some k → ((q ≡ p) × (k ≡ i)) ⊎ (o ≡ Some k)
@@ -88,10 +88,10 @@ one_slot_more : (z i m n : ℕ) → z ≡ i + 4096 → i ≡ 24 + 4104 * m → n
 one_slot_more z i m n long slot more = omega (arith, long, slot, more)
 
 -- a buffer that goes on by a slot, whose page is new
-pub IsTable-added : (xs heads bytes : List ℕ) (m n : BTreeMap ℕ ℕ) (p i : ℕ) → IsTable xs m → length (xs ++ heads) ≡ i → i ≡ 24 + 4104 * length m.entries → IsBytes heads → IsPageOfBytes bytes → p < 2 ^ 34 → Differs m n p i → length n.entries ≡ length m.entries + 1 → IsTable (xs ++ heads ++ bytes) n
+pub IsTable-added : (xs heads bytes : List ℕ) (m n : BTreeMap ℕ ℕ) (p i : ℕ) → IsTable xs m → length (xs ++ heads) ≡ i → i ≡ 24 + 4104 * length m.entries → AreBytes heads → IsBlock 4096 bytes → p < 2 ^ 34 → Differs m n p i → length n.entries ≡ length m.entries + 1 → IsTable (xs ++ heads ++ bytes) n
 IsTable-added xs heads bytes m n p i is last slot small page below h more =
     let zs = xs ++ heads ++ bytes in
-    let long : length zs ≡ i + 4096 = omega (arith, length-append (xs ++ heads) bytes, page.whole, last) in
+    let long : length zs ≡ i + 4096 = omega (arith, length-append (xs ++ heads) bytes, page.long, last) in
     let longer : length xs ≤ i = omega (arith, length-append xs heads, last) in
     let before : EndBy m i = λ q k e. omega (arith, (inside_found xs m q k is (sym e)).1, longer) in
     record {
@@ -99,7 +99,7 @@ IsTable-added xs heads bytes m n p i is last slot small page below h more =
       apart = λ a b k at_a at_b. both_added xs m p i a b k is before (from_differs m n p i a k h at_a) (from_differs m n p i b k h at_b);
       slots = λ q k at_q. slot_added xs m p i q k (length m.entries) is slot (from_differs m n p i q k h at_q);
       full = one_slot_more (length zs) i (length m.entries) (length n.entries) long slot more;
-      bytes = IsBytes-append (xs ++ heads) bytes (IsBytes-append xs heads is.bytes small) page.small;
+      bytes = AreBytes-append (xs ++ heads) bytes (AreBytes-append xs heads is.bytes small) page.each;
     }
 
 -- two frames change places
@@ -111,9 +111,6 @@ pages-exchanged xs m k n d s i j at_d at_s one two =
 -- q has after the exchange what r had before
 abbrev Which : ℕ → ℕ → ℕ → ℕ → Type 0
 Which d s q r = ((q ≡ d) × (r ≡ s)) ⊎ (((q ≡ s) × (r ≡ d)) ⊎ ((q ≢ d) × (q ≢ s) × (r ≡ q)))
-
-true_false : true ≡ false → ⊥
-true_false h = cc
 
 not_at : (p q : ℕ) → is_at (nat_cmp p) q ≡ false → q ≢ p
 not_at p q e same = true_false (sym ((eq_by_cmp_equiv nat_cmp_total).refl p) ∙ ap (λ q. is_at (nat_cmp p) q) (sym same) ∙ e)
@@ -238,9 +235,9 @@ none_is (Some x) h = cc
 
 pub AreFrames-IsTable : (xs : List ℕ) (m : BTreeMap ℕ ℕ) → IsTable xs m → AreFrames (frame_in xs) m
 AreFrames-IsTable xs m is = record {
-  each = λ q. if_some (tree.get nat_cmp m q) (λ i. (q < 2 ^ 34) × IsPageOfBytes (frame_in xs i)) (λ k e.
+  each = λ q. if_some (tree.get nat_cmp m q) (λ i. (q < 2 ^ 34) × IsBlock 4096 (frame_in xs i)) (λ k e.
       let old = inside_found xs m q k is (sym e) in
-      (old.0, IsPageOfBytes-frame_in xs k old.1 is.bytes));
+      (old.0, IsBlock-frame_in xs k old.1 is.bytes));
 }
 
 -- what three copies and an exchange of frames have in common
@@ -259,14 +256,11 @@ absent_above p q i false o t up none = none
 pub absent-added : (m n : BTreeMap ℕ ℕ) (p i low : ℕ) → Differs m n p i → low ≤ p → ((q : ℕ) → low ≤ q → tree.get nat_cmp m q ≡ None) → (q : ℕ) → p + 1 ≤ q → tree.get nat_cmp n q ≡ None
 absent-added m n p i low h le none q up = h q ∙ absent_above p q i (is_at (nat_cmp p) q) (tree.get nat_cmp m q) refl up (none q (omega (arith, le, up)))
 
-none_some : (i : ℕ) → ◌≡◌ {A = Option ℕ} None (Some i) → ⊥
-none_some i h = cc
-
 -- no pages
 none_at : (m : BTreeMap ℕ ℕ) (p i : ℕ) → m.entries ≡ [] → tree.get nat_cmp m p ≡ Some i → ⊥
-none_at m p i h e = none_some i (subst (λ es. lookup (is_at (nat_cmp p)) es ≡ Some i) h e)
+none_at m p i h e = none_some (tree.get nat_cmp m p) i (ap (lookup (is_at (nat_cmp p))) h) e
 
-pub IsTable-empty : (xs : List ℕ) (m : BTreeMap ℕ ℕ) → IsBytes xs → length xs ≤ 16 → m.entries ≡ [] → IsTable xs m
+pub IsTable-empty : (xs : List ℕ) (m : BTreeMap ℕ ℕ) → AreBytes xs → length xs ≤ 16 → m.entries ≡ [] → IsTable xs m
 IsTable-empty xs m small head h =
     let nothing : length m.entries ≡ 0 = ap length h in
     record {
@@ -284,12 +278,6 @@ pub absent-empty : (m : BTreeMap ℕ ℕ) (q : ℕ) → m.entries ≡ [] → tre
 absent-empty m q h = ap (lookup (is_at (nat_cmp q))) h
 
 -- whether a page is some bytes, then zeros
-drop_front : (xs rest : List ℕ) (n : ℕ) → length xs ≡ n → drop n (xs ++ rest) ≡ rest
-drop_front xs rest n whole = grind (arith, common_steps)
-
-take_front : (xs rest : List ℕ) (n : ℕ) → length xs ≡ n → take n (xs ++ rest) ≡ xs
-take_front xs rest n whole = grind (arith, common_steps)
-
 pub is_page_when : (page bytes front back : List ℕ) (n : ℕ) (b : Bool) → length page ≡ 4096 → length bytes ≡ n → n ≤ 4096 → front ≡ take n page → back ≡ drop n page → front ≡ bytes → b ≡ is_all_zeros back → (b ≡ true → page ≡ page_of bytes) × (page ≡ page_of bytes → b ≡ true)
 is_page_when page bytes front back n b whole long fits is_front is_back same test =
     let rest : length (drop n page) ≡ 4096 - length bytes = omega (arith, length-drop n page, whole, long) in

@@ -13,16 +13,13 @@ use Rattle.std.proofs.lemmas.Bool.Decides.{nat_tests}
 use Rattle.std.proofs.Math.Seq.{drop-append-add}
 use Rattle.std.proofs.lemmas.List.{drop-append-le, take-append-le, take-take, drop-take, length-append, length-take, length-drop, drop-drop}
 use Rattle.page_memory.specs.View.{pages_by}
-use Rattle.page_memory.specs.Contents.{IsPageOfBytes, IsBytes}
-use Rattle.page_memory.proofs.Bytes.{IsBytes-take, IsBytes-drop}
+use Rattle.kx_fields.specs.Fields.{AreBytes, IsBlock}
+use Rattle.kx_fields.proofs.Fields.{AreBytes-drop}
+use Rattle.kx_fields.proofs.Bytes.{AreBytes-take}
+use Rattle.kx_laws.proofs.Booleans.{true_false}
+use Rattle.kx_laws.proofs.Lists.{take_front, drop_front}
 use Rattle.page_memory.specs.Frames.{frame_in, put_frame, IsTable}
 use Rattle.page_memory.proofs.Tables.{get-pages_by, equal_of_is_eq}
-
-front_taken : (xs ys : List ℕ) (n : ℕ) → length xs ≡ n → take n (xs ++ ys) ≡ xs
-front_taken xs ys n e = grind (arith, common_steps)
-
-front_dropped : (xs ys : List ℕ) (n : ℕ) → length xs ≡ n → drop n (xs ++ ys) ≡ ys
-front_dropped xs ys n e = grind (arith, common_steps)
 
 take_long : (xs : List ℕ) (n : ℕ) → n ≤ length xs → length (take n xs) ≡ n
 take_long xs n h = omega (arith, length-take n xs)
@@ -38,8 +35,8 @@ either_way i j apart = either_test i j (nat_lt j i) refl apart
 pub frame_in-put_same : (xs : List ℕ) (i : ℕ) (ys : List ℕ) → i + 4096 ≤ length xs → length ys ≡ 4096 → frame_in (put_frame xs i ys) i ≡ ys
 unfolding frame_in put_frame
 frame_in-put_same xs i ys inside whole =
-    ap (take 4096) (front_dropped (take i xs) (ys ++ drop 4096 (drop i xs)) i (take_long xs i (omega arith)))
-    ∙ front_taken ys (drop 4096 (drop i xs)) 4096 whole
+    ap (take 4096) (drop_front (take i xs) (ys ++ drop 4096 (drop i xs)) i (take_long xs i (omega arith)))
+    ∙ take_front ys (drop 4096 (drop i xs)) 4096 whole
 
 seg_before : (xs rest : List ℕ) (k n m : ℕ) → k + n ≤ m → m ≤ length xs → take n (drop k (take m xs ++ rest)) ≡ take n (drop k xs)
 seg_before xs rest k n m h inside =
@@ -77,7 +74,7 @@ length-put_frame xs i ys inside whole = omega (arith, length-append (take i xs) 
 
 -- what a buffer is after a slice of it was lent
 pub vec_back : (n : ℕ) (xs ys : List ℕ) → n ≡ length ys → take n (ys ++ drop (length ys) xs) ≡ ys
-vec_back n xs ys e = front_taken ys (drop (length ys) xs) n (sym e)
+vec_back n xs ys e = take_front ys (drop (length ys) xs) n (sym e)
 
 written_case : (f g : ℕ → List ℕ) (ys : List ℕ) (o : Option ℕ) (b : Bool) → (b ≡ true → option_map g o ≡ Some ys) → (b ≡ false → option_map g o ≡ option_map f o) → option_map g o ≡ cond b (Some ys) (option_map f o)
 written_case f g ys o true same other = same refl
@@ -86,9 +83,6 @@ written_case f g ys o false same other = other refl
 pub other_frames : (f g : ℕ → List ℕ) (o : Option ℕ) → ((j : ℕ) → o ≡ Some j → g j ≡ f j) → option_map g o ≡ option_map f o
 other_frames f g None h = refl
 other_frames f g (Some j) h = ap Some (h j refl)
-
-true_false : true ≡ false → ⊥
-true_false h = cc
 
 -- where one frame was written, the map differs at its page
 pub pages_by-written : (f g : ℕ → List ℕ) (m : BTreeMap ℕ ℕ) (p i : ℕ) (ys : List ℕ) → tree.get nat_cmp m p ≡ Some i → g i ≡ ys → ((q j : ℕ) → q ≢ p → tree.get nat_cmp m q ≡ Some j → g j ≡ f j) → pages_by g m.entries ≡ insert (pages_by f m.entries) p ys
@@ -114,11 +108,11 @@ pub other_page : (xs : List ℕ) (m : BTreeMap ℕ ℕ) (p i : ℕ) (ys : List �
 other_page xs m p i ys is at_p whole q j ne at_q =
     frame_in-put_other xs i j ys (inside_found xs m p i is (sym at_p)).1 whole (λ same. ne (is.apart q p j at_q (at_p ∙ ap Some (sym same)))) (clear xs m q p j i is at_q at_p) (clear xs m p q i j is at_p at_q)
 
-pub IsPageOfBytes-frame_in : (xs : List ℕ) (i : ℕ) → i + 4096 ≤ length xs → IsBytes xs → IsPageOfBytes (frame_in xs i)
+pub IsBlock-frame_in : (xs : List ℕ) (i : ℕ) → i + 4096 ≤ length xs → AreBytes xs → IsBlock 4096 (frame_in xs i)
 unfolding frame_in
-IsPageOfBytes-frame_in xs i inside small = record {
-  whole = omega (arith, length-take 4096 (drop i xs), length-drop i xs);
-  small = IsBytes-take 4096 (drop i xs) (IsBytes-drop i xs small);
+IsBlock-frame_in xs i inside small = record {
+  long = omega (arith, length-take 4096 (drop i xs), length-drop i xs);
+  each = AreBytes-take 4096 (drop i xs) (AreBytes-drop i xs small);
 }
 
 -- a frame of a longer buffer
@@ -131,7 +125,7 @@ frame_in-append xs zs j inside =
 -- the last frame
 pub frame_in-last : (xs zs : List ℕ) (j : ℕ) → length xs ≡ j → length zs ≡ 4096 → frame_in (xs ++ zs) j ≡ zs
 unfolding frame_in
-frame_in-last xs zs j at_j whole = ap (take 4096) (front_dropped xs zs j at_j) ∙ take_all_of zs 4096 whole
+frame_in-last xs zs j at_j whole = ap (take 4096) (drop_front xs zs j at_j) ∙ take_all_of zs 4096 whole
   where
     take_all_of : (xs : List ℕ) (n : ℕ) → length xs ≡ n → take n xs ≡ xs
     take_all_of xs n e = grind (arith, common_steps)

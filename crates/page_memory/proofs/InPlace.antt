@@ -12,21 +12,21 @@ use Rattle.byteorder.specs.Endian.{little_bytes}
 use Rattle.byteorder.specs.Numbers.{length-bytes_low_first}
 use Rattle.page_memory.specs.Contents.{page_with_word}
 use Rattle.page_memory.specs.File.{magic, page_text, text_of}
-use Rattle.page_memory.specs.Frames.{frame_entries, frame_in, put_frame}
-use Rattle.page_memory.specs.InPlace.{AreGathered, AreOwned, Holds, place, slot_entries, slots_of}
+use Rattle.page_memory.specs.Frames.{frame_entries, frame_in, put_frame, traded}
+use Rattle.page_memory.specs.InPlace.{AreArranged, AreGathered, AreOwned, AreSlotsOf, Holds, place, slot_entries, slots_of}
 use Rattle.page_memory.proofs.Moves.{frame_in-front, length-frame_in, put_frame-append}
 use Rattle.page_memory.proofs.Frames.{frame_in-append, frame_in-put_same, frame_in-put_other, length-put_frame}
 
 -- two frames of one buffer, the first of them in the part before the second
-pub exchanged : (xs : List ℕ) (low high : ℕ) → low + 4096 ≤ high → high + 4096 ≤ length xs → put_frame (take high xs) low (frame_in xs high) ++ (frame_in (take high xs) low ++ drop 4096 (drop high xs)) ≡ put_frame (put_frame xs high (frame_in xs low)) low (frame_in xs high)
+pub exchanged : (xs : List ℕ) (low high : ℕ) → low + 4096 ≤ high → high + 4096 ≤ length xs → put_frame (take high xs) low (frame_in xs high) ++ (frame_in (take high xs) low ++ drop 4096 (drop high xs)) ≡ traded xs low high
 unfolding put_frame
 exchanged xs low high apart inside =
     ap (λ t. put_frame (take high xs) low (frame_in xs high) ++ (t ++ drop 4096 (drop high xs))) (frame_in-front xs high low (omega (arith, inside)) apart)
     ∙ sym (put_frame-append (take high xs) (frame_in xs low ++ drop 4096 (drop high xs)) (frame_in xs high) low (omega (arith, apart, inside, length-take high xs)))
 
 -- the buffer after the frames in two slots changed places
-abbrev pub traded : List ℕ → ℕ → ℕ → List ℕ
-traded xs k from = put_frame (put_frame xs (place from) (frame_in xs (place k))) (place k) (frame_in xs (place from))
+abbrev pub slots_traded : List ℕ → ℕ → ℕ → List ℕ
+slots_traded xs k from = traded xs (place k) (place from)
 
 slots_apart : (i j : ℕ) → place i < place j → place i + 4096 ≤ place j
 slots_apart i j less = omega arith
@@ -39,7 +39,7 @@ record Trades (xs zs : List ℕ) (k from : ℕ) : Type 0 where
   second : frame_in zs (place from) ≡ frame_in xs (place k)
   others : (i : ℕ) → i ≢ k → i ≢ from → frame_in zs (place i) ≡ frame_in xs (place i)
 
-trades : (xs : List ℕ) (k from : ℕ) → k < from → place from + 4096 ≤ length xs → Trades xs (traded xs k from) k from
+trades : (xs : List ℕ) (k from : ℕ) → k < from → place from + 4096 ≤ length xs → Trades xs (slots_traded xs k from) k from
 trades xs k from less inside =
     let a = frame_in xs (place k) in
     let b = frame_in xs (place from) in
@@ -59,17 +59,17 @@ trades xs k from less inside =
     }
 
 -- a frame goes where its owner's number goes
-pub Holds-settled : (frame_of : ℕ → List ℕ) (xs owners new : List ℕ) (k from n : ℕ) → k < from → from < length owners → length new ≡ length owners → 4104 * length owners ≤ length xs - 16 → SwappedAt owners new k from → Holds frame_of xs owners n → Holds frame_of (traded xs k from) new n
+pub Holds-settled : (frame_of : ℕ → List ℕ) (xs owners new : List ℕ) (k from n : ℕ) → k < from → from < length owners → length new ≡ length owners → 4104 * length owners ≤ length xs - 16 → SwappedAt owners new k from → Holds frame_of xs owners n → Holds frame_of (slots_traded xs k from) new n
 Holds-settled frame_of xs owners new k from n less inside long room swapped holds i below few =
     let t = trades xs k from less (omega (arith, inside, room)) in
     elim (cases_eq i k) [
       | inl e ↦
           let owner : slice_index new i ≡ slice_index owners from = ap (slice_index new) e ∙ swapped.0 0 in
-          ap (λ i. frame_in (traded xs k from) (place i)) e ∙ t.first ∙ holds from inside (omega (arith, owner, few)) ∙ ap frame_of (sym owner)
+          ap (λ i. frame_in (slots_traded xs k from) (place i)) e ∙ t.first ∙ holds from inside (omega (arith, owner, few)) ∙ ap frame_of (sym owner)
       | inr ne ↦ elim (cases_eq i from) [
         | inl e ↦
             let owner : slice_index new i ≡ slice_index owners k = ap (slice_index new) e ∙ swapped.1 0 in
-            ap (λ i. frame_in (traded xs k from) (place i)) e ∙ t.second ∙ holds k (omega (arith, less, inside)) (omega (arith, owner, few)) ∙ ap frame_of (sym owner)
+            ap (λ i. frame_in (slots_traded xs k from) (place i)) e ∙ t.second ∙ holds k (omega (arith, less, inside)) (omega (arith, owner, few)) ∙ ap frame_of (sym owner)
         | inr other ↦
             let owner : slice_index new i ≡ slice_index owners i = swapped.2 i 0 ne other in
             t.others i ne other ∙ holds i (omega (arith, below, long)) (omega (arith, owner, few)) ∙ ap frame_of (sym owner)
@@ -219,16 +219,12 @@ back_more slots owners j i inside back few =
           ap (slice_index slots) same ∙ back (omega (arith, same, few))
     ]
 
--- the pages of the slots lie in them
-abbrev pub Back : List ℕ → List ℕ → Type 0
-Back slots owners = (i : ℕ) → i < length owners → slice_index owners i < length slots → slice_index slots (slice_index owners i) ≡ i
-
 -- where each slot's frame went, by lists that are the same under other names
-pub gathered : (xs new seen lent slots owners lent_owners : List ℕ) → seen ≡ slots → lent ≡ slots → lent_owners ≡ owners → Back seen owners → ((frame_of : ℕ → List ℕ) → Holds frame_of xs lent_owners (length lent) → (j : ℕ) → j < length lent → frame_in new (place j) ≡ frame_of j) → (j : ℕ) → j < length slots → frame_in new (place j) ≡ frame_in xs (place (slice_index slots j))
+pub gathered : (xs new seen lent slots owners lent_owners : List ℕ) → seen ≡ slots → lent ≡ slots → lent_owners ≡ owners → AreSlotsOf seen owners → AreArranged xs lent_owners new (length lent) → (j : ℕ) → j < length slots → frame_in new (place j) ≡ frame_in xs (place (slice_index slots j))
 gathered xs new seen lent slots owners lent_owners is_seen is_lent is_owners back all j below =
-    let known : Back slots owners = subst (λ s. Back s owners) is_seen back in
-    let told : Back slots lent_owners = subst (Back slots) (sym is_owners) known in
-    let each = subst (λ s. (frame_of : ℕ → List ℕ) → Holds frame_of xs lent_owners (length s) → (j : ℕ) → j < length s → frame_in new (place j) ≡ frame_of j) is_lent all in
+    let known : AreSlotsOf slots owners = subst (λ s. AreSlotsOf s owners) is_seen back in
+    let told : AreSlotsOf slots lent_owners = subst (AreSlotsOf slots) (sym is_owners) known in
+    let each = subst (λ s. AreArranged xs lent_owners new (length s)) is_lent all in
     each (λ k. frame_in xs (place (slice_index slots k))) (λ i inside few. ap (λ s. frame_in xs (place s)) (sym (told i inside few))) j below
 
 -- the same by lists under other names

@@ -3,8 +3,9 @@ pub mod Changes
 pub mod Frames
 pub mod Heads
 pub mod InPlace
+pub mod Laws
 pub mod Moves
-pub mod Numbers
+pub mod OneFile
 pub mod Reading
 pub mod Spelled
 pub mod Stored

@@ -4,7 +4,7 @@ use Rattle.std.specs.Prelude.{replicate}
 use Rattle.std.proofs.lemmas.List.{append-nil, drop-append-le, take-append-le, take-append-drop, length-take, length-drop}
 use Rattle.page_memory.specs.Contents.{page_of, zero_page}
 use Rattle.page_memory.specs.Frames.{frame_in, put_frame}
-use Rattle.page_memory.specs.Laws.{page_of-fits}
+use Rattle.page_memory.proofs.Laws.{page_of-fits}
 use Rattle.page_memory.proofs.Frames.{frame_in-append}
 
 pub page_of-full : (xs : List ℕ) → length xs ≡ 4096 → page_of xs ≡ xs

@@ -1,51 +1,33 @@
 -- What is read is the file of what it gives.
-use Rattle.std.proofs.Common.{◌≡◌, ℕ, zero, suc, ◌+◌, ◌<◌, ◌≤◌, List, [], ◌∷◌, ◌++◌, length, take, drop, Bool, true, false, cond, refl, sym, ap, ◌∙◌, subst, arith, Ok, Err, Result}
-use Rattle.std.specs.Prelude.{IfOk, not, filter, nat_lt, nat_eq, ◌==◌, ◌&&◌}
+use Rattle.std.proofs.Common.{◌≡◌, ℕ, zero, suc, ◌+◌, ◌<◌, ◌≤◌, List, [], ◌∷◌, ◌++◌, length, take, drop, true, false, cond, refl, sym, ap, ◌∙◌, subst, arith, Ok}
+use Rattle.std.specs.Prelude.{not, filter, nat_lt, nat_eq, ◌==◌}
 use Rattle.std.specs.List.{flat_map, AllByRecursion, starts_with}
 use Rattle.std.specs.Ordering.{nat_cmp}
 use Rattle.std.specs.Cmp.{nat_cmp_total, nat_cmp_is}
 use Rattle.std.specs.declared.cmp.Ordering.TheVariants.{Greater}
 use Rattle.std.specs.FinMap.{FinMap, entries, insert, empty, put, entries-insert}
 use Rattle.std.proofs.lemmas.Bool.Decides.{nat_tests}
-use Rattle.std.proofs.lemmas.List.{length-take, length-drop, take-append-drop, append_assoc, append-nil}
-use Rattle.byteorder.specs.Endian.{little_bytes, little_from}
-use Rattle.byteorder.specs.Numbers.{little_from-take}
-use Rattle.page_memory.specs.declared.fault.MemFault.{MemFault}
+use Rattle.std.proofs.lemmas.List.{length-drop, take-append-drop, append_assoc, append-nil}
+use Rattle.byteorder.specs.Endian.{little_bytes}
 use Rattle.page_memory.specs.declared.fault.MemFault.TheVariants as faults
-use Rattle.page_memory.specs.Contents.{Contents, IsBytes}
-use Rattle.page_memory.specs.File.{is_stored, page_text, text_of, entry_at, le64, pages_onto, pages_read, reading, file, Gives, magic, ◌>>=◌}
-use Rattle.page_memory.proofs.Bytes.{IsBytes-take, IsBytes-drop}
-use Rattle.page_memory.proofs.Numbers.{low-little_from}
+use Rattle.kx_fields.specs.Fields.{AreBytes, field}
+use Rattle.kx_fields.proofs.Fields.{AreBytes-drop, little_bytes-little_number}
+use Rattle.kx_laws.proofs.Booleans.{not_false}
+use Rattle.kx_laws.proofs.Lists.{begins_with}
+use Rattle.kx_laws.proofs.Results.{bind_ok, choose_ok, guard_ok, ok_same}
+use Rattle.page_memory.specs.File.{is_stored, page_text, text_of, entry_at, pages_onto, pages_read, magic}
 use Rattle.page_memory.proofs.Stored.{no_entries}
 
 abbrev Entries : Type 0
 Entries = List (ℕ × List ℕ)
 
-bind_ok : {A B : Type 0} (r : Result A MemFault) (f : A → Result B MemFault) (y : B) → (r >>= f) ≡ Ok y → (x : A) × (r ≡ Ok x) × (f x ≡ Ok y)
-bind_ok (Ok x) f y h = (x, refl, h)
-bind_ok (Err e) f y h = cc
-
-guard_ok : {A : Type 0} (b : Bool) (d : MemFault) (r : Result A MemFault) (y : A) → cond b (Err d) r ≡ Ok y → (b ≡ false) × (r ≡ Ok y)
-guard_ok true d r y h = cc
-guard_ok false d r y h = (refl, h)
-
-choose_ok : {A : Type 0} (b : Bool) (d : MemFault) (x y : A) → cond b (Ok x) (Err d) ≡ Ok y → (b ≡ true) × (x ≡ y)
-choose_ok true d x y h = (refl, cc)
-choose_ok false d x y h = cc
-
-ok_same : {A : Type 0} (x y : A) → ◌≡◌ {A = Result A MemFault} (Ok x) (Ok y) → x ≡ y
-ok_same x y h = cc
-
--- the first eight bytes are those of the number that they spell
-number_spelled : (bytes : List ℕ) → IsBytes bytes → 8 ≤ length bytes → little_bytes 8 (le64 bytes) ≡ take 8 bytes
-unfolding le64
-number_spelled bytes small long =
-    let eight : length (take 8 bytes) ≡ 8 = omega (arith, length-take 8 bytes) in
-    ap (little_bytes 8) (sym (little_from-take 0 8 8 bytes (omega arith)))
-    ∙ subst (λ n. little_bytes n (little_from 0 n (take 8 bytes)) ≡ take 8 bytes) eight (low-little_from (take 8 bytes) (IsBytes-take 8 bytes small))
+-- the eight bytes at a place are those of the number that they spell
+number_spelled : (at : ℕ) (bytes : List ℕ) → AreBytes bytes → at + 8 ≤ length bytes → little_bytes 8 (field at 8 bytes) ≡ take 8 (drop at bytes)
+unfolding field
+number_spelled at bytes small long = little_bytes-little_number 8 (drop at bytes) (omega (arith, long, length-drop at bytes)) (AreBytes-drop at bytes small)
 
 -- a page that was read stands so
-entry_spelled : (total place low : ℕ) (bytes : List ℕ) (e : ℕ × List ℕ × List ℕ) → IsBytes bytes → entry_at total place low bytes ≡ Ok e → (bytes ≡ page_text (e.0, e.1) ++ e.2) × (low ≤ e.0) × (is_stored (e.0, e.1) ≡ true) × IsBytes e.2
+entry_spelled : (total place low : ℕ) (bytes : List ℕ) (e : ℕ × List ℕ × List ℕ) → AreBytes bytes → entry_at total place low bytes ≡ Ok e → (bytes ≡ page_text (e.0, e.1) ++ e.2) × (low ≤ e.0) × (is_stored (e.0, e.1) ≡ true) × AreBytes e.2
 unfolding entry_at
 entry_spelled total place low bytes e small h =
     let a = guard_ok _ _ _ _ h in
@@ -55,14 +37,14 @@ entry_spelled total place low bytes e small h =
     let same = ok_same _ _ d.1 in
     let tested : nat_lt (length bytes) 4104 ≡ false = a.0 in
     let long : 4104 ≤ length bytes = grind (arith, nat_tests, tested) in
-    let rises : nat_lt (le64 bytes) low ≡ false = c.0 in
-    let up : low ≤ le64 bytes = grind (arith, nat_tests, rises) in
+    let rises : nat_lt (field 0 8 bytes) low ≡ false = c.0 in
+    let up : low ≤ field 0 8 bytes = grind (arith, nat_tests, rises) in
     let parts = sym (take-append-drop 8 bytes)
-    ∙ ap (λ xs. xs ++ drop 8 bytes) (sym (number_spelled bytes small (omega (arith, long))))
-    ∙ ap (λ ys. little_bytes 8 (le64 bytes) ++ ys) (sym (take-append-drop 4096 (drop 8 bytes)))
-    ∙ sym (append_assoc (little_bytes 8 (le64 bytes)) (take 4096 (drop 8 bytes)) (drop 4096 (drop 8 bytes))) in
-    subst (λ (e : ℕ × List ℕ × List ℕ). (bytes ≡ page_text (e.0, e.1) ++ e.2) × (low ≤ e.0) × (is_stored (e.0, e.1) ≡ true) × IsBytes e.2) same
-    (parts, up, ap not d.0, IsBytes-drop 4096 (drop 8 bytes) (IsBytes-drop 8 bytes small))
+    ∙ ap (λ xs. xs ++ drop 8 bytes) (sym (number_spelled 0 bytes small (omega (arith, long))))
+    ∙ ap (λ ys. little_bytes 8 (field 0 8 bytes) ++ ys) (sym (take-append-drop 4096 (drop 8 bytes)))
+    ∙ sym (append_assoc (little_bytes 8 (field 0 8 bytes)) (take 4096 (drop 8 bytes)) (drop 4096 (drop 8 bytes))) in
+    subst (λ (e : ℕ × List ℕ × List ℕ). (bytes ≡ page_text (e.0, e.1) ++ e.2) × (low ≤ e.0) × (is_stored (e.0, e.1) ≡ true) × AreBytes e.2) same
+    (parts, up, ap not d.0, AreBytes-drop 4096 (drop 8 bytes) (AreBytes-drop 8 bytes small))
 
 lower_all : (es : Entries) (low p : ℕ) → low ≤ p → AllByRecursion (λ e. e.0 < low) es → AllByRecursion (λ e. e.0 < p) es
 lower_all [] low p le h = tt
@@ -85,7 +67,7 @@ nil_of : {A : Type 0} (xs : List A) → (length xs == 0) ≡ true → xs ≡ []
 nil_of [] h = refl
 nil_of (x ∷ xs) h = absurd (grind (arith, nat_tests, h))
 
-pages_spelled : (n total place low : ℕ) (m : FinMap nat_cmp (List ℕ)) (bytes : List ℕ) (k : FinMap nat_cmp (List ℕ)) → IsBytes bytes → AllByRecursion (λ e. e.0 < low) (entries m) → pages_onto total place low m n bytes ≡ Ok k → Spells m k n bytes
+pages_spelled : (n total place low : ℕ) (m : FinMap nat_cmp (List ℕ)) (bytes : List ℕ) (k : FinMap nat_cmp (List ℕ)) → AreBytes bytes → AllByRecursion (λ e. e.0 < low) (entries m) → pages_onto total place low m n bytes ≡ Ok k → Spells m k n bytes
 unfolding pages_onto
 pages_spelled zero total place low m bytes k small below h =
     let end = choose_ok (length bytes == 0) (faults.Trailing place) m k h in
@@ -104,26 +86,7 @@ filter_all : (es : Entries) → AllByRecursion (λ e. is_stored e ≡ true) es �
 filter_all [] h = refl
 filter_all (e ∷ es) h = ap (λ b. cond b (e ∷ filter is_stored es) (filter is_stored es)) h.0 ∙ ap (λ t. e ∷ t) (filter_all es h.1)
 
-not_false : (b : Bool) → not b ≡ false → b ≡ true
-not_false true h = refl
-not_false false h = cc
-
-and_parts : (a b : Bool) → (a && b) ≡ true → (a ≡ true) × (b ≡ true)
-and_parts true b h = (refl, h)
-and_parts false b h = cc
-
-same_from : (x y : ℕ) → (x == y) ≡ true → x ≡ y
-same_from x y h = grind (arith, nat_tests)
-
-begins_with : (xs ys : List ℕ) → starts_with nat_eq xs ys ≡ true → xs ≡ ys ++ drop (length ys) xs
-begins_with xs [] h = refl
-begins_with [] (y ∷ ys) h = cc
-begins_with (x ∷ xs) (y ∷ ys) h =
-    let both = and_parts (y == x) (starts_with nat_eq xs ys) h in
-    let same : y ≡ x = same_from y x both.0 in
-    ap (λ z. z ∷ xs) (sym same) ∙ ap (λ t. y ∷ t) (begins_with xs ys both.1)
-
-pub read_spelled : (bytes : List ℕ) (k : FinMap nat_cmp (List ℕ)) → IsBytes bytes → pages_read bytes ≡ Ok k → text_of (filter is_stored (entries k)) ≡ bytes
+pub read_spelled : (bytes : List ℕ) (k : FinMap nat_cmp (List ℕ)) → AreBytes bytes → pages_read bytes ≡ Ok k → text_of (filter is_stored (entries k)) ≡ bytes
 unfolding pages_read text_of
 read_spelled bytes k small h =
     let a = guard_ok _ _ _ _ h in
@@ -132,24 +95,13 @@ read_spelled bytes k small h =
     let begins : starts_with nat_eq bytes magic ≡ true = not_false (starts_with nat_eq bytes magic) a.0 in
     let tested : nat_lt (length bytes) 16 ≡ false = b.0 in
     let long : 16 ≤ length bytes = grind (arith, nat_tests, tested) in
-    let rest = IsBytes-drop 8 bytes small in
     let none : AllByRecursion (λ e. e.0 < 0) (entries (empty {X = List ℕ} {R = nat_cmp})) = subst (AllByRecursion (λ e. e.0 < 0)) (sym no_entries) tt in
-    let spelled = pages_spelled (le64 (drop 8 bytes)) (length bytes) 16 0 empty (drop 8 (drop 8 bytes)) k (IsBytes-drop 8 (drop 8 bytes) rest) none c.1 in
+    let spelled = pages_spelled (field 8 8 bytes) (length bytes) 16 0 empty (drop 8 (drop 8 bytes)) k (AreBytes-drop 8 (drop 8 bytes) (AreBytes-drop 8 bytes small)) none c.1 in
     let es = spelled.0 in
     let all : filter is_stored (entries k) ≡ es = ap (filter is_stored) (spelled.3 ∙ ap (λ t. t ++ es) no_entries) ∙ filter_all es spelled.4 in
     ap text_of all
     ∙ ap (λ t. magic ++ (little_bytes 8 (length es) ++ t)) (sym spelled.2)
     ∙ ap (λ n. magic ++ (little_bytes 8 n ++ drop 8 (drop 8 bytes))) spelled.1
-    ∙ ap (λ t. magic ++ (t ++ drop 8 (drop 8 bytes))) (number_spelled (drop 8 bytes) rest (omega (arith, long, length-drop 8 bytes)))
+    ∙ ap (λ t. magic ++ (t ++ drop 8 (drop 8 bytes))) (number_spelled 8 bytes small (omega (arith, long)))
     ∙ ap (λ t. magic ++ t) (take-append-drop 8 (drop 8 bytes))
     ∙ sym (begins_with bytes magic begins)
-
--- the memory that was read has this file
-pub found_file : (bytes : List ℕ) (m : Contents) → IsBytes bytes → reading bytes ≡ Ok m → file m ≡ bytes
-found_file bytes m small h =
-    let one = bind_ok (pages_read bytes) (λ k. Ok (record { pages = k; sets = 0 })) m h in
-    ap file (sym (ok_same _ _ one.2)) ∙ read_spelled bytes one.0 small one.1
-
-pub found_of_gives : (bytes : List ℕ) (r : Result Contents MemFault) → IsBytes bytes → Gives (λ (m : Contents). m) r (reading bytes) → IfOk r (λ m. file m ≡ bytes)
-found_of_gives bytes (Ok m) small h = found_file bytes m small h
-found_of_gives bytes (Err e) small h = tt

@@ -10,7 +10,7 @@ use Rattle.std.specs.Option.{IfSome}
 use Rattle.std.specs.Ordering.{is_eq}
 use Rattle.std.specs.declared.cmp.Ordering.{Ordering}
 use Rattle.page_memory.specs.View.{AreFrames}
-use Rattle.page_memory.specs.Contents.{IsPageOfBytes}
+use Rattle.kx_fields.specs.Fields.{IsBlock}
 use Rattle.std.specs.declared.cmp.Ordering.TheVariants.{Less, Equal, Greater}
 use Rattle.std.specs.Prelude.{◌↔◌, IsTrue, IsSome, is_some}
 use Rattle.std.specs.FinMap.{FinMap, get, insert, same_map, get-from_entries, get-insert, nat_cmp-IsAntisymmetric}
@@ -53,23 +53,6 @@ equal_of_is_eq Less h = cc
 equal_of_is_eq Equal h = refl
 equal_of_is_eq Greater h = cc
 
-frame_case : {X : Type 0} (f : X → List ℕ) (b : Bool) (q : ℕ) (v : X) (o : Option X) → (b ≡ true → (q < 2 ^ 34) × IsPageOfBytes (f v)) → IfSome o (λ x. (q < 2 ^ 34) × IsPageOfBytes (f x)) → IfSome (cond b (Some v) o) (λ x. (q < 2 ^ 34) × IsPageOfBytes (f x))
-frame_case f true q v o new old = new refl
-frame_case f false q v o new old = old
-
--- its frames are frames
-pub AreFrames-differs : {X : Type 0} (f : X → List ℕ) (m n : BTreeMap ℕ X) (k : ℕ) (v : X) → Differs m n k v → AreFrames f m → k < 2 ^ 34 → IsPageOfBytes (f v) → AreFrames f n
-AreFrames-differs f m n k v h old below new = record {
-  each = λ q.
-      subst (λ o. IfSome o (λ x. (q < 2 ^ 34) × IsPageOfBytes (f x))) (sym (h q))
-      (frame_case f (is_at (nat_cmp k) q) q v (tree.get nat_cmp m q)
-      (λ e. (subst (λ n. n < 2 ^ 34) (nat_cmp-IsAntisymmetric k q (equal_of_is_eq (nat_cmp k q) e)) below, new)) (old.each q));
-}
-
--- what a frame that was found is
-pub frame_found : {X : Type 0} (f : X → List ℕ) (m : BTreeMap ℕ X) (k : ℕ) (x : X) → AreFrames f m → Some x ≡ tree.get nat_cmp m k → (k < 2 ^ 34) × IsPageOfBytes (f x)
-frame_found f m k x old e = subst (λ o. IfSome o (λ x. (k < 2 ^ 34) × IsPageOfBytes (f x))) (sym e) (old.each k)
-
 -- what is not in the table is not held
 pub none_held : {X : Type 0} (f : X → List ℕ) (m : BTreeMap ℕ X) (k : ℕ) → None ≡ tree.get nat_cmp m k → get (pages_by f m.entries) k ≡ None
 none_held f m k e = get-pages_by f m.entries k ∙ ap (option_map f) (sym e)
@@ -86,9 +69,9 @@ pub not_held : {X : Type 0} (f : X → List ℕ) (m : BTreeMap ℕ X) (k : ℕ) 
 not_held f m k b e none = ap is_some (get-pages_by f m.entries k) ∙ is_some-option_map f (tree.get nat_cmp m k) ∙ sym e ∙ none
 
 -- the map of a table of frames has frames
-pub each-shown : {X : Type 0} (f : X → List ℕ) (m : BTreeMap ℕ X) (shown : FinMap nat_cmp (List ℕ)) → pages_by f m.entries ≡ shown → AreFrames f m → (q : ℕ) → IfSome (get shown q) (λ b. (q < 2 ^ 34) × IsPageOfBytes b)
-each-shown {X = X} f m shown e frames q = subst (λ o. IfSome o (λ b. (q < 2 ^ 34) × IsPageOfBytes b)) (sym (get-shown f m.entries shown q e)) (mapped (tree.get nat_cmp m q) (frames.each q))
+pub each-shown : {X : Type 0} (f : X → List ℕ) (m : BTreeMap ℕ X) (shown : FinMap nat_cmp (List ℕ)) → pages_by f m.entries ≡ shown → AreFrames f m → (q : ℕ) → IfSome (get shown q) (λ b. (q < 2 ^ 34) × IsBlock 4096 b)
+each-shown {X = X} f m shown e frames q = subst (λ o. IfSome o (λ b. (q < 2 ^ 34) × IsBlock 4096 b)) (sym (get-shown f m.entries shown q e)) (mapped (tree.get nat_cmp m q) (frames.each q))
   where
-    mapped : (o : Option X) → IfSome o (λ x. (q < 2 ^ 34) × IsPageOfBytes (f x)) → IfSome (option_map f o) (λ b. (q < 2 ^ 34) × IsPageOfBytes b)
+    mapped : (o : Option X) → IfSome o (λ x. (q < 2 ^ 34) × IsBlock 4096 (f x)) → IfSome (option_map f o) (λ b. (q < 2 ^ 34) × IsBlock 4096 b)
     mapped None h = tt
     mapped (Some x) h = h

@@ -1,10 +1,11 @@
--- A memory: a finite map from page numbers to 4,096 bytes each, and a number of sets.
-use Rattle.std.specs.Prelude.{◌≡◌, ℕ, ◌+◌, ◌-◌, ◌<◌, ◌^◌, ◌/◌, ◌%◌, ◌++◌, List, length, drop, take, slice_index, unwrap_or, if◌then◌else◌, nat_lt, replicate, IfSome}
+-- A memory: a finite map from page numbers to 4,096 bytes each, and a number of sets. This project's own.
+use Rattle.std.specs.Prelude.{ℕ, ◌+◌, ◌-◌, ◌<◌, ◌^◌, ◌/◌, ◌%◌, ◌++◌, List, length, drop, take, unwrap_or, if◌then◌else◌, nat_lt, replicate, IfSome}
 use Rattle.std.specs.Ordering.{nat_cmp}
 use Rattle.std.specs.FinMap as finite
 use Rattle.std.specs.Prelude.{refl, IsSome}
 use Rattle.std.specs.Coded.{Coded, code_by, coded×, coded_ℕ, coded_list}
 use Rattle.byteorder.specs.Endian.{little_bytes}
+use Rattle.kx_fields.specs.Fields.{IsBlock}
 
 -- what a clause sees of a Memory
 pub record Contents : Type 0 where
@@ -14,7 +15,8 @@ pub record Contents : Type 0 where
 -- stored as the pair of its fields
 abbrev pub contents_code : Coded Contents
 contents_code =
-    code_by (finite.FinMap nat_cmp (List ℕ) × ℕ) (coded× (finite.code coded_ℕ (coded_list coded_ℕ)) coded_ℕ) (λ m. (m.pages, m.sets)) (λ p. record { pages = p.0; sets = p.1 }) (λ _. refl)
+    code_by (finite.FinMap nat_cmp (List ℕ) × ℕ) (coded× (finite.code coded_ℕ (coded_list coded_ℕ)) coded_ℕ)
+    (λ m. (m.pages, m.sets)) (λ p. record { pages = p.0; sets = p.1 }) (λ _. refl)
 
 -- a page of zeros
 unfoldable pub zero_page : List ℕ
@@ -55,14 +57,6 @@ swapped m d s w = copied (copied (copied m w s) s d) d w
 abbrev pub after_set : Contents → ℕ → List ℕ → Contents
 after_set m p bytes = record { pages = finite.insert m.pages p bytes; sets = one_more_set m.sets }
 
-abbrev pub IsBytes : List ℕ → Type 0
-IsBytes bytes = (i : ℕ) → slice_index bytes i < 256
-
--- a page as each memory has it
-pub record IsPageOfBytes (bytes : List ℕ) : Type 0 where
-  pub whole : length bytes ≡ 4096
-  pub small : IsBytes bytes
-
 -- the page with the word at this place
 unfoldable pub page_with_word : List ℕ → ℕ → ℕ → List ℕ
 page_with_word bytes place v = take place bytes ++ (little_bytes 8 v ++ drop (place + 8) bytes)
@@ -73,4 +67,4 @@ with_word m a v = after_set m (a / 4096) (page_with_word (at m (a / 4096)) (a % 
 
 -- what each memory is
 pub record IsMemory (m : Contents) : Type 0 where
-  pub each : (q : ℕ) → IfSome (finite.get m.pages q) (λ b. (q < 2 ^ 34) × IsPageOfBytes b)
+  pub each : (q : ℕ) → IfSome (finite.get m.pages q) (λ b. (q < 2 ^ 34) × IsBlock 4096 b)

@@ -1,11 +1,15 @@
--- The memory file: the magic, the count, and the pages in rising order, none of them all zeros.
-use Rattle.std.specs.Prelude.{◌≡◌, ℕ, zero, suc, ◌+◌, ◌^◌, ◌++◌, Bool, not, List, length, take, drop, filter, nat_lt, nat_le, nat_eq, ◌==◌, if◌then◌else◌, Result, Ok, Err, codes}
+-- The memory file, this project's own: the magic, the count, and the pages in rising order, none of them all zeros.
+use Rattle.std.specs.Prelude.{◌≡◌, ◌≢◌, ℕ, zero, suc, ◌+◌, ◌^◌, ◌<◌, ◌≤◌, ◌++◌, Bool, not, List, length, take, drop, filter, nat_lt, nat_le, nat_eq, ◌==◌, if◌then◌else◌, Result, Ok, Err, codes}
 use Rattle.std.specs.List.{flat_map, list_all, starts_with}
 use Rattle.std.specs.Ordering.{nat_cmp}
 use Rattle.std.specs.FinMap as finite
-use Rattle.byteorder.specs.Endian.{little_number, little_bytes}
+use Rattle.byteorder.specs.Endian.{little_bytes}
+use Rattle.kx_fields.specs.Fields.{field}
+use Rattle.kx_laws.specs.Results.{◌>>=◌}
 use Rattle.page_memory.specs.declared.fault.MemFault.{MemFault}
 use Rattle.page_memory.specs.declared.fault.MemFault.TheVariants as faults
+use Rattle.page_memory.specs.declared.fault.HeavyFault.{HeavyFault}
+use Rattle.page_memory.specs.declared.fault.HeavyFault.TheVariants as heavy
 use Rattle.page_memory.specs.Contents.{Contents, at}
 
 abbrev pub magic : List ℕ
@@ -28,27 +32,26 @@ page_text e = little_bytes 8 e.0 ++ e.1
 unfoldable pub text_of : List (ℕ × List ℕ) → List ℕ
 text_of es = magic ++ (little_bytes 8 (length es) ++ flat_map page_text es)
 
+-- pages that are few enough have these bytes as their file
+abbrev pub IsFileOf : List (ℕ × List ℕ) → List ℕ → Type 0
+IsFileOf es bytes = (length es ≤ 131072) × (bytes ≡ text_of es)
+
+-- Why pages have no file: they are too many, and their number is told; or memory is wanted, of which nothing is said.
+abbrev pub HasNoFile : List (ℕ × List ℕ) → HeavyFault → Type 0
+HasNoFile es e = e ≢ heavy.Memory → (131072 < length es) × (e ≡ heavy.TooMany (length es))
+
 -- the file of a memory
 abbrev pub file : Contents → List ℕ
 file m = text_of (stored m)
-
-infixl 10 ◌>>=◌
-abbrev pub ◌>>=◌ : {A B : Type 0} → Result A MemFault → (A → Result B MemFault) → Result B MemFault
-(Ok x) >>= f = f x
-(Err e) >>= f = Err e
-
--- the number of the first eight bytes
-unfoldable pub le64 : List ℕ → ℕ
-le64 bytes = little_number 8 bytes
 
 -- a page's number and bytes, and what stands after it, or the first fault. `low` is the least number that rises.
 unfoldable pub entry_at : ℕ → ℕ → ℕ → List ℕ → Result (ℕ × List ℕ × List ℕ) MemFault
 entry_at total place low bytes =
     if nat_lt (length bytes) 4104 then Err (faults.Truncated total)
-    else if nat_le (2 ^ 34) (le64 bytes) then Err (faults.PastLimit place)
-    else if nat_lt (le64 bytes) low then Err (faults.NotRising place)
+    else if nat_le (2 ^ 34) (field 0 8 bytes) then Err (faults.PastLimit place)
+    else if nat_lt (field 0 8 bytes) low then Err (faults.NotRising place)
     else if is_all_zeros (take 4096 (drop 8 bytes)) then Err (faults.ZeroPage place)
-    else Ok (le64 bytes, take 4096 (drop 8 bytes), drop 4096 (drop 8 bytes))
+    else Ok (field 0 8 bytes, take 4096 (drop 8 bytes), drop 4096 (drop 8 bytes))
 
 -- n pages from this place on, added to those before, and then nothing
 unfoldable pub pages_onto : ℕ → ℕ → ℕ → finite.FinMap nat_cmp (List ℕ) → ℕ → List ℕ → Result (finite.FinMap nat_cmp (List ℕ)) MemFault
@@ -57,26 +60,21 @@ pages_onto total place low m (suc n) bytes = do
   e ← entry_at total place low bytes
   pages_onto total (place + 4104) (e.0 + 1) (finite.insert m e.0 e.1) n e.2
 
+-- so many pages behind the head of a file
+abbrev pub pages_from : ℕ → List ℕ → Result (finite.FinMap nat_cmp (List ℕ)) MemFault
+pages_from n bytes = pages_onto (length bytes) 16 0 finite.empty n (drop 8 (drop 8 bytes))
+
 -- the pages of a file, or its first fault
 unfoldable pub pages_read : List ℕ → Result (finite.FinMap nat_cmp (List ℕ)) MemFault
 pages_read bytes =
     if not (starts_with nat_eq bytes magic) then Err faults.BadMagic
     else if nat_lt (length bytes) 16 then Err (faults.Truncated (length bytes))
-    else if nat_lt 131072 (le64 (drop 8 bytes)) then Err (faults.TooMany (le64 (drop 8 bytes)))
-    else pages_onto (length bytes) 16 0 finite.empty (le64 (drop 8 bytes)) (drop 8 (drop 8 bytes))
+    else if nat_lt 131072 (field 8 8 bytes) then Err (faults.TooMany (field 8 8 bytes))
+    else pages_from (field 8 8 bytes) bytes
 
 -- what a file reads as
 abbrev pub reading : List ℕ → Result Contents MemFault
 reading bytes = pages_read bytes >>= λ m. Ok (record { pages = m; sets = 0 })
-
-abbrev pub Fails : {Y : Type 0} → MemFault → Result Y MemFault → Type 0
-Fails faults.Memory r = Unit {0}
-Fails e r = r ≡ Err e
-
--- what a call gave, seen by view, is what reading gives, unless memory ran out
-abbrev pub Gives : {X Y : Type 0} → (X → Y) → Result X MemFault → Result Y MemFault → Type 0
-Gives view (Ok x) r = r ≡ Ok (view x)
-Gives view (Err e) r = Fails e r
 
 -- a file of a memory is read as a memory that agrees with it at every page
 abbrev pub IsReadAgain : Contents → Type 0

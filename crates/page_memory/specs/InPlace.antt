@@ -1,6 +1,7 @@
--- A memory file that is made in the buffer of its memory.
+-- A memory file that is made in the buffer of its memory. This project's own, and no public clause speaks of it.
 use Rattle.std.specs.Prelude.{◌≡◌, ℕ, ◌+◌, ◌*◌, ◌/◌, ◌%◌, ◌<◌, ◌≤◌, List, [], ◌∷◌, length, map, slice_index, eqb}
-use Rattle.std.specs.List.{AllByRecursion, IsDistinct}
+use Rattle.std.specs.List.{AllByRecursion, IsDistinct, flat_map}
+use Rattle.page_memory.specs.File.{page_text}
 use Rattle.page_memory.specs.Frames.{frame_in}
 
 -- the place of the frame in slot i
@@ -28,10 +29,26 @@ pub record AreOwned (slots owners : List ℕ) (k : ℕ) : Type 0 where
 abbrev pub Holds : (ℕ → List ℕ) → List ℕ → List ℕ → ℕ → Type 0
 Holds frame_of frames owners n = (i : ℕ) → i < length owners → slice_index owners i < n → frame_in frames (place i) ≡ frame_of (slice_index owners i)
 
+-- Where frames stand as `Holds` says, they do so afterwards.
+abbrev pub StillHold : List ℕ → List ℕ → List ℕ → List ℕ → ℕ → Type 0
+StillHold old old_owners new new_owners n = (frame_of : ℕ → List ℕ) → Holds frame_of old old_owners n → Holds frame_of new new_owners n
+
+-- Where frames stand as `Holds` says, that of each page comes to lie in the slot that the page has in the file.
+abbrev pub AreArranged : List ℕ → List ℕ → List ℕ → ℕ → Type 0
+AreArranged old owners new n = (frame_of : ℕ → List ℕ) → Holds frame_of old owners n → (j : ℕ) → j < n → frame_in new (place j) ≡ frame_of j
+
+-- each slot that a page owns is the one that the page has
+abbrev pub AreSlotsOf : List ℕ → List ℕ → Type 0
+AreSlotsOf slots owners = (i : ℕ) → i < length owners → slice_index owners i < length slots → slice_index slots (slice_index owners i) ≡ i
+
 -- the pages with the frames of the slots from k on
 abbrev pub slot_entries : List ℕ → ℕ → List (ℕ × ℕ) → List (ℕ × List ℕ)
 slot_entries frames k [] = []
 slot_entries frames k (e ∷ es) = (e.0, frame_in frames (place k)) ∷ slot_entries frames (k + 1) es
+
+-- the slots of a file, with these pages' numbers
+abbrev pub slot_texts : List ℕ → List (ℕ × ℕ) → List ℕ
+slot_texts frames es = flat_map page_text (slot_entries frames 0 es)
 
 -- the frame of each of these pages lies in the slot that the page has in the file
 abbrev pub AreGathered : List ℕ → List ℕ → List (ℕ × ℕ) → Type 0

@@ -1,4 +1,5 @@
--- Memory as a function: what each page reads as. The definitions of lists, loads and runs speak of memory so.
+-- Memory as a function: what each page reads as. The definitions of lists, loads and runs speak of memory so. This
+-- project's own.
 use Rattle.std.specs.Prelude.{◌≡◌, ℕ, ◌/◌, ◌%◌, List, drop, eqb, cond, Option}
 use Rattle.byteorder.specs.Endian.{little_number}
 use Rattle.page_memory.specs.Contents.{page_with_word}

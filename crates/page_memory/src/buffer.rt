@@ -5,8 +5,9 @@ ghost use Rattle.std.specs.FinMap as finite;
 ghost use Rattle.std.specs.Ordering.{nat_cmp};
 ghost use Rattle.std.specs.BTreeMap as tree;
 ghost use Rattle.std.specs.Vec.{vec_capacity};
-ghost use Rattle.page_memory.specs.Contents.{IsPageOfBytes, frame_at, page_of, page_with_word};
-ghost use Rattle.page_memory.specs.Frames.{frame_in, put_frame, pages_in, IsTable, Differs};
+ghost use Rattle.kx_fields.specs.Fields.{IsBlock};
+ghost use Rattle.page_memory.specs.Contents.{frame_at, page_of, page_with_word};
+ghost use Rattle.page_memory.specs.Frames.{frame_in, put_frame, put_word_in, pages_in, AreExchanged, HaveSamePages, IsAdded, IsCopied, IsSet, IsTable, IsWordSet, Differs};
 
 use crate::layout::{FIRST_FRAME, FRAME_SIZE, SLOT};
 use byteorder::{ByteOrder, LittleEndian};
@@ -55,7 +56,7 @@ fn fill_frame(frame: &mut [u8], bytes: &[u8])
 fn fill_word(frames: &mut [u8], start: usize, place: usize, v: u64)
     requires inside { start + 4096 ≤ length frames.old }
     requires fits { place + 8 ≤ 4096 }
-    ensures { frames.new ≡ put_frame frames.old start (page_with_word (frame_in frames.old start) place v) }
+    ensures { frames.new ≡ put_word_in frames.old start place v }
 {
     let (_, rest) = frames.split_at_mut(start);
     let (frame, _) = rest.split_at_mut(FRAME_SIZE);
@@ -76,7 +77,7 @@ pub fn write_frame(frames: &mut Vec<u8>, table: &Table, p: Page, bytes: &[u8])
     requires old { IsTable frames.old.items table.now }
     requires held { IsSome (finite.get (pages_in frames.old.items table.now) p) }
     requires fits { length bytes.now ≤ 4096 }
-    ensures value { pages_in frames.new.items table.now ≡ finite.insert (pages_in frames.old.items table.now) p (page_of bytes.now) }
+    ensures value { IsSet frames.old.items frames.new.items table.now p (page_of bytes.now) }
     ensures table { IsTable frames.new.items table.now }
 {
     match table.get(&p) {
@@ -90,7 +91,7 @@ pub fn write_word(frames: &mut Vec<u8>, table: &Table, p: Page, place: usize, v:
     requires old { IsTable frames.old.items table.now }
     requires held { IsSome (finite.get (pages_in frames.old.items table.now) p) }
     requires fits { place + 8 ≤ 4096 }
-    ensures value { pages_in frames.new.items table.now ≡ finite.insert (pages_in frames.old.items table.now) p (page_with_word (frame_at (pages_in frames.old.items table.now) p) place v) }
+    ensures value { IsWordSet frames.old.items frames.new.items table.now p place v }
     ensures table { IsTable frames.new.items table.now }
 {
     match table.get(&p) {
@@ -120,7 +121,7 @@ fn move_frame(frames: &mut [u8], to: usize, from: usize)
 pub fn copy_frame(frames: &mut Vec<u8>, table: &Table, d: Page, s: Page)
     requires old { IsTable frames.old.items table.now }
     requires held { IsSome (finite.get (pages_in frames.old.items table.now) d) }
-    ensures value { pages_in frames.new.items table.now ≡ finite.insert (pages_in frames.old.items table.now) d (frame_at (pages_in frames.old.items table.now) s) }
+    ensures value { IsCopied frames.old.items frames.new.items table.now d s }
     ensures table { IsTable frames.new.items table.now }
 {
     match table.get(&s) {
@@ -141,9 +142,11 @@ pub fn add_frame(
 ) -> Result<(), AllocError>
     requires old { IsTable frames.old.items table.old }
     requires absent { finite.get (pages_in frames.old.items table.old) p ≡ None }
-    requires bytes { IsPageOfBytes bytes.now }
-    ensures ok { OnOk result (pages_in frames.new.items table.new ≡ finite.insert (pages_in frames.old.items table.old) p bytes.now) }
-    ensures err { OnErr result (pages_in frames.new.items table.new ≡ pages_in frames.old.items table.old) }
+    requires bytes { IsBlock 4096 bytes.now }
+    ensures ok { OnOk result
+        (IsAdded frames.old.items table.old frames.new.items table.new p bytes.now) }
+    ensures err { OnErr result
+        (HaveSamePages frames.old.items table.old frames.new.items table.new) }
     ensures table { IsTable frames.new.items table.new }
 {
     // for its clause: what every value of the type keeps
@@ -196,7 +199,7 @@ pub fn exchange(table: &mut Table, d: Page, s: Page)
     requires d { IsSome (tree.get nat_cmp table.old d) }
     requires s { IsSome (tree.get nat_cmp table.old s) }
     requires apart { d ≢ s }
-    ensures value { (xs : List ℕ) → pages_in xs table.new ≡ finite.insert (finite.insert (pages_in xs table.old) s (frame_at (pages_in xs table.old) d)) d (frame_at (pages_in xs table.old) s) }
+    ensures value { AreExchanged table.old table.new d s }
     ensures table { (xs : List ℕ) → IsTable xs table.old → IsTable xs table.new }
 {
     let i = entry_of(table, d);

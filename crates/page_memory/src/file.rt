@@ -2,14 +2,16 @@
 
 ghost use Rattle.std.specs.Prelude.{[], ◌≡◌, ◌≤◌, ◌<◌, ◌+◌, ◌*◌, ◌^◌, ℕ, length, ◌++◌, ◌≢◌, ◌↔◌, drop, IfOk, IfErr, IfSome, IsSome, OnOk, nat_le, take, if◌then◌else◌};
 ghost use Rattle.page_memory.specs.declared.fault.MemFault.TheVariants.{PastLimit};
-ghost use Rattle.std.specs.FinMap as finite;
-ghost use Rattle.page_memory.specs.Contents.{IsPageOfBytes};
 ghost use Rattle.std.specs.BTreeMap.{IsOrdered};
 ghost use Rattle.std.specs.List.{AllByRecursion};
 ghost use Rattle.std.specs.Ordering.{nat_cmp};
 ghost use Rattle.byteorder.specs.Endian.{little_bytes};
-ghost use Rattle.page_memory.specs.File.{magic, text_of, page_text, Gives, le64, pages_read, entry_at, pages_onto, is_all_zeros};
-ghost use Rattle.page_memory.specs.Frames.{pages_in, IsTable, stored_in, frame_entries};
+ghost use Rattle.kx_fields.specs.Fields.{field};
+ghost use Rattle.kx_laws.specs.Results.{Gives};
+ghost use Rattle.page_memory.specs.Contents.{Contents, IsMemory, at};
+ghost use Rattle.page_memory.specs.File.{magic, text_of, page_text, file, pages_from, pages_read, entry_at, is_all_zeros, stored, HasNoFile, IsFileOf, IsReadAgain};
+ghost use Rattle.page_memory.specs.Memory.{Agree};
+ghost use Rattle.page_memory.specs.Frames.{pages_in, AreStored, IsTable, stored_in, frame_entries};
 ghost use Rattle.page_memory.specs.InPlace.{AreInSlots};
 
 use crate::buffer::{Table, frame};
@@ -45,7 +47,7 @@ pub fn is_zero(bytes: &[u8]) -> bool
 // The number that the bytes begin with.
 fn number_at(bytes: &[u8]) -> u64
     requires { 8 ≤ length bytes.now }
-    ensures { result ≡ le64 bytes.now }
+    ensures { result ≡ field 0 8 bytes.now }
 {
     match Block::<8>::cut(bytes, 0) {
         Some(number) => number.get_u64(0),
@@ -56,7 +58,7 @@ fn number_at(bytes: &[u8]) -> u64
 // How many pages the head of a file counts; none where the file is shorter than its head.
 fn count_at(bytes: &[u8]) -> Option<u64>
     ensures found { IsSome result ↔ (16 ≤ length bytes.now) }
-    ensures value { IfSome result (λ count. count ≡ le64 (drop 8 bytes.now)) }
+    ensures value { IfSome result (λ count. count ≡ field 8 8 bytes.now) }
 {
     let head = Block::<16>::cut(bytes, 0)?;
     Some(head.get_u64(8))
@@ -100,8 +102,11 @@ fn next_page(
     low: u64,
     bytes: &[u8],
 ) -> Result<(Page, &[u8], &[u8]), MemFault>
-    ensures exact { Gives (λ x. (x.0, x.1.now, x.2.now)) result (entry_at total place low bytes.now) }
-    ensures cut { IfOk result (λ x. (4104 ≤ length bytes.now) × (x.1.now ≡ take 4096 (drop 8 bytes.now)) × (x.2.now ≡ drop 4096 (drop 8 bytes.now))) }
+    ensures exact { Gives MemFault.Memory (λ x. (x.0, x.1.now, x.2.now)) result
+        (entry_at total place low bytes.now) }
+    ensures long { IfOk result (λ x. 4104 ≤ length bytes.now) }
+    ensures frame { IfOk result (λ x. x.1.now ≡ take 4096 (drop 8 bytes.now)) }
+    ensures rest { IfOk result (λ x. x.2.now ≡ drop 4096 (drop 8 bytes.now)) }
     ensures page { IfOk result (λ x. x.0 < 2 ^ 34) }
     ensures rises { IfOk result (λ x. low ≤ x.0) }
 {
@@ -125,7 +130,8 @@ fn next_page(
 fn table_of(alloc: Global, count: u64, bytes: &[u8]) -> Result<Table, MemFault>
     requires few { count ≤ 131072 }
     requires headed { 16 ≤ length bytes.now }
-    ensures exact { Gives (λ t. pages_in bytes.now t) result (pages_onto (length bytes.now) 16 0 finite.empty count (drop 8 (drop 8 bytes.now))) }
+    ensures exact { Gives MemFault.Memory (λ t. pages_in bytes.now t) result
+        (pages_from count bytes.now) }
     ensures table { IfOk result (λ t. IsTable bytes.now t) }
 {
     let total = bytes.len() as u64;
@@ -152,7 +158,8 @@ fn table_of(alloc: Global, count: u64, bytes: &[u8]) -> Result<Table, MemFault>
 /// The table of the pages that a memory file spells, over the bytes of the file.
 #[tactic(auto, unfolding(crate::specs::File::pages_read))]
 pub fn file_table(alloc: Global, bytes: &[u8]) -> Result<Table, MemFault>
-    ensures exact { Gives (λ t. pages_in bytes.now t) result (pages_read bytes.now) }
+    ensures exact { Gives MemFault.Memory (λ t. pages_in bytes.now t) result
+        (pages_read bytes.now) }
     ensures table { IfOk result (λ t. IsTable bytes.now t) }
 {
     if !bytes.starts_with(b"KXMEM001") {
@@ -187,7 +194,7 @@ fn stored_frames(
     table: &Table,
 ) -> Result<Vec<(Page, usize)>, AllocError>
     requires { IsTable frames.now table.now }
-    ensures stored { IfOk result (λ v. frame_entries frames.now v.items ≡ stored_in frames.now table.now) }
+    ensures stored { IfOk result (λ v. AreStored frames.now table.now v.items) }
     ensures slots { IfOk result (λ v. AreInSlots frames.now v.items) }
     ensures few { IfOk result (λ v. length v.items ≤ length table.now.entries) }
     ensures ordered { IsOrdered nat_cmp table.now }
@@ -229,12 +236,12 @@ pub fn file_pages(
     table: &Table,
 ) -> Result<Vec<(Page, usize)>, HeavyFault>
     requires { IsTable frames.now table.now }
-    ensures stored { IfOk result (λ v. frame_entries frames.now v.items ≡ stored_in frames.now table.now) }
+    ensures stored { IfOk result (λ v. AreStored frames.now table.now v.items) }
     ensures limit { IfOk result (λ v. length v.items ≤ 131072) }
     ensures slots { IfOk result (λ v. AreInSlots frames.now v.items) }
     ensures few { IfOk result (λ v. length v.items ≤ length table.now.entries) }
     ensures ordered { IsOrdered nat_cmp table.now }
-    ensures heavy { IfErr result (λ e. e ≢ HeavyFault.Memory → (131072 < length (stored_in frames.now table.now)) × (e ≡ HeavyFault.TooMany (length (stored_in frames.now table.now)))) }
+    ensures heavy { IfErr result (λ e. HasNoFile (stored_in frames.now table.now) e) }
 {
     let pages = stored_frames(alloc, frames, table)?;
     if pages.len() as u64 > MOST_PAGES {
@@ -248,10 +255,22 @@ pub fn file_pages(
 /// The file of the pages that are not all zeros.
 pub fn file_of(alloc: Global, frames: &[u8], table: &Table) -> Result<Vec<u8>, HeavyFault>
     requires { IsTable frames.now table.now }
-    ensures file { IfOk result (λ v. (length (stored_in frames.now table.now) ≤ 131072) × (v.items ≡ text_of (stored_in frames.now table.now))) }
+    ensures file { IfOk result (λ v. IsFileOf (stored_in frames.now table.now) v.items) }
     ensures ordered { IsOrdered nat_cmp table.now }
-    ensures heavy { IfErr result (λ e. e ≢ HeavyFault.Memory → (131072 < length (stored_in frames.now table.now)) × (e ≡ HeavyFault.TooMany (length (stored_in frames.now table.now)))) }
+    ensures heavy { IfErr result (λ e. HasNoFile (stored_in frames.now table.now) e) }
 {
     let pages = file_pages(alloc, frames, table)?;
     Ok(text_of_pages(alloc, frames, &pages)?)
 }
+
+/// What `write` gives is read back: the file of a memory within the limit reads as a memory that agrees with it at
+/// every page.
+pub fn reads_back()
+    ensures { (m : Contents) → IsMemory m → length (stored m) ≤ 131072 → IsReadAgain m }
+{}
+
+/// Each memory has one file: memories that agree at every page store the same pages, and have the same file.
+pub fn agreeing_have_one_file()
+    ensures stored { (m n : Contents) → Agree (at m) (at n) → stored m ≡ stored n }
+    ensures file { (m n : Contents) → Agree (at m) (at n) → file m ≡ file n }
+{}

@@ -11,9 +11,9 @@ ghost use Rattle.std.specs.Prelude.{◌≡◌, ◌≢◌, ◌≤◌, ◌<◌, �
 ghost use Rattle.std.specs.BTreeMap.{IsOrdered};
 ghost use Rattle.std.specs.List.{flat_map, IsDistinct};
 ghost use Rattle.std.specs.Ordering.{nat_cmp};
-ghost use Rattle.page_memory.specs.File.{text_of, page_text};
-ghost use Rattle.page_memory.specs.Frames.{IsTable, frame_in, put_frame, stored_in};
-ghost use Rattle.page_memory.specs.InPlace.{AreGathered, AreInSlots, AreOwned, Holds, place, slot_entries, slots_of};
+ghost use Rattle.page_memory.specs.File.{text_of, HasNoFile, IsFileOf};
+ghost use Rattle.page_memory.specs.Frames.{IsTable, frame_in, put_frame, stored_in, traded};
+ghost use Rattle.page_memory.specs.InPlace.{AreArranged, AreGathered, AreInSlots, AreOwned, AreSlotsOf, StillHold, slot_entries, slot_texts, slots_of};
 
 use crate::buffer::{Table, put_word};
 use crate::fault::HeavyFault;
@@ -39,7 +39,7 @@ fn trade(frames: &mut [u8], place: usize, other: &mut [u8])
 fn exchange(frames: &mut [u8], low: usize, high: usize)
     requires apart { low + 4096 ≤ high }
     requires inside { high + 4096 ≤ length frames.old }
-    ensures { frames.new ≡ put_frame (put_frame frames.old high (frame_in frames.old low)) low (frame_in frames.old high) }
+    ensures { frames.new ≡ traded frames.old low high }
 {
     let (front, back) = frames.split_at_mut(high);
     let (frame, _) = back.split_at_mut(FRAME_SIZE);
@@ -62,7 +62,7 @@ fn settle(frames: &mut [u8], slots: &mut [usize], owners: &mut [usize], k: usize
     requires room { 4104 * length owners.old ≤ length frames.old - 16 }
     requires owned { AreOwned slots.old owners.old k }
     ensures owned { AreOwned slots.new owners.new (k + 1) }
-    ensures holds { (frame_of : ℕ → List ℕ) → Holds frame_of frames.old owners.old (length slots.old) → Holds frame_of frames.new owners.new (length slots.old) }
+    ensures holds { StillHold frames.old owners.old frames.new owners.new (length slots.old) }
 {
     let from = slots[k];
     if k < from {
@@ -78,7 +78,7 @@ fn arrange(frames: &mut [u8], slots: &mut [usize], owners: &mut [usize])
     requires few { length slots.old ≤ length owners.old }
     requires room { 4104 * length owners.old ≤ length frames.old - 16 }
     requires owned { AreOwned slots.old owners.old 0 }
-    ensures { (frame_of : ℕ → List ℕ) → Holds frame_of frames.old owners.old (length slots.old) → (j : ℕ) → j < length slots.old → frame_in frames.new (place j) ≡ frame_of j }
+    ensures { AreArranged frames.old owners.old frames.new (length slots.old) }
 {
     for k in 0..slots.len() {
         settle(frames, slots, owners, k);
@@ -102,7 +102,7 @@ fn owners_of(alloc: Global, slots: &[usize], count: usize) -> Result<Vec<usize>,
     requires inside { (j : ℕ) → j < length slots.now → slice_index slots.now j < count }
     requires apart { IsDistinct eqb slots.now }
     ensures owned { IfOk result (λ v. AreOwned slots.now v.items 0) }
-    ensures back { IfOk result (λ v. (i : ℕ) → i < length v.items → slice_index v.items i < length slots.now → slice_index slots.now (slice_index v.items i) ≡ i) }
+    ensures back { IfOk result (λ v. AreSlotsOf slots.now v.items) }
     ensures length { IfOk result (λ v. length v.items ≡ count) }
 {
     let mut owners = vec![in alloc; slots.len(); count]?;
@@ -133,7 +133,7 @@ fn gather(
 // Writes in front of each slot's frame the number of its page.
 fn write_numbers(frames: &mut [u8], pages: &[(Page, usize)])
     requires { length frames.old ≡ 16 + 4104 * length pages.now }
-    ensures { frames.new ≡ take 16 frames.old ++ flat_map page_text (slot_entries frames.old 0 pages.now) }
+    ensures { frames.new ≡ take 16 frames.old ++ slot_texts frames.old pages.now }
 {
     let mut at = HEAD;
     for (p, _) in pages {
@@ -161,9 +161,9 @@ pub fn file_in_place(
     table: &Table,
 ) -> Result<Vec<u8>, HeavyFault>
     requires { IsTable frames.items table.now }
-    ensures file { IfOk result (λ v. (length (stored_in frames.items table.now) ≤ 131072) × (v.items ≡ text_of (stored_in frames.items table.now))) }
+    ensures file { IfOk result (λ v. IsFileOf (stored_in frames.items table.now) v.items) }
     ensures ordered { IsOrdered nat_cmp table.now }
-    ensures heavy { IfErr result (λ e. e ≢ HeavyFault.Memory → (131072 < length (stored_in frames.items table.now)) × (e ≡ HeavyFault.TooMany (length (stored_in frames.items table.now)))) }
+    ensures heavy { IfErr result (λ e. HasNoFile (stored_in frames.items table.now) e) }
 {
     let pages = file_pages(alloc, &frames, table)?;
     gather(alloc, &mut frames, &pages, table.len())?;

@@ -1,14 +1,14 @@
 -- Pages added, line by line.
-use Rattle.std.proofs.Common.{◌≡◌, ℕ, zero, suc, ◌+◌, ◌≤◌, ◌<◌, List, [], ◌∷◌, ◌++◌, append_assoc, add-one, refl, sym, ap, ◌∙◌, arith, length, length-append, Ok, take, drop, drop-cons, true, false, Some, None, Bool, cond}
-use Rattle.std.specs.Prelude.{nat_eq, if◌then◌else◌, is_some, get_or}
+use Rattle.std.proofs.Common.{◌≡◌, ℕ, zero, suc, ◌+◌, ◌≤◌, ◌<◌, List, [], ◌∷◌, ◌++◌, append_assoc, add-one, refl, sym, ap, ◌∙◌, arith, length, length-append, Ok, Err, inl, inr, take, drop, drop-cons, true, false, Some, None, Bool, cond}
+use Rattle.std.specs.Prelude.{◌⊎◌, nat_eq, if◌then◌else◌, is_some, get_or}
 use Rattle.std.specs.List.{range_with_len, list_any}
 use Rattle.std.specs.BTreeMap as tree
 use Rattle.std.specs.Ordering.{nat_cmp}
 use Rattle.std.proofs.lemmas.List.{take_more}
 use Rattle.std.proofs.lemmas.List.FromFn.{length-range_with_len}
-use Rattle.page_pool.specs.Counts.{first_repeat}
+use Rattle.page_pool.specs.Repeats.{first_repeat}
 use Rattle.page_pool.specs.Marks.{AreMarks}
-use Rattle.page_pool.specs.File.{pages_onto, line_onto, Fails}
+use Rattle.page_pool.specs.File.{pages_onto, line_onto}
 use Rattle.page_pool.specs.declared.fault.PoolFault.{PoolFault}
 use Rattle.page_pool.specs.declared.fault.PoolFault.TheVariants as faults
 
@@ -25,14 +25,10 @@ pub onto_ok : (n : ℕ) (pages more line : List ℕ) (ls rest : List (List ℕ))
 unfolding pages_onto
 onto_ok n pages more line ls rest split step = rw (split, step) refl
 
-pub onto_fails : (n : ℕ) (pages line : List ℕ) (ls rest : List (List ℕ)) (e : PoolFault) → ls ≡ line ∷ rest → Fails e (line_onto n pages line) → Fails e (pages_onto n pages ls)
+pub onto_fails : (n : ℕ) (pages line : List ℕ) (ls rest : List (List ℕ)) (e : PoolFault) → ls ≡ line ∷ rest → (line_onto n pages line ≡ Err e) ⊎ (e ≡ faults.Memory) → (pages_onto n pages ls ≡ Err e) ⊎ (e ≡ faults.Memory)
 unfolding pages_onto
-onto_fails n pages line ls rest faults.Memory split step = tt
-onto_fails n pages line ls rest (faults.BadLine at) split step = rw (split, step) refl
-onto_fails n pages line ls rest (faults.Backwards at) split step = rw (split, step) refl
-onto_fails n pages line ls rest (faults.PastLimit at) split step = rw (split, step) refl
-onto_fails n pages line ls rest (faults.TooMany at) split step = rw (split, step) refl
-onto_fails n pages line ls rest (faults.Repeats at) split step = rw (split, step) refl
+onto_fails n pages line ls rest e split (inl step) = inl (rw (split, step) refl)
+onto_fails n pages line ls rest e split (inr memory) = inr memory
 
 pub onto_end : (n : ℕ) (pages : List ℕ) (ls : List (List ℕ)) → ls ≡ [] → pages_onto n pages ls ≡ Ok pages
 unfolding pages_onto

@@ -11,26 +11,13 @@ use Rattle.std.specs.FinMap as finite
 use Rattle.std.specs.FinMap.{nat_cmp-IsAntisymmetric, get-from_entries}
 use Rattle.std.proofs.lemmas.List.Folds.{list_any-append}
 use Rattle.std.proofs.lemmas.Bool.Decides.{eqb_tells}
+use Rattle.kx_laws.proofs.Booleans.{is_eq-false, or_true, or_false}
 use Rattle.kx_pages.specs.Lists.{count}
-use Rattle.page_pool.specs.Counts.{IsOnce}
+use Rattle.kx_pages.proofs.Counting.{Distinct-push, Each-from_no_count}
 use Rattle.page_pool.specs.Marks.{marks_of, AreMarks, IsPool}
-use Rattle.page_pool.proofs.Tables.{count-append}
-
-is_eq-false : (r : Ordering) → (r ≡ Equal → ⊥) → is_eq r ≡ false
-is_eq-false Less h = refl
-is_eq-false Equal h = absurd (h refl)
-is_eq-false Greater h = refl
 
 apart : (k q : ℕ) → k ≢ q → is_eq (nat_cmp k q) ≡ false
 apart k q ne = is_eq-false (nat_cmp k q) (λ e. ne (nat_cmp-IsAntisymmetric k q e))
-
-or_true : (b : Bool) → (b || true) ≡ true
-or_true true = refl
-or_true false = refl
-
-or_false : (b : Bool) → (b || false) ≡ b
-or_false true = refl
-or_false false = refl
 
 pub count-any : (x : ℕ) (xs : List ℕ) → ((list_any (nat_eq x) xs ≡ true) × (1 ≤ count x xs)) ⊎ ((list_any (nat_eq x) xs ≡ false) × (count x xs ≡ 0))
 count-any x [] = inr (refl, refl)
@@ -55,25 +42,13 @@ value-fresh : (b : Bool) → unwrap_or (cond b (Some false) None) false ≡ fals
 value-fresh true = refl
 value-fresh false = refl
 
-once-push : (xs : List ℕ) (k : ℕ) → count k xs ≡ 0 → IsOnce xs → IsOnce (xs ++ k ∷ [])
-once-push xs k z h = record { each = λ x. go x (eqb_tells k x) }
-  where
-    go : (x : ℕ) → ((eqb k x ≡ true) × (k ≡ x)) ⊎ ((eqb k x ≡ false) × (k ≢ x)) → count x (xs ++ k ∷ []) ≤ 1
-    go x (inl u) =
-        let m : count x (k ∷ []) ≡ 1 = ap (λ b. cond b 1 0 + 0) u.0 in
-        let n : count x xs ≡ 0 = ap (λ y. count y xs) (sym u.1) ∙ z in
-        omega (arith, count-append x xs (k ∷ []), m, n)
-    go x (inr u) =
-        let m : count x (k ∷ []) ≡ 0 = ap (λ b. cond b 1 0 + 0) u.0 in
-        omega (arith, count-append x xs (k ∷ []), m, h.each x)
-
 -- one more page
 pub marks_more : (xs ys : List ℕ) (k : ℕ) (m n : tree.BTreeMap ℕ Bool) (b : Bool) → ys ≡ xs ++ k ∷ [] → AreMarks xs m → b ≡ is_some (tree.get nat_cmp m k) → b ≡ false
     → ((q : ℕ) → tree.get nat_cmp n q ≡ cond (is_eq (nat_cmp k q)) (Some false) (tree.get nat_cmp m q)) → AreMarks ys n
 marks_more xs ys k m n b e h f g u =
     let fresh : list_any (nat_eq k) xs ≡ false = sym (some-fresh (list_any (nat_eq k) xs)) ∙ sym (ap is_some (h.each k)) ∙ sym f ∙ g in
     let none : count k xs ≡ 0 = ⊎_elim (λ t. absurd (clash (list_any (nat_eq k) xs) t.0 fresh)) (λ t. t.1) (count-any k xs) in
-    subst (λ zs. AreMarks zs n) (sym e) (record { each = λ q. go q (eqb_tells q k); once = once-push xs k none h.once })
+    subst (λ zs. AreMarks zs n) (sym e) (record { each = λ q. go q (eqb_tells q k); once = Distinct-push xs k h.once (Each-from_no_count k xs none) })
   where
     clash : (b : Bool) → b ≡ true → b ≡ false → ⊥
     clash true p q = cc
@@ -91,7 +66,7 @@ marks_more xs ys k m n b e h f g u =
         u q ∙ ap (λ c. cond c (Some false) (tree.get nat_cmp m q)) y ∙ h.each q ∙ sym (ap (λ c. cond c (Some false) None) (more q ∙ ap (λ c. list_any (nat_eq q) xs || (c || false)) t.0 ∙ or_false (list_any (nat_eq q) xs)))
 
 pub marks_none : (m : tree.BTreeMap ℕ Bool) → ((q : ℕ) → tree.get nat_cmp m q ≡ None) → AreMarks [] m
-marks_none m h = record { each = h; once = record { each = λ x. omega arith } }
+marks_none m h = record { each = h; once = tt }
 
 pub unmarked : (xs : List ℕ) (m : tree.BTreeMap ℕ Bool) → AreMarks xs m → (q : ℕ) → unwrap_or (finite.get (marks_of m) q) false ≡ false
 unmarked xs m h q = ap (λ o. unwrap_or o false) (get-from_entries nat_cmp_total m.entries q ∙ h.each q) ∙ value-fresh (list_any (nat_eq q) xs)

@@ -12,9 +12,9 @@ use Rattle.std.specs.FinMap.{nat_cmp-IsAntisymmetric, get-insert}
 use Rattle.std.proofs.lemmas.List.{take_more}
 use Rattle.std.proofs.lemmas.Option.{slice_get_read}
 use Rattle.kx_pages.specs.Lists.{count}
-use Rattle.page_pool.specs.Counts.{IsFirstRepeat}
+use Rattle.kx_pages.proofs.Counting.{count-append}
+use Rattle.page_pool.specs.Repeats.{IsFirstRepeat}
 use Rattle.page_pool.specs.Marks.{marks_of, FiledAreAmong, AreMarks, IsPool}
-use Rattle.page_pool.proofs.Tables.{count-append}
 use Rattle.page_pool.proofs.Made.{marks_none, pool_made, count-any, some-fresh}
 
 -- a draw

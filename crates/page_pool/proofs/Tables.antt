@@ -28,10 +28,3 @@ some_either false v o h = h
 
 pub stays : (m n : BTreeMap ℕ Bool) (k : ℕ) (v : Bool) (q : ℕ) → Differs m n k v → IsSome (tree.get nat_cmp m q) → IsSome (tree.get nat_cmp n q)
 stays m n k v q h s = rw (h q) (some_either _ v _ s)
-
-pub count-append : (x : ℕ) (xs ys : List ℕ) → count x (xs ++ ys) ≡ count x xs + count x ys
-count-append x [] ys = omega arith
-count-append x (y ∷ xs) ys = omega (arith, count-append x xs ys)
-
-pub count-take : (x n : ℕ) (xs : List ℕ) → count x (take n xs) ≤ count x xs
-count-take x n xs = omega (arith, count-append x (take n xs) (drop n xs), ap (count x) (take-append-drop n xs))

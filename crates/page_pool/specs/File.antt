@@ -3,22 +3,20 @@
 use Rattle.std.specs.Prelude.{ℕ, ◌+◌, ◌-◌, ◌^◌, ◌++◌, ◌≡◌, Bool, List, [], ◌∷◌, length, nat_lt, nat_le, if◌then◌else◌, Option, Some, None, Result, Ok, Err}
 use Rattle.std.specs.List.{range_with_len}
 use Rattle.std.specs.BTreeMap as tree
+use Rattle.kx_laws.specs.Results.{◌>>=◌}
 use Rattle.text_lines.specs.Lines.{lines, cut, number}
-use Rattle.page_pool.specs.Counts.{first_repeat, IsFirstRepeat}
+use Rattle.page_pool.specs.Repeats.{first_repeat, IsFirstRepeat}
 use Rattle.page_pool.specs.Marks.{AreMarks}
 use Rattle.page_pool.specs.declared.fault.PoolFault.{PoolFault}
 use Rattle.page_pool.specs.declared.fault.PoolFault.TheVariants as faults
 
-infixl 10 ◌>>=◌
-abbrev pub ◌>>=◌ : {A B : Type 0} → Result A PoolFault → (A → Result B PoolFault) → Result B PoolFault
-(Ok x) >>= f = f x
-(Err e) >>= f = Err e
-
+-- both numbers, where each is one
 abbrev pub both : Option ℕ → Option ℕ → Option (ℕ × ℕ)
 both (Some first) (Some last) = Some (first, last)
 both (Some first) None = None
 both None last = None
 
+-- the numbers of the parts of a line that is cut, or of the whole line
 abbrev pub range_by : Option (List ℕ × List ℕ) → List ℕ → Option (ℕ × ℕ)
 range_by (Some ends) line = both (number ends.0) (number ends.1)
 range_by None line = both (number line) (number line)
@@ -27,6 +25,7 @@ range_by None line = both (number line) (number line)
 unfoldable pub range_of : List ℕ → Option (ℕ × ℕ)
 range_of line = range_by (cut 45 line) line
 
+-- the first fault of the line number n that names these pages
 abbrev pub check_range : ℕ → Option (ℕ × ℕ) → Result (ℕ × ℕ) PoolFault
 check_range n None = Err (faults.BadLine n)
 check_range n (Some r) =
@@ -55,6 +54,7 @@ pages_onto n pages (line ∷ rest) = do
   more ← line_onto n pages line
   pages_onto (n + 1) more rest
 
+-- these pages, unless this one is a repeat
 abbrev pub unless_repeat : Option ℕ → List ℕ → Result (List ℕ) PoolFault
 unless_repeat None pages = Ok pages
 unless_repeat (Some p) pages = Err (faults.Repeats p)
@@ -68,15 +68,6 @@ unfoldable pub pool_reading : List ℕ → Result (List ℕ) PoolFault
 pool_reading text = do
   pages ← pages_onto 1 [] (lines text)
   each_once pages
-
-abbrev pub Fails : {Y : Type 0} → PoolFault → Result Y PoolFault → Type 0
-Fails faults.Memory r = Unit {0}
-Fails e r = r ≡ Err e
-
--- what a call gave, seen by view, is this reading or its fault, unless memory ran out
-abbrev pub Gives : {X Y : Type 0} → (X → Y) → Result X PoolFault → Result Y PoolFault → Type 0
-Gives view (Ok x) r = r ≡ Ok (view x)
-Gives view (Err e) r = Fails e r
 
 -- a mark for each page, or the first page that stands earlier too, unless memory ran out
 abbrev pub MarksOrRepeat : Result (tree.BTreeMap ℕ Bool) PoolFault → List ℕ → Type 0

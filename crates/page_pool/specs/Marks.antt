@@ -1,11 +1,10 @@
--- The table of marks.
+-- The table of marks (this project's own).
 use Rattle.std.specs.Prelude.{◌≡◌, ℕ, ◌≤◌, List, Bool, true, false, IsSome, length, take, cond, nat_eq, unwrap_or, Some, None}
 use Rattle.std.specs.List.{list_any}
 use Rattle.std.specs.Ordering.{nat_cmp}
 use Rattle.std.specs.FinMap as finite
 use Rattle.std.specs.BTreeMap as tree
-use Rattle.kx_pages.specs.Lists.{count}
-use Rattle.page_pool.specs.Counts.{IsOnce}
+use Rattle.kx_pages.specs.Lists.{Distinct, count}
 
 abbrev pub marks_of : tree.BTreeMap ℕ Bool → finite.FinMap nat_cmp Bool
 marks_of m = finite.from_entries m.entries
@@ -21,7 +20,7 @@ pub record FiledAreAmong (xs : List ℕ) (m : tree.BTreeMap ℕ Bool) : Type 0 w
 -- what each pool is: its pages, how many are drawn, and its marks
 pub record IsPool (xs : List ℕ) (next : ℕ) (m : tree.BTreeMap ℕ Bool) : Type 0 where
   pub within : next ≤ length xs
-  pub once : IsOnce xs
+  pub once : Distinct xs
   pub have : HaveMarks xs m
   pub few : length xs ≤ 262144
   pub filed : FiledAreAmong (take next xs) m
@@ -29,4 +28,4 @@ pub record IsPool (xs : List ℕ) (next : ℕ) (m : tree.BTreeMap ℕ Bool) : Ty
 -- a table of these pages, none of them filed
 pub record AreMarks (xs : List ℕ) (m : tree.BTreeMap ℕ Bool) : Type 0 where
   pub each : (q : ℕ) → tree.get nat_cmp m q ≡ cond (list_any (nat_eq q) xs) (Some false) None
-  pub once : IsOnce xs
+  pub once : Distinct xs

@@ -2,8 +2,10 @@
 
 ghost use Rattle.std.specs.Prelude.{◌≡◌, ◌<◌, ◌≤◌, ◌+◌, ◌++◌, ◌^◌, length, OnOk, IfOk, []};
 ghost use Rattle.std.specs.List.{range_with_len};
+ghost use Rattle.kx_laws.specs.Results.{Gives};
 ghost use Rattle.text_lines.specs.Lines.{lines};
-ghost use Rattle.page_pool.specs.File.{range_of, both, checked_range, line_onto, pages_onto, Gives};
+ghost use Rattle.page_pool.specs.declared.fault.PoolFault.TheVariants as faults;
+ghost use Rattle.page_pool.specs.File.{range_of, both, checked_range, line_onto, pages_onto};
 
 use crate::MOST_PAGES;
 use crate::fault::PoolFault;
@@ -55,24 +57,15 @@ fn checked_range(line: u64, text: &[u8]) -> Result<(u64, u64), PoolFault>
     }
 }
 
-fn page_of(number: u64) -> Page
-    requires { number < 2 ^ 34 }
-    ensures { result ≡ number }
-{
-    match Page::new(number) {
-        Some(page) => page,
-        None => unreachable!(),
-    }
-}
-
 /// Adds `count` pages from page `first` on.
 fn add_range(pages: &mut Vec<Page>, first: u64, count: u64) -> Result<(), AllocError>
     requires { first + count ≤ 2 ^ 34 }
-    ensures { OnOk result (pages.new.items ≡ pages.old.items ++ range_with_len first count) }
+    ensures { OnOk result (pages.new.items
+        ≡ pages.old.items ++ range_with_len first count) }
 {
     pages.reserve(count as usize)?;
     for i in 0..count {
-        pages.push(page_of(first + i))?;
+        pages.push(Page::from_number(first + i))?;
     }
     Ok(())
 }
@@ -81,7 +74,8 @@ fn add_range(pages: &mut Vec<Page>, first: u64, count: u64) -> Result<(), AllocE
 #[tactic(auto, unfolding(crate::specs::File::line_onto))]
 fn add_line(pages: &mut Vec<Page>, line: u64, text: &[u8]) -> Result<(), PoolFault>
     requires { length pages.old.items ≤ 262144 }
-    ensures exact { Gives (λ _. pages.new.items) result (line_onto line pages.old.items text.now) }
+    ensures exact { Gives faults.Memory (λ _. pages.new.items) result
+        (line_onto line pages.old.items text.now) }
     ensures few { OnOk result (length pages.new.items ≤ 262144) }
 {
     let (first, last) = match checked_range(line, text) {
@@ -98,7 +92,7 @@ fn add_line(pages: &mut Vec<Page>, line: u64, text: &[u8]) -> Result<(), PoolFau
 
 /// The pages of all lines in their order, or the fault of the first line that has one.
 pub(crate) fn pages_of(alloc: Global, text: &[u8]) -> Result<Vec<Page>, PoolFault>
-    ensures exact { Gives (λ v. v.items) result (pages_onto 1 [] (lines text.now)) }
+    ensures exact { Gives faults.Memory (λ v. v.items) result (pages_onto 1 [] (lines text.now)) }
     ensures few { IfOk result (λ v. length v.items ≤ 262144) }
 {
     let mut pages = Vec::new(alloc);

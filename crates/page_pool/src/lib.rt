@@ -6,15 +6,17 @@
 //! the start, so that only the calls that make a pool take memory.
 #![tactic(auto)]
 
-ghost use Rattle.std.specs.Prelude.{◌≡◌, ℕ, ◌+◌, ◌<◌, ◌≤◌, ◌++◌, ◌∷◌, [], true, false, length, slice_index, unwrap_or, IfSome, IfNone, IsSome, IfOk, IfErr};
+ghost use Rattle.std.specs.Prelude.{◌≡◌, ◌↔◌, ℕ, List, Some, ◌+◌, ◌<◌, ◌≤◌, ◌++◌, ◌∷◌, [], true, false, length, slice_index, unwrap_or, IfSome, IfNone, IsSome, IfOk, IfErr};
 ghost use Rattle.std.specs.Ordering.{nat_cmp};
 ghost use Rattle.std.specs.FinMap as finite;
 ghost use Rattle.std.specs.BTreeMap as tree;
-ghost use Rattle.kx_pages.specs.Lists.{count};
-ghost use Rattle.page_pool.specs.Counts.{IsOnce};
+ghost use Rattle.kx_laws.specs.Results.{Gives};
+ghost use Rattle.kx_pages.specs.Lists.{Distinct, count};
 ghost use Rattle.page_pool.specs.Pages.{is_filed, marked};
 ghost use Rattle.page_pool.specs.Marks.{marks_of};
-ghost use Rattle.page_pool.specs.File.{pool_reading, each_once, Gives, MarksOrRepeat, RepeatIsFirst};
+ghost use Rattle.page_pool.specs.declared.fault.PoolFault.TheVariants as faults;
+ghost use Rattle.page_pool.specs.File.{pool_reading, range_of, each_once, MarksOrRepeat, RepeatIsFirst};
+ghost use Rattle.page_pool.specs.Grammar.{IsPoolLine};
 
 mod fault;
 mod file;
@@ -49,10 +51,21 @@ impl Model for Pool {
 
     ghost coded = { pages_code };
 
-    ghost view = { λ p. record { left = drop p.next p.pages.items; drawn = take p.next p.pages.items; marks = marks_of p.marks } };
+    ghost view = { λ p. record {
+      left = drop p.next p.pages.items;
+      drawn = take p.next p.pages.items;
+      marks = marks_of p.marks;
+    } };
 
     ghost invariant = { λ p. IsPool p.pages.items p.next p.marks };
 }
+
+/// A line names a first and a last page exactly where it has the form of a pool line: a number, or a number, `-` and a
+/// number.
+pub fn ranges_are_pool_lines()
+    ensures { (line : List ℕ) (first last : ℕ)
+        → (range_of line ≡ Some (first, last)) ↔ IsPoolLine line first last }
+{}
 
 impl Pool {
     /// The pool of a pool file (this project's own format): a text of lines, each a page number, or `first-last` with
@@ -64,7 +77,7 @@ impl Pool {
     /// comes only where memory ran out.
     #[tactic(auto, unfolding(crate::specs::File::pool_reading))]
     pub fn read(alloc: Global, text: &[u8]) -> Result<Pool, PoolFault>
-        ensures exact { Gives (λ p. p.left) result (pool_reading text.now) }
+        ensures exact { Gives faults.Memory (λ p. p.left) result (pool_reading text.now) }
         ensures undrawn { IfOk result (λ p. p.drawn ≡ []) }
         ensures unfiled { IfOk result (λ p. (q : ℕ) → is_filed p q ≡ false) }
     {
@@ -78,7 +91,7 @@ impl Pool {
     /// stands earlier too, exactly where one does; Memory only where memory ran out.
     pub fn new(alloc: Global, pages: Vec<Page>) -> Result<Pool, PoolFault>
         requires { length pages.items ≤ 262144 }
-        ensures exact { Gives (λ p. p.left) result (each_once pages.items) }
+        ensures exact { Gives faults.Memory (λ p. p.left) result (each_once pages.items) }
         ensures first { IfErr result (λ e. RepeatIsFirst pages.items e) }
         ensures pages { IfOk result (λ p. (p.left ≡ pages.items) × (p.drawn ≡ [])) }
         ensures unfiled { IfOk result (λ p. (q : ℕ) → is_filed p q ≡ false) }
@@ -107,9 +120,10 @@ impl Pool {
     /// How many pages can be drawn. The other clauses tell what holds of every pool.
     pub fn left(&self) -> u64
         ensures value { result ≡ length self.now.left }
-        ensures once { IsOnce (self.now.drawn ++ self.now.left) }
+        ensures once { Distinct (self.now.drawn ++ self.now.left) }
         ensures few { length self.now.drawn + length self.now.left ≤ 262144 }
-        ensures filed_were_drawn { (q : ℕ) → is_filed self.now q ≡ true → 1 ≤ count q self.now.drawn }
+        ensures filed_were_drawn { (q : ℕ) → is_filed self.now q ≡ true
+            → 1 ≤ count q self.now.drawn }
     {
         (self.pages.len() - self.next) as u64
     }
@@ -124,7 +138,9 @@ impl Pool {
 
     /// The next page. None exactly where none is left.
     pub fn draw(&mut self) -> Option<Page>
-        ensures some { IfSome result (λ q. (self.old.left ≡ q ∷ self.new.left) × (self.new.drawn ≡ self.old.drawn ++ q ∷ []) × (self.new.marks ≡ self.old.marks)) }
+        ensures some { IfSome result (λ q. (self.old.left ≡ q ∷ self.new.left)
+            × (self.new.drawn ≡ self.old.drawn ++ q ∷ [])
+            × (self.new.marks ≡ self.old.marks)) }
         ensures none { IfNone result ((self.old.left ≡ []) × (self.new ≡ self.old)) }
     {
         if self.next < self.pages.len() {
@@ -147,7 +163,9 @@ impl Pool {
     /// The page `d`, which is no longer filed then. None exactly where it is not filed.
     pub fn take_filed(&mut self, d: Page) -> Option<Page>
         ensures drawn { IfSome result (λ p. 1 ≤ count p self.old.drawn) }
-        ensures some { IfSome result (λ p. (p ≡ d) × (is_filed self.old d ≡ true) × (self.new ≡ marked self.old d false)) }
+        ensures some { IfSome result (λ p. (p ≡ d)
+            × (is_filed self.old d ≡ true)
+            × (self.new ≡ marked self.old d false)) }
         ensures none { IfNone result ((is_filed self.old d ≡ false) × (self.new ≡ self.old)) }
     {
         if is_marked(&self.marks, d) {
@@ -174,7 +192,8 @@ fn is_marked(marks: &BTreeMap<Page, bool>, p: Page) -> bool
 fn mark(marks: &mut BTreeMap<Page, bool>, p: Page, is_filed: bool)
     requires { IsSome (tree.get nat_cmp marks.old p) }
     ensures value { marks_of marks.new ≡ finite.insert (marks_of marks.old) p is_filed }
-    ensures have { (q : ℕ) → IsSome (tree.get nat_cmp marks.old q) → IsSome (tree.get nat_cmp marks.new q) }
+    ensures have { (q : ℕ) → IsSome (tree.get nat_cmp marks.old q)
+        → IsSome (tree.get nat_cmp marks.new q) }
 {
     match marks.get_mut(&p) {
         Some(mark) => *mark = is_filed,

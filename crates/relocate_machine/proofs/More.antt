@@ -1,13 +1,12 @@
 -- A run that goes on where a shorter one stopped.
-use Rattle.std.proofs.Common.{◌≡◌, ℕ, zero, suc, ◌+◌, sym, ap, ◌∙◌, arith}
-use Rattle.page_memory.specs.Contents.{Contents, at}
+use Rattle.std.proofs.Common.{◌≡◌, ℕ, zero, suc, ◌+◌, sym, ap, ◌∙◌, arith, Ok, Err, Result}
+use Rattle.std.specs.Prelude.{OnErr}
 use Rattle.relocate_machine.specs.declared.step.Step.{Step}
 use Rattle.relocate_machine.specs.declared.step.Step.TheVariants as steps
 use Rattle.relocate_machine.specs.declared.step.Outcome.{Outcome}
 use Rattle.relocate_machine.specs.declared.step.Outcome.TheVariants as outcomes
-use Rattle.relocate_machine.specs.Machine.{State, Registers, step_of, writes_of, taken_writes}
-use Rattle.relocate_machine.specs.Run.{run_from, run_after, Agree}
-use Rattle.relocate_machine.proofs.Alike.{fetched-agree, step_of-alike}
+use Rattle.relocate_machine.specs.Machine.{State, step_of}
+use Rattle.relocate_machine.specs.Run.{run_from, run_after}
 
 more_after : (p : State × Step) (k rest j x : ℕ) (s : State) → run_after j (λ t. run_from k (j + 1) t) p ≡ (s, outcomes.Running x) → ((t : State) → run_from k (j + 1) t ≡ (s, outcomes.Running x) → run_from (k + rest) (j + 1) t ≡ run_from rest (j + 1 + k) s) → run_after j (λ t. run_from (k + rest) (j + 1) t) p ≡ run_from rest (j + 1 + k) s
 more_after (t, steps.Went) k rest j x s h next = next t h
@@ -30,10 +29,6 @@ run_from-more (suc k) rest j x s0 s h =
     ∙ more_after (step_of s0) k rest j x s h (λ t e. run_from-more k rest (j + 1) x t s e)
     ∙ ap (λ n. run_from rest n s) b
 
-pub writes_of-agree : (r : Registers) (m n : Contents) → Agree m n → writes_of (record { machine = r; memory = m }) ≡ writes_of (record { machine = r; memory = n })
-unfolding writes_of
-writes_of-agree r m n h = ap (taken_writes r) (fetched-agree r.first r.cursor m n h)
-
 -- a run of at most `limit` steps whose step after k of them ended it
 pub ends_after : (limit k r a : ℕ) (s0 s : State) → limit ≡ k + suc r → run_from k 0 s0 ≡ (s, outcomes.Running k) → (p : State × Step) → p ≡ step_of s → run_from limit 0 s0 ≡ run_after k (λ t. run_from r (k + 1) t) p
 unfolding run_from
@@ -41,13 +36,10 @@ ends_after limit k r a s0 s split so_far p is =
     let z : 0 + k ≡ k = omega arith in
     ap (λ n. run_from n 0 s0) split ∙ run_from-more k (suc r) 0 k s0 s so_far ∙ ap (λ k. run_from (suc r) k s) z ∙ ap (run_after k (λ t. run_from r (k + 1) t)) (sym is)
 
--- what a step leaves from a memory that reads alike
-pub next_alike : (r : Registers) (m n : Contents) (t : State) (st : Step) → Agree m n → (t, st) ≡ step_of (record { machine = r; memory = n }) → (u : State) × ((u, st) ≡ step_of (record { machine = r; memory = m })) × (u.machine ≡ t.machine) × Agree u.memory t.memory
-next_alike r m n t st h is =
-    let alike = step_of-alike r m n h in
-    let u : State = (step_of (record { machine = r; memory = m })).0 in
-    (u, ap (λ x. (u, x)) (sym (alike.steps ∙ ap (λ p. p.1) (sym is))), alike.states.machine ∙ ap (λ p. p.0.machine) (sym is), λ q. alike.states.memory q ∙ ap (λ p. at p.0.memory q) (sym is))
-
 pub goes_after : (k : ℕ) (s0 s u : State) → run_from k 0 s0 ≡ (s, outcomes.Running k) → (u, steps.Went) ≡ step_of s → run_from (k + 1) 0 s0 ≡ (u, outcomes.Running (k + 1))
 unfolding run_from
 goes_after k s0 s u so_far is = ends_after (k + 1) k 0 0 s0 s (omega arith) so_far (u, steps.Went) is
+
+pub on_err : {T E : Type 0} (r : Result T E) (P : Type 0) → P → OnErr r P
+on_err (Ok x) P h = tt
+on_err (Err e) P h = h

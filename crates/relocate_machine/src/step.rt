@@ -1,11 +1,12 @@
 //! The machine, step by step.
 
-ghost use Rattle.std.specs.Prelude.{◌≡◌, ℕ, ◌+◌, ◌*◌, ◌/◌, ◌%◌, ◌<◌, ◌≤◌, ◌^◌, IsTrue, false, IsNone, IfSome, IfOk, OnOk, OnErr};
+ghost use Rattle.std.specs.Prelude.{◌≡◌, ℕ, ◌+◌, ◌*◌, ◌/◌, ◌%◌, ◌<◌, ◌≤◌, ◌^◌, IsTrue, false, Some, IsNone, IfSome, IfOk, OnOk, OnErr};
 ghost use Rattle.page_memory.specs.Contents.{IsHeld};
-ghost use Rattle.relocate_machine.specs.Machine.{State, Stays, start_of, fetched, advanced, handled, moved, step_of, AreHeld, move_writes, word_writes, writes_of, HoldsWrites};
-ghost use Rattle.relocate_machine.specs.Run.{HeldFrom, Agree, run_of};
+ghost use Rattle.relocate_machine.specs.Machine.{State, start_of, start_at, next_word, past_word, after_word, after_move, step_of};
+ghost use Rattle.relocate_machine.specs.Writes.{AreHeld, HoldsWrites, IsHeldFor, IsSameBut, IsWritten, Stays, move_writes, word_writes, writes_of};
+ghost use Rattle.relocate_machine.specs.Run.{HeldFrom, HoldsWritten, IsCutShort, run_of};
 
-use crate::word::{Kind, address, first_bit};
+use crate::word::{WordKind, address, first_bit};
 use kx_pages::{ADDRESS_LIMIT, Mode, PAGE_SIZE, Page};
 use page_memory::Memory;
 use std::alloc::AllocError;
@@ -87,14 +88,14 @@ impl Machine {
         }
     }
 
-    /// The pages that the next step writes. None where it moves nothing or is off.
-    #[tactic(auto, unfolding(crate::specs::Machine::writes_of))]
+    /// The pages that the next step writes: `step` leaves every other page. None where it moves nothing or is off.
+    #[tactic(auto, unfolding(crate::specs::Writes::writes_of))]
     pub fn writes(&self, memory: &Memory) -> Writes
         ensures { result ≡ writes_of record { machine = self.now; memory = memory.now } }
     {
         match fetch(self.first, self.cursor, memory) {
             Ok(word) => match first_bit(word) {
-                Kind::Source => self.move_writes(address(word)),
+                WordKind::Source => self.move_writes(address(word)),
                 _ => NO_WRITES,
             },
             Err(_) => NO_WRITES,
@@ -102,7 +103,7 @@ impl Machine {
     }
 
     fn move_writes(&self, from: u64) -> Writes
-        ensures { result ≡ word_writes self.now Kind.Source from }
+        ensures { result ≡ word_writes self.now WordKind.Source from }
     {
         if from >= ADDRESS_LIMIT || self.destination >= ADDRESS_LIMIT {
             return NO_WRITES;
@@ -129,7 +130,10 @@ impl Machine {
     pub fn step(&mut self, memory: &mut Memory) -> Step
         requires running { self.old.ended ≡ false }
         requires held { HoldsWrites record { machine = self.old; memory = memory.old } }
-        ensures { (record { machine = self.new; memory = memory.new }, result) ≡ step_of record { machine = self.old; memory = memory.old } }
+        ensures exact { let old : State = record { machine = self.old; memory = memory.old } in
+            (record { machine = self.new; memory = memory.new }, result) ≡ step_of old }
+        ensures others { let old : State = record { machine = self.old; memory = memory.old } in
+            IsSameBut (writes_of old) memory.old memory.new }
     {
         let word = match fetch(self.first, self.cursor, memory) {
             Ok(word) => word,
@@ -137,23 +141,23 @@ impl Machine {
         };
         let to = address(word);
         match first_bit(word) {
-            Kind::Destination => {
+            WordKind::Destination => {
                 self.advance();
                 self.destination = to;
                 Step::Went
             }
-            Kind::Link => {
+            WordKind::Link => {
                 self.advance();
                 self.cursor = to;
                 Step::Went
             }
-            Kind::Done => {
+            WordKind::Done => {
                 self.advance();
                 self.ended = true;
                 Step::Ended
             }
-            Kind::Source => self.take_source(memory, to),
-            Kind::Nothing => {
+            WordKind::Source => self.take_source(memory, to),
+            WordKind::Nothing => {
                 self.advance();
                 Step::Went
             }
@@ -164,8 +168,10 @@ impl Machine {
     // then; otherwise the page there is moved to the destination, which goes on by a page.
     fn take_source(&mut self, memory: &mut Memory, from: u64) -> Step
         requires cursor { IsNone self.old.first → self.old.cursor < 2 ^ 46 }
-        requires held { AreHeld memory.old (word_writes self.old Kind.Source from) }
-        ensures { (record { machine = self.new; memory = memory.new }, result) ≡ handled (record { machine = self.old; memory = memory.old }) (advanced self.old.first self.old) Kind.Source from }
+        requires held { AreHeld memory.old (word_writes self.old WordKind.Source from) }
+        ensures { let old : State = record { machine = self.old; memory = memory.old } in
+            (record { machine = self.new; memory = memory.new }, result)
+            ≡ after_word old (past_word self.old.first self.old) WordKind.Source from }
     {
         if from >= ADDRESS_LIMIT {
             return Step::Off { address: from };
@@ -184,7 +190,7 @@ impl Machine {
     // The word was taken.
     fn advance(&mut self)
         requires { IsNone self.old.first → self.old.cursor < 2 ^ 46 }
-        ensures { self.new ≡ advanced self.old.first self.old }
+        ensures { self.new ≡ past_word self.old.first self.old }
     {
         match self.first {
             Some(_) => self.first = None,
@@ -196,7 +202,7 @@ impl Machine {
 // The word to handle, or the address at which there is none.
 fn fetch(first: Option<u64>, cursor: u64, memory: &Memory) -> Result<u64, u64>
     requires { cursor % 8 ≡ 0 }
-    ensures { result ≡ fetched first cursor memory.now }
+    ensures { result ≡ next_word first cursor memory.now }
 {
     match first {
         Some(word) => Ok(word),
@@ -216,7 +222,7 @@ fn page_of(address: u64) -> Page
 // Moves page s to page d.
 fn move_page(memory: &mut Memory, mode: Mode, d: Page, s: Page)
     requires { AreHeld memory.old (move_writes mode d s) }
-    ensures { memory.new ≡ moved mode memory.old d s }
+    ensures { memory.new ≡ after_move mode memory.old d s }
 {
     match mode {
         Mode::Plain => memory.copy(d, s),
@@ -229,9 +235,9 @@ fn move_page(memory: &mut Memory, mode: Mode, d: Page, s: Page)
 /// Done exactly where the run ends within `limit` steps; otherwise off exactly where it is off before `limit` steps
 /// were taken; otherwise running.
 pub fn run_held(memory: &mut Memory, head: u64, mode: Mode, limit: u64) -> Outcome
-    requires { HeldFrom limit record { machine = start_of head mode; memory = memory.old } }
-    ensures memory { let run = run_of memory.old head mode limit in memory.new ≡ run.0.memory }
-    ensures outcome { let run = run_of memory.old head mode limit in result ≡ run.1 }
+    requires { HeldFrom limit (start_at memory.old head mode) }
+    ensures memory { memory.new ≡ (run_of memory.old head mode limit).0.memory }
+    ensures outcome { result ≡ (run_of memory.old head mode limit).1 }
     ensures stays { Stays memory.old memory.new }
 {
     let mut machine = Machine::start(head, mode);
@@ -245,11 +251,14 @@ pub fn run_held(memory: &mut Memory, head: u64, mode: Mode, limit: u64) -> Outco
     Outcome::Running { limit }
 }
 
-/// Runs a list by at most `limit` steps as `run_held` does, and holds each page before it is written. After want of
-/// memory the memory is as some number of steps below `limit` left it.
+/// Runs a list by at most `limit` steps as `run_held` does, and holds each page before it is written, and no other: the
+/// pages held are those that were and those that the steps wrote. After want of memory the memory is as some number of
+/// steps below `limit` left it, but that pages which the next step writes may be held besides.
 pub fn run(memory: &mut Memory, head: u64, mode: Mode, limit: u64) -> Result<Outcome, AllocError>
-    ensures ok { IfOk result (λ outcome. let run = run_of memory.old head mode limit in (outcome ≡ run.1) × Agree run.0.memory memory.new) }
-    ensures err { OnErr result ((n : ℕ) × (n < limit) × Agree (run_of memory.old head mode n).0.memory memory.new) }
+    ensures outcome { IfOk result (λ o. o ≡ (run_of memory.old head mode limit).1) }
+    ensures memory { OnOk result (memory.new ≡ (run_of memory.old head mode limit).0.memory) }
+    ensures held { OnOk result (HoldsWritten limit (start_at memory.old head mode) memory.new) }
+    ensures failed { OnErr result (IsCutShort limit (start_at memory.old head mode) memory.new) }
     ensures stays { Stays memory.old memory.new }
 {
     let mut machine = Machine::start(head, mode);
@@ -265,22 +274,20 @@ pub fn run(memory: &mut Memory, head: u64, mode: Mode, limit: u64) -> Result<Out
     Ok(Outcome::Running { limit })
 }
 
-// Holds these pages.
+// Holds these pages, and no other.
 fn hold_all(memory: &mut Memory, writes: Writes) -> Result<(), AllocError>
     ensures held { OnOk result (AreHeld memory.new writes) }
-    ensures same { Agree memory.old memory.new }
-    ensures stays { Stays memory.old memory.new }
+    ensures same { IsHeldFor (IsWritten writes) memory.old memory.new }
 {
     hold_one(memory, writes.destination)?;
     hold_one(memory, writes.source)?;
     hold_one(memory, writes.swap)
 }
 
-// Holds the page, where there is one.
+// Holds the page, where there is one, and no other.
 fn hold_one(memory: &mut Memory, page: Option<Page>) -> Result<(), AllocError>
     ensures held { OnOk result (IfSome page (λ p. IsHeld memory.new p)) }
-    ensures same { Agree memory.old memory.new }
-    ensures stays { Stays memory.old memory.new }
+    ensures same { IsHeldFor (λ q. page ≡ Some q) memory.old memory.new }
 {
     match page {
         Some(p) => memory.hold(p),

@@ -4,44 +4,44 @@ use Rattle.std.specs.Prelude.{not, slice_get, nat_lt, ◌==◌}
 use Rattle.std.specs.List.{position, prefix_len}
 use Rattle.std.specs.Option.{option_map, option_or}
 use Rattle.segments.specs.declared.fault.SegFault.TheVariants as faults
-use Rattle.segments.specs.Parts.{Part, stop, pages, is_destination}
+use Rattle.segments.specs.Values.{SegmentValue, pages, is_destination}
 use Rattle.segments.specs.Rules.{is_bad_address, is_too_full, overlap_each_other, overlap_after, overlap, where_true, no_segments, too_many, bad_address, too_full, too_large, shape_refusal, bare_refusal}
 use Rattle.segments.specs.Sets.{HasPages}
 use Rattle.kx_pages.specs.Spans.{Run}
 
-pub record Alike (s t : Part) : Type 0 where
+pub record Alike (s t : SegmentValue) : Type 0 where
   pub mem : s.mem ≡ t.mem
   pub memsz : s.memsz ≡ t.memsz
   pub long : length s.bytes ≡ length t.bytes
 
-abbrev pub AreAlike : List Part → List Part → Type 0
+abbrev pub AreAlike : List SegmentValue → List SegmentValue → Type 0
 AreAlike [] [] = Unit {0}
 AreAlike [] (t ∷ ts) = ⊥
 AreAlike (s ∷ ss) [] = ⊥
 AreAlike (s ∷ ss) (t ∷ ts) = Alike s t × AreAlike ss ts
 
-same_alike : (ss : List Part) → AreAlike ss ss
+same_alike : (ss : List SegmentValue) → AreAlike ss ss
 same_alike [] = tt
 same_alike (s ∷ ss) = (record { mem = refl; memsz = refl; long = refl }, same_alike ss)
 
-set_alike : (ss : List Part) (i : ℕ) (t : Part) → ((s : Part) → slice_get ss i ≡ Some s → Alike s t) → AreAlike ss (set ss i t)
+set_alike : (ss : List SegmentValue) (i : ℕ) (t : SegmentValue) → ((s : SegmentValue) → slice_get ss i ≡ Some s → Alike s t) → AreAlike ss (set ss i t)
 set_alike [] i t h = tt
 set_alike (s ∷ ss) zero t h = (h s refl, same_alike ss)
 set_alike (s ∷ ss) (suc i) t h = (record { mem = refl; memsz = refl; long = refl }, set_alike ss i t h)
 
-append_alike : (ss ts us vs : List Part) → AreAlike ss ts → AreAlike us vs → AreAlike (ss ++ us) (ts ++ vs)
+append_alike : (ss ts us vs : List SegmentValue) → AreAlike ss ts → AreAlike us vs → AreAlike (ss ++ us) (ts ++ vs)
 append_alike [] [] us vs h k = k
 append_alike [] (t ∷ ts) us vs h k = absurd h
 append_alike (s ∷ ss) [] us vs h k = absurd h
 append_alike (s ∷ ss) (t ∷ ts) us vs h k = (h.0, append_alike ss ts us vs h.1 k)
 
-length_alike : (ss ts : List Part) → AreAlike ss ts → length ss ≡ length ts
+length_alike : (ss ts : List SegmentValue) → AreAlike ss ts → length ss ≡ length ts
 length_alike [] [] h = refl
 length_alike [] (t ∷ ts) h = absurd h
 length_alike (s ∷ ss) [] h = absurd h
 length_alike (s ∷ ss) (t ∷ ts) h = ap suc (length_alike ss ts h.1)
 
-prefix_alike : (f g : Part → Bool) → ((s t : Part) → Alike s t → f s ≡ g t) → (ss ts : List Part) → AreAlike ss ts → prefix_len f ss ≡ prefix_len g ts
+prefix_alike : (f g : SegmentValue → Bool) → ((s t : SegmentValue) → Alike s t → f s ≡ g t) → (ss ts : List SegmentValue) → AreAlike ss ts → prefix_len f ss ≡ prefix_len g ts
 prefix_alike f g e [] [] h = refl
 prefix_alike f g e [] (t ∷ ts) h = absurd h
 prefix_alike f g e (s ∷ ss) [] h = absurd h
@@ -50,22 +50,19 @@ prefix_alike f g e (s ∷ ss) (t ∷ ts) h =
     let later = prefix_alike f g e ss ts h.1 in
     rw (here, later) refl
 
-position_alike : (f g : Part → Bool) → ((s t : Part) → Alike s t → f s ≡ g t) → (ss ts : List Part) → AreAlike ss ts → position f ss ≡ position g ts
+position_alike : (f g : SegmentValue → Bool) → ((s t : SegmentValue) → Alike s t → f s ≡ g t) → (ss ts : List SegmentValue) → AreAlike ss ts → position f ss ≡ position g ts
 position_alike f g e ss ts h =
     let place = prefix_alike (λ s. not (f s)) (λ s. not (g s)) (λ s t a. ap not (e s t a)) ss ts h in
     let long = length_alike ss ts h in
     rw (place, long) refl
 
-stop_alike : (s t : Part) → Alike s t → stop s ≡ stop t
-stop_alike s t h = let a = h.mem in let b = h.memsz in rw (a, b) refl
-
-bad_alike : (s t : Part) → Alike s t → is_bad_address s ≡ is_bad_address t
+bad_alike : (s t : SegmentValue) → Alike s t → is_bad_address s ≡ is_bad_address t
 bad_alike s t h = let a = h.mem in let b = h.memsz in rw (a, b) refl
 
-full_alike : (s t : Part) → Alike s t → is_too_full s ≡ is_too_full t
+full_alike : (s t : SegmentValue) → Alike s t → is_too_full s ≡ is_too_full t
 full_alike s t h = let a = h.memsz in let b = h.long in rw (a, b) refl
 
-pair_alike : (s t : Part) → Alike s t → (r u : Part) → Alike r u → overlap_each_other s r ≡ overlap_each_other t u
+pair_alike : (s t : SegmentValue) → Alike s t → (r u : SegmentValue) → Alike r u → overlap_each_other s r ≡ overlap_each_other t u
 pair_alike s t h r u k =
     let a = h.mem in
     let b = h.memsz in
@@ -73,7 +70,7 @@ pair_alike s t h r u k =
     let d = k.memsz in
     rw (a, b, c, d) refl
 
-overlap_alike : (es fs ss ts : List Part) → AreAlike es fs → AreAlike ss ts → overlap_after es ss ≡ overlap_after fs ts
+overlap_alike : (es fs ss ts : List SegmentValue) → AreAlike es fs → AreAlike ss ts → overlap_after es ss ≡ overlap_after fs ts
 overlap_alike es fs [] [] h k = refl
 overlap_alike es fs [] (t ∷ ts) h k = absurd k
 overlap_alike es fs (s ∷ ss) [] h k = absurd k
@@ -85,7 +82,7 @@ overlap_alike es fs (s ∷ ss) (t ∷ ts) h k =
     ∙ ap (λ o. option_or (option_map (faults.Overlap (length fs)) o) (overlap_after (es ++ s ∷ []) ss)) here
     ∙ ap (λ o. option_or (option_map (faults.Overlap (length fs)) (position (overlap_each_other t) fs)) o) later
 
-pages_alike : (ss ts : List Part) → AreAlike ss ts → pages ss ≡ pages ts
+pages_alike : (ss ts : List SegmentValue) → AreAlike ss ts → pages ss ≡ pages ts
 pages_alike [] [] h = refl
 pages_alike [] (t ∷ ts) h = absurd h
 pages_alike (s ∷ ss) [] h = absurd h
@@ -95,7 +92,7 @@ pages_alike (s ∷ ss) (t ∷ ts) h =
     let later = pages_alike ss ts h.1 in
     rw (a, b, later) refl
 
-destination_alike : (ss ts : List Part) → AreAlike ss ts → (q : ℕ) → is_destination ss q ≡ is_destination ts q
+destination_alike : (ss ts : List SegmentValue) → AreAlike ss ts → (q : ℕ) → is_destination ss q ≡ is_destination ts q
 destination_alike [] [] h q = refl
 destination_alike [] (t ∷ ts) h q = absurd h
 destination_alike (s ∷ ss) [] h q = absurd h
@@ -105,7 +102,7 @@ destination_alike (s ∷ ss) (t ∷ ts) h q =
     let later = destination_alike ss ts h.1 q in
     rw (a, b, later) refl
 
-bare_alike : (ss ts : List Part) → AreAlike ss ts → bare_refusal ss ≡ bare_refusal ts
+bare_alike : (ss ts : List SegmentValue) → AreAlike ss ts → bare_refusal ss ≡ bare_refusal ts
 unfolding bare_refusal shape_refusal
 bare_alike ss ts h =
     let long = length_alike ss ts h in
@@ -119,7 +116,7 @@ bare_alike ss ts h =
     cc
 
 -- segments with other bytes, as many as they were
-pub has_pages_set : (ss : List Part) (rs : List Run) (i : ℕ) (t : Part) → HasPages ss rs → ((s : Part) → slice_get ss i ≡ Some s → Alike s t) → HasPages (set ss i t) rs
+pub has_pages_set : (ss : List SegmentValue) (rs : List Run) (i : ℕ) (t : SegmentValue) → HasPages ss rs → ((s : SegmentValue) → slice_get ss i ≡ Some s → Alike s t) → HasPages (set ss i t) rs
 has_pages_set ss rs i t h k =
     let a = set_alike ss i t k in
     record {

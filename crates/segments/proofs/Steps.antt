@@ -12,18 +12,29 @@ use Rattle.kx_pages.specs.Lists.{Each}
 use Rattle.kx_pages.specs.Spans.{Run, end, in_span, in_spans, IsMaximal}
 use Rattle.segments.specs.declared.fault.SegFault.{SegFault}
 use Rattle.segments.specs.declared.fault.SegFault.TheVariants as faults
-use Rattle.std.proofs.lemmas.Option.{slice_get-get_or}
-use Rattle.segments.specs.Laws.{some_same}
-use Rattle.segments.specs.Parts.{Part, page_count, pages_of_part, pages, is_page_of_part, is_destination, wanted, bytes_from}
-use Rattle.segments.specs.Rules.{answer, Refuses, Answers, overlap_after, overlap_each_other}
+use Rattle.std.proofs.lemmas.Option.{none-some, slice_get-get_or}
+use Rattle.kx_laws.proofs.Options.{some_same}
+use Rattle.segments.specs.Values.{SegmentValue, page_count, pages_of_segment, pages, is_page_of_segment, is_destination, wanted, bytes_from}
+use Rattle.kx_laws.specs.Results.{unless}
+use Rattle.segments.specs.Rules.{Refuses, Answers, overlap_after, overlap_each_other}
 
 pub drop_at : {X : Type 0} (ss : List X) (i : ℕ) (s : X) → i < length ss → s ≡ get_or ss i s → drop i ss ≡ s ∷ drop (i + 1) ss
 drop_at ss i s l e = grind (arith, common_steps, drop-cons)
 
-pub count_more : (ss : List Part) (i : ℕ) (s : Part) → i < length ss → s ≡ get_or ss i s → length (pages (drop i ss)) ≡ page_count s + length (pages (drop (i + 1) ss))
+-- the segment at place i, of a list under another name
+pub got : (ss ts : List SegmentValue) (i : ℕ) (s : SegmentValue) → ss ≡ ts → i < length ts → s ≡ get_or ss i s → slice_get ts i ≡ Some s
+got ss ts i s e l f = slice_get-get_or ts i s l ∙ ap Some (ap (λ xs. get_or xs i s) (sym e) ∙ sym f)
+
+-- what holds of each segment holds of the one at place i
+pub Each-slice_get : (P : SegmentValue → Type 0) (ss : List SegmentValue) (i : ℕ) (s : SegmentValue) → Each P ss → slice_get ss i ≡ Some s → P s
+Each-slice_get P [] i s h e = absurd (none-some s e)
+Each-slice_get P (t ∷ ss) zero s h e = subst P (some_same t s e) h.0
+Each-slice_get P (t ∷ ss) (suc i) s h e = Each-slice_get P ss i s h.1 e
+
+pub count_more : (ss : List SegmentValue) (i : ℕ) (s : SegmentValue) → i < length ss → s ≡ get_or ss i s → length (pages (drop i ss)) ≡ page_count s + length (pages (drop (i + 1) ss))
 count_more ss i s l e =
     ap (λ xs. length (pages xs)) (drop_at ss i s l e)
-    ∙ length-append (pages_of_part s) (pages (drop (i + 1) ss))
+    ∙ length-append (pages_of_segment s) (pages (drop (i + 1) ss))
     ∙ ap (λ n. n + length (pages (drop (i + 1) ss))) (length-range_with_len _ (page_count s))
 
 all_in : (rs : List Run) (r : Run) → ((q : ℕ) → IsTrue (in_span r q) → IsTrue (in_spans rs q)) → (n first : ℕ) → r.first ≤ first → first + n ≤ end r → list_all (in_spans rs) (range_with_len first n) ≡ true
@@ -91,30 +102,30 @@ none_more rs first n i s before at m e k l r found = ⊎_elim
     last k i h = grind arith
 
 -- the segments before and from place i on, and the next one
-pub overlap_here : (ss : List Part) (i : ℕ) (s : Part) (j : ℕ) → i < length ss → s ≡ get_or ss i s → position (overlap_each_other s) (take i ss) ≡ Some j → overlap_after (take i ss) (drop i ss) ≡ Some (faults.Overlap i j)
+pub overlap_here : (ss : List SegmentValue) (i : ℕ) (s : SegmentValue) (j : ℕ) → i < length ss → s ≡ get_or ss i s → position (overlap_each_other s) (take i ss) ≡ Some j → overlap_after (take i ss) (drop i ss) ≡ Some (faults.Overlap i j)
 overlap_here ss i s j l e f =
     ap (overlap_after (take i ss)) (drop_at ss i s l e)
     ∙ ap (λ o. option_or (option_map (faults.Overlap (length (take i ss))) o) (overlap_after (take i ss ++ s ∷ []) (drop (i + 1) ss))) f
     ∙ ap (λ n. Some (faults.Overlap n j)) (front ss i l)
   where
-    front : (ss : List Part) (i : ℕ) → i < length ss → length (take i ss) ≡ i
+    front : (ss : List SegmentValue) (i : ℕ) → i < length ss → length (take i ss) ≡ i
     front ss i l = grind (arith, common_steps)
 
-pub overlap_later : (ss : List Part) (i : ℕ) (s : Part) → i < length ss → s ≡ get_or ss i s → position (overlap_each_other s) (take i ss) ≡ None → overlap_after (take (i + 1) ss) (drop (i + 1) ss) ≡ overlap_after (take i ss) (drop i ss)
+pub overlap_later : (ss : List SegmentValue) (i : ℕ) (s : SegmentValue) → i < length ss → s ≡ get_or ss i s → position (overlap_each_other s) (take i ss) ≡ None → overlap_after (take (i + 1) ss) (drop (i + 1) ss) ≡ overlap_after (take i ss) (drop i ss)
 overlap_later ss i s l e f =
     ap (λ xs. overlap_after xs (drop (i + 1) ss)) (longer ss i s l e)
     ∙ sym (ap (λ o. option_or (option_map (faults.Overlap (length (take i ss))) o) (overlap_after (take i ss ++ s ∷ []) (drop (i + 1) ss))) f)
     ∙ sym (ap (overlap_after (take i ss)) (drop_at ss i s l e))
   where
-    longer : (ss : List Part) (i : ℕ) (s : Part) → i < length ss → s ≡ get_or ss i s → take (i + 1) ss ≡ take i ss ++ s ∷ []
+    longer : (ss : List SegmentValue) (i : ℕ) (s : SegmentValue) → i < length ss → s ≡ get_or ss i s → take (i + 1) ss ≡ take i ss ++ s ∷ []
     longer ss i s l e = grind (arith, common_steps)
 
 -- the first segments' pages are in, the others' are to come
-pub pages_more : (a b c : ℕ → Bool) (r : ℕ → Bool) (ss : List Part) (i : ℕ) (s : Part) → i < length ss → s ≡ get_or ss i s → ((q : ℕ) → r q ≡ is_page_of_part s q) → ((q : ℕ) → b q ≡ (a q || r q)) → ((q : ℕ) → (a q || is_destination (drop i ss) q) ≡ c q) → (q : ℕ) → (b q || is_destination (drop (i + 1) ss) q) ≡ c q
+pub pages_more : (a b c : ℕ → Bool) (r : ℕ → Bool) (ss : List SegmentValue) (i : ℕ) (s : SegmentValue) → i < length ss → s ≡ get_or ss i s → ((q : ℕ) → r q ≡ is_page_of_segment s q) → ((q : ℕ) → b q ≡ (a q || r q)) → ((q : ℕ) → (a q || is_destination (drop i ss) q) ≡ c q) → (q : ℕ) → (b q || is_destination (drop (i + 1) ss) q) ≡ c q
 pages_more a b c r ss i s l e same grown before q =
     ap (λ x. x || is_destination (drop (i + 1) ss) q) (grown q)
     ∙ ap (λ x. (a q || x) || is_destination (drop (i + 1) ss) q) (same q)
-    ∙ assoc (a q) (is_page_of_part s q) (is_destination (drop (i + 1) ss) q)
+    ∙ assoc (a q) (is_page_of_segment s q) (is_destination (drop (i + 1) ss) q)
     ∙ ap (λ xs. a q || is_destination xs q) (sym (drop_at ss i s l e))
     ∙ before q
   where
@@ -123,14 +134,14 @@ pages_more a b c r ss i s l e same grown before q =
     assoc false b c = refl
 
 -- a fact of each segment from place i on
-pub each_here : (P : Part → Type 0) (ss : List Part) (i : ℕ) (s : Part) → i < length ss → s ≡ get_or ss i s → Each P (drop i ss) → P s × Each P (drop (i + 1) ss)
+pub each_here : (P : SegmentValue → Type 0) (ss : List SegmentValue) (i : ℕ) (s : SegmentValue) → i < length ss → s ≡ get_or ss i s → Each P (drop i ss) → P s × Each P (drop (i + 1) ss)
 each_here P ss i s l e h = subst (Each P) (drop_at ss i s l e) h
 
 pub drop_all : {X : Type 0} (xs : List X) (i : ℕ) → length xs ≤ i → drop i xs ≡ []
 drop_all xs i l = grind (arith, common_steps)
 
 -- all pages are in
-pub pages_all : (a c : ℕ → Bool) (ss : List Part) (i : ℕ) → length ss ≤ i → ((q : ℕ) → (a q || is_destination (drop i ss) q) ≡ c q) → (q : ℕ) → a q ≡ c q
+pub pages_all : (a c : ℕ → Bool) (ss : List SegmentValue) (i : ℕ) → length ss ≤ i → ((q : ℕ) → (a q || is_destination (drop i ss) q) ≡ c q) → (q : ℕ) → a q ≡ c q
 pages_all a c ss i l h q = or_false (a q) ∙ ap (λ xs. a q || is_destination xs q) (sym (drop_all ss i l)) ∙ h q
   where
     or_false : (b : Bool) → b ≡ (b || false)
@@ -138,36 +149,33 @@ pages_all a c ss i l h q = or_false (a q) ∙ ap (λ xs. a q || is_destination x
     or_false false = refl
 
 -- the segments from place i on, and the next one, for what a page is to have
-pub want_here : (ss : List Part) (i : ℕ) (s : Part) (p : ℕ) → i < length ss → s ≡ get_or ss i s → is_page_of_part s p ≡ true → wanted (drop i ss) p ≡ Some (take 4096 (bytes_from s p))
+pub want_here : (ss : List SegmentValue) (i : ℕ) (s : SegmentValue) (p : ℕ) → i < length ss → s ≡ get_or ss i s → is_page_of_segment s p ≡ true → wanted (drop i ss) p ≡ Some (take 4096 (bytes_from s p))
 want_here ss i s p l e t = ap (λ xs. wanted xs p) (drop_at ss i s l e) ∙ ap (λ b. cond b (Some (take 4096 (bytes_from s p))) (wanted (drop (i + 1) ss) p)) t
 
-pub want_later : (ss : List Part) (i : ℕ) (s : Part) (p : ℕ) → i < length ss → s ≡ get_or ss i s → is_page_of_part s p ≡ false → wanted (drop (i + 1) ss) p ≡ wanted (drop i ss) p
-want_later ss i s p l e t = sym (ap (λ xs. wanted xs p) (drop_at ss i s l e) ∙ ap (λ b. cond b (Some (take 4096 (bytes_from s p))) (wanted (drop (i + 1) ss) p)) t)
-
 -- what a test of rules tells
-pub refused : (o : Option SegFault) (e : SegFault) → answer o ≡ Err e → o ≡ Some e
+pub refused : (o : Option SegFault) (e : SegFault) → unless o ≡ Err e → o ≡ Some e
 refused None e h = cc
 refused (Some f) e h = cc
 
-pub passed : (o : Option SegFault) (u : Unit {0}) → answer o ≡ Ok u → o ≡ None
+pub passed : (o : Option SegFault) (u : Unit {0}) → unless o ≡ Ok u → o ≡ None
 passed None u h = refl
 passed (Some f) u h = cc
 
 -- the first refusal of a row of tests: here, later, or at the last one
-pub refused_here : (a b : Option SegFault) (e : SegFault) → answer a ≡ Err e → Err e ≡ answer (option_or a b)
+pub refused_here : (a b : Option SegFault) (e : SegFault) → unless a ≡ Err e → Err e ≡ unless (option_or a b)
 refused_here a b e h = let f = refused a e h in rw f refl
 
-pub refused_later : (a b : Option SegFault) (u : Unit {0}) (r : Result (Unit {0}) SegFault) → answer a ≡ Ok u → r ≡ answer b → r ≡ answer (option_or a b)
+pub refused_later : (a b : Option SegFault) (u : Unit {0}) (r : Result (Unit {0}) SegFault) → unless a ≡ Ok u → r ≡ unless b → r ≡ unless (option_or a b)
 refused_later a b u r h k = let f = passed a u h in rw f k
 
-pub refused_last : (a : Option SegFault) (r : Result (Unit {0}) SegFault) → r ≡ answer a → r ≡ answer (option_or a None)
+pub refused_last : (a : Option SegFault) (r : Result (Unit {0}) SegFault) → r ≡ unless a → r ≡ unless (option_or a None)
 refused_last None r k = k
 refused_last (Some f) r k = k
 
 -- what a call that tests and then takes memory answers
-pub Answers-refused : (ss : List Part) (first : Option SegFault) (e : SegFault) → answer first ≡ Err e → Refuses e first
+pub Answers-refused : (ss : List SegmentValue) (first : Option SegFault) (e : SegFault) → unless first ≡ Err e → Refuses e first
 Answers-refused ss first e h = inl (refused first e h)
 
-pub Answers-made : (ss : List Part) (first : Option SegFault) (r : Result (List Part) SegFault) → first ≡ None → MatchResult r (λ s. s ≡ ss) (λ e. e ≡ faults.Memory) → Answers ss first r
+pub Answers-made : (ss : List SegmentValue) (first : Option SegFault) (r : Result (List SegmentValue) SegFault) → first ≡ None → MatchResult r (λ s. s ≡ ss) (λ e. e ≡ faults.Memory) → Answers ss first r
 Answers-made ss first (Ok s) f h = (h, f)
 Answers-made ss first (Err e) f h = inr (h, f)

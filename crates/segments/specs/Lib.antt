@@ -1,5 +1,3 @@
-pub mod Parts
+pub mod Values
 pub mod Rules
-pub mod Elements
 pub mod Sets
-pub mod Laws

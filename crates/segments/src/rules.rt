@@ -5,27 +5,22 @@ ghost use Rattle.std.specs.List.{list_any, list_all, range_with_len};
 ghost use Rattle.std.specs.Option.{option_map};
 ghost use Rattle.std.specs.List as lists;
 ghost use Rattle.kx_pages.specs.Spans as spans;
-ghost use Rattle.segments.specs.Parts.{page_count, pages, is_destination};
-ghost use Rattle.segments.specs.Rules.{answer, bad_count, bad_address, misplaced, is_bad_address, is_too_full, leaves, overlap, overlap_each_other, too_full, half_of_memory, outside_reserved, is_not_ram, not_ram, too_large, shape_refusal, bare_refusal, refusal};
+ghost use Rattle.segments.specs.Values.{page_count, pages, is_destination};
+ghost use Rattle.kx_laws.specs.Results.{unless};
+ghost use Rattle.segments.specs.Rules.{bad_count, bad_address, misplaced, is_bad_address, is_too_full, leaves, overlap, overlap_each_other, too_full, half_of_memory, outside_reserved, is_not_ram, not_ram, too_large, shape_refusal, bare_refusal, refusal};
 ghost use Rattle.kx_pages.specs.Lists.{Each};
 
 use crate::fault::{Kind, SegFault};
 use crate::segment::Segment;
-use kx_pages::{PageSet, Span};
+use kx_pages::{PageSet, SEGMENT_LIMIT, SEGMENT_PAGE_LIMIT, Span};
 use std::alloc::{AllocError, Global};
 
-/// The number of segments that a load can have (KEXEC_SEGMENT_MAX).
-const MOST_SEGMENTS: usize = 16;
-
-/// The number of pages that they can have together.
-const MOST_PAGES: u64 = 65536;
-
 fn test_count(list: &[Segment]) -> Result<(), SegFault>
-    ensures { result ≡ answer (bad_count list.now) }
+    ensures { result ≡ unless (bad_count list.now) }
 {
     if list.is_empty() {
         Err(SegFault::NoSegments)
-    } else if list.len() > MOST_SEGMENTS {
+    } else if list.len() > SEGMENT_LIMIT {
         Err(SegFault::TooMany)
     } else {
         Ok(())
@@ -39,7 +34,7 @@ fn first_with_bad_address(list: &[Segment]) -> Option<usize>
 }
 
 fn test_addresses(list: &[Segment]) -> Result<(), SegFault>
-    ensures { result ≡ answer (bad_address list.now) }
+    ensures { result ≡ unless (bad_address list.now) }
 {
     match first_with_bad_address(list) {
         Some(i) => Err(SegFault::BadAddress { i }),
@@ -55,7 +50,7 @@ fn first_overlapped(earlier: &[Segment], s: &Segment) -> Option<usize>
 }
 
 fn test_overlap(list: &[Segment]) -> Result<(), SegFault>
-    ensures { result ≡ answer (overlap list.now) }
+    ensures { result ≡ unless (overlap list.now) }
 {
     for (i, s) in list.iter().enumerate() {
         if let Some(j) = first_overlapped(&list[..i], s) {
@@ -72,7 +67,7 @@ fn first_too_full(list: &[Segment]) -> Option<usize>
 }
 
 fn test_bytes(list: &[Segment]) -> Result<(), SegFault>
-    ensures { result ≡ answer (too_full list.now) }
+    ensures { result ≡ unless (too_full list.now) }
 {
     match first_too_full(list) {
         Some(i) => Err(SegFault::TooFull { i }),
@@ -101,7 +96,7 @@ fn one_has_more(list: &[Segment], most: u64) -> bool
 
 fn test_half_of_memory(list: &[Segment], ram: &PageSet) -> Result<(), SegFault>
     requires { length list.now ≤ 16 }
-    ensures { result ≡ answer (half_of_memory ram.now list.now) }
+    ensures { result ≡ unless (half_of_memory ram.now list.now) }
 {
     let half = ram.total() / 2;
     if one_has_more(list, half) || total(list) > half {
@@ -118,7 +113,7 @@ fn first_that_leaves(list: &[Segment], area: Span) -> Option<usize>
 }
 
 fn test_reserved(list: &[Segment], area: Span) -> Result<(), SegFault>
-    ensures { result ≡ answer (outside_reserved (Kind.Crash area) list.now) }
+    ensures { result ≡ unless (outside_reserved (Kind.Crash area) list.now) }
 {
     match first_that_leaves(list, area) {
         Some(i) => Err(SegFault::OutsideReserved { i }),
@@ -162,7 +157,7 @@ fn first_not_ram(list: &[Segment], ram: &PageSet) -> Option<usize>
 }
 
 fn test_ram(list: &[Segment], ram: &PageSet) -> Result<(), SegFault>
-    ensures { result ≡ answer (not_ram ram.now Kind.Normal list.now) }
+    ensures { result ≡ unless (not_ram ram.now Kind.Normal list.now) }
 {
     match first_not_ram(list, ram) {
         Some(i) => Err(SegFault::NotRam { i }),
@@ -171,7 +166,7 @@ fn test_ram(list: &[Segment], ram: &PageSet) -> Result<(), SegFault>
 }
 
 fn test_place(list: &[Segment], ram: &PageSet, kind: Kind) -> Result<(), SegFault>
-    ensures { result ≡ answer (misplaced ram.now kind list.now) }
+    ensures { result ≡ unless (misplaced ram.now kind list.now) }
 {
     match kind {
         Kind::Normal => test_ram(list, ram),
@@ -181,10 +176,10 @@ fn test_place(list: &[Segment], ram: &PageSet, kind: Kind) -> Result<(), SegFaul
 
 fn test_size(list: &[Segment]) -> Result<(), SegFault>
     requires { length list.now ≤ 16 }
-    ensures { result ≡ answer (too_large list.now) }
+    ensures { result ≡ unless (too_large list.now) }
 {
     let pages = total(list);
-    if pages > MOST_PAGES {
+    if pages > SEGMENT_PAGE_LIMIT {
         Err(SegFault::TooLarge { pages })
     } else {
         Ok(())
@@ -192,7 +187,7 @@ fn test_size(list: &[Segment]) -> Result<(), SegFault>
 }
 
 fn test_shape(list: &[Segment]) -> Result<(), SegFault>
-    ensures value { result ≡ answer (shape_refusal list.now) }
+    ensures value { result ≡ unless (shape_refusal list.now) }
     ensures few { OnOk result (length list.now ≤ 16) }
 {
     test_count(list)?;
@@ -203,7 +198,7 @@ fn test_shape(list: &[Segment]) -> Result<(), SegFault>
 
 /// The rules where nothing is known of memory.
 pub(crate) fn test_bare(list: &[Segment]) -> Result<(), SegFault>
-    ensures { result ≡ answer (bare_refusal list.now) }
+    ensures { result ≡ unless (bare_refusal list.now) }
 {
     test_shape(list)?;
     test_size(list)
@@ -211,7 +206,7 @@ pub(crate) fn test_bare(list: &[Segment]) -> Result<(), SegFault>
 
 /// All rules.
 pub(crate) fn test_all(list: &[Segment], ram: &PageSet, kind: Kind) -> Result<(), SegFault>
-    ensures { result ≡ answer (refusal ram.now kind list.now) }
+    ensures { result ≡ unless (refusal ram.now kind list.now) }
 {
     test_shape(list)?;
     test_half_of_memory(list, ram)?;

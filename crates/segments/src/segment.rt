@@ -2,7 +2,7 @@
 
 ghost use Rattle.std.specs.Prelude.{◌≡◌, ℕ, ◌+◌, ◌-◌, ◌*◌, ◌/◌, ◌^◌, ◌<◌, ◌≤◌, IsTrue, false, length, take};
 ghost use Rattle.kx_pages.specs.Spans.{Run, in_span};
-ghost use Rattle.segments.specs.Parts.{Part, stop, is_page_of_part, page_count, bytes_from};
+ghost use Rattle.segments.specs.Values.{SegmentValue, stop, is_page_of_segment, page_count, span_of, bytes_from};
 ghost use Rattle.segments.specs.Rules.{is_bad_address, overlap_each_other, is_too_full, leaves};
 
 use kx_pages::{ADDRESS_LIMIT, PAGE_SIZE, Span};
@@ -22,9 +22,9 @@ pub struct Segment {
 }
 
 impl Model for Segment {
-    ghost use Rattle.segments.specs.Parts.{Part};
+    ghost use Rattle.segments.specs.Values.{SegmentValue};
 
-    ghost Value = { Part };
+    ghost Value = { SegmentValue };
 
     ghost view = { λ s. record { bytes = s.bytes.items; mem = s.mem; memsz = s.memsz } };
 }
@@ -87,8 +87,8 @@ impl Segment {
     // Its pages.
     pub(crate) fn span(&self) -> Span
         requires { is_bad_address self.now ≡ false }
-        ensures value { result ≡ record { first = self.now.mem / 4096; count = page_count self.now } }
-        ensures pages { (q : ℕ) → in_span result q ≡ is_page_of_part self.now q }
+        ensures value { result ≡ span_of self.now }
+        ensures pages { (q : ℕ) → in_span result q ≡ is_page_of_segment self.now q }
     {
         Span::new(self.mem / PAGE_SIZE, self.memsz / PAGE_SIZE).unwrap()
     }
@@ -96,7 +96,7 @@ impl Segment {
     // The page of this number is one of its pages.
     pub(crate) fn has(&self, number: u64) -> bool
         requires { number < 2 ^ 34 }
-        ensures { result ≡ is_page_of_part self.now number }
+        ensures { result ≡ is_page_of_segment self.now number }
     {
         self.mem <= number * PAGE_SIZE && u128::from(number * PAGE_SIZE) < self.stop()
     }
@@ -104,7 +104,7 @@ impl Segment {
     // The bytes of a page of this segment, before zeros.
     pub(crate) fn page_bytes(&self, number: u64) -> &[u8]
         requires page { number < 2 ^ 34 }
-        requires inside { IsTrue (is_page_of_part self.now number) }
+        requires inside { IsTrue (is_page_of_segment self.now number) }
         ensures value { result.now ≡ take 4096 (bytes_from self.now number) }
         ensures short { length result.now ≤ 4096 }
     {

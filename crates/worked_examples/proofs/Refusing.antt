@@ -1,7 +1,7 @@
 -- A list with a fault is not accepted.
 use Rattle.std.proofs.Common.{ℕ, List, Option, refl}
 use Rattle.page_memory.specs.Memory.{Mem}
-use Rattle.segments.specs.Parts.{Part, want, pages}
+use Rattle.segments.specs.Values.{SegmentValue, want, pages}
 use Rattle.segments.specs.Rules.{bare_refusal, shape_refusal}
 use Rattle.list_checker.specs.Laws.{ListsWanted}
 use Rattle.list_checker.specs.declared.fault.Why.{Why}
@@ -26,5 +26,5 @@ pub no_bytes-listed : ListsWanted (want no_bytes) (pages no_bytes)
 unfolding bare_refusal shape_refusal
 no_bytes-listed = parts_listed no_bytes refl
 
-pub refused : (M : Mem) (ss : List Part) (head control : ℕ) (swap : Option ℕ) (n : ℕ) (why : Why) → ListsWanted (want ss) (pages ss) → FirstFault M ss head control swap n why → NoneAccepted M ss head control swap
+pub refused : (M : Mem) (ss : List SegmentValue) (head control : ℕ) (swap : Option ℕ) (n : ℕ) (why : Why) → ListsWanted (want ss) (pages ss) → FirstFault M ss head control swap n why → NoneAccepted M ss head control swap
 refused M ss head control swap n why listed fault = ((check_ends M (want ss) (pages ss) head control swap listed).1 n why fault).0

@@ -4,11 +4,12 @@ use Rattle.std.specs.Prelude.{nat_le}
 use Rattle.kx_pages.specs.declared.image.Mode.{Mode}
 use Rattle.page_memory.specs.Contents.{Contents, at}
 use Rattle.page_memory.specs.Memory.{Mem, word, copied_page}
-use Rattle.page_memory.specs.Laws.{at-with_page}
+use Rattle.page_memory.proofs.Laws.{at-with_page}
 use Rattle.relocate_machine.specs.declared.step.Step.TheVariants as steps
 use Rattle.relocate_machine.specs.declared.step.Outcome.{Outcome}
 use Rattle.relocate_machine.specs.declared.step.Outcome.TheVariants.{Done, Running, Off}
-use Rattle.relocate_machine.specs.Machine.{State, copied, taken, step_of}
+use Rattle.relocate_machine.specs.Machine.{State, step_by, step_of}
+use Rattle.page_memory.specs.Contents.{copied}
 use Rattle.relocate_machine.specs.Run.{run_from, run_after, run_of}
 use Rattle.worked_examples.specs.Runs.{ComesOut}
 
@@ -18,11 +19,11 @@ standing mode m cursor destination = record { machine = record { first = None; c
 
 -- a step reads its word in the memory as it is now
 pub reads : (mode : Mode) (m : Contents) (N : Mem) (cursor destination w : ℕ) → at m ≡ N → nat_le (2 ^ 46) cursor ≡ false → word N cursor ≡ w
-    → step_of (standing mode m cursor destination) ≡ taken (standing mode m cursor destination) (Ok w)
+    → step_of (standing mode m cursor destination) ≡ step_by (standing mode m cursor destination) (Ok w)
 unfolding step_of
 reads mode m N cursor destination w is near e =
-    ap (λ b. taken (standing mode m cursor destination) (cond b (Err cursor) (Ok (word (at m) cursor)))) near
-    ∙ ap (λ v. taken (standing mode m cursor destination) (Ok v)) (ap (λ K. word K cursor) is ∙ e)
+    ap (λ b. step_by (standing mode m cursor destination) (cond b (Err cursor) (Ok (word (at m) cursor)))) near
+    ∙ ap (λ v. step_by (standing mode m cursor destination) (Ok v)) (ap (λ K. word K cursor) is ∙ e)
 
 -- a step that goes on, the last step, a step that cannot be taken, and no step
 pub goes : (n k : ℕ) (s t : State) (r : State × Outcome) → step_of s ≡ (t, steps.Went) → run_from n (k + 1) t ≡ r → run_from (suc n) k s ≡ r

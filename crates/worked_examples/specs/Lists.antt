@@ -3,7 +3,7 @@ use Rattle.std.specs.Prelude.{◌≡◌, ℕ, ◌+◌, List, [], ◌∷◌, Opti
 use Rattle.kx_pages.specs.declared.item.Item.{Item}
 use Rattle.kx_pages.specs.declared.item.Item.TheVariants.{Link, Destination, Source, Done}
 use Rattle.page_memory.specs.Memory.{Mem, word}
-use Rattle.segments.specs.Parts.{Part, want, pages}
+use Rattle.segments.specs.Values.{SegmentValue, want, pages}
 use Rattle.list_checker.specs.Walk.{IsAccepted}
 use Rattle.list_checker.specs.Faults.{Faulty, Earlier, nothing_earlier, reason}
 use Rattle.list_checker.specs.declared.fault.Why.{Why}
@@ -14,11 +14,11 @@ HasWords M a [] = Unit {0}
 HasWords M a (w ∷ ws) = (word M a ≡ w) × HasWords M (a + 8) ws
 
 -- of the list with this head, word n is the first that has a reason, and this is its first one
-abbrev pub FirstFault : Mem → List Part → ℕ → ℕ → Option ℕ → ℕ → Why → Type 0
+abbrev pub FirstFault : Mem → List SegmentValue → ℕ → ℕ → Option ℕ → ℕ → Why → Type 0
 FirstFault M ss head control swap n why = Faulty M (want ss) (pages ss) control swap None nothing_earlier head n why
 
 -- no list with this head is accepted
-abbrev pub NoneAccepted : Mem → List Part → ℕ → ℕ → Option ℕ → Type 0
+abbrev pub NoneAccepted : Mem → List SegmentValue → ℕ → ℕ → Option ℕ → Type 0
 NoneAccepted M ss head control swap = (is : List Item) → IsAccepted M (want ss) head control swap is → ⊥
 
 -- page 2 comes from page 12
@@ -38,7 +38,7 @@ abbrev pub first_page_first : List Item
 first_page_first = Link 0x20 ∷ Destination 3 ∷ Source 2 ∷ Source 3 ∷ Done 0 ∷ []
 
 -- why an item at this place is refused, after words that were so
-abbrev pub why_refused : Mem → List Part → ℕ → Option ℕ → Option ℕ → Earlier → Item → Option Why
+abbrev pub why_refused : Mem → List SegmentValue → ℕ → Option ℕ → Option ℕ → Earlier → Item → Option Why
 why_refused M ss control swap place earlier i = reason M (want ss) (pages ss) control swap place earlier (Some i)
 
 -- page 2 is its own source, and page 3 comes from page 12

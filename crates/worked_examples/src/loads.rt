@@ -6,7 +6,7 @@ ghost use Rattle.std.specs.Option.{option_map};
 ghost use Rattle.kx_pages.specs.declared.image.Wish.TheVariants.{Plain, Kept};
 ghost use Rattle.kx_pages.specs.declared.image.Mode.TheVariants as mode;
 ghost use Rattle.page_memory.specs.Memory.{Mem};
-ghost use Rattle.segments.specs.Parts.{is_destination};
+ghost use Rattle.segments.specs.Values.{is_destination};
 ghost use Rattle.kimage_list.specs.Load.{Start, Move, begun, requests, taken};
 ghost use Rattle.load_states.specs.Loads.{entries_of, loading_of};
 ghost use Rattle.worked_examples.specs.Kernels.{three_bytes, two_pages, no_bytes, zeros};

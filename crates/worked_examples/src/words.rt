@@ -7,8 +7,8 @@ ghost use Rattle.kx_pages.specs.declared.item.Item.TheVariants.{Link, Destinatio
 ghost use Rattle.page_memory.specs.Contents.{page_of};
 ghost use Rattle.page_memory.specs.Memory.{word, set_word};
 ghost use Rattle.kimage_list.specs.Laying.{in_bytes};
-ghost use Rattle.relocate_machine.specs.Machine.{kind_of, masked};
-ghost use Rattle.relocate_machine.specs.declared.word.Kind.TheVariants as kinds;
+ghost use Rattle.relocate_machine.specs.Machine.{kind_of, word_address};
+ghost use Rattle.relocate_machine.specs.declared.word.WordKind.TheVariants as kinds;
 
 /// A word is a page's address with one flag.
 pub fn words_of_items()
@@ -37,7 +37,7 @@ pub fn machine_takes_the_first_flag()
     ensures done_and_source { kind_of 0x200c ≡ kinds.Done }
     ensures source { kind_of 0x12008 ≡ kinds.Source }
     ensures no_flag { kind_of 0x2010 ≡ kinds.Nothing }
-    ensures address { masked 0x2fff ≡ 0x2000 }
+    ensures address { word_address 0x2fff ≡ 0x2000 }
 {}
 
 /// The words of a memory in which page 11 has the bytes of a list, and of one in which every page is zeros.

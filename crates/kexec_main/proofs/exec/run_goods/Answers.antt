@@ -1,18 +1,27 @@
-use Rattle.std.proofs.Common.{rules, ◌≡◌, refl, Err}
+use Rattle.std.proofs.Common.{rules, ◌≡◌, ◌∙◌, Err, refl}
 use Rattle.std.specs.Prelude.{string_bytes}
 use Rattle.page_memory.specs.Contents.{at}
-use Rattle.kexec_main.specs.Exec.{runs_list}
-use Rattle.kexec_main.proofs.Outputs.{not_written}
-use Rattle.kexec_main.proofs.Meeting.{makes_handed_on}
+use Rattle.file_commands.specs.Calls.{goods_of}
+use Rattle.file_commands.proofs.Made.{handed_on_as}
+use Rattle.kexec_main.specs.Exec.{RefusesRun, RunsList}
+use Rattle.kexec_main.specs.Outputs.{HasNoFile}
+use Rattle.kexec_main.specs.Runs.{after_runs, checked_with}
+use Rattle.kexec_main.proofs.Outputs.{no_file_as, output_as}
+use Rattle.kexec_main.proofs.Told.{text_of}
 use Rattle.kexec_main.proofs.exec.run_goods.Goals as goal
 
 pub returns-in_err-outputs : goal.returns-in_err-outputs
 returns-in_err-outputs c = λ s a.
     let e : c.from_residual-in_err-outputs.result ≡ Err c.in_err-outputs.field-0.0 = search rules in
-    let makes = runs_list (string_bytes c.args.out) c.args.runs c.args.start.now in
-    let N = at c.in_ok-ran.ran.memory in
-    makes_handed_on makes s _ _ e (not_written makes s N N _ (λ p. refl) (λ n h. (N, string_bytes c.in_ok-ran.ran.text, c.in_ok-ran.ensures s a, h)) c.in_err-outputs.ensures)
+    let r = c.run_accepted-ran.ensures s a in
+    let k = checked_with s r.0 r.1 r.2 in
+    let N = at c.run_accepted-ran.ran.memory in
+    handed_on_as (λ g. RunsList c.args.runs s c.args.start.now (string_bytes c.args.out) (goods_of g)) (RefusesRun c.args.runs s) (HasNoFile N) _ _ e
+    (λ why h. (r.0, r.1, r.2, r.3, no_file_as N (after_runs c.args.runs k) why r.4.memory h)) c.in_err-outputs.ensures
 
 pub returns : goal.returns
 returns c = λ s a.
-    let w = c.in_ok-outputs.ensures in (at c.in_ok-ran.ran.memory, c.in_ok-ran.ensures s a, refl, (w.0, w.1, w.2))
+    let r = c.run_accepted-ran.ensures s a in
+    let k = checked_with s r.0 r.1 r.2 in
+    let ran = c.run_accepted-ran.ran in
+    (r.0, r.1, r.2, r.3, c.in_ok-text.ensures ∙ text_of c.args.runs k ran c.args.start.now r.4, refl, output_as (at ran.memory) (after_runs c.args.runs k) _ (string_bytes c.args.out) r.4.memory c.in_ok-outputs.ensures)

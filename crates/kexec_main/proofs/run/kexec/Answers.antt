@@ -1,30 +1,34 @@
-use Rattle.std.proofs.Common.{map}
-use Rattle.std.specs.Prelude.{string_bytes}
+use Rattle.std.proofs.Common.{map, string_bytes}
 use Rattle.kexec_words.specs.Meaning.{command_of}
-use Rattle.kexec_main.proofs.Headline.{executed, headline, loaded, unread_rose, unwritten_rose, unsaid_rose}
-use Rattle.kexec_main.proofs.Complete.{boot_complete, load_complete}
+use Rattle.kexec_main.proofs.Complete.{complete, lacks_pages}
+use Rattle.kexec_main.proofs.Done.{has_done}
+use Rattle.kexec_main.proofs.Holding.{told, told_gives}
+use Rattle.kexec_main.proofs.Rising.{unread_rose, unsaid_rose, unwritten_rose}
 use Rattle.kexec_main.proofs.run.kexec.Goals as goal
 
-pub returns-clause-headline : goal.returns-clause-headline
-returns-clause-headline g c = λ b e f. headline (command_of (map string_bytes c.args.words.now)) b _ _ _ e f c.answered.ensures
+pub returns-clause-told : goal.returns-clause-told
+returns-clause-told g c = told g.S.Shelf g.O.Sink _ _ _ _ _ (command_of (map string_bytes c.args.words.now)) c.answered.ensures
 
-pub returns-clause-loaded : goal.returns-clause-loaded
-returns-clause-loaded g c = λ l e f. loaded (command_of (map string_bytes c.args.words.now)) l _ _ _ e f c.answered.ensures
+pub returns-clause-done : goal.returns-clause-done
+returns-clause-done g c = λ w e f.
+    let said = command_of (map string_bytes c.args.words.now) in
+    told_gives g.S.Shelf g.O.Sink _ _ _ _ _ said (λ held h. has_done g.S.Shelf g.O.Sink held _ _ _ _ said w _ e f h) c.answered.ensures
 
-pub returns-clause-executed : goal.returns-clause-executed
-returns-clause-executed g c = λ e is f. executed (command_of (map string_bytes c.args.words.now)) e _ _ _ is f c.answered.ensures
+pub returns-clause-complete : goal.returns-clause-complete
+returns-clause-complete g c = λ w e.
+    let said = command_of (map string_bytes c.args.words.now) in
+    told_gives g.S.Shelf g.O.Sink _ _ _ _ _ said (λ held h. λ i calm quiet. complete g.S.Shelf g.O.Sink held _ _ _ _ _ calm quiet said w e i h) c.answered.ensures
 
-pub returns-clause-boot_complete : goal.returns-clause-boot_complete
-returns-clause-boot_complete g c = λ b e. boot_complete (command_of (map string_bytes c.args.words.now)) b _ _ _ e c.answered.ensures
-
-pub returns-clause-load_complete : goal.returns-clause-load_complete
-returns-clause-load_complete g c = λ l e. load_complete (command_of (map string_bytes c.args.words.now)) l _ _ _ e c.answered.ensures
+pub returns-clause-too_few : goal.returns-clause-too_few
+returns-clause-too_few g c = λ w e.
+    let said = command_of (map string_bytes c.args.words.now) in
+    told_gives g.S.Shelf g.O.Sink _ _ _ _ _ said (λ held h. λ pool n few calm quiet. lacks_pages g.S.Shelf g.O.Sink held _ _ _ _ _ calm quiet said w pool n e few h) c.answered.ensures
 
 pub returns-clause-unread : goal.returns-clause-unread
-returns-clause-unread g c = λ n e. unread_rose (command_of (map string_bytes c.args.words.now)) _ _ _ n e c.answered.ensures
+returns-clause-unread g c = λ n e. unread_rose g.S.Shelf g.O.Sink _ _ _ _ _ (command_of (map string_bytes c.args.words.now)) n e c.answered.ensures
 
 pub returns-clause-unwritten : goal.returns-clause-unwritten
-returns-clause-unwritten g c = λ n e. unwritten_rose (command_of (map string_bytes c.args.words.now)) _ _ _ n e c.answered.ensures
+returns-clause-unwritten g c = λ n e. unwritten_rose g.S.Shelf g.O.Sink _ _ _ _ _ (command_of (map string_bytes c.args.words.now)) n e c.answered.ensures
 
 pub returns-clause-unsaid : goal.returns-clause-unsaid
-returns-clause-unsaid g c = λ e. unsaid_rose (command_of (map string_bytes c.args.words.now)) _ _ _ e c.answered.ensures
+returns-clause-unsaid g c = λ e. unsaid_rose g.S.Shelf g.O.Sink _ _ _ _ _ (command_of (map string_bytes c.args.words.now)) e c.answered.ensures

@@ -5,7 +5,7 @@ use Rattle.clap.specs.Words.{Text}
 use Rattle.kexec_words.specs.Meaning.{Answers, load_by, load_with, files_of, has_same_name, image_where, mapped}
 use Rattle.kexec_words.specs.Values.{InputsValue, inputs_value, load_value}
 use Rattle.kexec_words.specs.declared.numbers.PlanNumbers.{PlanNumbers}
-use Rattle.kexec_words.specs.declared.commands.ImageType.{ImageType}
+use Rattle.kx_pages.specs.declared.image.ImageType.{ImageType}
 use Rattle.kexec_words.specs.declared.commands.Load.{Load}
 use Rattle.kexec_words.specs.declared.faults.UsageWhy.{UsageWhy}
 use Rattle.kexec_words.specs.declared.faults.WordsFault.{WordsFault}

@@ -1,6 +1,6 @@
 use Rattle.std.proofs.Common.{ap, ◌∙◌}
 use Rattle.page_memory.specs.Contents.{at, page_of}
-use Rattle.page_memory.specs.Laws.{at-after_set}
+use Rattle.page_memory.proofs.Laws.{at-after_set}
 use Rattle.kimage_list.proofs.pages.fill.Goals as goal
 
 pub returns-clause-value : goal.returns-clause-value

@@ -1,6 +1,6 @@
 use Rattle.std.proofs.Common.{ap, ◌∙◌}
 use Rattle.page_memory.specs.Contents.{at}
-use Rattle.page_memory.specs.Laws.{at-with_page}
+use Rattle.page_memory.proofs.Laws.{at-with_page}
 use Rattle.page_memory.specs.Memory.{set_word}
 use Rattle.kx_pages.specs.Items.{code}
 use Rattle.kx_pages.specs.declared.item.Item.TheVariants.{Source}

@@ -1,6 +1,6 @@
 use Rattle.std.proofs.Common.{sym, ◌∙◌}
 use Rattle.page_memory.specs.Contents.{at}
-use Rattle.segments.specs.Parts.{want, pages}
+use Rattle.segments.specs.Values.{want, pages}
 use Rattle.list_checker.proofs.Wanted.{parts_listed}
 use Rattle.list_checker.proofs.CrashLists.{crash_accepted, crash_refused}
 use Rattle.list_checker.proofs.crash.check_crash.Goals as goal

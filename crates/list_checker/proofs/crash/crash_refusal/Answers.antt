@@ -1,7 +1,7 @@
 use Rattle.std.proofs.Common.{◌≡◌, Some, sym, ap, ◌∙◌}
 use Rattle.std.specs.Option.{option_map}
 use Rattle.page_memory.specs.Contents.{at}
-use Rattle.segments.specs.Parts.{want, pages}
+use Rattle.segments.specs.Values.{want, pages}
 use Rattle.list_checker.specs.declared.fault.Why.TheVariants.{Missing}
 use Rattle.kx_pages.specs.declared.item.Item.TheVariants.{Done}
 use Rattle.kx_pages.specs.Items.{decode}

@@ -1,6 +1,6 @@
-use Rattle.list_checker.specs.Walk.{swap_page}
 use Rattle.list_checker.proofs.Loop.{reached_first, reached_next, reached_nearer, leads_on, first_fault, all_accepted}
 use Rattle.list_checker.proofs.list.check.Goals as goal
+use Rattle.kx_pages.specs.Modes.{swap_page}
 
 pub words-init : goal.words-init
 words-init c = reached_first c.args.memory.now c.args.segments.now c.args.image.now c.new-earlier.result c.new-earlier.ensures

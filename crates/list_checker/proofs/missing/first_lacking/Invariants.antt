@@ -1,8 +1,8 @@
 use Rattle.std.proofs.Common.{◌≡◌, drop}
 use Rattle.std.specs.List.{find}
-use Rattle.segments.specs.Parts.{pages}
+use Rattle.segments.specs.Values.{pages}
 use Rattle.page_memory.specs.Contents.{at}
-use Rattle.segments.specs.Parts.{want}
+use Rattle.segments.specs.Values.{want}
 use Rattle.list_checker.specs.Crash.{lacks}
 use Rattle.list_checker.proofs.missing.first_lacking.Given as goal
 

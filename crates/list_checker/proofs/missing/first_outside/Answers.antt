@@ -1,6 +1,6 @@
 use Rattle.std.proofs.Common.{◌≡◌, ℕ, ◌<◌, Bool, Some, None, sym, ap, ◌∙◌, arith, length}
 use Rattle.std.specs.List.{find}
-use Rattle.segments.specs.Parts.{pages_of_part}
+use Rattle.segments.specs.Values.{pages_of_segment}
 use Rattle.std.specs.Prelude.{not}
 use Rattle.std.specs.Ordering.{nat_cmp}
 use Rattle.std.specs.BTreeSet.{contains}
@@ -23,7 +23,7 @@ returns-in-Some c =
     let s = c.segment-s.result.now in
     let test : ℕ → Bool = λ p. not (contains nat_cmp c.args.set.now p) in
     let inside : c.loop-i.i < length S = omega (arith, c.count-i-end.ensures.value) in
-    let run : find test (pages_of_part s) ≡ Some c.in-Some.page = ap (λ s. find test (pages_of_part s)) (sym c.s.view_is) ∙ sym c.outside_in_run.ensures ∙ c.in-Some.is in
+    let run : find test (pages_of_segment s) ≡ Some c.in-Some.page = ap (λ s. find test (pages_of_segment s)) (sym c.s.view_is) ∙ sym c.outside_in_run.ensures ∙ c.in-Some.is in
     sym (found_in_part test S c.loop-i.i s c.in-Some.page inside (got S c.loop-i.i s c.segment-s.ensures) run) ∙ c.loop-i.invariant
 
 pub loop-i-preserved : goal.loop-i-preserved
@@ -32,5 +32,5 @@ loop-i-preserved c =
     let s = c.segment-s.result.now in
     let test : ℕ → Bool = λ p. not (contains nat_cmp c.args.set.now p) in
     let inside : c.loop-i.i < length S = omega (arith, c.count-i-end.ensures.value) in
-    let run : find test (pages_of_part s) ≡ None = ap (λ s. find test (pages_of_part s)) (sym c.s.view_is) ∙ sym c.outside_in_run.ensures ∙ c.in_default.is in
+    let run : find test (pages_of_segment s) ≡ None = ap (λ s. find test (pages_of_segment s)) (sym c.s.view_is) ∙ sym c.outside_in_run.ensures ∙ c.in_default.is in
     found_past_part test S c.loop-i.i s inside (got S c.loop-i.i s c.segment-s.ensures) run ∙ c.loop-i.invariant

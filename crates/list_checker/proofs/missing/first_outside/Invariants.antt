@@ -1,6 +1,6 @@
 use Rattle.std.proofs.Common.{◌≡◌, drop}
 use Rattle.std.specs.List.{find}
-use Rattle.segments.specs.Parts.{pages}
+use Rattle.segments.specs.Values.{pages}
 use Rattle.std.specs.Prelude.{not}
 use Rattle.std.specs.Ordering.{nat_cmp}
 use Rattle.std.specs.BTreeSet.{contains}

@@ -2,7 +2,7 @@ use Rattle.std.proofs.Common.{◌≡◌, ◌+◌, true, false, Some, arith, sym,
 use Rattle.std.specs.Prelude.{not}
 use Rattle.std.proofs.lemmas.Grind.{common_steps}
 use Rattle.page_memory.specs.Contents.{at}
-use Rattle.segments.specs.Parts.{want}
+use Rattle.segments.specs.Values.{want}
 use Rattle.list_checker.proofs.Pages.{found_here, found_later}
 use Rattle.list_checker.specs.Crash.{lacks}
 use Rattle.list_checker.proofs.missing.lacking_in_run.Goals as goal

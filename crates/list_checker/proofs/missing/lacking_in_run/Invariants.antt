@@ -1,7 +1,7 @@
 use Rattle.std.proofs.Common.{◌≡◌, ◌-◌, ◌+◌}
 use Rattle.std.specs.List.{find, range_with_len}
 use Rattle.page_memory.specs.Contents.{at}
-use Rattle.segments.specs.Parts.{want}
+use Rattle.segments.specs.Values.{want}
 use Rattle.list_checker.specs.Crash.{lacks}
 use Rattle.list_checker.proofs.missing.lacking_in_run.Given as goal
 

@@ -2,7 +2,7 @@ use Rattle.std.proofs.Common.{sym, ap, ◌∙◌}
 use Rattle.std.specs.Option.{option_map}
 use Rattle.std.specs.Ordering.{nat_cmp}
 use Rattle.std.specs.BTreeSet.{contains}
-use Rattle.segments.specs.Parts.{pages}
+use Rattle.segments.specs.Values.{pages}
 use Rattle.list_checker.specs.declared.fault.Why.TheVariants.{Missing}
 use Rattle.kx_pages.specs.Lists.{destinations, has}
 use Rattle.list_checker.proofs.Wanted.{missing_first}

@@ -1,4 +1,4 @@
-use Rattle.segments.specs.Parts.{want}
+use Rattle.segments.specs.Values.{want}
 use Rattle.page_memory.specs.Contents.{at}
 use Rattle.list_checker.proofs.Wanted.{wanted_test}
 use Rattle.list_checker.proofs.reasons.has_its_bytes.Goals as goal

@@ -1,5 +1,5 @@
 use Rattle.std.proofs.Common.{◌≡◌, ◌≤◌, ◌^◌, Some, None, refl, sym, ◌∙◌}
-use Rattle.segments.specs.Parts.{want}
+use Rattle.segments.specs.Values.{want}
 use Rattle.list_checker.proofs.Wanted.{none_past, past_limit}
 use Rattle.list_checker.proofs.reasons.source_reason.Goals as goal
 

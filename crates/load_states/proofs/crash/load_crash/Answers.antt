@@ -1,8 +1,9 @@
 use Rattle.std.proofs.Common.{◌≡◌, ℕ, List, Option, sym, ap, ◌∙◌, subst, inl}
 use Rattle.std.specs.Prelude.{IsSome, Some, is_some}
 use Rattle.page_memory.specs.Contents.{at}
-use Rattle.segments.specs.Parts.{want}
-use Rattle.segments.specs.Laws.{is_some-want, some_same}
+use Rattle.segments.specs.Values.{want}
+use Rattle.segments.proofs.Laws.{is_some-want}
+use Rattle.kx_laws.proofs.Options.{some_same}
 use Rattle.list_checker.specs.Crash.{AcceptedCrash}
 use Rattle.load_states.specs.States.{CrashLoad}
 use Rattle.load_states.specs.Laying.{Lays}

@@ -1,7 +1,7 @@
 use Rattle.std.proofs.Common.{◌∙◌, sym, ap}
 use Rattle.std.specs.Prelude.{is_some}
 use Rattle.std.proofs.lemmas.Bool.{false≢true}
-use Rattle.segments.specs.Laws.{is_some-want}
+use Rattle.segments.proofs.Laws.{is_some-want}
 use Rattle.load_states.proofs.FillSteps.{goes_to, page_awaited, page_filled}
 use Rattle.load_states.proofs.filling.fill_page.Goals as goal
 

@@ -1,5 +1,5 @@
 use Rattle.std.proofs.Common.{◌≡◌, ◌+◌, ◌/◌, [], ◌∷◌, ◌++◌, Some, ◌∙◌, sym, subst, ap, arith, take}
-use Rattle.segments.specs.Parts.{Part, is_destination}
+use Rattle.segments.specs.Values.{SegmentValue, is_destination}
 use Rattle.kimage_list.specs.Load.{Move, pages_of}
 use Rattle.kx_pages.specs.Lists.{Has}
 use Rattle.load_states.specs.Loads.{entries_of}
@@ -16,7 +16,7 @@ add_destination-requires c =
 
 pub overflow_add-number-end : goal.overflow_add-number-end
 overflow_add-number-end c =
-    let s : Part = record { bytes = c.segment.inside.bytes.items; mem = c.segment.inside.mem; memsz = c.segment.inside.memsz } in
+    let s : SegmentValue = record { bytes = c.segment.inside.bytes.items; mem = c.segment.inside.mem; memsz = c.segment.inside.memsz } in
     let k = placed_at c.args.segments.now c.args.i s c.requires.good.placed (c.segment-segment.ensures ∙ ap (λ x. Some x) (sym c.segment.view_is)) in
     omega (arith, k.below)
 
@@ -28,20 +28,20 @@ loop-number-init c =
 
 pub page_of_number-requires-in-loop-number : goal.page_of_number-requires-in-loop-number
 page_of_number-requires-in-loop-number c =
-    let s : Part = record { bytes = c.segment.inside.bytes.items; mem = c.segment.inside.mem; memsz = c.segment.inside.memsz } in
+    let s : SegmentValue = record { bytes = c.segment.inside.bytes.items; mem = c.segment.inside.mem; memsz = c.segment.inside.memsz } in
     let k = placed_at c.args.segments.now c.args.i s c.requires.good.placed (c.segment-segment.ensures ∙ ap (λ x. Some x) (sym c.segment.view_is)) in
     omega (arith, k.below, c.loop-number-test.true)
 
 pub fill_page-requires-clause-wanted : goal.fill_page-requires-clause-wanted
 fill_page-requires-clause-wanted c =
-    let s : Part = record { bytes = c.segment.inside.bytes.items; mem = c.segment.inside.mem; memsz = c.segment.inside.memsz } in
+    let s : SegmentValue = record { bytes = c.segment.inside.bytes.items; mem = c.segment.inside.mem; memsz = c.segment.inside.memsz } in
     let e = c.segment-segment.ensures ∙ ap (λ x. Some x) (sym c.segment.view_is) in
     let d = is_page c.args.segments.now c.args.i s e c.requires.good c.loop-number.number c.loop-number.invariant.0 c.loop-number-test.true in
     ap (is_destination c.args.segments.now) c.page_of_number-in-loop-number.ensures ∙ d
 
 pub fill_page-requires-clause-ready : goal.fill_page-requires-clause-ready
 fill_page-requires-clause-ready c =
-    let s : Part = record { bytes = c.segment.inside.bytes.items; mem = c.segment.inside.mem; memsz = c.segment.inside.memsz } in
+    let s : SegmentValue = record { bytes = c.segment.inside.bytes.items; mem = c.segment.inside.mem; memsz = c.segment.inside.memsz } in
     let ss = c.args.segments.now in
     let e = c.segment-segment.ensures ∙ ap (λ x. Some x) (sym c.segment.view_is) in
     let g = c.loop-number.invariant.2 in
@@ -67,7 +67,7 @@ loop-number-preserved c = (
 
 pub returns : goal.returns
 returns c = λ M pool wish b.
-    let s : Part = record { bytes = c.segment.inside.bytes.items; mem = c.segment.inside.mem; memsz = c.segment.inside.memsz } in
+    let s : SegmentValue = record { bytes = c.segment.inside.bytes.items; mem = c.segment.inside.mem; memsz = c.segment.inside.memsz } in
     let ss = c.args.segments.now in
     let e = c.segment-segment.ensures ∙ ap (λ x. Some x) (sym c.segment.view_is) in
     let all : c.loop-number.number ≡ c.segment.inside.mem / 4096 + c.segment.inside.memsz / 4096 = omega (arith, c.loop-number.invariant.1, c.loop-number-test.false) in

@@ -1,7 +1,7 @@
 use Rattle.std.proofs.Common.{◌≡◌, sym, subst}
 use Rattle.std.specs.Prelude.{Some}
 use Rattle.page_memory.specs.Contents.{Contents, at, page_of}
-use Rattle.segments.specs.Parts.{want}
+use Rattle.segments.specs.Values.{want}
 use Rattle.load_states.specs.Laying.{Lays}
 use Rattle.load_states.proofs.Laying.{lays_page, right_page}
 use Rattle.load_states.proofs.lay.lay_page.Goals as goal

@@ -1,7 +1,7 @@
 use Rattle.std.proofs.Common.{◌≡◌, ℕ, ◌+◌, ◌≤◌, ◌<◌, arith}
 use Rattle.std.specs.Prelude.{IsSome, Some}
 use Rattle.page_memory.specs.Contents.{at}
-use Rattle.segments.specs.Parts.{want}
+use Rattle.segments.specs.Values.{want}
 use Rattle.load_states.proofs.Laying.{lays_more, right_stays, in_set, span_of, next_span}
 use Rattle.load_states.proofs.lay.lay_set.Goals as goal
 

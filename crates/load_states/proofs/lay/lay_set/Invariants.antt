@@ -2,7 +2,7 @@ use Rattle.std.proofs.Common.{◌≡◌, ℕ, ◌+◌, ◌≤◌, ◌<◌, Some}
 use Rattle.std.specs.Prelude.{IsSome, slice_get}
 use Rattle.kx_pages.specs.Spans.{Run}
 use Rattle.page_memory.specs.Contents.{at, IsHeld}
-use Rattle.segments.specs.Parts.{want}
+use Rattle.segments.specs.Values.{want}
 use Rattle.load_states.specs.Laying.{Lays}
 use Rattle.load_states.proofs.lay.lay_set.Given as goal
 

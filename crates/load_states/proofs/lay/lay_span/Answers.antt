@@ -2,7 +2,7 @@ use Rattle.std.proofs.Common.{◌≡◌, ℕ, ◌+◌, ◌<◌, ⊎_elim, sym, �
 use Rattle.std.specs.Prelude.{◌⊎◌, IsSome, Some}
 use Rattle.std.proofs.lemmas.Grind.{common_steps}
 use Rattle.page_memory.specs.Contents.{at}
-use Rattle.segments.specs.Parts.{want}
+use Rattle.segments.specs.Values.{want}
 use Rattle.load_states.proofs.Laying.{lays_more, right_stays}
 use Rattle.load_states.proofs.lay.lay_span.Goals as goal
 

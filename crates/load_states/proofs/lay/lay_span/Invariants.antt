@@ -1,7 +1,7 @@
 use Rattle.std.proofs.Common.{◌≡◌, ℕ, ◌≤◌, ◌<◌, Some}
 use Rattle.std.specs.Prelude.{IsSome}
 use Rattle.page_memory.specs.Contents.{at, IsHeld}
-use Rattle.segments.specs.Parts.{want}
+use Rattle.segments.specs.Values.{want}
 use Rattle.load_states.specs.Laying.{Lays}
 use Rattle.load_states.proofs.lay.lay_span.Given as goal
 

@@ -1,10 +1,10 @@
 use Rattle.std.proofs.Common.{◌≡◌, sym, ap, ◌∙◌, arith, length}
 use Rattle.page_memory.specs.Contents.{page_with_word, frame_at}
-use Rattle.page_memory.specs.Laws.{frame_at-found}
+use Rattle.page_memory.proofs.Laws.{frame_at-found}
 use Rattle.page_memory.specs.Frames.{frame_in, put_frame, pages_in}
-use Rattle.page_memory.proofs.Bytes.{IsPageOfBytes-page_with_word}
+use Rattle.page_memory.proofs.Bytes.{IsBlock-page_with_word}
 use Rattle.page_memory.proofs.Tables.{none_held, some_held}
-use Rattle.page_memory.proofs.Frames.{inside_found, frame_in-put_same, other_page, pages_by-written, vec_back, IsPageOfBytes-frame_in}
+use Rattle.page_memory.proofs.Frames.{inside_found, frame_in-put_same, other_page, pages_by-written, vec_back, IsBlock-frame_in}
 use Rattle.page_memory.proofs.buffer.write_word.Goals as goal
 
 pub fill_word-requires-clause-inside : goal.fill_word-requires-clause-inside
@@ -21,7 +21,7 @@ returns-clause-value c =
     let i = c.in-Some.start.now in
     let found = inside_found xs c.args.table.now c.args.p i c.requires.old c.in-Some.ensures.value in
     let ys = page_with_word (frame_in xs i) c.args.place c.args.v in
-    let whole = (IsPageOfBytes-page_with_word (frame_in xs i) c.args.place c.args.v c.requires.fits (IsPageOfBytes-frame_in xs i found.1 c.requires.old.bytes)).whole in
+    let whole = (IsBlock-page_with_word (frame_in xs i) c.args.place c.args.v c.requires.fits (IsBlock-frame_in xs i found.1 c.requires.old.bytes)).long in
     let same : frame_at (pages_in xs c.args.table.now) c.args.p ≡ frame_in xs i = frame_at-found _ c.args.p (frame_in xs i) (sym (some_held (frame_in xs) c.args.table.now c.args.p i c.in-Some.ensures.value)) in
     let written : c.fill_word.new.frames ≡ put_frame xs i ys = c.fill_word.ensures ∙ ap (λ xs. put_frame xs i (page_with_word (frame_in xs i) c.args.place c.args.v)) c.deref_mut.ensures.value in
     let all : c.args.frames.now.len ≡ length c.fill_word.new.frames = omega (arith, c.args.frames.now.ok.0, c.fill_word.auto.frames, c.deref_mut.ensures.len) in

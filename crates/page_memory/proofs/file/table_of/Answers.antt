@@ -1,22 +1,23 @@
-use Rattle.std.proofs.Common.{◌≡◌, ◌++◌, append_assoc, ℕ, List, suc, ◌+◌, ◌-◌, ◌*◌, ◌≤◌, take, drop, length, ap, sym, ◌∙◌, subst, arith, true, Err, Ok}
+use Rattle.std.proofs.Common.{◌≡◌, ◌++◌, append_assoc, ℕ, List, suc, ◌+◌, ◌-◌, ◌*◌, ◌≤◌, take, drop, length, ap, sym, ◌∙◌, subst, arith, true, Err, Ok, ◌⊎◌, inl}
 use Rattle.std.specs.Prelude.{◌==◌, is_some, if◌then◌else◌}
 use Rattle.std.proofs.lemmas.Bool.Decides.{nat_tests}
 use Rattle.std.proofs.Math.Seq.{take-add}
 use Rattle.std.proofs.lemmas.List.{take_all, drop-drop, length-drop, length-take, length-append}
-use Rattle.page_memory.specs.declared.fault.MemFault.TheVariants.{Trailing}
-use Rattle.page_memory.specs.File.{Fails, pages_onto}
+use Rattle.page_memory.specs.declared.fault.MemFault.TheVariants.{Memory, Trailing}
+use Rattle.page_memory.specs.File.{pages_onto}
 use Rattle.std.specs.FinMap as finite
 use Rattle.page_memory.specs.Frames.{pages_in, IsTable}
-use Rattle.page_memory.proofs.Bytes.{IsBytes-take, IsBytes-drop}
+use Rattle.kx_fields.proofs.Fields.{AreBytes-drop}
+use Rattle.kx_fields.proofs.Bytes.{AreBytes-take}
 use Rattle.page_memory.proofs.Reading.{pages_onto-ok, pages_onto-fails, pages_onto-end, pages_onto-trailing}
-use Rattle.page_memory.specs.Contents.{IsBytes, IsPageOfBytes}
+use Rattle.kx_fields.specs.Fields.{AreBytes, IsBlock}
 use Rattle.page_memory.proofs.Changes.{IsTable-empty, pages-empty, absent-empty, IsTable-added, pages-added, absent-added}
 use Rattle.page_memory.proofs.file.table_of.Goals as goal
 
 pub returns-in-Err-clause-exact : goal.returns-in-Err-clause-exact
 returns-in-Err-clause-exact c =
     let more : c.args.count - c.loop-i.i ≡ suc (c.args.count - (c.loop-i.i + 1)) = omega arith in
-    subst (Fails c.in-Err.e) c.loop-i.invariant.same (pages_onto-fails (length c.args.bytes.now) (16 + 4104 * c.loop-i.i) c.loop-i.low (pages_in (take (16 + 4104 * c.loop-i.i) c.args.bytes.now) c.loop-i.table) _ _ c.loop-i.rest.now c.in-Err.e more c.in-Err.ensures.exact)
+    subst (λ r. (r ≡ Err c.in-Err.e) ⊎ (c.in-Err.e ≡ Memory)) c.loop-i.invariant.same (pages_onto-fails (length c.args.bytes.now) (16 + 4104 * c.loop-i.i) c.loop-i.low (pages_in (take (16 + 4104 * c.loop-i.i) c.args.bytes.now) c.loop-i.table) _ _ c.loop-i.rest.now c.in-Err.e more c.in-Err.ensures.exact)
 
 -- the bytes up to the end of the page that was cut off the rest
 slot_more : (bytes rest frame : List ℕ) (n m : ℕ) → rest ≡ drop n bytes → frame ≡ take 4096 (drop 8 rest) → m ≡ n + 4104 → take m bytes ≡ take n bytes ++ take 8 (drop n bytes) ++ frame
@@ -35,12 +36,12 @@ after_cut : (bytes rest after : List ℕ) (n : ℕ) → rest ≡ drop n bytes �
 after_cut bytes rest after n at_n is = is ∙ ap (λ t. drop 4096 (drop 8 t)) at_n ∙ ap (drop 4096) (drop-drop 8 n bytes) ∙ drop-drop 4096 (n + 8) bytes
 
 -- the frame of the page that was cut off
-is_page : (bytes rest frame : List ℕ) (n : ℕ) → IsBytes bytes → rest ≡ drop n bytes → 4104 ≤ length rest → frame ≡ take 4096 (drop 8 rest) → IsPageOfBytes frame
+is_page : (bytes rest frame : List ℕ) (n : ℕ) → AreBytes bytes → rest ≡ drop n bytes → 4104 ≤ length rest → frame ≡ take 4096 (drop 8 rest) → IsBlock 4096 frame
 is_page bytes rest frame n small at_n long is =
-    let rest_small : IsBytes rest = subst IsBytes (sym at_n) (IsBytes-drop n bytes small) in
-    subst IsPageOfBytes (sym is) (record {
-      whole = omega (arith, long, length-take 4096 (drop 8 rest), length-drop 8 rest);
-      small = IsBytes-take 4096 (drop 8 rest) (IsBytes-drop 8 rest rest_small);
+    let rest_small : AreBytes rest = subst AreBytes (sym at_n) (AreBytes-drop n bytes small) in
+    subst (IsBlock 4096) (sym is) (record {
+      long = omega (arith, long, length-take 4096 (drop 8 rest), length-drop 8 rest);
+      each = AreBytes-take 4096 (drop 8 rest) (AreBytes-drop 8 rest rest_small);
     })
 
 pub loop-i-init : goal.loop-i-init
@@ -50,7 +51,7 @@ loop-i-init c =
     let all : c.args.count - 0 ≡ c.args.count = omega arith in
     let head : length (take 16 bytes) ≤ 16 = omega (arith, length-take 16 bytes) in
     record {
-      table = IsTable-empty (take 16 bytes) c.new-table.result (IsBytes-take 16 bytes (λ k. omega (arith, c.type_inv.bytes k))) head none;
+      table = IsTable-empty (take 16 bytes) c.new-table.result (AreBytes-take 16 bytes (λ k. omega (arith, c.type_inv.bytes k))) head none;
       new = λ q le. absent-empty c.new-table.result q none;
       count = c.new-table.ensures.len;
       room = c.requires.headed;
@@ -72,29 +73,29 @@ loop-i-preserved c =
     let page = c.in-Ok.next.0 in
     let frame = c.in-Ok.next.1.now in
     let at_n = c.loop-i.invariant.rest in
-    let cut = c.in-Ok.ensures.cut in
+    let cut = c.in-Ok.ensures.long in
     let differs = c.in_ok-insert.ensures.updates.0 in
     let more : c.args.count - i ≡ suc (c.args.count - (i + 1)) = omega arith in
     let next : 16 + 4104 * (i + 1) ≡ n + 4104 = omega arith in
-    let all : n + 4104 ≤ length bytes = omega (arith, cut.0, ap length at_n, length-drop n bytes) in
-    let small : IsBytes bytes = λ k. omega (arith, c.type_inv.bytes k) in
-    let grown = slot_more bytes rest frame n (16 + 4104 * (i + 1)) at_n cut.1 next in
-    let is_frame = is_page bytes rest frame n small at_n cut.0 cut.1 in
+    let all : n + 4104 ≤ length bytes = omega (arith, cut, ap length at_n, length-drop n bytes) in
+    let small : AreBytes bytes = λ k. omega (arith, c.type_inv.bytes k) in
+    let grown = slot_more bytes rest frame n (16 + 4104 * (i + 1)) at_n c.in-Ok.ensures.frame next in
+    let is_frame = is_page bytes rest frame n small at_n cut c.in-Ok.ensures.frame in
     let at_place : n + 8 ≡ place = omega arith in
     let headed : length (xs ++ heads) ≡ place = length-slot_head bytes n (omega (arith, all)) ∙ at_place in
     let slot : place ≡ 24 + 4104 * length m.entries = ap (λ k. 24 + 4104 * k) (sym c.loop-i.invariant.count) in
     let new = c.in_ok-insert.ensures.old ∙ c.loop-i.invariant.new page c.in-Ok.ensures.rises in
     let counted : length t.entries ≡ length m.entries + 1 = c.in_ok-insert.ensures.len ∙ ap (λ o. length m.entries + (if is_some o then 0 else 1)) new in
     let pages : pages_in (take (16 + 4104 * (i + 1)) bytes) t ≡ finite.insert (pages_in xs m) page frame =
-    ap (λ zs. pages_in zs t) grown ∙ pages-added xs heads frame m t page place c.loop-i.invariant.table headed is_frame.whole differs in
+    ap (λ zs. pages_in zs t) grown ∙ pages-added xs heads frame m t page place c.loop-i.invariant.table headed is_frame.long differs in
     let step = pages_onto-ok (length bytes) n c.loop-i.low (pages_in xs m) _ _ rest (page, frame, c.in-Ok.next.2.now) more c.in-Ok.ensures.exact in
     let at_next : n + 8 + 4096 ≡ 16 + 4104 * (i + 1) = omega arith in
     record {
-      table = rw grown (IsTable-added xs heads frame m t page place c.loop-i.invariant.table headed slot (IsBytes-take 8 (drop n bytes) (IsBytes-drop n bytes small)) is_frame c.in-Ok.ensures.page differs counted);
+      table = rw grown (IsTable-added xs heads frame m t page place c.loop-i.invariant.table headed slot (AreBytes-take 8 (drop n bytes) (AreBytes-drop n bytes small)) is_frame c.in-Ok.ensures.page differs counted);
       new = rw c.number-low.ensures.value (absent-added m t page place c.loop-i.low differs c.in-Ok.ensures.rises c.loop-i.invariant.new);
       count = omega (arith, counted, c.loop-i.invariant.count);
       room = omega (arith, all);
-      rest = after_cut bytes rest c.in-Ok.next.2.now n at_n cut.2 ∙ ap (λ k. drop k bytes) at_next;
+      rest = after_cut bytes rest c.in-Ok.next.2.now n at_n c.in-Ok.ensures.rest ∙ ap (λ k. drop k bytes) at_next;
       same = rw (c.number-low.ensures.value, pages) (ap (λ k. pages_onto (length bytes) k (page + 1) (finite.insert (pages_in xs m) page frame) (c.args.count - (i + 1)) c.in-Ok.next.2.now) next ∙ sym step ∙ c.loop-i.invariant.same);
     }
 
@@ -108,7 +109,7 @@ pub returns-then-not-is_empty-clause-exact : goal.returns-then-not-is_empty-clau
 returns-then-not-is_empty-clause-exact c =
     let all : c.loop-i.i ≡ c.args.count = omega arith in
     let none : c.args.count - c.loop-i.i ≡ 0 = omega arith in
-    sym c.loop-i.invariant.same ∙ pages_onto-trailing (length c.args.bytes.now) _ _ _ _ _ none (sym c.is_empty.ensures ∙ c.if-not-is_empty.true) ∙ ap (λ i. Err (Trailing (16 + 4104 * i))) all
+    inl (sym c.loop-i.invariant.same ∙ pages_onto-trailing (length c.args.bytes.now) _ _ _ _ _ none (sym c.is_empty.ensures ∙ c.if-not-is_empty.true) ∙ ap (λ i. Err (Trailing (16 + 4104 * i))) all)
 
 pub returns-clause-exact : goal.returns-clause-exact
 returns-clause-exact c =

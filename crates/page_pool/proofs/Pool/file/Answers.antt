@@ -1,6 +1,6 @@
 use Rattle.std.proofs.Common.{ap, arith}
 use Rattle.kx_pages.specs.Lists.{count}
-use Rattle.page_pool.proofs.Tables.{count-take}
+use Rattle.kx_pages.proofs.Counting.{count-take}
 use Rattle.page_pool.proofs.Steps.{marked_pool}
 use Rattle.page_pool.proofs.Pool.file.Goals as goal
 

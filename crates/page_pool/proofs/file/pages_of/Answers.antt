@@ -1,11 +1,12 @@
-use Rattle.std.proofs.Common.{sym, ◌∙◌, subst, arith}
+use Rattle.std.proofs.Common.{◌≡◌, Err, sym, ◌∙◌, subst, arith}
+use Rattle.std.specs.Prelude.{◌⊎◌}
 use Rattle.text_lines.specs.Lines.{lines}
-use Rattle.page_pool.specs.File.{Fails}
+use Rattle.page_pool.specs.declared.fault.PoolFault.TheVariants as faults
 use Rattle.page_pool.proofs.Adding.{onto_ok, onto_fails, onto_end}
 use Rattle.page_pool.proofs.file.pages_of.Goals as goal
 
 pub returns-in-Err-clause-exact : goal.returns-in-Err-clause-exact
-returns-in-Err-clause-exact c = subst (Fails c.in-Err.e) c.loop-here.invariant.same (onto_fails c.loop-here.line c.loop-here.pages.items c.in-Some.here.now (lines c.loop-here.rest.now) (lines c.in-Some.after.now) c.in-Err.e c.in-Some.ensures.some c.in-Err.ensures.exact)
+returns-in-Err-clause-exact c = subst (λ r. (r ≡ Err c.in-Err.e) ⊎ (c.in-Err.e ≡ faults.Memory)) c.loop-here.invariant.same (onto_fails c.loop-here.line c.loop-here.pages.items c.in-Some.here.now (lines c.loop-here.rest.now) (lines c.in-Some.after.now) c.in-Err.e c.in-Some.ensures.some c.in-Err.ensures.exact)
 
 pub loop-here-preserved : goal.loop-here-preserved
 loop-here-preserved c = record {

@@ -1,6 +1,6 @@
 use Rattle.std.proofs.Common.{◌≡◌, false, arith}
 use Rattle.kx_pages.specs.Spans.{in_span, in_spans}
-use Rattle.segments.specs.Parts.{is_destination}
+use Rattle.segments.specs.Values.{is_destination}
 use Rattle.segments.specs.Rules.{is_bad_address}
 use Rattle.segments.proofs.Steps.{each_here, pages_more, pages_all}
 use Rattle.segments.proofs.rules.page_set.Goals as goal

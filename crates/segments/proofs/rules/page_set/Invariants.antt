@@ -1,7 +1,7 @@
 use Rattle.std.proofs.Common.{◌≡◌, ℕ, ◌||◌, false, drop}
 use Rattle.kx_pages.specs.Spans.{in_spans}
 use Rattle.kx_pages.specs.Lists.{Each}
-use Rattle.segments.specs.Parts.{is_destination}
+use Rattle.segments.specs.Values.{is_destination}
 use Rattle.segments.specs.Rules.{is_bad_address}
 use Rattle.segments.proofs.rules.page_set.Given as goal
 

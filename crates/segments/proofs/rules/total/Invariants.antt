@@ -1,5 +1,5 @@
 use Rattle.std.proofs.Common.{◌≡◌, ◌+◌, ◌*◌, ◌^◌, ◌≤◌, length, drop}
-use Rattle.segments.specs.Parts.{pages}
+use Rattle.segments.specs.Values.{pages}
 use Rattle.segments.proofs.rules.total.Given as goal
 
 abbrev pub invariant-loop-s : goal.invariant-loop-s

@@ -3,8 +3,8 @@ use Rattle.std.proofs.Common.{◌≡◌, ℕ, List, refl, sym, ap, ◌∙◌, So
 use Rattle.std.specs.Prelude.{◌⊎◌, codes}
 use Rattle.page_memory.specs.Contents.{page_of}
 use Rattle.page_memory.specs.Memory.{Mem}
-use Rattle.segments.specs.Parts.{want}
-use Rattle.segments.specs.Laws.{some_same}
+use Rattle.segments.specs.Values.{want}
+use Rattle.kx_laws.proofs.Options.{some_same}
 use Rattle.worked_examples.specs.Kernels.{three_bytes}
 use Rattle.worked_examples.proofs.Refusing.{three_bytes-listed}
 use Rattle.worked_examples.proofs.lists.crash_list.Goals as goal

@@ -4,7 +4,8 @@ use Rattle.kx_pages.specs.declared.image.Mode.TheVariants.{Plain}
 use Rattle.page_memory.specs.Contents.{at}
 use Rattle.page_memory.specs.Memory.{word, copied_page}
 use Rattle.relocate_machine.specs.declared.step.Outcome.TheVariants.{Done}
-use Rattle.relocate_machine.specs.Machine.{kind_of, step_of, copied}
+use Rattle.relocate_machine.specs.Machine.{kind_of, step_of}
+use Rattle.page_memory.specs.Contents.{copied}
 use Rattle.worked_examples.proofs.Stepping.{standing, reads, goes, ends, at-copied, comes_out}
 use Rattle.worked_examples.proofs.runs.exchanged_list_runs.Goals as goal
 

@@ -6,7 +6,8 @@ use Rattle.kx_pages.specs.declared.image.Mode.TheVariants.{Kept}
 use Rattle.page_memory.specs.Contents.{Contents, at}
 use Rattle.page_memory.specs.Memory.{Mem, word, copied_page}
 use Rattle.relocate_machine.specs.declared.step.Outcome.TheVariants.{Done}
-use Rattle.relocate_machine.specs.Machine.{kind_of, step_of, copied}
+use Rattle.relocate_machine.specs.Machine.{kind_of, step_of}
+use Rattle.page_memory.specs.Contents.{copied}
 use Rattle.load_states.specs.Exchange.{exchange}
 use Rattle.worked_examples.specs.Runs.{swapped_page, one_pair_at_home, moved_in_turn}
 use Rattle.worked_examples.proofs.Stepping.{standing, reads, goes, ends, at-copied, comes_out}

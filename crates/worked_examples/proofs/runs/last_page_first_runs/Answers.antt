@@ -5,9 +5,10 @@ use Rattle.std.proofs.lemmas.Bool.Decides.{eqb_tells}
 use Rattle.kx_pages.specs.declared.image.Mode.TheVariants.{Plain}
 use Rattle.page_memory.specs.Contents.{Contents, at, page_of}
 use Rattle.page_memory.specs.Memory.{Mem, word, copied_page}
-use Rattle.segments.specs.Parts.{want, overlay, pages}
+use Rattle.segments.specs.Values.{want, overlay, pages}
 use Rattle.relocate_machine.specs.declared.step.Outcome.TheVariants.{Done}
-use Rattle.relocate_machine.specs.Machine.{kind_of, step_of, copied}
+use Rattle.relocate_machine.specs.Machine.{kind_of, step_of}
+use Rattle.page_memory.specs.Contents.{copied}
 use Rattle.worked_examples.specs.Kernels.{two_pages}
 use Rattle.worked_examples.specs.Lists.{HasWords}
 use Rattle.worked_examples.specs.Runs.{ComesOut}

@@ -4,7 +4,6 @@ use Rattle.page_memory.specs.Contents.{at, IsHeld}
 use Rattle.kimage_list.proofs.open_list.OpenList.load_page.Goals as goal
 use Rattle.kimage_list.proofs.Arriving.{arrived, has_slot, home_of, hand_held, in_hand}
 use Rattle.kimage_list.proofs.Entering.{filled_in, steady_more, same_writes}
-use Rattle.kimage_list.proofs.Lists.{put-same}
 use Rattle.kimage_list.specs.Drafts.{loaded_from, HeadIs}
 use Rattle.kimage_list.specs.Load.{Move}
 use Rattle.kimage_list.specs.Tables.{Slots, slot}
@@ -12,13 +11,14 @@ use Rattle.kx_pages.specs.Items.{code}
 use Rattle.kx_pages.specs.declared.item.Item.TheVariants.{Source}
 use Rattle.page_memory.specs.Contents.{page_of}
 use Rattle.page_memory.specs.Memory.{put, set_word}
+use Rattle.page_memory.proofs.Laws.{put-same}
 
 pub fill-requires-clause-held : goal.fill-requires-clause-held
 fill-requires-clause-held c =
     let r = c.requires.ready in
     let s = c.take-source.new.self in
     let k = c.make_room.ensures.written r.0 r.1 r.3 r.4 in
-    let m = c.take-source.ensures r.1 r.2 k.0 r.5 in
+    let m = c.take-source.ensures.given r.1 r.2 k.0 r.5 in
     subst (IsHeld s.memory) (sym m.0) (hand_held r.1 r.2 s.memory s.pool s.table s.next s.entries m.1)
 
 pub write_entry-requires : goal.write_entry-requires
@@ -28,7 +28,7 @@ write_entry-requires c =
     let t = r.2 in
     let s = c.take-source.new.self in
     let k = c.make_room.ensures.written r.0 e r.3 r.4 in
-    let m = c.take-source.ensures e t k.0 r.5 in
+    let m = c.take-source.ensures.given e t k.0 r.5 in
     let f : at c.fill.new.memory ≡ put (at s.memory) t.0 (page_of c.args.bytes.now) = c.fill.ensures.value ∙ ap (λ p. put (at s.memory) p (page_of c.args.bytes.now)) m.0 in
     (record e { loading = t.1 }, t.0 ∷ [], filled_in (record e { loading = t.1 }) (t.0 ∷ []) s.memory c.fill.new.memory s.pool s.table s.next s.entries t.0 (page_of c.args.bytes.now) m.1 (in_hand t.0) f c.fill.ensures.stay, k.1)
 
@@ -40,7 +40,7 @@ set-requires c =
     let s = c.take-source.new.self in
     let s0 = c.make_room.new.self in
     let k = c.make_room.ensures.written r.0 e r.3 r.4 in
-    let m = c.take-source.ensures e t k.0 r.5 in
+    let m = c.take-source.ensures.given e t k.0 r.5 in
     let f : at c.fill.new.memory ≡ put (at s.memory) t.0 (page_of c.args.bytes.now) = c.fill.ensures.value ∙ ap (λ p. put (at s.memory) p (page_of c.args.bytes.now)) m.0 in
     let w = filled_in (record e { loading = t.1 }) (t.0 ∷ []) s.memory c.fill.new.memory s.pool s.table s.next s.entries t.0 (page_of c.args.bytes.now) m.1 (in_hand t.0) f c.fill.ensures.stay in
     let here : at c.fill.new.memory t.0 ≡ page_of c.args.bytes.now = ap (λ N. N t.0) f ∙ put-same (at s.memory) t.0 (page_of c.args.bytes.now) in
@@ -54,7 +54,7 @@ returns-clause-written c = λ d e t h r can n.
     let s0 = c.make_room.new.self in
     let z = c.write_entry.new.self in
     let k = c.make_room.ensures.written d e h r in
-    let m = c.take-source.ensures e t k.0 can in
+    let m = c.take-source.ensures.given e t k.0 can in
     let f : at c.fill.new.memory ≡ put (at s.memory) t.0 (page_of c.args.bytes.now) = c.fill.ensures.value ∙ ap (λ p. put (at s.memory) p (page_of c.args.bytes.now)) m.0 in
     let w = filled_in (record e { loading = t.1 }) (t.0 ∷ []) s.memory c.fill.new.memory s.pool s.table s.next s.entries t.0 (page_of c.args.bytes.now) m.1 (in_hand t.0) f c.fill.ensures.stay in
     let here : at c.fill.new.memory t.0 ≡ page_of c.args.bytes.now = ap (λ N. N t.0) f ∙ put-same (at s.memory) t.0 (page_of c.args.bytes.now) in
@@ -74,6 +74,6 @@ returns-clause-written c = λ d e t h r can n.
 pub returns-clause-head : goal.returns-clause-head
 returns-clause-head c = λ d e t h r can old.
     let k = c.make_room.ensures.written d e h r in
-    let m = c.take-source.ensures e t k.0 can in
+    let m = c.take-source.ensures.given e t k.0 can in
     let P : ℕ → Type 0 = λ x. HeadIs e.links x in
     subst P (sym (c.write_entry.ensures.others.2 ∙ m.4)) (c.make_room.ensures.head d e h r old)

@@ -25,8 +25,8 @@ invariant_of-self c =
           (c.add_start.ensures.head d e s.inside.writes r.room s.inside.head) refl refl n refl (ap (λ x. Some x) c.number.ensures.value),
     )
 
-pub returns : goal.returns
-returns c = λ h t.
+pub returns-clause-stands : goal.returns-clause-stands
+returns-clause-stands c = λ h t.
     let s = subst (StandsAt h) (sym c.self.view_is) t in
     let n = rw (← c.self.view_is) at c.requires in
     let r = start_room h (writer_of c.self.inside) s n in

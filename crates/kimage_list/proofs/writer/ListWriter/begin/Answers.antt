@@ -1,24 +1,24 @@
 use Rattle.std.proofs.Common.{◌∙◌, ap, arith}
 use Rattle.page_memory.specs.Contents.{at}
-use Rattle.kimage_list.specs.Load.{need_of}
 use Rattle.kimage_list.specs.Calls.{load_begun}
 use Rattle.kimage_list.proofs.Standings.{prepared}
 use Rattle.kimage_list.proofs.writer.ListWriter.begin.Goals as goal
+use Rattle.kx_pages.specs.Needs.{need_of}
 
 pub open-requires : goal.open-requires
 open-requires c =
     let a = c.args in
-    let n = c.need-need.ensures ∙ ap (λ m. need_of c.args.wish m c.args.segments) c.total.ensures.sum in
+    let n = c.pages_needed-need.ensures ∙ ap (need_of c.args.wish c.args.segments) c.total.ensures.sum in
     let r = c.in-Ok.ensures.ready in (
       load_begun (at a.memory) a.pool.left a.wanted.now a.segments a.wish,
-      prepared a.memory a.pool a.wanted.now a.segments a.wish c.prepare.new.memory c.in-Ok.table c.need-need.result c.new.result n
+      prepared a.memory a.pool a.wanted.now a.segments a.wish c.prepare.new.memory c.in-Ok.table c.pages_needed-need.result c.new.result n
           (omega (arith, c.if-left-need.false, c.left-left.ensures.value)) (λ q. c.in-Ok.ensures.same q) c.left-left.ensures.once c.requires.unfiled r.0 r.1 r.2 c.requires.some c.new.ensures,
     )
 
 pub returns-in-Ok-clause-begun : goal.returns-in-Ok-clause-begun
 returns-in-Ok-clause-begun c =
     let a = c.args in
-    let n = c.need-need.ensures ∙ ap (λ m. need_of c.args.wish m c.args.segments) c.total.ensures.sum in
+    let n = c.pages_needed-need.ensures ∙ ap (need_of c.args.wish c.args.segments) c.total.ensures.sum in
     let r = c.in-Ok.ensures.ready in
-    c.open.ensures (load_begun (at a.memory) a.pool.left a.wanted.now a.segments a.wish) (prepared a.memory a.pool a.wanted.now a.segments a.wish c.prepare.new.memory c.in-Ok.table c.need-need.result c.new.result n
+    c.open.ensures.stands (load_begun (at a.memory) a.pool.left a.wanted.now a.segments a.wish) (prepared a.memory a.pool a.wanted.now a.segments a.wish c.prepare.new.memory c.in-Ok.table c.pages_needed-need.result c.new.result n
     (omega (arith, c.if-left-need.false, c.left-left.ensures.value)) (λ q. c.in-Ok.ensures.same q) c.left-left.ensures.once c.requires.unfiled r.0 r.1 r.2 c.requires.some c.new.ensures)

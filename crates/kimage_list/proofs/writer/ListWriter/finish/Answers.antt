@@ -12,8 +12,8 @@ end-ended-requires c =
     let m = rw (← c.self.view_is) at c.requires.loaded in
     (draft_of h s.loading s.inside.first s.inside.links, s.inside.writes, has_link h (writer_of c.self.inside) s n m)
 
-pub returns : goal.returns
-returns c = λ h t.
+pub returns-clause-written : goal.returns-clause-written
+returns-clause-written c = λ h t.
     let s = subst (StandsAt h) (sym c.self.view_is) t in
     let n = rw (← c.self.view_is) at c.requires.segments in
     let m = rw (← c.self.view_is) at c.requires.loaded in

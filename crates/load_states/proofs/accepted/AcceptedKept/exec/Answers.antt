@@ -2,7 +2,7 @@ use Rattle.std.proofs.Common.{ap, sym, ◌∙◌, subst}
 use Rattle.page_memory.specs.Contents.{Contents, at, IsHeld}
 use Rattle.load_states.specs.States.{Load, Checked, checked_of, swap_of}
 use Rattle.load_states.specs.Exchange.{exchange}
-use Rattle.segments.specs.Parts.{want}
+use Rattle.segments.specs.Values.{want}
 use Rattle.load_states.proofs.Ready.{kept_ends, kept_arrives, goes_back}
 use Rattle.load_states.proofs.accepted.AcceptedKept.exec.Goals as goal
 

@@ -1,6 +1,6 @@
 use Rattle.std.proofs.Common.{ap, ◌∙◌}
 use Rattle.page_memory.specs.Contents.{Contents, at}
-use Rattle.segments.specs.Parts.{overlay, want}
+use Rattle.segments.specs.Values.{overlay, want}
 use Rattle.load_states.specs.States.{Checked, Ran, checked_of}
 use Rattle.load_states.proofs.Ready.{plain_ends}
 use Rattle.load_states.proofs.accepted.AcceptedPlain.exec.Goals as goal

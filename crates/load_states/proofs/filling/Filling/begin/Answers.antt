@@ -1,7 +1,7 @@
 use Rattle.std.proofs.Common.{length, subst, arith}
 use Rattle.page_memory.specs.Contents.{at}
 use Rattle.kimage_list.specs.Calls.{Refuses}
-use Rattle.segments.specs.Laws.{AreSegments-from_IsBare}
+use Rattle.segments.proofs.Laws.{AreSegments-from_IsBare}
 use Rattle.load_states.proofs.FillSteps.{filling_begun, span_pages, need_same}
 use Rattle.load_states.proofs.filling.Filling.begin.Goals as goal
 
@@ -29,11 +29,11 @@ invariant_of-result c =
 pub returns-in-Ok-clause-enough : goal.returns-in-Ok-clause-enough
 returns-in-Ok-clause-enough c =
     let k = AreSegments-from_IsBare c.args.segments c.count-count.ensures.valid in
-    let e = need_same c.args.wish c.args.segments _ c.count-count.result (span_pages c.args.segments c.pages_of.result.now k c.pages_of.ensures.apart c.pages_of.ensures.pages) c.count-count.ensures.value in
+    let e = need_same c.args.wish c.args.segments c.count-count.result _ c.count-count.ensures.value (span_pages c.args.segments c.pages_of.result.now k c.pages_of.ensures.apart c.pages_of.ensures.pages) in
     rw (← e) c.in-Ok.ensures.enough
 
 pub returns-in-Err-clause-why : goal.returns-in-Err-clause-why
 returns-in-Err-clause-why c =
     let k = AreSegments-from_IsBare c.args.segments c.count-count.ensures.valid in
-    let e = need_same c.args.wish c.args.segments _ c.count-count.result (span_pages c.args.segments c.pages_of.result.now k c.pages_of.ensures.apart c.pages_of.ensures.pages) c.count-count.ensures.value in
+    let e = need_same c.args.wish c.args.segments c.count-count.result _ c.count-count.ensures.value (span_pages c.args.segments c.pages_of.result.now k c.pages_of.ensures.apart c.pages_of.ensures.pages) in
     subst (Refuses c.in-Err.refused.why (length c.args.pool.left)) e c.in-Err.ensures.why

@@ -1,0 +1,13 @@
+pub mod Ranges
+pub mod Failing
+pub mod Walk
+pub mod Reading
+pub mod Joining
+pub mod Pages
+pub mod Bytes
+pub mod Order
+pub mod Sound
+pub mod Gathering
+pub mod Sections
+pub mod Objects
+pub mod Indexes

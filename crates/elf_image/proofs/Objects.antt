@@ -1,0 +1,109 @@
+-- The symbols and the relocations of an object that were read.
+use Rattle.std.proofs.Common.{◌≡◌, ℕ, List, [], ◌++◌, length, Bool, true, false, cond, refl, sym, ap, ◌∙◌, subst, Ok, Err, Result, Some, None, append-nil}
+use Rattle.std.specs.Prelude.{◌==◌, map}
+use Rattle.std.specs.List.{slice_get}
+use Rattle.elf_image.specs.declared.section.SectionHeader.{SectionHeader}
+use Rattle.elf_image.specs.declared.reloc.Reloc.{Reloc}
+use Rattle.elf_image.specs.declared.fault.ElfFault.{ElfFault}
+use Rattle.kx_laws.specs.Results.{◌>>=◌, unless}
+use Rattle.elf_image.specs.Gathered.{onto}
+use Rattle.elf_image.specs.Sym.{Sym}
+use Rattle.elf_image.specs.Numbers.{sht_symtab}
+use Rattle.elf_image.specs.Table.{Table}
+use Rattle.elf_image.specs.Section.{section_of, place_of, first_of, read_in, table_read}
+use Rattle.elf_image.specs.Symbol.{entries_in, strings_of, symbols_in, second_refused, symbols_at, symbols_read}
+use Rattle.elf_image.specs.Reloc.{rela_fault, relocs_of, relocs_in, relocs_at, relocs_read}
+use Rattle.elf_image.specs.Object.{Relocatable, object_reading}
+use Rattle.elf_image.proofs.Failing.{Fails, fails_err, fails_on}
+
+-- ---- a symbol table
+pub strings_told : (file : List ℕ) (t : Table) (place : ℕ) (h : SectionHeader) (s : List ℕ) → strings_of file t place h ≡ Ok s → symbols_in file t place h ≡ entries_in file (length t.headers) h s
+unfolding symbols_in
+strings_told file t place h s e = ap (λ r. r >>= entries_in file (length t.headers) h) e
+
+pub strings_fail : (file : List ℕ) (t : Table) (place : ℕ) (h : SectionHeader) (e : ElfFault) → Fails e (strings_of file t place h) → Fails e (symbols_in file t place h)
+unfolding symbols_in
+strings_fail file t place h e f = fails_on e (strings_of file t place h) (entries_in file (length t.headers) h) f
+
+after_symbols : Table → ℕ → List Sym → Result (List Sym) ElfFault
+after_symbols t i symbols = second_refused t i >>= λ _. Ok symbols
+
+pub no_symbols : (file : List ℕ) (t : Table) → first_of sht_symtab 0 t.headers ≡ None → symbols_read file t ≡ Ok []
+unfolding symbols_read
+no_symbols file t e = ap (symbols_at file t) e
+
+there : (file : List ℕ) (t : Table) (i : ℕ) (h : SectionHeader) → first_of sht_symtab 0 t.headers ≡ Some i → slice_get t.headers i ≡ Some h → symbols_read file t ≡ (symbols_in file t (place_of t i) h >>= after_symbols t i)
+unfolding symbols_read after_symbols
+there file t i h e is =
+    ap (symbols_at file t) e ∙ ap (λ o. read_in (symbols_in file t (place_of t i)) o >>= after_symbols t i) is
+
+pub symbols_fail : (file : List ℕ) (t : Table) (i : ℕ) (h : SectionHeader) (e : ElfFault) → first_of sht_symtab 0 t.headers ≡ Some i → slice_get t.headers i ≡ Some h → Fails e (symbols_in file t (place_of t i) h) → Fails e (symbols_read file t)
+symbols_fail file t i h e at is f = subst (Fails e) (sym (there file t i h at is)) (fails_on e _ (after_symbols t i) f)
+
+pub second_fails : (file : List ℕ) (t : Table) (i : ℕ) (h : SectionHeader) (symbols : List Sym) (e : ElfFault) → first_of sht_symtab 0 t.headers ≡ Some i → slice_get t.headers i ≡ Some h → symbols_in file t (place_of t i) h ≡ Ok symbols → second_refused t i ≡ Err e → Fails e (symbols_read file t)
+unfolding after_symbols
+second_fails file t i h symbols e at is got second =
+    fails_err e _ (there file t i h at is ∙ ap (λ r. r >>= after_symbols t i) got ∙ ap (λ r. r >>= λ _. Ok symbols) second)
+
+pub symbols_told : (file : List ℕ) (t : Table) (i : ℕ) (h : SectionHeader) (symbols : List Sym) → first_of sht_symtab 0 t.headers ≡ Some i → slice_get t.headers i ≡ Some h → symbols_in file t (place_of t i) h ≡ Ok symbols → second_refused t i ≡ Ok tt → symbols_read file t ≡ Ok symbols
+unfolding after_symbols
+symbols_told file t i h symbols at is got second =
+    there file t i h at is ∙ ap (λ r. r >>= after_symbols t i) got ∙ ap (λ r. r >>= λ _. Ok symbols) second
+
+-- ---- a section of relocations
+pub no_section : (file : List ℕ) (t : Table) (symbols i : ℕ) (out : List Reloc) → slice_get t.headers i ≡ None → onto out (relocs_at file t symbols i) ≡ Ok out
+no_section file t symbols i out e = ap (λ o. onto out (read_in (relocs_in file t symbols i) o)) e ∙ ap Ok (append-nil out)
+
+by_kind : (file : List ℕ) (t : Table) (symbols i : ℕ) (h : SectionHeader) (b : Bool) → (h.kind == 4) ≡ b → relocs_in file t symbols i h ≡ cond b (unless (rela_fault t (place_of t i) h) >>= λ _. relocs_of file symbols i h) (Ok [])
+unfolding relocs_in
+by_kind file t symbols i h b e = ap (λ b. cond b (unless (rela_fault t (place_of t i) h) >>= λ _. relocs_of file symbols i h) (Ok [])) e
+
+pub other_type : (file : List ℕ) (t : Table) (symbols i : ℕ) (h : SectionHeader) (out : List Reloc) → slice_get t.headers i ≡ Some h → (h.kind == 4) ≡ false → onto out (relocs_at file t symbols i) ≡ Ok out
+other_type file t symbols i h out is e =
+    ap (λ o. onto out (read_in (relocs_in file t symbols i) o)) is ∙ ap (onto out) (by_kind file t symbols i h false e) ∙ ap Ok (append-nil out)
+
+pub relocs_told : (file : List ℕ) (t : Table) (symbols i : ℕ) (h : SectionHeader) → slice_get t.headers i ≡ Some h → (h.kind == 4) ≡ true → unless (rela_fault t (place_of t i) h) ≡ Ok tt → relocs_at file t symbols i ≡ relocs_of file symbols i h
+relocs_told file t symbols i h is e fit =
+    ap (read_in (relocs_in file t symbols i)) is ∙ by_kind file t symbols i h true e ∙ ap (λ r. r >>= λ _. relocs_of file symbols i h) fit
+
+pub section_fails : (file : List ℕ) (t : Table) (symbols i : ℕ) (h : SectionHeader) (out : List Reloc) (fault : ElfFault) → slice_get t.headers i ≡ Some h → (h.kind == 4) ≡ true → unless (rela_fault t (place_of t i) h) ≡ Err fault → Fails fault (onto out (relocs_at file t symbols i))
+section_fails file t symbols i h out fault is e f =
+    fails_on fault _ (λ ys. Ok (out ++ ys))
+    (fails_err fault _ (ap (read_in (relocs_in file t symbols i)) is ∙ by_kind file t symbols i h true e ∙ ap (λ r. r >>= λ _. relocs_of file symbols i h) f))
+
+-- ---- the object
+after_relocs : Table → List Sym → List Reloc → Result Relocatable ElfFault
+after_relocs t symbols relocs = Ok (record { sections = map section_of t.headers; symbols = symbols; relocs = relocs })
+
+after_list : List ℕ → Table → List Sym → Result Relocatable ElfFault
+after_list file t symbols = relocs_read file t (length symbols) >>= after_relocs t symbols
+
+after_table : List ℕ → Table → Result Relocatable ElfFault
+after_table file t = symbols_read file t >>= after_list file t
+
+opened : (file : List ℕ) → object_reading file ≡ (table_read file >>= after_table file)
+unfolding object_reading after_relocs after_list after_table
+opened file = refl
+
+pub table_fails : (file : List ℕ) (e : ElfFault) → Fails e (table_read file) → Fails e (object_reading file)
+table_fails file e f = subst (Fails e) (sym (opened file)) (fails_on e (table_read file) (after_table file) f)
+
+with_table : (file : List ℕ) (t : Table) → table_read file ≡ Ok t → object_reading file ≡ (symbols_read file t >>= after_list file t)
+unfolding after_table
+with_table file t e = opened file ∙ ap (λ r. r >>= after_table file) e
+
+pub object_symbols_fail : (file : List ℕ) (t : Table) (e : ElfFault) → table_read file ≡ Ok t → Fails e (symbols_read file t) → Fails e (object_reading file)
+object_symbols_fail file t e is f = subst (Fails e) (sym (with_table file t is)) (fails_on e (symbols_read file t) (after_list file t) f)
+
+with_symbols : (file : List ℕ) (t : Table) (symbols : List Sym) → table_read file ≡ Ok t → symbols_read file t ≡ Ok symbols → object_reading file ≡ (relocs_read file t (length symbols) >>= after_relocs t symbols)
+unfolding after_list
+with_symbols file t symbols e got = with_table file t e ∙ ap (λ r. r >>= after_list file t) got
+
+pub object_relocs_fail : (file : List ℕ) (t : Table) (symbols : List Sym) (e : ElfFault) → table_read file ≡ Ok t → symbols_read file t ≡ Ok symbols → Fails e (relocs_read file t (length symbols)) → Fails e (object_reading file)
+object_relocs_fail file t symbols e is got f =
+    subst (Fails e) (sym (with_symbols file t symbols is got)) (fails_on e (relocs_read file t (length symbols)) (after_relocs t symbols) f)
+
+pub object_told : (file : List ℕ) (t : Table) (symbols : List Sym) (relocs : List Reloc) → table_read file ≡ Ok t → symbols_read file t ≡ Ok symbols → relocs_read file t (length symbols) ≡ Ok relocs → object_reading file ≡ Ok (record { sections = map section_of t.headers; symbols = symbols; relocs = relocs })
+unfolding after_relocs
+object_told file t symbols relocs is got all =
+    with_symbols file t symbols is got ∙ ap (λ r. r >>= after_relocs t symbols) all

@@ -1,0 +1,17 @@
+use Rattle.std.proofs.Common.{◌∙◌, ap, sym, Ok, length, []}
+use Rattle.std.specs.Prelude.{filter}
+use Rattle.kx_laws.specs.Results.{◌>>=◌}
+use Rattle.elf_image.specs.ProgramHeader.{loads_of}
+use Rattle.elf_image.specs.Loads.{has_memory, loads_onto, loads_read}
+use Rattle.elf_image.proofs.Failing.{fails_on}
+use Rattle.elf_image.proofs.loads.read_loads.Goals as goal
+
+pub returns-in_ok-with_memory-in-Ok : goal.returns-in_ok-with_memory-in-Ok
+unfolding loads_read
+returns-in_ok-with_memory-in-Ok c =
+    ap (λ r. r >>= λ ls. Ok (filter has_memory ls)) c.in-Ok.ensures
+    ∙ ap Ok (ap (filter has_memory) (sym c.deref.ensures.value) ∙ sym c.in_ok-with_memory-in-Ok.ensures)
+
+pub returns-in-Err : goal.returns-in-Err
+unfolding loads_read
+returns-in-Err c = fails_on c.in-Err.fault (loads_onto (length c.args.bytes.now) [] (loads_of c.args.header.now c.args.bytes.now)) (λ ls. Ok (filter has_memory ls)) c.in-Err.ensures

@@ -1,0 +1,18 @@
+use Rattle.std.proofs.Common.{ap, sym, arith, ◌∷◌, [], Ok}
+use Rattle.elf_image.specs.Gathered.{one}
+use Rattle.elf_image.proofs.Failing.{fails_on, fails_err}
+use Rattle.elf_image.proofs.Gathering.{more, fails, last, begin}
+use Rattle.elf_image.proofs.reloc.add_entries.Goals as goal
+
+pub loop-k-init : goal.loop-k-init
+loop-k-init c = begin _ _ _
+
+pub loop-k-preserved : goal.loop-k-preserved
+loop-k-preserved c = more c.loop-k.invariant (omega arith) (ap one (sym c.in-Ok.ensures)) c.in_ok-push-in-Ok.ensures.items
+
+pub returns-in-Err : goal.returns-in-Err
+returns-in-Err c =
+    fails c.in-Err.fault c.loop-k.invariant (omega arith) (fails_on c.in-Err.fault _ (λ y. Ok (y ∷ [])) (fails_err c.in-Err.fault _ (sym c.in-Err.ensures)))
+
+pub returns : goal.returns
+returns c = last c.loop-k.invariant (omega arith)

@@ -1,0 +1,15 @@
+pub mod Numbers
+pub mod Gathered
+pub mod Loads
+pub mod Index
+pub mod Image
+pub mod Joined
+pub mod Texts
+pub mod FileHeader
+pub mod ProgramHeader
+pub mod Table
+pub mod Section
+pub mod Sym
+pub mod Symbol
+pub mod Reloc
+pub mod Object

@@ -1,0 +1,198 @@
+//! Relocations with addends.
+
+ghost use Rattle.std.specs.Prelude.{◌≡◌, ◌+◌, ◌*◌, ◌^◌, ◌≤◌, ◌<◌, length};
+ghost use Rattle.std.specs.List.{slice_get};
+ghost use Rattle.kx_fields.specs.Fields.{bytes_at};
+ghost use Rattle.kx_fields.specs.Formats.{read};
+ghost use Rattle.kx_laws.specs.Results.{Gives, unless};
+ghost use Rattle.elf_image.specs.declared.fault.ElfFault.TheVariants.{Memory};
+ghost use Rattle.elf_image.specs.Gathered.{Adds};
+ghost use Rattle.elf_image.specs.Numbers.{sht_symtab};
+ghost use Rattle.elf_image.specs.Section.{IsTable, is_of};
+ghost use Rattle.elf_image.specs.Reloc.{rela, reloc_in, rela_fault, relocs_of, relocs_in, relocs_at, relocs_read};
+
+use crate::fault::ElfFault;
+use crate::numbers::{SHT_RELA, SHT_SYMTAB};
+use crate::section::{SectionHeader, SectionTable};
+use kx_fields::Block;
+use std::alloc::Global;
+
+/// What the symbol counts in `r_info`: its type stands below.
+const HALF: u64 = 0x1_0000_0000;
+
+/// A relocation with an addend (ELF gABI, chapter 4, "Relocation").
+#[derive(Clone, Copy, Debug, Drop, PartialEq, Eq)]
+pub struct Reloc {
+    /// The section that it relocates.
+    pub target: usize,
+    /// Where its field stands in that section (`r_offset`).
+    pub offset: u64,
+    /// Its type, the low half of `r_info`.
+    pub kind: u32,
+    /// Its symbol, the high half of `r_info`.
+    pub symbol: usize,
+    /// Its addend (`r_addend`).
+    pub addend: i64,
+    /// The section that it stands in.
+    pub section: usize,
+    /// Its number in that section.
+    pub entry: usize,
+}
+
+/// An entry of a section of relocations.
+#[derive(Clone, Copy)]
+pub(crate) struct Rela {
+    pub(crate) offset: u64,
+    pub(crate) info: u64,
+    pub(crate) addend: i64,
+}
+
+// The places in an ELF64 relocation with an addend.
+macro_rules! rela {
+    ($($use:tt)*) => {
+        kx_fields::fields!($($use)* {
+            offset: u64 @ 0,
+            info: u64 @ 8,
+            addend: i64 @ 16,
+        })
+    };
+}
+
+impl Rela {
+    fn numbers(block: &Block<24>) -> Rela
+        ensures { result ≡ read rela block.now }
+    {
+        rela!(get block, Rela)
+    }
+
+    // The entry at this place of the file.
+    fn read(file: &[u8], at: usize) -> Rela
+        requires { at + 24 ≤ length file.now }
+        ensures { result ≡ read rela (bytes_at at 24 file.now) }
+    {
+        Rela::numbers(&Block::<24>::cut(file, at).unwrap())
+    }
+}
+
+// Entry `entry` of a section, which stands at this place of the file.
+#[tactic(auto, unfolding(crate::specs::Reloc::reloc_in))]
+fn read_reloc(
+    file: &[u8],
+    symbols: usize,
+    target: usize,
+    section: usize,
+    at: usize,
+    entry: usize,
+) -> Result<Reloc, ElfFault>
+    requires { at + 24 ≤ length file.now }
+    ensures { result ≡ reloc_in file.now symbols target section at entry }
+{
+    let rela = Rela::read(file, at);
+    let symbol = (rela.info / HALF) as usize;
+    if symbol >= symbols {
+        return Err(ElfFault::BadIndex { at: at as u64 + 8 });
+    }
+    Ok(Reloc {
+        target,
+        offset: rela.offset,
+        kind: (rela.info % HALF) as u32,
+        symbol,
+        addend: rela.addend,
+        section,
+        entry,
+    })
+}
+
+// Puts the whole entries of a section behind the others.
+fn add_entries(
+    out: &mut Vec<Reloc>,
+    file: &[u8],
+    symbols: usize,
+    i: usize,
+    header: &SectionHeader,
+) -> Result<(), ElfFault>
+    requires { header.now.offset + header.now.size ≤ length file.now }
+    ensures { Adds out.old.items out.new.items result (relocs_of file.now symbols i header.now) }
+{
+    let target = header.info as usize;
+    for k in 0..(header.size / 24) as usize {
+        let at = header.offset as usize + 24 * k;
+        match read_reloc(file, symbols, target, i, at, k) {
+            Ok(reloc) => out.push(reloc)?,
+            Err(fault) => return Err(fault),
+        }
+    }
+    Ok(())
+}
+
+// Whether the section of this index is a symbol table.
+fn is_symtab(table: &SectionTable, index: u32) -> bool
+    ensures { result ≡ is_of sht_symtab (slice_get table.now.headers index) }
+{
+    match table.get(index as usize) {
+        Some(header) => header.kind == SHT_SYMTAB,
+        None => false,
+    }
+}
+
+// Tests a section of relocations, whose header stands at this place.
+#[tactic(auto, unfolding(crate::specs::Reloc::rela_fault))]
+fn test_section(table: &SectionTable, place: u64, header: &SectionHeader) -> Result<(), ElfFault>
+    requires { place + 64 < 2 ^ 63 }
+    ensures { result ≡ unless (rela_fault table.now place header.now) }
+{
+    if header.entsize != 24 {
+        return Err(ElfFault::BadEntrySize { at: place + 56 });
+    }
+    if !is_symtab(table, header.link) {
+        return Err(ElfFault::BadIndex { at: place + 40 });
+    }
+    if header.info as usize >= table.len() {
+        return Err(ElfFault::BadIndex { at: place + 44 });
+    }
+    Ok(())
+}
+
+// Puts the relocations of a section behind the others, if it is one of relocations.
+fn add_section(
+    out: &mut Vec<Reloc>,
+    file: &[u8],
+    table: &SectionTable,
+    symbols: usize,
+    i: usize,
+) -> Result<(), ElfFault>
+    requires { IsTable file.now table.now }
+    ensures { Adds out.old.items out.new.items result (relocs_at file.now table.now symbols i) }
+{
+    let header = match table.get(i) {
+        Some(header) => header,
+        None => return Ok(()),
+    };
+    if header.kind != SHT_RELA {
+        return Ok(());
+    }
+    match test_section(table, table.place(i), &header) {
+        Ok(()) => add_entries(out, file, symbols, i, &header),
+        Err(fault) => Err(fault),
+    }
+}
+
+/// The relocations of an object that has so many symbols, or the first fault.
+pub(crate) fn read_relocs(
+    alloc: Global,
+    file: &[u8],
+    table: &SectionTable,
+    symbols: usize,
+) -> Result<Vec<Reloc>, ElfFault>
+    requires { IsTable file.now table.now }
+    ensures { Gives Memory (λ v. v.items) result (relocs_read file.now table.now symbols) }
+{
+    let mut relocs = Vec::new(alloc);
+    for i in 0..table.len() {
+        match add_section(&mut relocs, file, table, symbols, i) {
+            Ok(()) => (),
+            Err(fault) => return Err(fault),
+        }
+    }
+    Ok(relocs)
+}

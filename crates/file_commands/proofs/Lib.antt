@@ -1,0 +1,5 @@
+pub mod Puts
+pub mod Steps
+pub mod Measured
+pub mod Meeting
+pub mod Made

@@ -1,0 +1,4 @@
+pub mod Taking
+pub mod Files
+pub mod Answers
+pub mod Calls

@@ -1,0 +1,82 @@
+//! A command: what it takes, what it makes of that, and how it is run.
+
+ghost use Rattle.std.specs.Prelude.{◌≡◌, IfSome, Result};
+ghost use Rattle.file_commands.specs.Taking.{Refusal, Take};
+ghost use Rattle.file_commands.specs.Answers.{Completes, Goods as GoodsOf, Meets, MeetsTold, command_of};
+ghost use Rattle.file_commands.specs.Calls.{Makes, Takes, call_answer};
+
+use crate::goods::{Goods, deliver};
+use crate::stop::{MakeFault, Stop, TakeFault};
+use kx_edge::{Shelf, Sink};
+use std::alloc::Global;
+
+/// A command over files: its words, which say what it takes and what it makes of that.
+pub trait Command {
+    /// What it takes.
+    type Taken;
+
+    /// The fault that its goods may have.
+    type Fault: Drop;
+
+    /// Why it may be refused.
+    type Reason;
+
+    /// What contracts see of what it takes.
+    ghost Inputs: { Type 0 };
+
+    ghost inputs: { Self.Taken → Inputs };
+
+    /// The files that it takes, and what is read of them.
+    ghost takes: { Self → Take Self.Reason Inputs };
+
+    /// What it makes of that.
+    ghost makes: { Inputs → Result (GoodsOf Self.Fault) (Refusal Self.Reason) → Type 0 };
+
+    /// Takes its files.
+    fn take<S: Shelf>(
+        self,
+        alloc: Global,
+        shelf: &mut S,
+    ) -> Result<Self::Taken, TakeFault<Self::Reason>>
+        ensures { Takes S.Shelf (takes self) inputs shelf.old result shelf.new };
+
+    /// Makes its goods of what was taken.
+    fn make(
+        alloc: Global,
+        taken: Self::Taken,
+    ) -> Result<Goods<Self::Fault>, MakeFault<Self::Reason>>
+        ensures { Makes makes (inputs taken) result };
+}
+
+// What each answer says, in one clause.
+fn answered<C: Command, S: Shelf, O: Sink>(
+    alloc: Global,
+    command: C,
+    shelf: &mut S,
+    out: &mut O,
+) -> Result<(), Stop<C::Fault, C::Reason>>
+    ensures { Meets S.Shelf O.Sink (command_of (C.takes command) C.makes) shelf.old out.old (call_answer result) shelf.new out.new }
+{
+    let taken = command.take(alloc, shelf)?;
+    let goods = C::make(alloc, taken)?;
+    deliver(goods, shelf, out)
+}
+
+/// Runs a command: takes its files, makes its goods in memory, and puts and says them.
+pub fn run<C: Command, S: Shelf, O: Sink>(
+    alloc: Global,
+    command: C,
+    shelf: &mut S,
+    out: &mut O,
+) -> Result<(), Stop<C::Fault, C::Reason>>
+    // Each answer has its cause, and says what stands after it.
+    ensures meets { Meets S.Shelf O.Sink (command_of (C.takes command) C.makes) shelf.old out.old (call_answer result) shelf.new out.new }
+
+    // Over files that are told it is so by what is read of them.
+    ensures told { IfSome (S.files shelf.old) (λ held. MeetsTold S.Shelf O.Sink (command_of (C.takes command) C.makes) held shelf.old out.old (call_answer result) shelf.new out.new) }
+
+    // What is in order is done where no device fails, or memory is wanted.
+    ensures completes { Completes S.Shelf O.Sink (command_of (C.takes command) C.makes) shelf.old out.old (call_answer result) shelf.new out.new }
+{
+    answered(alloc, command, shelf, out)
+}

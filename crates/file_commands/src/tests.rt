@@ -1,0 +1,224 @@
+//! A command that joins files, over shelves in memory: how it ends, and what was put and said.
+
+ghost use Rattle.std.specs.Prelude.{List, ℕ, Option, map, option_map, string_bytes};
+ghost use Rattle.file_commands.specs.Taking.{ok, ◌>>=◌};
+ghost use Rattle.file_commands.specs.Files.{all_files, optional_file, whole_file};
+ghost use Rattle.file_commands.specs.Calls.{file_of};
+
+use crate::{Command, File, Goods, MakeFault, Stop, TakeFault, run, take_all, take_optional};
+use kx_edge::{MemoryShelf, MemorySink, Shelf, ShelfFault};
+use std::alloc::{AllocError, Global};
+use std::test::Fail;
+
+// A head, which may be named, and parts that have 9 bytes together, by the names of their files.
+#[derive(Drop)]
+struct Join {
+    head: Option<String>,
+    parts: Vec<String>,
+}
+
+#[derive(Drop)]
+struct Joined {
+    head: Option<Vec<u8>>,
+    parts: Vec<File>,
+}
+
+// Nothing is joined.
+#[derive(Clone, Copy)]
+struct Empty;
+
+// There is a head and nothing else.
+#[derive(Clone, Copy)]
+struct HeadAlone;
+
+impl Command for Join {
+    type Taken = Joined;
+
+    type Fault = HeadAlone;
+
+    type Reason = Empty;
+
+    ghost Inputs = { Option (List ℕ) × List (List ℕ × List ℕ) };
+
+    ghost inputs = { λ t. (option_map (λ b. b.items) t.head, map file_of t.parts.items) };
+
+    ghost takes = { λ j. optional_file (whole_file 9) (option_map string_bytes j.head) >>= λ head. all_files 9 (map string_bytes j.parts.items) >>= λ parts. ok (head, parts) };
+
+    ghost makes = { λ _ _. Unit {0} };
+
+    fn take<S: Shelf>(self, alloc: Global, shelf: &mut S) -> Result<Joined, TakeFault<Empty>> {
+        let Join { head, parts } = self;
+        let head = take_optional(alloc, head, 9, shelf)?;
+        let parts = take_all(alloc, parts, 9, shelf)?;
+        Ok(Joined { head, parts })
+    }
+
+    fn make(alloc: Global, joined: Joined) -> Result<Goods<HeadAlone>, MakeFault<Empty>> {
+        let Joined { head, parts } = joined;
+        let fault = if parts.is_empty() {
+            Some(HeadAlone)
+        } else {
+            None
+        };
+        let mut bytes = head.unwrap_or(Vec::new(alloc));
+        for part in &parts {
+            bytes.extend_from_slice(&part.bytes)?;
+        }
+        if bytes.is_empty() {
+            return Err(MakeFault::Refused { why: Empty });
+        }
+        let text = format!(in alloc; "parts {}\n", parts.len())?;
+        let name = String::from_str(alloc, "out")?;
+        let outputs = vec![in alloc; File { name, bytes }]?;
+        Ok(Goods {
+            outputs,
+            text,
+            fault,
+        })
+    }
+}
+
+// How the command ended, and the file that the answer names.
+fn kind(answer: &Result<(), Stop<HeadAlone, Empty>>) -> (&str, &str) {
+    match answer {
+        Ok(()) => ("done", ""),
+        Err(Stop::NotAccepted { fault: HeadAlone }) => ("head alone", ""),
+        Err(Stop::Unread { name }) => ("unread", name),
+        Err(Stop::Unwritten { name }) => ("unwritten", name),
+        Err(Stop::Unsaid) => ("unsaid", ""),
+        Err(Stop::TooLong { name, limit: 5 }) => ("over 5 bytes", name),
+        Err(Stop::TooLong { name, .. }) => ("too long", name),
+        Err(Stop::Refused { why: Empty }) => ("empty", ""),
+        Err(Stop::Memory) => ("memory", ""),
+    }
+}
+
+fn names(alloc: Global, list: &[&str]) -> Result<Vec<String>, AllocError> {
+    list.iter()
+        .map(|name| String::from_str(alloc, name))
+        .try_collect(alloc)
+}
+
+// Some files, with room for the output. The calls with these numbers fail.
+fn shelf(alloc: Global, failing: &[u64]) -> Result<MemoryShelf, AllocError> {
+    let mut files = Vec::new(alloc);
+    for (name, bytes) in [
+        ("h", "head "),
+        ("a", "abcd"),
+        ("b", "efghi"),
+        ("l", "longer"),
+        ("e", ""),
+    ] {
+        files.push((
+            String::from_str(alloc, name)?,
+            bytes.as_bytes().to_vec(alloc)?,
+        ))?;
+    }
+    let mut shelf = MemoryShelf::new(alloc, files, failing.to_vec(alloc)?);
+    shelf.reserve("out", 20)?;
+    Ok(shelf)
+}
+
+// The calls of the shelf that fail, whether the sink does, the head, the parts; how it ends, the file that is named, the
+// output and the text.
+const CASES: [(
+    &[u64],
+    bool,
+    &str,
+    &[&str],
+    (&str, &str),
+    Option<&str>,
+    &str,
+); 12] = [
+    (
+        &[],
+        false,
+        "h",
+        &["a", "b"],
+        ("done", ""),
+        Some("head abcdefghi"),
+        "parts 2\n",
+    ),
+    (
+        &[],
+        false,
+        "",
+        &["b"],
+        ("done", ""),
+        Some("efghi"),
+        "parts 1\n",
+    ),
+    (&[0], false, "h", &["a", "b"], ("unread", "h"), None, ""),
+    (&[1], false, "h", &["a", "b"], ("unread", "a"), None, ""),
+    (&[2], false, "h", &["a", "b"], ("unread", "b"), None, ""),
+    (&[], false, "none", &["a"], ("unread", "none"), None, ""),
+    (
+        &[3],
+        false,
+        "h",
+        &["a", "b"],
+        ("unwritten", "out"),
+        Some("head ab"),
+        "",
+    ),
+    (
+        &[],
+        true,
+        "h",
+        &["a", "b"],
+        ("unsaid", ""),
+        Some("head abcdefghi"),
+        "",
+    ),
+    (
+        &[],
+        false,
+        "h",
+        &["a", "l"],
+        ("over 5 bytes", "l"),
+        None,
+        "",
+    ),
+    (&[], false, "h", &["l", "b"], ("too long", "b"), None, ""),
+    (
+        &[],
+        false,
+        "h",
+        &[],
+        ("head alone", ""),
+        Some("head "),
+        "parts 0\n",
+    ),
+    (&[], false, "e", &["e"], ("empty", ""), None, ""),
+];
+
+#[test]
+fn each_answer_leaves_what_it_says(rt: HostRuntime) -> Result<(), Fail> {
+    let alloc = rt.alloc();
+    for (failing, is_mute, head, parts, ended, output, text) in CASES {
+        let mut shelf = shelf(alloc, failing)?;
+        let mute = if is_mute {
+            vec![in alloc; 0]?
+        } else {
+            Vec::new(alloc)
+        };
+        let mut out = MemorySink::new(alloc, mute);
+        out.reserve(20)?;
+        let head = if head.is_empty() {
+            None
+        } else {
+            Some(String::from_str(alloc, head)?)
+        };
+        let parts = names(alloc, parts)?;
+        let answer = run(alloc, Join { head, parts }, &mut shelf, &mut out);
+        assert!(rt; kind(&answer) == ended, "{}", ended.0);
+        assert_eq!(rt; out.said(), text.as_bytes());
+        match output {
+            Some(bytes) => assert!(rt;
+                shelf.take(alloc, "out", 20)?.as_slice() == bytes.as_bytes()
+            ),
+            None => assert!(rt; matches!(shelf.take(alloc, "out", 20), Err(ShelfFault::Failed))),
+        }
+    }
+    Ok(())
+}

@@ -1,0 +1,49 @@
+use Rattle.std.proofs.Common.{rules, ◌≡◌, ◌∙◌, ◌++◌, ◌∷◌, [], Ok, Err, List, ap, inl, inr, map, refl}
+use Rattle.std.specs.Prelude.{string_bytes}
+use Rattle.std.proofs.lemmas.List.{map-append}
+use Rattle.page_memory.specs.Contents.{at}
+use Rattle.load_record.specs.File.{record_file}
+use Rattle.file_commands.specs.Taking.{File, by}
+use Rattle.file_commands.specs.Calls.{file_of, goods_of}
+use Rattle.file_commands.proofs.Made.{handed_on_as}
+use Rattle.kexec_main.specs.Load.{load_command, loads, record_of_load}
+use Rattle.kexec_main.specs.Loading.{RefusesLoad, plan_of}
+use Rattle.kexec_main.specs.Outputs.{HasNoFile}
+use Rattle.kexec_main.specs.Runs.{checked_with}
+use Rattle.kexec_main.proofs.Outputs.{file_as, no_file_as}
+use Rattle.kexec_main.proofs.load.make_load.Goals as goal
+
+pub returns-in_err-kernel : goal.returns-in_err-kernel
+returns-in_err-kernel c =
+    let x = load_command c.args.load in
+    let e : c.from_residual.result ≡ Err c.in_err-kernel.field-0.0 = search rules in
+    handed_on_as (λ g. loads x (Ok (goods_of g))) (λ why. loads x (Err (by why))) (RefusesLoad x.wish x.load) _ _ e (λ why r. inl r) c.in_err-kernel.ensures
+
+pub returns-in_err-outputs : goal.returns-in_err-outputs
+returns-in_err-outputs c =
+    let x = load_command c.args.load in
+    let e : c.from_residual-in_err-outputs.result ≡ Err c.in_err-outputs.field-0.0 = search rules in
+    let t = c.in_ok-text.ensures in
+    let kernel = c.in_ok-kernel.kernel in
+    let k = checked_with kernel.loaded t.0 t.1 t.2 in
+    handed_on_as (λ g. loads x (Ok (goods_of g))) (λ why. loads x (Err (by why))) (HasNoFile (at c.in_ok-memory.memory)) _ _ e
+    (λ why h. inr (plan_of kernel, k, (c.in_ok-kernel.ensures, t.3), no_file_as (at c.in_ok-memory.memory) (at kernel.loaded.memory) why (λ p. ap (λ m. at m p) c.in_ok-memory.ensures.memory) h)) c.in_err-outputs.ensures
+
+pub returns : goal.returns
+returns c =
+    let x = load_command c.args.load in
+    let t = c.in_ok-text.ensures in
+    let kernel = c.in_ok-kernel.kernel in
+    let k = checked_with kernel.loaded t.0 t.1 t.2 in
+    let w = c.in_ok-outputs.ensures in
+    let outputs : map file_of c.push.new.self.items ≡ map file_of c.in_ok-outputs.outputs.items ++ file_of c.in_ok-memory.output ∷ [] =
+    ap (map file_of) c.in_ok-push.ensures.items ∙ map-append file_of c.in_ok-outputs.outputs.items (c.in_ok-memory.output ∷ []) in (
+      plan_of kernel,
+      k,
+      (c.in_ok-kernel.ensures, t.3),
+      t.4,
+      refl,
+      w.0,
+      file_as (at c.in_ok-memory.memory) (at kernel.loaded.memory) w.0 (λ p. ap (λ m. at m p) c.in_ok-memory.ensures.memory) w.2,
+      outputs ∙ ap (λ (fs : List File). fs ++ file_of c.in_ok-memory.output ∷ []) w.1 ∙ ap (λ (f : File). (x.out, w.0) ∷ f ∷ []) c.in_ok-memory.ensures.record,
+    )

@@ -1,0 +1,12 @@
+use Rattle.std.proofs.Common.{rules}
+use Rattle.file_commands.proofs.Steps.{start, next, stopped, finished}
+use Rattle.kexec_words.specs.Values.{load_value}
+use Rattle.kexec_main.specs.Load.{load_command_files, load_command}
+use Rattle.kexec_main.proofs.load.take_load.Goals as goal
+
+pub returns-in_err-load : goal.returns-in_err-load
+returns-in_err-load g c =
+    stopped g.S.Shelf _ _ _ load_command _ (search rules) (start g.S.Shelf (load_command_files (load_value c.args.load.words)) c.args.shelf.now) c.in_err-load.ensures
+
+pub returns : goal.returns
+returns g c = finished g.S.Shelf (next g.S.Shelf _ _ (start g.S.Shelf (load_command_files (load_value c.args.load.words)) c.args.shelf.now) c.in_ok-load.ensures)

@@ -1,0 +1,27 @@
+use Rattle.std.proofs.Common.{rules, ◌≡◌, ◌∙◌, Ok, Err, ap, refl, sym}
+use Rattle.page_memory.specs.Contents.{at}
+use Rattle.relocate_machine.specs.Run.{run_of}
+use Rattle.file_commands.specs.Taking.{by}
+use Rattle.file_commands.specs.Calls.{goods_of}
+use Rattle.file_commands.proofs.Made.{handed_on_as}
+use Rattle.kexec_main.specs.Outputs.{HasNoFile}
+use Rattle.kexec_main.specs.Trace.{outcome_line, trace_inputs, traces}
+use Rattle.kexec_main.proofs.Outputs.{no_file_as, output_as}
+use Rattle.kexec_main.proofs.trace.make_trace.Goals as goal
+
+pub returns-in_err-outputs : goal.returns-in_err-outputs
+returns-in_err-outputs c =
+    let x = trace_inputs c.args.trace in
+    let e : c.from_residual-in_err-outputs.result ≡ Err c.in_err-outputs.field-0.0 = search rules in
+    let run = run_of x.memory x.head x.mode x.limit in
+    let r = c.in_ok-outcome.ensures.ok in
+    let N = at c.run.new.memory in
+    handed_on_as (λ g. traces x (Ok (goods_of g))) (λ why. traces x (Err (by why))) (HasNoFile N) _ _ e
+    (λ why h. no_file_as N (at run.0.memory) why (λ p. sym (r.1 p)) h) c.in_err-outputs.ensures
+
+pub returns : goal.returns
+returns c =
+    let x = trace_inputs c.args.trace in
+    let run = run_of x.memory x.head x.mode x.limit in
+    let r = c.in_ok-outcome.ensures.ok in
+    (c.in_ok-text.ensures ∙ ap outcome_line r.0, refl, output_as (at c.run.new.memory) (at run.0.memory) _ x.out (λ p. sym (r.1 p)) c.in_ok-outputs.ensures)

@@ -1,0 +1,100 @@
+-- What `boot` and `load` take, in the order in which it is taken, and the request that the kernel's files make (this
+-- project's own).
+use Rattle.std.specs.Prelude.{ℕ, ◌-◌, List, [], length, map, Option, Some, None, option_map, false}
+use Rattle.kx_laws.specs.Results.{unless}
+use Rattle.page_memory.specs.Contents.{Contents}
+use Rattle.memory_map.specs.Named.{Named}
+use Rattle.file_commands.specs.Taking.{File, Take, ok, ◌>>=◌}
+use Rattle.file_commands.specs.Files.{all_files, from_reader, optional_file, whole_file}
+use Rattle.file_commands.specs.Calls.{file_of}
+use Rattle.kx_pages.specs.declared.image.ImageType.{ImageType}
+use Rattle.kx_pages.specs.declared.image.ImageType.TheVariants as types
+use Rattle.kexec_words.specs.Values.{InputsValue}
+use Rattle.kexec_plan.specs.Modules.{AskedModule}
+use Rattle.kexec_plan.specs.Requests.{Asked, request_of}
+use Rattle.kexec_main.specs.declared.inputs.KernelFiles.{KernelFiles as TakenFiles}
+use Rattle.kexec_main.specs.declared.load_inputs.LoadInputs.{LoadInputs as Taken}
+use Rattle.kexec_main.specs.declared.status.NotBuilt.{NotBuilt}
+use Rattle.kexec_main.specs.declared.status.NotBuilt.TheVariants.{Format, Purgatory}
+use Rattle.kexec_main.specs.declared.status.Reason.{Reason}
+use Rattle.kexec_main.specs.declared.status.Reason.TheVariants as reasons
+use Rattle.kexec_main.specs.Files.{map_file, memory_file, pool_file}
+
+-- what of a request is not served yet: only raw kernels without a purgatory are
+abbrev pub unserved : ImageType → Option (List ℕ) → Option NotBuilt
+unserved (types.Raw address entry) None = None
+unserved (types.Raw address entry) (Some purgatory) = Some Purgatory
+unserved other purgatory = Some Format
+
+-- the most bytes of the kernel, the initrd and the modules together, and of a purgatory
+abbrev pub kernel_limit : ℕ
+kernel_limit = 268435456
+
+abbrev pub purgatory_limit : ℕ
+purgatory_limit = 16777216
+
+-- what is left of so many bytes after a file that may be named
+abbrev pub left_after : ℕ → Option (List ℕ) → ℕ
+left_after left None = left
+left_after left (Some bytes) = left - length bytes
+
+-- the files of a kernel
+pub record KernelFiles : Type 0 where
+  pub kernel : List ℕ
+  pub initrd : Option (List ℕ)
+  pub purgatory : Option (List ℕ)
+  pub modules : List File
+
+-- they are taken by these names, in this order
+abbrev pub kernel_files : List ℕ → Option (List ℕ) → Option (List ℕ) → List (List ℕ) → Take Reason KernelFiles
+kernel_files kernel initrd purgatory modules = do
+  k ← whole_file kernel_limit kernel
+  i ← optional_file (whole_file (kernel_limit - length k)) initrd
+  p ← optional_file (whole_file purgatory_limit) purgatory
+  ms ← all_files (left_after (kernel_limit - length k) i) modules
+  ok (record { kernel = k; initrd = i; purgatory = p; modules = ms })
+
+-- a module's text is its file's name
+abbrev pub module_of : File → AskedModule
+module_of f = record { bytes = f.1; text = f.0 }
+
+-- the request for the plan of these files
+abbrev pub request_with : ImageType → Option (List ℕ) → KernelFiles → Asked
+request_with image command files = record {
+  crash = false;
+  image = image;
+  kernel = files.kernel;
+  initrd = files.initrd;
+  command = command;
+  modules = map module_of files.modules;
+  purgatory = files.purgatory;
+}
+
+-- what a load is made of: the memory, the pages of the pool, the memory map, and the request for a plan
+pub record LoadInputs : Type 0 where
+  pub memory : Contents
+  pub pool : List ℕ
+  pub map : Option Named
+  pub request : Asked
+
+-- What `boot` and `load` take. What is not served yet is refused before any file is taken.
+abbrev pub load_inputs : ImageType → InputsValue → Take Reason LoadInputs
+load_inputs image i = do
+  none ← from_reader reasons.NotBuilt (unless (unserved image i.purgatory))
+  m ← memory_file i.memory
+  p ← pool_file i.pool
+  ram ← optional_file map_file i.map
+  files ← kernel_files i.kernel i.initrd i.purgatory i.modules
+  ok (record { memory = m; pool = p; map = ram; request = request_with image i.command files })
+
+-- the program's values, read plainly
+abbrev pub kernel_bytes : TakenFiles → KernelFiles
+kernel_bytes f = record {
+  kernel = f.kernel.items;
+  initrd = option_map (λ b. b.items) f.initrd;
+  purgatory = option_map (λ b. b.items) f.purgatory;
+  modules = map file_of f.modules.items;
+}
+
+abbrev pub inputs_of : Taken → LoadInputs
+inputs_of t = record { memory = t.memory; pool = t.pool.left; map = t.map; request = request_of t.request }

@@ -1,0 +1,62 @@
+-- What `load` takes and makes (this project's own).
+use Rattle.std.specs.Prelude.{◌≡◌, ℕ, List, [], ◌∷◌, length, false, cond, None, string_bytes, Result, Ok, Err, ◌⊎◌}
+use Rattle.kx_pages.specs.declared.image.Start.{Start}
+use Rattle.kx_pages.specs.declared.image.Wish.{Wish}
+use Rattle.kx_pages.specs.declared.image.Wish.TheVariants.{Plain, Kept}
+use Rattle.page_memory.specs.Contents.{at}
+use Rattle.file_commands.specs.Taking.{Refusal, Take, ok, too_long, by, ◌>>=◌}
+use Rattle.load_states.specs.States.{Checked, Load}
+use Rattle.load_states.specs.Ready.{Told}
+use Rattle.load_record.specs.File.{Record, record_file}
+use Rattle.kexec_words.specs.Values.{LoadValue}
+use Rattle.kexec_plan.specs.Requests.{Plan}
+use Rattle.kexec_main.specs.declared.load.LoadCommand.{LoadCommand as Taken}
+use Rattle.kexec_main.specs.declared.status.Reason.{Reason}
+use Rattle.kexec_main.specs.Inputs.{LoadInputs, inputs_of, load_inputs}
+use Rattle.kexec_main.specs.Loading.{IsLoaded, RefusesLoad}
+use Rattle.kexec_main.specs.Outputs.{Made, HasNoFile, IsFileOf}
+use Rattle.kexec_main.specs.Runs.{list_text}
+use Rattle.kexec_main.specs.Texts.{load_lines}
+
+-- what `load` took, whether context is to be preserved, and the names of its outputs
+pub record LoadCommand : Type 0 where
+  pub load : LoadInputs
+  pub wish : Wish
+  pub out : List ℕ
+  pub load_record : List ℕ
+
+-- the wish of `load`, with or without `--kept`
+abbrev pub load_wish : LoadValue → Wish
+load_wish l = cond l.kept Kept Plain
+
+abbrev pub load_command_files : LoadValue → Take Reason LoadCommand
+load_command_files l = do
+  x ← load_inputs l.image l.inputs
+  ok (record { load = x; wish = load_wish l; out = l.out; load_record = l.load_record })
+
+abbrev pub load_command : Taken → LoadCommand
+load_command l = record { load = inputs_of l.load; wish = l.wish; out = string_bytes l.out; load_record = string_bytes l.load_record }
+
+-- the kernel is loaded by this plan, and so much is told of its accepted list
+abbrev pub Loads : LoadCommand → Plan → Checked → Type 0
+Loads x p c = IsLoaded x.wish x.load p c.load × Told c.load c.words c.links c.pairs
+
+-- what is said of a load, by what is told of its accepted list
+abbrev pub IsToldText : Load → Start → List ℕ → Type 0
+IsToldText load start text =
+    (words : ℕ) × (links : ℕ) × (qs : List (ℕ × ℕ)) × Told load words links qs × (text ≡ load_lines words links (length qs) load.image start)
+
+-- the record of a load
+abbrev pub record_of_load : Load → Plan → Record
+record_of_load load p = record { crash = false; image = load.image; start = p.start; regions = p.regions; digest = p.digest; segments = load.segments }
+
+-- The kernel is loaded: the file of the memory after the load and its record are the outputs, and the text tells the list.
+-- Or the plan or the load refuses, or that memory has no file.
+abbrev pub loads : LoadCommand → Result Made (Refusal Reason) → Type 0
+loads x (Ok goods) =
+    (p : Plan) × (c : Checked) × Loads x p c × (goods.text ≡ list_text c p.start) × (goods.fault ≡ None)
+    × (bytes : List ℕ) × IsFileOf (at c.load.memory) bytes
+    × (goods.outputs ≡ (x.out, bytes) ∷ (x.load_record, record_file (record_of_load c.load p)) ∷ [])
+loads x (Err (by why)) =
+    RefusesLoad x.wish x.load why ⊎ ((p : Plan) × (c : Checked) × Loads x p c × HasNoFile (at c.load.memory) why)
+loads x (Err (too_long name limit)) = ⊥

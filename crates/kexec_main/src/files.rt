@@ -1,0 +1,155 @@
+//! The files of the commands are taken, each with its limit, and read.
+
+ghost use Rattle.std.specs.Prelude.{◌≡◌, ℕ, false, option_map, string_bytes, IfOk};
+ghost use Rattle.file_commands.specs.Calls.{Takes};
+ghost use Rattle.file_commands.specs.Files.{optional_file};
+ghost use Rattle.kexec_main.specs.Files.{load_files, load_record_file, map_file, memory_file, pool_file};
+ghost use Rattle.page_pool.specs.Pages.{is_filed};
+
+use crate::status::{InputFault, NotBuilt, Reason};
+use file_commands::{FileParts, TakeFault, take_apart, take_file};
+use kx_edge::Shelf;
+use load_record::{FIRST_BYTES, LoadRecord, RecFault};
+use memory_map::{Map, MapFault};
+use page_memory::{MemFault, Memory};
+use page_pool::{Pool, PoolFault};
+use std::alloc::Global;
+
+/// The most bytes of a memory file: 16 and 4,104 for each of 131,072 pages.
+const MEMORY_LIMIT: usize = 537_919_504;
+
+/// The most bytes of a pool file and of a memory map.
+const TEXT_LIMIT: usize = 1_048_576;
+
+/// The most bytes of a load record: its head, sixteen segments' heads, and the bytes of 65,536 pages.
+const RECORD_LIMIT: usize = 268_435_936;
+
+/// Takes a memory file and reads it.
+#[tactic(auto, unfolding(file_commands::specs::Taking::and_then, file_commands::specs::Taking::Took, file_commands::specs::Taking::FailedAt, file_commands::specs::Calls::TakesNot))]
+pub(crate) fn take_memory<S: Shelf>(
+    alloc: Global,
+    name: String,
+    shelf: &mut S,
+) -> Result<Memory, TakeFault<Reason>>
+    ensures { Takes S.Shelf (memory_file (string_bytes name)) (λ m. m) shelf.old result shelf.new }
+{
+    let bytes = take_file(alloc, name, MEMORY_LIMIT, shelf)?;
+    match Memory::from_file(alloc, bytes) {
+        Ok(memory) => Ok(memory),
+        Err(MemFault::Memory) => Err(TakeFault::Memory),
+        Err(fault) => Err(TakeFault::Refused {
+            why: Reason::Input {
+                fault: InputFault::Mem { fault },
+            },
+        }),
+    }
+}
+
+/// Takes a pool file and reads it.
+#[tactic(auto, unfolding(file_commands::specs::Taking::and_then, file_commands::specs::Taking::Took, file_commands::specs::Taking::FailedAt, file_commands::specs::Calls::TakesNot))]
+pub(crate) fn take_pool<S: Shelf>(
+    alloc: Global,
+    name: String,
+    shelf: &mut S,
+) -> Result<Pool, TakeFault<Reason>>
+    ensures takes { Takes S.Shelf (pool_file (string_bytes name)) (λ p. p.left) shelf.old result shelf.new }
+    ensures unfiled { IfOk result (λ p. (q : ℕ) → is_filed p q ≡ false) }
+{
+    let bytes = take_file(alloc, name, TEXT_LIMIT, shelf)?;
+    match Pool::read(alloc, &bytes) {
+        Ok(pool) => Ok(pool),
+        Err(PoolFault::Memory) => Err(TakeFault::Memory),
+        Err(fault) => Err(TakeFault::Refused {
+            why: Reason::Input {
+                fault: InputFault::Pool { fault },
+            },
+        }),
+    }
+}
+
+// Takes a memory map and reads it.
+#[tactic(auto, unfolding(file_commands::specs::Taking::and_then, file_commands::specs::Taking::Took, file_commands::specs::Taking::FailedAt, file_commands::specs::Calls::TakesNot))]
+fn take_map_file<S: Shelf>(
+    alloc: Global,
+    name: String,
+    shelf: &mut S,
+) -> Result<Map, TakeFault<Reason>>
+    ensures { Takes S.Shelf (map_file (string_bytes name)) (λ m. m) shelf.old result shelf.new }
+{
+    let bytes = take_file(alloc, name, TEXT_LIMIT, shelf)?;
+    match Map::read(alloc, &bytes) {
+        Ok(map) => Ok(map),
+        Err(MapFault::Memory) => Err(TakeFault::Memory),
+        Err(fault) => Err(TakeFault::Refused {
+            why: Reason::Input {
+                fault: InputFault::Map { fault },
+            },
+        }),
+    }
+}
+
+/// Takes the memory map, where one is named, and reads it.
+#[tactic(auto, unfolding(file_commands::specs::Taking::and_then, file_commands::specs::Taking::Took, file_commands::specs::Taking::FailedAt, file_commands::specs::Calls::TakesNot))]
+pub(crate) fn take_map<S: Shelf>(
+    alloc: Global,
+    name: Option<String>,
+    shelf: &mut S,
+) -> Result<Option<Map>, TakeFault<Reason>>
+    ensures { Takes S.Shelf (optional_file map_file (option_map string_bytes name)) (λ m. m) shelf.old result shelf.new }
+{
+    match name {
+        Some(name) => Ok(Some(take_map_file(alloc, name, shelf)?)),
+        None => Ok(None),
+    }
+}
+
+/// Takes the file of a load record and reads it: what follows its front is taken into the buffer that becomes its first
+/// segment's. The record of a crash kernel is not served yet.
+#[tactic(auto, unfolding(file_commands::specs::Taking::and_then, file_commands::specs::Taking::Took, file_commands::specs::Taking::FailedAt, file_commands::specs::Calls::TakesNot))]
+pub(crate) fn take_record<S: Shelf>(
+    alloc: Global,
+    name: String,
+    shelf: &mut S,
+) -> Result<LoadRecord, TakeFault<Reason>>
+    ensures { Takes S.Shelf (load_record_file (string_bytes name)) (λ r. r) shelf.old result shelf.new }
+{
+    let FileParts { front, rest, .. } = take_apart(alloc, name, FIRST_BYTES, RECORD_LIMIT, shelf)?;
+    match LoadRecord::from_file(alloc, &front, rest) {
+        Ok(record) if record.crash => Err(TakeFault::Refused {
+            why: Reason::NotBuilt {
+                what: NotBuilt::Crash,
+            },
+        }),
+        Ok(record) => Ok(record),
+        Err(RecFault::Memory) => Err(TakeFault::Memory),
+        Err(fault) => Err(TakeFault::Refused {
+            why: Reason::Input {
+                fault: InputFault::Rec { fault },
+            },
+        }),
+    }
+}
+
+/// The files of a load, as they were taken: the memory, and the record of its list.
+#[derive(Drop)]
+pub(crate) struct LoadFiles {
+    pub(crate) memory: Memory,
+    pub(crate) load_record: LoadRecord,
+}
+
+/// Takes the memory file, then the file of the load record.
+pub(crate) fn take_load_files<S: Shelf>(
+    alloc: Global,
+    memory: String,
+    load_record: String,
+    shelf: &mut S,
+) -> Result<LoadFiles, TakeFault<Reason>>
+    ensures { Takes S.Shelf (load_files (string_bytes memory) (string_bytes load_record)) (λ f. f) shelf.old result shelf.new }
+{
+    let memory = take_memory(alloc, memory, shelf)?;
+    let load_record = take_record(alloc, load_record, shelf)?;
+    Ok(LoadFiles {
+        memory,
+        load_record,
+    })
+}

@@ -1,0 +1,158 @@
+//! What `boot` and `load` take: the memory, the pool, the memory map, and the files of the kernel, which become the request
+//! for a plan.
+
+ghost use Rattle.std.specs.Prelude.{◌≡◌, ◌≤◌, ◌-◌, ℕ, length, map, option_map, is_some, string_bytes, IfOk};
+ghost use Rattle.file_commands.specs.Calls.{Takes, file_of};
+ghost use Rattle.kexec_words.specs.Limits.{HasParts};
+ghost use Rattle.kexec_words.specs.Values.{inputs_value};
+ghost use Rattle.kexec_plan.specs.Requests.{request_of};
+ghost use Rattle.kexec_main.specs.Inputs.{KernelFiles as KernelBytes, inputs_of, kernel_bytes, kernel_files, left_after, load_inputs, module_of, request_with, unserved};
+
+use crate::files::{take_map, take_memory, take_pool};
+use crate::load_inputs::LoadInputs;
+use crate::status::{NotBuilt, Reason};
+use file_commands::{File, TakeFault, take_all, take_file, take_optional};
+use kexec_plan::{Module, Request};
+use kexec_words::Inputs;
+use kx_edge::Shelf;
+use kx_pages::ImageType;
+use std::alloc::{AllocError, Global};
+
+/// The most bytes of the kernel, the initrd and the modules of one command together.
+const KERNEL_LIMIT: usize = 268_435_456;
+
+/// The most bytes of a purgatory.
+const PURGATORY_LIMIT: usize = 16_777_216;
+
+/// What of a request is not served yet: only raw kernels without a purgatory are.
+fn unserved(image: ImageType, purgatory: &Option<String>) -> Option<NotBuilt>
+    ensures { result ≡ unserved image (option_map string_bytes purgatory.now) }
+{
+    match image {
+        ImageType::Raw { .. } if purgatory.is_none() => None,
+        ImageType::Raw { .. } => Some(NotBuilt::Purgatory),
+        _ => Some(NotBuilt::Format),
+    }
+}
+
+/// The files of a kernel, as they were taken.
+#[derive(Drop)]
+pub(crate) struct KernelFiles {
+    pub(crate) kernel: Vec<u8>,
+    pub(crate) initrd: Option<Vec<u8>>,
+    pub(crate) purgatory: Option<Vec<u8>>,
+    pub(crate) modules: Vec<File>,
+}
+
+// What is left of so many bytes after a file that may be named.
+fn left_after(left: usize, bytes: &Option<Vec<u8>>) -> usize
+    ensures { result ≡ left_after left (option_map (λ b. b.items) bytes.now) }
+{
+    match bytes {
+        Some(bytes) => left.saturating_sub(bytes.len()),
+        None => left,
+    }
+}
+
+// Takes the files of a kernel in their order.
+fn take_kernel<S: Shelf>(
+    alloc: Global,
+    kernel: String,
+    initrd: Option<String>,
+    purgatory: Option<String>,
+    modules: Vec<String>,
+    shelf: &mut S,
+) -> Result<KernelFiles, TakeFault<Reason>>
+    ensures takes { Takes S.Shelf (kernel_files (string_bytes kernel) (option_map string_bytes initrd) (option_map string_bytes purgatory) (map string_bytes modules.items)) kernel_bytes shelf.old result shelf.new }
+    ensures named { IfOk result (λ f. is_some f.purgatory ≡ is_some purgatory) }
+{
+    let kernel = take_file(alloc, kernel, KERNEL_LIMIT, shelf)?;
+    let left = KERNEL_LIMIT - kernel.len();
+    let initrd = take_optional(alloc, initrd, left, shelf)?;
+    let purgatory = take_optional(alloc, purgatory, PURGATORY_LIMIT, shelf)?;
+    let modules = take_all(alloc, modules, left_after(left, &initrd), shelf)?;
+    Ok(KernelFiles {
+        kernel,
+        initrd,
+        purgatory,
+        modules,
+    })
+}
+
+// The modules of a request: a module's text is its file's name.
+fn modules_of(alloc: Global, files: Vec<File>) -> Result<Vec<Module>, AllocError>
+    ensures { IfOk result (λ v. v.items ≡ map module_of (map file_of files.items)) }
+{
+    let mut modules = Vec::new(alloc);
+    for file in files {
+        let File { name, bytes } = file;
+        modules.push(Module {
+            bytes,
+            text: name.into_bytes(),
+        })?;
+    }
+    Ok(modules)
+}
+
+// The request for the plan of these files.
+fn request_with(
+    alloc: Global,
+    image: ImageType,
+    command: Option<String>,
+    files: KernelFiles,
+) -> Result<Request, AllocError>
+    ensures { IfOk result (λ r. request_of r ≡ request_with image (option_map string_bytes command) (kernel_bytes files)) }
+{
+    let modules = modules_of(alloc, files.modules)?;
+    let command = match command {
+        Some(text) => Some(text.into_bytes()),
+        None => None,
+    };
+    Ok(Request {
+        crash: false,
+        image,
+        kernel: files.kernel,
+        initrd: files.initrd,
+        command,
+        modules,
+        purgatory: files.purgatory,
+    })
+}
+
+/// Takes what `boot` and `load` take. What is not served yet is refused before any file is taken.
+pub(crate) fn take_inputs<S: Shelf>(
+    alloc: Global,
+    image: ImageType,
+    inputs: Inputs,
+    shelf: &mut S,
+) -> Result<LoadInputs, TakeFault<Reason>>
+    requires { HasParts (inputs_value inputs) image }
+    ensures { Takes S.Shelf (load_inputs image (inputs_value inputs)) inputs_of shelf.old result shelf.new }
+{
+    let Inputs {
+        memory,
+        pool,
+        map,
+        kernel,
+        initrd,
+        purgatory,
+        modules,
+        command,
+    } = inputs;
+    if let Some(what) = unserved(image, &purgatory) {
+        return Err(TakeFault::Refused {
+            why: Reason::NotBuilt { what },
+        });
+    }
+    let memory = take_memory(alloc, memory, shelf)?;
+    let pool = take_pool(alloc, pool, shelf)?;
+    let map = take_map(alloc, map, shelf)?;
+    let files = take_kernel(alloc, kernel, initrd, purgatory, modules, shelf)?;
+    let request = request_with(alloc, image, command, files)?;
+    Ok(LoadInputs {
+        memory,
+        pool,
+        map,
+        request,
+    })
+}

@@ -1,0 +1,48 @@
+//! The words of the commands, with what is known of them once they are read.
+
+ghost use Rattle.kexec_words.specs.Limits.{HasParts, HasRange};
+ghost use Rattle.kexec_words.specs.Values.{inputs_value, trace_value};
+
+use kexec_words::{Boot, Exec, Load, Loaded, Trace};
+
+/// The words of `boot`.
+#[derive(Drop)]
+pub(crate) struct BootWords {
+    pub(crate) words: Boot,
+    /// A memory map is named where the kernel's type or a purgatory needs one.
+    pub(crate) ghost parts: { HasParts (inputs_value words.inputs) words.image },
+}
+
+/// The words of `load`.
+#[derive(Drop)]
+pub(crate) struct LoadWords {
+    pub(crate) words: Load,
+    /// As for `boot`.
+    pub(crate) ghost parts: { HasParts (inputs_value words.inputs) words.image },
+}
+
+/// The words of `check`.
+#[derive(Drop)]
+pub(crate) struct CheckWords {
+    pub(crate) words: Loaded,
+}
+
+/// The words of `dump`.
+#[derive(Drop)]
+pub(crate) struct DumpWords {
+    pub(crate) words: Loaded,
+}
+
+/// The words of `exec`.
+#[derive(Drop)]
+pub(crate) struct ExecWords {
+    pub(crate) words: Exec,
+}
+
+/// The words of `trace`.
+#[derive(Drop)]
+pub(crate) struct TraceWords {
+    pub(crate) words: Trace,
+    /// The swap page is a page.
+    pub(crate) ghost range: { HasRange (trace_value words) },
+}

@@ -1,0 +1,15 @@
+-- What the faults of lower calls are here: want of memory stays want of memory (this project's own).
+use Rattle.std.specs.Prelude.{Result, Ok, Err}
+use Rattle.elf_image.specs.declared.fault.ElfFault.{ElfFault}
+use Rattle.elf_image.specs.declared.fault.ElfFault.TheVariants as elf
+use Rattle.kexec_plan.specs.declared.fault.PlanFault.{PlanFault}
+use Rattle.kexec_plan.specs.declared.fault.PlanFault.TheVariants as faults
+
+-- what a lower call answers, its faults seen from here
+abbrev pub told_by : {A E F : Type 0} → (E → F) → Result A E → Result A F
+told_by of (Ok x) = Ok x
+told_by of (Err e) = Err (of e)
+
+abbrev pub of_elf : ElfFault → PlanFault
+of_elf elf.Memory = faults.Memory
+of_elf e = faults.Elf e

@@ -1,0 +1,67 @@
+-- The form of a kernel's file, and what a kernel of this form takes (this project's own).
+use Rattle.std.specs.Prelude.{ℕ, Bool, true, false, ◌&&◌, not, List, [], ◌∷◌, Option, Some, None, is_some, if◌then◌else◌, Result, Ok, Err}
+use Rattle.memory_map.specs.Named.{Named, reserved_area}
+use Rattle.kx_pages.specs.Spans.{Run}
+use Rattle.segments.specs.declared.fault.Kind.{Kind}
+use Rattle.segments.specs.declared.fault.Kind.TheVariants.{Normal, Crash}
+use Rattle.kx_pages.specs.declared.image.ImageType.{ImageType}
+use Rattle.kx_pages.specs.declared.image.ImageType.TheVariants as types
+use Rattle.kexec_plan.specs.declared.fault.Part.{Part}
+use Rattle.kexec_plan.specs.declared.fault.Part.TheVariants as parts
+use Rattle.kexec_plan.specs.declared.fault.PlanFault.{PlanFault}
+use Rattle.kexec_plan.specs.declared.fault.PlanFault.TheVariants as faults
+use Rattle.kexec_plan.specs.declared.format.Format.{Format}
+use Rattle.kexec_plan.specs.declared.format.Format.TheVariants.{Raw, Elf, Bzimage, Multiboot}
+use Rattle.kexec_plan.specs.Modules.{AskedModule}
+use Rattle.kexec_plan.specs.Requests.{Asked}
+
+-- the form of a file of the given type
+abbrev pub given_format : List ℕ → ImageType → Result Format PlanFault
+given_format file (types.Raw at entry) = Ok (Raw at entry)
+given_format file types.Elf = Ok Elf
+given_format file types.Bzimage = Ok Bzimage
+given_format file types.Multiboot = Ok Multiboot
+given_format file types.Auto = Err faults.UnknownImage
+
+abbrev pub format_of : Asked → Result Format PlanFault
+format_of r = given_format r.kernel r.image
+
+-- an initrd is for a bzImage, modules are for a Multiboot kernel, a command is for both
+abbrev pub is_bzimage : Format → Bool
+is_bzimage (Raw at entry) = false
+is_bzimage Elf = false
+is_bzimage Bzimage = true
+is_bzimage Multiboot = false
+
+abbrev pub is_multiboot : Format → Bool
+is_multiboot (Raw at entry) = false
+is_multiboot Elf = false
+is_multiboot Bzimage = false
+is_multiboot Multiboot = true
+
+abbrev pub has_some : List AskedModule → Bool
+has_some [] = false
+has_some (m ∷ ms) = true
+
+-- the first part that is given and that a kernel of this form has no use for
+abbrev pub unused_part : Asked → Format → Option Part
+unused_part r format =
+    if is_some r.initrd && not (is_bzimage format) then Some parts.Initrd
+    else if has_some r.modules && not (is_multiboot format) then Some parts.Module
+    else if is_some r.command && (not (is_bzimage format) && not (is_multiboot format)) then Some parts.Command
+    else None
+
+-- a crash kernel is a bzImage, in the reserved area of the memory map
+abbrev pub crash_kind : Option Run → Result Kind PlanFault
+crash_kind None = Err faults.NoReserved
+crash_kind (Some area) = Ok (Crash area)
+
+abbrev pub area_of : Option Named → Option Run
+area_of None = None
+area_of (Some map) = reserved_area map
+
+abbrev pub kind_of : Asked → Option Named → Format → Result Kind PlanFault
+kind_of r map format =
+    if not r.crash then Ok Normal
+    else if not (is_bzimage format) then Err faults.CrashNeedsBzimage
+    else crash_kind (area_of map)

@@ -1,0 +1,23 @@
+-- Kernels whose files say where they lie (this project's own).
+use Rattle.std.specs.Prelude.{ℕ, List, Option, Some, None, if◌then◌else◌, Result, Ok, Err}
+use Rattle.kx_laws.specs.Results.{◌>>=◌, unless}
+use Rattle.segments.specs.Values.{SegmentValue}
+use Rattle.elf_image.specs.declared.fault.ElfFault.TheVariants as elf
+use Rattle.elf_image.specs.Loads.{exec_reading}
+use Rattle.elf_image.specs.Image.{image}
+use Rattle.kexec_plan.specs.declared.fault.PlanFault.{PlanFault}
+use Rattle.kexec_plan.specs.declared.fault.PlanFault.TheVariants as faults
+use Rattle.kexec_plan.specs.Faults.{told_by, of_elf}
+
+-- the segments, and the address that the kernel is entered at
+pub record Kernel : Type 0 where
+  pub list : List SegmentValue
+  pub entry : ℕ
+
+-- an ELF executable, which has to be ELF64
+unfoldable pub elf_kernel : List ℕ → Result Kernel PlanFault
+elf_kernel file = do
+  exec ← told_by of_elf (exec_reading file)
+  _ ← unless (if exec.wide then None else Some (faults.Elf elf.Class))
+  list ← told_by of_elf (image file exec.loads)
+  Ok (record { list = list; entry = exec.entry })

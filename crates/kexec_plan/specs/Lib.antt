@@ -1,0 +1,10 @@
+pub mod Modules
+pub mod Requests
+pub mod Formats
+pub mod Rules
+pub mod Parts
+pub mod Holes
+pub mod Places
+pub mod Faults
+pub mod Kernels
+pub mod Plan

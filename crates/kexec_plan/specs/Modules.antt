@@ -1,0 +1,7 @@
+-- A module of a Multiboot kernel, as contracts see it.
+use Rattle.std.specs.Prelude.{ℕ, List}
+
+-- its bytes, and the text that the kernel gets with it
+pub record AskedModule : Type 0 where
+  pub bytes : List ℕ
+  pub text : List ℕ

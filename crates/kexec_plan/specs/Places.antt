@@ -1,0 +1,66 @@
+-- Where the parts of a plan are placed (this project's own).
+use Rattle.std.specs.Prelude.{◌≡◌, ℕ, ◌+◌, ◌*◌, ◌/◌, ◌%◌, ◌^◌, ◌≤◌, ◌||◌, Bool, false, max, nat_le, if◌then◌else◌, List, [], ◌∷◌, Option, Some, None, Result, Ok, Err}
+use Rattle.kx_laws.specs.Results.{◌>>=◌}
+use Rattle.kx_pages.specs.Spans.{Run, in_span}
+use Rattle.memory_map.specs.Named.{Named, is_ram}
+use Rattle.segments.specs.declared.fault.Kind.{Kind}
+use Rattle.segments.specs.declared.fault.Kind.TheVariants.{Normal, Crash}
+use Rattle.kexec_plan.specs.declared.fault.Part.{Part}
+use Rattle.kexec_plan.specs.declared.fault.PlanFault.{PlanFault}
+use Rattle.kexec_plan.specs.declared.fault.PlanFault.TheVariants as faults
+use Rattle.kexec_plan.specs.declared.places.Site.{Site}
+use Rattle.kexec_plan.specs.declared.places.PlaceRule.{PlaceRule}
+use Rattle.kexec_plan.specs.Parts.{part_size}
+use Rattle.kexec_plan.specs.Holes.{hole}
+
+-- the pages that are searched: RAM, or the reserved area in a crash load
+abbrev pub searched : Option Named → Kind → ℕ → Bool
+searched None Normal q = false
+searched (Some map) Normal q = is_ram map q
+searched map (Crash area) q = in_span area q
+
+-- the place at an address
+abbrev pub site_at : PlaceRule → Option ℕ → Result Site PlanFault
+site_at r None = Err (faults.NoHole r.part)
+site_at r (Some a) = Ok (record { at = a; size = part_size r.length })
+
+-- the place of a part by its rule, in RAM that is not taken
+unfoldable pub placed : (ℕ → Bool) → (ℕ → Bool) → PlaceRule → Result Site PlanFault
+placed ram taken r =
+    if nat_le (2 ^ 46) (part_size r.length) then Err (faults.NoHole r.part)
+    else site_at r (hole ram taken r)
+
+-- no page
+abbrev pub nothing : ℕ → Bool
+nothing q = false
+
+-- the pages of a place
+abbrev pub pages_at : Site → Run
+pages_at s = record { first = s.at / 4096; count = s.size / 4096 }
+
+-- what is taken, and a place
+unfoldable pub taking : (ℕ → Bool) → Site → ℕ → Bool
+taking taken s q = taken q || in_span (pages_at s) q
+
+-- the same for a part that may be left out
+unfoldable pub placed_some : (ℕ → Bool) → (ℕ → Bool) → Option PlaceRule → Result (Option Site) PlanFault
+placed_some ram taken None = Ok None
+placed_some ram taken (Some r) = do
+  s ← placed ram taken r
+  Ok (Some s)
+
+unfoldable pub taking_some : (ℕ → Bool) → Option Site → ℕ → Bool
+taking_some taken None = taken
+taking_some taken (Some s) = taking taken s
+
+-- what is so of each place that is found by a rule
+pub record IsPlacedBy (r : PlaceRule) (s : Site) : Type 0 where
+  pub aligned : s.at % r.align ≡ 0
+  pub within : s.at + s.size ≤ r.most + 1
+  pub low : s.at + s.size ≤ 2 ^ 46
+  pub size : s.size ≡ part_size r.length
+
+abbrev pub IsPlacedIf : Option PlaceRule → Option Site → Type 0
+IsPlacedIf (Some r) (Some s) = IsPlacedBy r s
+IsPlacedIf (Some r) None = ⊥
+IsPlacedIf None s = Unit {0}

@@ -1,0 +1,89 @@
+//! Why a request has no plan.
+
+ghost use Rattle.std.specs.Prelude.{◌≡◌};
+ghost use Rattle.kexec_plan.specs.Faults.{of_elf};
+
+use elf_image::ElfFault;
+use segments::SegFault;
+use std::alloc::AllocError;
+use thiserror::Error;
+
+/// A part of a request, or one that the plan makes for the kernel.
+#[derive(Clone, Copy, Debug, PartialEq, Eq, Error)]
+pub enum Part {
+    /// The kernel.
+    #[error("the kernel")]
+    Kernel,
+    /// The initrd.
+    #[error("an initrd")]
+    Initrd,
+    /// A module.
+    #[error("a module")]
+    Module,
+    /// The headers by which a crash kernel finds the memory of its predecessor.
+    #[error("the crash headers")]
+    Headers,
+    /// The boot parameters of a bzImage.
+    #[error("the boot parameters")]
+    Parameters,
+    /// The information of a Multiboot kernel.
+    #[error("the Multiboot information")]
+    Information,
+    /// The purgatory.
+    #[error("the purgatory")]
+    Purgatory,
+    /// The kernel's command.
+    #[error("a command line")]
+    Command,
+}
+
+/// Why a request has no plan: the first reason.
+#[derive(Clone, Copy, Debug, PartialEq, Eq, Error)]
+pub enum PlanFault {
+    /// Want of memory.
+    #[error("out of memory")]
+    Memory,
+    /// The kernel's file is of no known type.
+    #[error("the kernel file is no bzImage, no Multiboot kernel and no ELF file: give its type, as --type raw and --at")]
+    UnknownImage,
+    /// There is no place for a part.
+    #[error("there is no place for {part}: the memory map has no free run of pages where it may lie")]
+    NoHole { part: Part },
+    /// The kernel or the purgatory is no ELF file that can be loaded.
+    #[error("{fault}")]
+    Elf { fault: ElfFault },
+    /// The segments are refused.
+    #[error("the kernel cannot be placed: {fault}")]
+    Segments { fault: SegFault },
+    /// The memory map has no area for a crash kernel.
+    #[error("the memory map has no line Crash kernel with a whole page: boot this kernel with crashkernel=")]
+    NoReserved,
+    /// A part is given that kernels of this type take none of.
+    #[error("{part} is given, and a kernel of this type takes none")]
+    Unused { part: Part },
+    /// A crash kernel of another type than bzImage.
+    #[error("a crash kernel has to be a bzImage")]
+    CrashNeedsBzimage,
+}
+
+impl PlanFault {
+    /// What a fault of an ELF file is here.
+    pub(crate) fn of_elf(fault: ElfFault) -> PlanFault
+        ensures { result ≡ of_elf fault }
+    {
+        match fault {
+            ElfFault::Memory => PlanFault::Memory,
+            _ => PlanFault::Elf { fault },
+        }
+    }
+}
+
+impl From<AllocError> for PlanFault {
+    ghost use Rattle.kexec_plan.specs.declared.fault.PlanFault.TheVariants.{Memory};
+
+    ghost from_gives = { λ _ e. e ≡ Memory };
+
+    fn from(_: AllocError) -> PlanFault {
+        PlanFault::Memory
+    }
+}

@@ -1,0 +1,51 @@
+//! Kernels whose files say where they lie.
+
+ghost use Rattle.std.specs.Prelude.{◌≡◌};
+ghost use Rattle.kx_laws.specs.Results.{Gives};
+ghost use Rattle.kexec_plan.specs.Kernels.{elf_kernel};
+
+use crate::fault::PlanFault;
+use elf_image::{ElfFault, image_pages, read_exec};
+use segments::Segment;
+use std::alloc::Global;
+use std::marker::Model;
+
+/// A kernel that says where it lies.
+#[derive(Drop)]
+pub(crate) struct Kernel {
+    /// Its segments.
+    pub(crate) list: Vec<Segment>,
+    /// The address that it is entered at.
+    pub(crate) entry: u64,
+}
+
+impl Model for Kernel {
+    ghost use Rattle.kexec_plan.specs.Kernels.{Kernel as KernelValue};
+
+    ghost Value = { KernelValue };
+
+    ghost view = { λ k. record { list = k.list.items; entry = k.entry } };
+}
+
+/// The ELF executable of this file, which has to be ELF64.
+#[tactic(auto, unfolding(crate::specs::Kernels::elf_kernel))]
+pub(crate) fn read_elf(alloc: Global, file: &[u8]) -> Result<Kernel, PlanFault>
+    ensures { Gives PlanFault.Memory (λ k. k) result (elf_kernel file.now) }
+{
+    let exec = match read_exec(alloc, file) {
+        Ok(exec) => exec,
+        Err(fault) => return Err(PlanFault::of_elf(fault)),
+    };
+    if !exec.wide {
+        return Err(PlanFault::Elf {
+            fault: ElfFault::Class,
+        });
+    }
+    match image_pages(alloc, &exec, file) {
+        Ok(list) => Ok(Kernel {
+            list,
+            entry: exec.entry,
+        }),
+        Err(fault) => Err(PlanFault::of_elf(fault)),
+    }
+}

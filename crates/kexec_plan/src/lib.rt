@@ -1,0 +1,19 @@
+//! The plan of a load: which segments a request gives, and how the new kernel starts.
+//!
+//! A request is a kernel with what belongs to it: an initrd, a command, modules, a purgatory. The plan reads the kernel by
+//! its type, finds a place for each part, makes the parts that the kernel finds at its start, and tests the segments. The
+//! first refusal in this order is the answer. Places, ends and order are this project's own.
+#![tactic(auto)]
+
+mod fault;
+mod format;
+mod kernels;
+mod parts;
+mod places;
+mod planning;
+mod request;
+mod rules;
+
+pub use fault::{Part, PlanFault};
+pub use planning::plan;
+pub use request::{Module, Planned, Request};

@@ -1,0 +1,117 @@
+//! Places of the parts of a plan.
+
+ghost use Rattle.std.specs.Prelude.{◌≡◌, ◌+◌, ◌*◌, ◌<◌, ◌≤◌, ◌^◌, ℕ, max, IfOk, IfSome, OnOk};
+ghost use Rattle.kx_laws.specs.Results.{Gives};
+ghost use Rattle.kx_pages.specs.Spans.{in_span, in_spans};
+ghost use Rattle.kexec_plan.specs.Parts.{part_size};
+ghost use Rattle.kexec_plan.specs.Places.{placed, placed_some, taking, taking_some, pages_at, IsPlacedBy, IsPlacedIf};
+
+use crate::fault::{Part, PlanFault};
+use hole_search::{End, find};
+use kx_pages::{ADDRESS_LIMIT, PAGE_SIZE, PageSet, Span};
+use std::alloc::{AllocError, Global};
+
+/// Where a part lies: whole pages.
+#[derive(Clone, Copy, Debug, PartialEq, Eq)]
+pub(crate) struct Site {
+    /// The address of its first byte.
+    pub(crate) at: u64,
+    /// How many bytes of memory it takes.
+    pub(crate) size: u64,
+}
+
+/// The rule of a part's place: a row of the table of places.
+#[derive(Clone, Copy)]
+pub(crate) struct PlaceRule {
+    /// The part.
+    pub(crate) part: Part,
+    /// How many bytes it has.
+    pub(crate) length: u64,
+    /// Whether the lowest or the highest place is taken.
+    pub(crate) end: End,
+    /// What its address is to be a multiple of.
+    pub(crate) align: u64,
+    /// The least address.
+    pub(crate) min: u64,
+    /// The greatest address of its last byte.
+    pub(crate) most: u64,
+}
+
+/// So many bytes in whole pages, at least one.
+pub(crate) fn part_size(length: u64) -> u64
+    requires { length ≤ 2 ^ 46 }
+    ensures { result ≡ part_size length }
+{
+    let pages = (length + (PAGE_SIZE - 1)) / PAGE_SIZE;
+    PAGE_SIZE.max(PAGE_SIZE * pages)
+}
+
+// The place of a part by its rule, in RAM that is not taken.
+#[tactic(auto, unfolding(crate::specs::Places::placed), using(crate::proofs::Holes::hole_is))]
+fn found(ram: &PageSet, taken: &PageSet, rule: PlaceRule) -> Result<Site, PlanFault>
+    requires some_align { 0 < rule.align }
+    requires align { rule.align ≤ 2 ^ 45 }
+    ensures exact { result ≡ placed (in_spans ram.now) (in_spans taken.now) rule }
+    ensures place { IfOk result (IsPlacedBy rule) }
+{
+    if rule.length > ADDRESS_LIMIT - PAGE_SIZE {
+        return Err(PlanFault::NoHole { part: rule.part });
+    }
+    let size = part_size(rule.length);
+    match find(ram, taken, size, rule.align, rule.min, rule.most, rule.end) {
+        Some(at) => Ok(Site { at, size }),
+        None => Err(PlanFault::NoHole { part: rule.part }),
+    }
+}
+
+// The pages of a place are taken.
+#[tactic(auto, unfolding(crate::specs::Places::taking))]
+fn take(taken: &mut PageSet, site: Site) -> Result<(), AllocError>
+    requires { site.at + site.size ≤ 2 ^ 46 }
+    ensures { OnOk result ((q : ℕ) → in_spans taken.new q ≡ taking (in_spans taken.old) site q) }
+{
+    let span = Span::new(site.at / PAGE_SIZE, site.size / PAGE_SIZE).unwrap();
+    taken.add(span)
+}
+
+/// The place of a part by its rule, in RAM that is not taken. It is taken then.
+pub(crate) fn place(
+    ram: &PageSet,
+    taken: &mut PageSet,
+    rule: PlaceRule,
+) -> Result<Site, PlanFault>
+    requires some_align { 0 < rule.align }
+    requires align { rule.align ≤ 2 ^ 45 }
+    ensures exact { Gives PlanFault.Memory (λ s. s) result (placed (in_spans ram.now) (in_spans taken.old) rule) }
+    ensures place { IfOk result (IsPlacedBy rule) }
+    ensures taken { IfOk result (λ s. in_spans taken.new ≡ taking (in_spans taken.old) s) }
+{
+    let site = match found(ram, taken, rule) {
+        Ok(site) => site,
+        Err(fault) => return Err(fault),
+    };
+    take(taken, site)?;
+    Ok(site)
+}
+
+/// The same for a part that may be left out.
+#[tactic(auto, unfolding(crate::specs::Places::placed_some, crate::specs::Places::taking_some))]
+pub(crate) fn place_some(
+    ram: &PageSet,
+    taken: &mut PageSet,
+    rule: Option<PlaceRule>,
+) -> Result<Option<Site>, PlanFault>
+    requires some_align { IfSome rule (λ r. 0 < r.align) }
+    requires align { IfSome rule (λ r. r.align ≤ 2 ^ 45) }
+    ensures exact { Gives PlanFault.Memory (λ s. s) result (placed_some (in_spans ram.now) (in_spans taken.old) rule) }
+    ensures place { IfOk result (IsPlacedIf rule) }
+    ensures taken { IfOk result (λ s. in_spans taken.new ≡ taking_some (in_spans taken.old) s) }
+{
+    match rule {
+        Some(rule) => match place(ram, taken, rule) {
+            Ok(site) => Ok(Some(site)),
+            Err(fault) => Err(fault),
+        },
+        None => Ok(None),
+    }
+}

@@ -1,0 +1,4 @@
+pub mod Fields
+pub mod Bytes
+pub mod Tables
+pub mod Formats

@@ -1,0 +1,14 @@
+-- What a load may have at most. The limits but for that of segments are this project's own.
+use Rattle.std.specs.Prelude.{ℕ}
+
+-- how many segments: KEXEC_SEGMENT_MAX of kexec_load(2)
+abbrev pub segment_limit : ℕ
+segment_limit = 16
+
+-- how many pages the segments may have together
+abbrev pub segment_page_limit : ℕ
+segment_page_limit = 65536
+
+-- how many bytes the file of a kernel may have
+abbrev pub kernel_limit : ℕ
+kernel_limit = 268435456

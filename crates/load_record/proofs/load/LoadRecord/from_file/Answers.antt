@@ -1,0 +1,44 @@
+use Rattle.std.proofs.Common.{◌≡◌, ◌++◌, sym, ◌∙◌, subst, Ok}
+use Rattle.kx_laws.specs.Results.{Gives}
+use Rattle.load_record.specs.declared.fault.RecFault.TheVariants.{Memory}
+use Rattle.load_record.specs.File.{Record, head_tested}
+use Rattle.load_record.proofs.Heads.{good_head, head_found}
+use Rattle.load_record.proofs.InTwo.{head_in_two, behind_in_two}
+use Rattle.load_record.proofs.Reading.{head_fails, segments_fail, reading_ruled, given_found, given_writable}
+use Rattle.load_record.proofs.load.LoadRecord.from_file.Goals as goal
+
+pub returns-in-Err-clause-exact : goal.returns-in-Err-clause-exact
+returns-in-Err-clause-exact c =
+    head_fails (c.args.front.now ++ c.args.rest.items) c.in-Err.fault (c.in-Err.ensures.value ∙ head_in_two c.args.front.now c.args.rest.items c.requires.apart)
+
+pub split_at-requires : goal.split_at-requires
+split_at-requires c = (head_found c.args.front.now c.in-Ok.head (sym c.in-Ok.ensures.value)).long
+
+pub take_segments-requires-clause-some : goal.take_segments-requires-clause-some
+take_segments-requires-clause-some c = (good_head c.in-Ok.head (head_found c.args.front.now c.in-Ok.head (sym c.in-Ok.ensures.value)).good).some
+
+pub take_segments-requires-clause-few : goal.take_segments-requires-clause-few
+take_segments-requires-clause-few c = (good_head c.in-Ok.head (head_found c.args.front.now c.in-Ok.head (sym c.in-Ok.ensures.value)).good).few
+
+pub returns-in-Err-take_segments-clause-exact : goal.returns-in-Err-take_segments-clause-exact
+returns-in-Err-take_segments-clause-exact c =
+    let file = c.args.front.now ++ c.args.rest.items in
+    let head : Ok c.in-Ok.head ≡ head_tested file = c.in-Ok.ensures.value ∙ head_in_two c.args.front.now c.args.rest.items c.requires.apart in
+    let body = behind_in_two c.args.front.now c.args.rest.items c.split_at.result.1.now (head_found c.args.front.now c.in-Ok.head (sym c.in-Ok.ensures.value)).long c.split_at.ensures.back in
+    segments_fail file c.in-Ok.head c.in-Err-take_segments.fault head (rw (body, c.total_of-total.ensures.value, c.deref.ensures.value) at c.in-Err-take_segments.ensures)
+
+pub record_with-requires : goal.record_with-requires
+record_with-requires c = (head_found c.args.front.now c.in-Ok.head (sym c.in-Ok.ensures.value)).good
+
+pub returns-clause-exact : goal.returns-clause-exact
+returns-clause-exact c =
+    let file = c.args.front.now ++ c.args.rest.items in
+    let head : Ok c.in-Ok.head ≡ head_tested file = c.in-Ok.ensures.value ∙ head_in_two c.args.front.now c.args.rest.items c.requires.apart in
+    let body = behind_in_two c.args.front.now c.args.rest.items c.split_at.result.1.now (head_found c.args.front.now c.in-Ok.head (sym c.in-Ok.ensures.value)).long c.split_at.ensures.back in
+    subst (λ d. Gives Memory (λ (r : Record). r) c.record_with.result d) (sym (reading_ruled file c.in-Ok.head c.in-Ok-take_segments.list.items head (rw (body, c.total_of-total.ensures.value, c.deref.ensures.value) at c.in-Ok-take_segments.ensures))) c.record_with.ensures
+
+pub returns-clause-found : goal.returns-clause-found
+returns-clause-found c = given_found (c.args.front.now ++ c.args.rest.items) c.record_with.result (rw c.deref.ensures.value at c.total_of-total.ensures.bytes) (returns-clause-exact c)
+
+pub returns-clause-writable : goal.returns-clause-writable
+returns-clause-writable c = given_writable (c.args.front.now ++ c.args.rest.items) c.record_with.result (rw c.deref.ensures.value at c.total_of-total.ensures.bytes) (returns-clause-exact c)

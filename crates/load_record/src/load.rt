@@ -1,0 +1,131 @@
+//! A load record, and how it is read and written.
+
+ghost use Rattle.std.specs.Prelude.{◌≡◌, ◌<◌, ◌≤◌, ◌++◌, length, None, Ok, IfOk};
+ghost use Rattle.kx_fields.specs.Fields.{AreBytes};
+ghost use Rattle.kx_laws.specs.Results.{Gives};
+ghost use Rattle.segments.specs.Rules.{bare_refusal};
+ghost use Rattle.load_record.specs.Head.{head_fault};
+ghost use Rattle.load_record.specs.File.{IsInTwo, IsWritable, record_reading, record_file, ruled};
+
+use crate::body::{give_segments, put_segments, read_segments, room_of, take_segments};
+use crate::fault::RecFault;
+use crate::head::Head;
+use kx_pages::{Image, Start};
+use segments::{Segment, Segments};
+use std::alloc::{AllocError, Global};
+
+/// How many bytes of a record's file stand before those of its first segment: the head's 96, and the segment's own 24.
+pub const FIRST_BYTES: usize = 120;
+
+/// A load record. This project's own.
+#[derive(Drop)]
+pub struct LoadRecord {
+    /// A crash kernel, which starts when this one crashes (`KEXEC_ON_CRASH` of kexec_load(2)). Its list is empty.
+    pub crash: bool,
+    /// The head word, the mode and the control page, which is page 0 for a crash kernel.
+    pub image: Image,
+    /// The entry address and the registers at the start.
+    pub start: Start,
+    /// The address of the purgatory's region table, 0 without a purgatory.
+    pub regions: u64,
+    /// The address of the purgatory's digest, 0 without a purgatory.
+    pub digest: u64,
+    /// The segments of the new kernel.
+    pub segments: Segments,
+}
+
+impl LoadRecord {
+    /// The record that a file spells, or the first fault of the bytes.
+    pub fn read(alloc: Global, bytes: &[u8]) -> Result<LoadRecord, RecFault>
+        // What it is, or the first fault.
+        ensures exact { Gives RecFault.Memory (λ r. r) result (record_reading bytes.now) }
+        // The bytes are the file of what was read.
+        ensures found { IfOk result (λ r. record_file r ≡ bytes.now) }
+        ensures writable { IfOk result IsWritable }
+    {
+        let head = match Head::read_tested(bytes) {
+            Ok(head) => head,
+            Err(fault) => return Err(fault),
+        };
+        let list = match read_segments(alloc, head.segments, bytes) {
+            Ok(list) => list,
+            Err(fault) => return Err(fault),
+        };
+        record_with(alloc, head, list)
+    }
+
+    /// As `read`, of a file that is handed in, its first `FIRST_BYTES` bytes apart from the others: the buffer of the
+    /// others becomes that of the first segment's bytes, so that these are neither copied nor moved. A file that is
+    /// shorter has no others.
+    pub fn from_file(alloc: Global, front: &[u8], rest: Vec<u8>) -> Result<LoadRecord, RecFault>
+        requires apart { IsInTwo 120 front.now rest.items }
+        ensures exact { Gives RecFault.Memory (λ r. r) result (record_reading (front.now ++ rest.items)) }
+        ensures found { IfOk result (λ r. record_file r ≡ front.now ++ rest.items) }
+        ensures writable { IfOk result IsWritable }
+    {
+        let head = match Head::read_tested(front) {
+            Ok(head) => head,
+            Err(fault) => return Err(fault),
+        };
+        let total = total_of(front, &rest);
+        let (_, own) = front.split_at(96);
+        let list = match take_segments(alloc, total, head.segments, own, rest) {
+            Ok(list) => list,
+            Err(fault) => return Err(fault),
+        };
+        record_with(alloc, head, list)
+    }
+
+    /// The file of the record. A crash record is plain, and its control page is page 0, as in each record that was
+    /// read.
+    pub fn write(&self, alloc: Global) -> Result<Vec<u8>, AllocError>
+        requires { IsWritable self.now }
+        ensures file { IfOk result (λ v. v.items ≡ record_file self.now) }
+        // The file is read as this record.
+        ensures read_back { IfOk result (λ v. record_reading v.items ≡ Ok self.now) }
+    {
+        let mut out = Vec::new(alloc);
+        out.reserve_exact(room_of(self))?;
+        out.extend_from_slice(Head::of(self).block().bytes())?;
+        put_segments(&mut out, &self.segments)?;
+        Ok(out)
+    }
+}
+
+impl LoadRecord {
+    /// As `write`, of a record that is given up: its file is made in the buffer of the first segment's bytes, so that
+    /// these never lie in memory twice.
+    pub fn into_file(self) -> Result<Vec<u8>, AllocError>
+        requires { IsWritable self }
+        ensures file { IfOk result (λ v. v.items ≡ record_file self) }
+        ensures read_back { IfOk result (λ v. record_reading v.items ≡ Ok self) }
+    {
+        let room = room_of(&self);
+        let head = Head::of(&self).block();
+        let list = self.segments.into_list();
+        let file = give_segments(head.bytes(), list, room)?;
+        Ok(file)
+    }
+}
+
+// How many bytes a file has that is handed in in two parts.
+fn total_of(front: &[u8], rest: &[u8]) -> u64
+    requires { length front.now ≤ 120 }
+    ensures value { result ≡ length (front.now ++ rest.now) }
+    // As their type says. A caller that has handed them on knows it no more.
+    ensures bytes { AreBytes (front.now ++ rest.now) }
+{
+    (front.len() + rest.len()) as u64
+}
+
+// The record of a tested head and these segments, which are tested by the rules.
+fn record_with(alloc: Global, head: Head, list: Vec<Segment>) -> Result<LoadRecord, RecFault>
+    requires { head_fault head ≡ None }
+    ensures { Gives RecFault.Memory (λ r. r) result
+        (ruled head list.items (bare_refusal list.items)) }
+{
+    match Segments::bare(alloc, list) {
+        Ok(segments) => Ok(head.record(segments)),
+        Err(fault) => Err(RecFault::from(fault)),
+    }
+}

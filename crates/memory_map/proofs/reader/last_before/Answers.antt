@@ -1,5 +1,0 @@
-use Rattle.memory_map.proofs.Index.{less_is, not_less}
-use Rattle.memory_map.proofs.reader.last_before.Goals as goal
-
-pub returns-in-Some-clause-last : goal.returns-in-Some-clause-last
-returns-in-Some-clause-last c = λ q below some. not_less c.in-Some.start.now q ((c.range.ensures.in_range tt).4 _ _ c.in-Some.ensures.steps q (tt, less_is q c.args.end below) some)

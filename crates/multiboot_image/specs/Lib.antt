@@ -1,0 +1,5 @@
+pub mod Header
+pub mod Parts
+pub mod MapRows
+pub mod Modules
+pub mod Info

@@ -1,0 +1,17 @@
+pub mod Ending
+pub mod Laying
+pub mod Taking
+pub mod Putting
+pub mod Found
+pub mod Relocating
+pub mod Linking
+pub mod Naming
+pub mod Bytes
+pub mod Meaning
+pub mod Digesting
+pub mod Testing
+pub mod Wanted
+pub mod Tying
+pub mod Standing
+pub mod Replacing
+pub mod Placing

@@ -1,0 +1,20 @@
+-- What is wanted of a page is a whole page.
+use Rattle.std.proofs.Common.{◌≡◌, ℕ, ◌-◌, ◌*◌, List, [], ◌∷◌, length, take, Some, Bool, true, false, refl, sym, ap, ◌∙◌, arith, length-append}
+use Rattle.std.specs.Prelude.{replicate}
+use Rattle.std.proofs.lemmas.Option.{none-some}
+use Rattle.std.proofs.lemmas.List.{length-take, length-replicate}
+use Rattle.kx_laws.proofs.Options.{some_same}
+use Rattle.page_memory.specs.Contents.{page_of}
+use Rattle.segments.specs.Values.{SegmentValue, is_page_of_segment, bytes_from, want}
+
+pub length-page_of : (xs : List ℕ) → length (page_of xs) ≡ 4096
+unfolding page_of
+length-page_of xs = omega (arith, length-append {A = ℕ} (take 4096 xs) (replicate (4096 - length xs) 0), length-take 4096 xs, length-replicate {A = ℕ} (4096 - length xs) 0)
+
+pub length-want : (ss : List SegmentValue) (p : ℕ) (bytes : List ℕ) → want ss p ≡ Some bytes → length bytes ≡ 4096
+length-want [] p bytes e = absurd (none-some bytes e)
+length-want (s ∷ ss) p bytes e = go (is_page_of_segment s p) refl (length-want ss p bytes)
+  where
+    go : (b : Bool) → is_page_of_segment s p ≡ b → (want ss p ≡ Some bytes → length bytes ≡ 4096) → length bytes ≡ 4096
+    go true t ih = let e2 : Some (page_of (bytes_from s p)) ≡ Some bytes = rw t at e in ap length (sym (some_same _ _ e2)) ∙ length-page_of (bytes_from s p)
+    go false t ih = ih (rw t at e)

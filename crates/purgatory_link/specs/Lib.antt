@@ -1,0 +1,12 @@
+pub mod Sym
+pub mod Layout
+pub mod Symbols
+pub mod Formulas
+pub mod Relocs
+pub mod Index
+pub mod Link
+pub mod Set
+pub mod Meaning
+pub mod Regions
+pub mod RegionTest
+pub mod Tie

@@ -1,0 +1,64 @@
+use crate::{Linked, link, size};
+use elf_image::read_object;
+use std::alloc::Global;
+use std::test::Fail;
+
+/// Where the object is linked.
+const BASE: u64 = 0x10000;
+
+// Puts bytes into a file.
+fn put(file: &mut [u8], at: usize, bytes: &[u8]) {
+    for (i, b) in bytes.iter().enumerate() {
+        if let Some(place) = file.get_mut(at.saturating_add(i)) {
+            *place = *b;
+        }
+    }
+}
+
+// A section header with this type, flags, offset, size, sh_link and sh_info, and entries of 24 bytes.
+fn put_section(file: &mut [u8], at: usize, [kind, flags, offset, size, link, info]: [u8; 6]) {
+    put(file, at.saturating_add(4), &[kind]);
+    put(file, at.saturating_add(8), &[flags]);
+    put(file, at.saturating_add(24), &[offset]);
+    put(file, at.saturating_add(32), &[size]);
+    put(file, at.saturating_add(40), &[link]);
+    put(file, at.saturating_add(44), &[info]);
+    put(file, at.saturating_add(56), &[24]);
+}
+
+// An object of 472 bytes: 8 loaded bytes, a relocation of the first four by symbol 1, which is at byte 4 of them, the
+// symbol table and its strings.
+fn object(alloc: Global) -> Result<Vec<u8>, Fail> {
+    let mut file = vec![in alloc; 0u8; 472]?;
+    put(&mut file, 0, &[0x7f, b'E', b'L', b'F', 2, 1, 1]);
+    put(&mut file, 16, &[1, 0, 62, 0]);
+    put(&mut file, 40, &[152]);
+    put(&mut file, 58, &[64, 0, 5]);
+    put(&mut file, 64, &[7; 8]);
+    put_section(&mut file, 216, [1, 2, 64, 8, 0, 0]);
+    put_section(&mut file, 280, [4, 0, 72, 24, 3, 1]);
+    put_section(&mut file, 344, [2, 0, 96, 48, 4, 0]);
+    put_section(&mut file, 408, [3, 0, 144, 7, 0, 0]);
+    // R_X86_64_32.
+    put(&mut file, 72, &[0, 0, 0, 0, 0, 0, 0, 0, 10, 0, 0, 0, 1]);
+    put(&mut file, 120, &[1, 0, 0, 0, 0x10, 0, 1, 0, 4]);
+    put(&mut file, 144, b"\0entry\0");
+    Ok(file)
+}
+
+// What a file of an object is, linked: nothing stands between reader and linker.
+fn linked(alloc: Global, file: &[u8]) -> Result<Linked, Fail> {
+    let object = read_object(alloc, file)?;
+    size(&object)?;
+    Ok(link(alloc, &object, file, BASE)?)
+}
+
+#[test]
+fn a_file_is_read_and_linked(rt: HostRuntime) -> Result<(), Fail> {
+    let file = object(rt.alloc())?;
+    let linked = linked(rt.alloc(), &file)?;
+    assert_eq!(rt; linked.symbol(b"entry"), Some((BASE + 4, 0)));
+    let front = linked.bytes.get(..8).ok_or("the loaded bytes")?;
+    assert_eq!(rt; front, [4, 0, 1, 0, 7, 7, 7, 7].as_slice());
+    Ok(())
+}
