@@ -1,2 +1,3 @@
 pub mod Ram
 pub mod Holes
+pub mod Steps

@@ -2,6 +2,10 @@
 use Rattle.std.specs.Prelude.{Result, Ok, Err}
 use Rattle.elf_image.specs.declared.fault.ElfFault.{ElfFault}
 use Rattle.elf_image.specs.declared.fault.ElfFault.TheVariants as elf
+use Rattle.bzimage.specs.declared.fault.BzFault.{BzFault}
+use Rattle.bzimage.specs.declared.fault.BzFault.TheVariants as bz
+use Rattle.boot_params.specs.declared.fault.ParamsFault.{ParamsFault}
+use Rattle.boot_params.specs.declared.fault.ParamsFault.TheVariants as params
 use Rattle.kexec_plan.specs.declared.fault.PlanFault.{PlanFault}
 use Rattle.kexec_plan.specs.declared.fault.PlanFault.TheVariants as faults
 
@@ -13,3 +17,11 @@ told_by of (Err e) = Err (of e)
 abbrev pub of_elf : ElfFault → PlanFault
 of_elf elf.Memory = faults.Memory
 of_elf e = faults.Elf e
+
+abbrev pub of_bzimage : BzFault → PlanFault
+of_bzimage bz.Memory = faults.Memory
+of_bzimage e = faults.Bzimage e
+
+abbrev pub of_params : ParamsFault → PlanFault
+of_params params.Memory = faults.Memory
+of_params e = faults.Params e

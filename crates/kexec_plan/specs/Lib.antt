@@ -5,6 +5,8 @@ pub mod Rules
 pub mod Parts
 pub mod Holes
 pub mod Places
+pub mod Table
 pub mod Faults
 pub mod Kernels
+pub mod Linux
 pub mod Plan

@@ -1,8 +1,10 @@
 //! Why a request has no plan.
 
 ghost use Rattle.std.specs.Prelude.{◌≡◌};
-ghost use Rattle.kexec_plan.specs.Faults.{of_elf};
+ghost use Rattle.kexec_plan.specs.Faults.{of_elf, of_bzimage, of_params};
 
+use boot_params::ParamsFault;
+use bzimage::BzFault;
 use elf_image::ElfFault;
 use segments::SegFault;
 use std::alloc::AllocError;
@@ -52,6 +54,12 @@ pub enum PlanFault {
     /// The kernel or the purgatory is no ELF file that can be loaded.
     #[error("{fault}")]
     Elf { fault: ElfFault },
+    /// The kernel is no bzImage that can be loaded.
+    #[error("{fault}")]
+    Bzimage { fault: BzFault },
+    /// The boot parameters cannot be made.
+    #[error("{fault}")]
+    Params { fault: ParamsFault },
     /// The segments are refused.
     #[error("the kernel cannot be placed: {fault}")]
     Segments { fault: SegFault },
@@ -74,6 +82,26 @@ impl PlanFault {
         match fault {
             ElfFault::Memory => PlanFault::Memory,
             _ => PlanFault::Elf { fault },
+        }
+    }
+
+    /// What a fault of a bzImage is here.
+    pub(crate) fn of_bzimage(fault: BzFault) -> PlanFault
+        ensures { result ≡ of_bzimage fault }
+    {
+        match fault {
+            BzFault::Memory => PlanFault::Memory,
+            _ => PlanFault::Bzimage { fault },
+        }
+    }
+
+    /// What a fault of boot parameters is here.
+    pub(crate) fn of_params(fault: ParamsFault) -> PlanFault
+        ensures { result ≡ of_params fault }
+    {
+        match fault {
+            ParamsFault::Memory => PlanFault::Memory,
+            _ => PlanFault::Params { fault },
         }
     }
 }

@@ -8,11 +8,14 @@
 mod fault;
 mod format;
 mod kernels;
+mod linux;
+mod linux_sites;
 mod parts;
 mod places;
 mod planning;
 mod request;
 mod rules;
+mod table;
 
 pub use fault::{Part, PlanFault};
 pub use planning::plan;

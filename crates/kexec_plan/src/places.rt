@@ -1,14 +1,17 @@
 //! Places of the parts of a plan.
 
-ghost use Rattle.std.specs.Prelude.{◌≡◌, ◌+◌, ◌*◌, ◌<◌, ◌≤◌, ◌^◌, ℕ, max, IfOk, IfSome, OnOk};
+ghost use Rattle.std.specs.Prelude.{◌≡◌, ◌+◌, ◌*◌, ◌<◌, ◌≤◌, ◌^◌, ℕ, max, None, IfOk, IfSome, OnOk};
 ghost use Rattle.kx_laws.specs.Results.{Gives};
 ghost use Rattle.kx_pages.specs.Spans.{in_span, in_spans};
 ghost use Rattle.kexec_plan.specs.Parts.{part_size};
-ghost use Rattle.kexec_plan.specs.Places.{placed, placed_some, taking, taking_some, pages_at, IsPlacedBy, IsPlacedIf};
+ghost use Rattle.kexec_plan.specs.Requests.{lent};
+ghost use Rattle.kexec_plan.specs.Places.{searched, nothing, placed, placed_some, taking, taking_some, pages_at, IsPlacedBy, IsPlacedIf};
 
 use crate::fault::{Part, PlanFault};
 use hole_search::{End, find};
 use kx_pages::{ADDRESS_LIMIT, PAGE_SIZE, PageSet, Span};
+use memory_map::Map;
+use segments::Kind;
 use std::alloc::{AllocError, Global};
 
 /// Where a part lies: whole pages.
@@ -44,6 +47,35 @@ pub(crate) fn part_size(length: u64) -> u64
 {
     let pages = (length + (PAGE_SIZE - 1)) / PAGE_SIZE;
     PAGE_SIZE.max(PAGE_SIZE * pages)
+}
+
+/// No page.
+pub(crate) fn no_pages(alloc: Global) -> PageSet
+    ensures { in_spans result ≡ nothing }
+{
+    PageSet::new(alloc)
+}
+
+/// The area of a crash load, and else no page.
+pub(crate) fn area_pages(alloc: Global, kind: &Kind) -> Result<PageSet, AllocError>
+    ensures { IfOk result (λ s. (q : ℕ) → in_spans s q ≡ searched None kind.now q) }
+{
+    let mut area_pages = PageSet::new(alloc);
+    if let Kind::Crash { area } = kind {
+        area_pages.add(*area)?;
+    }
+    Ok(area_pages)
+}
+
+/// The pages that are searched: the map's RAM, or the area in a crash load.
+pub(crate) fn searched<'a>(map: Option<&'a Map>, kind: &Kind, area: &'a PageSet) -> &'a PageSet
+    requires { (q : ℕ) → in_spans area.now q ≡ searched None kind.now q }
+    ensures { in_spans result.now ≡ searched (lent map.entry) kind.now }
+{
+    match (map, kind) {
+        (Some(map), Kind::Normal) => map.ram(),
+        _ => area,
+    }
 }
 
 // The place of a part by its rule, in RAM that is not taken.

@@ -1,18 +1,26 @@
 //! The plan of a request.
 
-ghost use Rattle.std.specs.Prelude.{◌≡◌};
+ghost use Rattle.std.specs.Prelude.{◌≡◌, length};
 ghost use Rattle.kx_laws.specs.Results.{Gives};
 ghost use Rattle.kexec_plan.specs.Requests.{request_of, planned_of, lent, IsMapped};
+ghost use Rattle.kx_pages.specs.Spans.{in_spans};
+ghost use Rattle.bzimage.specs.Kernel.{IsSound};
+ghost use Rattle.kexec_plan.specs.Linux.{AreLow};
+ghost use Rattle.kexec_plan.specs.Places.{searched};
 ghost use Rattle.kexec_plan.specs.Formats.{area_of, crash_kind, kind_of};
-ghost use Rattle.kexec_plan.specs.Plan.{plain_plan, raw_plan, elf_plan, plan_as, plan, IsServed};
+ghost use Rattle.kexec_plan.specs.Plan.{plain_plan, raw_plan, elf_plan, linux_made, linux_placed, linux_plan, plan_as, plan, IsServed};
 
 use crate::fault::PlanFault;
 use crate::format::{Format, format_of, unused_part};
 use crate::kernels::{Kernel, read_elf};
+use crate::linux::{linux_parts, linux_start, rows_of};
+use crate::linux_sites::{LinuxSites, linux_sites};
 use crate::parts::{raw_list, start_at};
+use crate::places::{area_pages, searched};
 use crate::request::{Planned, Request};
 use crate::rules::tested;
-use kx_pages::Start;
+use bzimage::BzImage;
+use kx_pages::{PageSet, Start};
 use memory_map::Map;
 use segments::{Kind, Segment};
 use std::alloc::Global;
@@ -49,11 +57,11 @@ fn kind_of(request: &Request, map: Option<&Map>, format: Format) -> Result<Kind,
 fn plain_plan(
     alloc: Global,
     map: Option<&Map>,
-    kind: Kind,
+    kind: &Kind,
     list: Vec<Segment>,
     start: Start,
 ) -> Result<Planned, PlanFault>
-    ensures { Gives PlanFault.Memory planned_of result (plain_plan (lent map.entry) kind list.items start) }
+    ensures { Gives PlanFault.Memory planned_of result (plain_plan (lent map.entry) kind.now list.items start) }
 {
     match tested(alloc, map, kind, list) {
         Ok(segments) => Ok(Planned {
@@ -71,11 +79,11 @@ fn raw_plan(
     alloc: Global,
     request: Request,
     map: Option<&Map>,
-    kind: Kind,
+    kind: &Kind,
     at: u64,
     entry: u64,
 ) -> Result<Planned, PlanFault>
-    ensures { Gives PlanFault.Memory planned_of result (raw_plan (request_of request) (lent map.entry) kind at entry) }
+    ensures { Gives PlanFault.Memory planned_of result (raw_plan (request_of request) (lent map.entry) kind.now at entry) }
 {
     let list = raw_list(alloc, at, request.kernel)?;
     plain_plan(alloc, map, kind, list, start_at(entry))
@@ -87,9 +95,9 @@ fn elf_plan(
     alloc: Global,
     request: Request,
     map: Option<&Map>,
-    kind: Kind,
+    kind: &Kind,
 ) -> Result<Planned, PlanFault>
-    ensures { Gives PlanFault.Memory planned_of result (elf_plan (request_of request) (lent map.entry) kind) }
+    ensures { Gives PlanFault.Memory planned_of result (elf_plan (request_of request) (lent map.entry) kind.now) }
 {
     let Kernel { list, entry } = match read_elf(alloc, &request.kernel) {
         Ok(kernel) => kernel,
@@ -98,20 +106,84 @@ fn elf_plan(
     plain_plan(alloc, map, kind, list, start_at(entry))
 }
 
+// Makes the parts of a bzImage at their places.
+#[tactic(auto, unfolding(crate::specs::Plan::linux_made))]
+fn linux_made(
+    alloc: Global,
+    image: &BzImage,
+    request: Request,
+    map: Option<&Map>,
+    kind: &Kind,
+    sites: &LinuxSites,
+) -> Result<Planned, PlanFault>
+    requires sound { IsSound (length request.kernel.items) image.now }
+    requires low { AreLow sites.now }
+    ensures { Gives PlanFault.Memory planned_of result
+        (linux_made image.now (request_of request) (lent map.entry) kind.now sites.now) }
+{
+    let list = match linux_parts(alloc, image, request, rows_of(map, kind), sites) {
+        Ok(list) => list,
+        Err(fault) => return Err(fault),
+    };
+    plain_plan(alloc, map, kind, list, linux_start(sites))
+}
+
+// Places the parts of a bzImage, and makes them.
+#[tactic(auto, unfolding(crate::specs::Plan::linux_placed))]
+fn linux_placed(
+    alloc: Global,
+    image: &BzImage,
+    request: Request,
+    map: Option<&Map>,
+    kind: &Kind,
+    ram: &PageSet,
+) -> Result<Planned, PlanFault>
+    requires sound { IsSound (length request.kernel.items) image.now }
+    ensures { Gives PlanFault.Memory planned_of result
+        (linux_placed (in_spans ram.now) image.now (request_of request) (lent map.entry) kind.now) }
+{
+    let sites = match linux_sites(alloc, ram, image, &request, None) {
+        Ok(sites) => sites,
+        Err(fault) => return Err(fault),
+    };
+    linux_made(alloc, image, request, map, kind, &sites)
+}
+
+// The plan of a bzImage.
+#[tactic(auto, unfolding(crate::specs::Plan::linux_plan))]
+fn linux_plan(
+    alloc: Global,
+    request: Request,
+    map: Option<&Map>,
+    kind: &Kind,
+    ram: &PageSet,
+) -> Result<Planned, PlanFault>
+    ensures { Gives PlanFault.Memory planned_of result
+        (linux_plan (in_spans ram.now) (request_of request) (lent map.entry) kind.now) }
+{
+    let image = match bzimage::read(alloc, &request.kernel) {
+        Ok(image) => image,
+        Err(fault) => return Err(PlanFault::of_bzimage(fault)),
+    };
+    linux_placed(alloc, &image, request, map, kind, ram)
+}
+
 // The plan of a kernel of this form.
 fn plan_as(
     alloc: Global,
     request: Request,
     map: Option<&Map>,
-    kind: Kind,
+    kind: &Kind,
+    ram: &PageSet,
     format: Format,
 ) -> Result<Planned, PlanFault>
-    ensures { Gives PlanFault.Memory planned_of result (plan_as (request_of request) (lent map.entry) kind format) }
+    ensures { Gives PlanFault.Memory planned_of result (plan_as (in_spans ram.now) (request_of request) (lent map.entry) kind.now format) }
 {
     match format {
         Format::Raw { at, entry } => raw_plan(alloc, request, map, kind, at, entry),
         Format::Elf => elf_plan(alloc, request, map, kind),
-        Format::Bzimage | Format::Multiboot => Err(PlanFault::UnknownImage),
+        Format::Bzimage => linux_plan(alloc, request, map, kind, ram),
+        Format::Multiboot => Err(PlanFault::UnknownImage),
     }
 }
 
@@ -137,5 +209,7 @@ pub fn plan(alloc: Global, request: Request, map: Option<&Map>) -> Result<Planne
         Some(part) => return Err(PlanFault::Unused { part }),
         None => {}
     }
-    plan_as(alloc, request, map, kind, format)
+    let area = area_pages(alloc, &kind)?;
+    let ram = searched(map, &kind, &area);
+    plan_as(alloc, request, map, &kind, ram, format)
 }

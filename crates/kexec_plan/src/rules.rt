@@ -16,16 +16,16 @@ use std::alloc::Global;
 fn test_all(
     alloc: Global,
     map: Option<&Map>,
-    kind: Kind,
+    kind: &Kind,
     list: Vec<Segment>,
 ) -> Result<Segments, SegFault>
-    ensures { Answers list.items (first_refusal (lent map.entry) kind list.items) result }
+    ensures { Answers list.items (first_refusal (lent map.entry) kind.now list.items) result }
 {
     match map {
         Some(map) => {
             let ram = map.ram();
             let _spans = ram.spans();
-            Segments::new(alloc, list, ram, kind)
+            Segments::new(alloc, list, ram, *kind)
         }
         None => Segments::bare(alloc, list),
     }
@@ -36,10 +36,10 @@ fn test_all(
 pub(crate) fn tested(
     alloc: Global,
     map: Option<&Map>,
-    kind: Kind,
+    kind: &Kind,
     list: Vec<Segment>,
 ) -> Result<Segments, PlanFault>
-    ensures { Gives PlanFault.Memory (λ s. s) result (tested (lent map.entry) kind list.items) }
+    ensures { Gives PlanFault.Memory (λ s. s) result (tested (lent map.entry) kind.now list.items) }
 {
     match test_all(alloc, map, kind, list) {
         Ok(segments) => Ok(segments),

@@ -59,7 +59,8 @@ impl LoadRecord {
     /// shorter has no others.
     pub fn from_file(alloc: Global, front: &[u8], rest: Vec<u8>) -> Result<LoadRecord, RecFault>
         requires apart { IsInTwo 120 front.now rest.items }
-        ensures exact { Gives RecFault.Memory (λ r. r) result (record_reading (front.now ++ rest.items)) }
+        ensures exact { Gives RecFault.Memory (λ r. r) result
+            (record_reading (front.now ++ rest.items)) }
         ensures found { IfOk result (λ r. record_file r ≡ front.now ++ rest.items) }
         ensures writable { IfOk result IsWritable }
     {

@@ -2,7 +2,6 @@
 use Rattle.std.proofs.Common.{◌≡◌, ℕ, List, length, sym, ap, ◌∙◌, subst, Result, Ok, Err}
 use Rattle.std.specs.Prelude.{IfOk}
 use Rattle.kx_pages.specs.declared.image.Image.{Image}
-use Rattle.kx_pages.specs.declared.item.Item.{Item}
 use Rattle.page_memory.specs.Contents.{at}
 use Rattle.page_memory.specs.Memory.{Mem}
 use Rattle.segments.specs.Values.{SegmentValue, overlay, want}
@@ -10,7 +9,7 @@ use Rattle.list_checker.specs.Walk.{IsAccepted, links, pairs}
 use Rattle.list_checker.proofs.Unique.{walk_same}
 use Rattle.load_states.specs.Exchange.{exchange}
 use Rattle.load_states.specs.Ready.{Told}
-use Rattle.load_states.specs.Runs.{IsSameCheck, IsSameLoad, TellsAlike, checked_in}
+use Rattle.load_states.specs.Runs.{TellsAlike, checked_in}
 use Rattle.load_states.specs.Answers.{IsAcceptedAs}
 use Rattle.load_states.specs.declared.accepted.Accepted.{Accepted}
 use Rattle.load_states.specs.declared.accepted.Accepted.TheVariants as variants

@@ -86,43 +86,44 @@ state_at mode a t m = record { machine = record { first = None; cursor = a; dest
 no_held : (m : Contents) → AreHeld m (record { destination = None; source = None; swap = None })
 no_held m = (tt, tt, tt)
 
--- what a step does, and that what it writes is held
-abbrev Steps : State → State × Step → Type 0
-Steps s p = (step_of s ≡ p) × HoldsWrites s
+-- What a step does, and that what it writes is held where H is so: the machine's steps are told of any memory, and also of
+-- one that holds the pages.
+abbrev Steps : Type 0 → State → State × Step → Type 0
+Steps H s p = (step_of s ≡ p) × (H → HoldsWrites s)
 
-step-destination : (mode : Mode) (a t p : ℕ) (m : Contents) → a / 4096 < 2 ^ 34 → word (at m) a ≡ code (Destination p) → Steps (state_at mode a t m) (state_at mode (a + 8) p m, steps.Went)
+step-destination : (H : Type 0) (mode : Mode) (a t p : ℕ) (m : Contents) → a / 4096 < 2 ^ 34 → word (at m) a ≡ code (Destination p) → Steps H (state_at mode a t m) (state_at mode (a + 8) p m, steps.Went)
 unfolding step_of writes_of
-step-destination mode a t p m l e =
+step-destination H mode a t p m l e =
     let near : nat_le (2 ^ 46) a ≡ false = grind (arith, nat_tests) in
     let w : word (at m) a ≡ 4096 * p + 1 = e in
     let k = kind-destination p in
     let x = masked-destination p in
-    (rw (near, w, k, x) refl, rw (near, w, k) (no_held m))
+    (rw (near, w, k, x) refl, λ h. rw (near, w, k) (no_held m))
 
-step-link : (mode : Mode) (a t p : ℕ) (m : Contents) → a / 4096 < 2 ^ 34 → word (at m) a ≡ code (Link p) → Steps (state_at mode a t m) (state_at mode (4096 * p) t m, steps.Went)
+step-link : (H : Type 0) (mode : Mode) (a t p : ℕ) (m : Contents) → a / 4096 < 2 ^ 34 → word (at m) a ≡ code (Link p) → Steps H (state_at mode a t m) (state_at mode (4096 * p) t m, steps.Went)
 unfolding step_of writes_of
-step-link mode a t p m l e =
+step-link H mode a t p m l e =
     let near : nat_le (2 ^ 46) a ≡ false = grind (arith, nat_tests) in
     let w : word (at m) a ≡ 4096 * p + 2 = e in
     let k = kind-link p in
     let x = masked-link p in
-    (rw (near, w, k, x) refl, rw (near, w, k) (no_held m))
+    (rw (near, w, k, x) refl, λ h. rw (near, w, k) (no_held m))
 
 -- the state after the end
 abbrev end_at : Mode → ℕ → ℕ → Contents → State
 end_at mode a t m = record { machine = record { first = None; cursor = a; destination = 4096 * t; ended = true; mode = mode }; memory = m }
 
-step-done : (mode : Mode) (a t p : ℕ) (m : Contents) → a / 4096 < 2 ^ 34 → word (at m) a ≡ code (Done p) → Steps (state_at mode a t m) (end_at mode (a + 8) t m, steps.Ended)
+step-done : (H : Type 0) (mode : Mode) (a t p : ℕ) (m : Contents) → a / 4096 < 2 ^ 34 → word (at m) a ≡ code (Done p) → Steps H (state_at mode a t m) (end_at mode (a + 8) t m, steps.Ended)
 unfolding step_of writes_of
-step-done mode a t p m l e =
+step-done H mode a t p m l e =
     let near : nat_le (2 ^ 46) a ≡ false = grind (arith, nat_tests) in
     let w : word (at m) a ≡ 4096 * p + 4 = e in
     let k = kind-done p in
-    (rw (near, w, k) refl, rw (near, w, k) (no_held m))
+    (rw (near, w, k) refl, λ h. rw (near, w, k) (no_held m))
 
-step-source : (mode : Mode) (a t p : ℕ) (m : Contents) → a / 4096 < 2 ^ 34 → p < 2 ^ 34 → t < 2 ^ 34 → AreHeld m (move_writes mode t p) → word (at m) a ≡ code (Source p) → Steps (state_at mode a t m) (state_at mode (a + 8) (suc t) (after_move mode m t p), steps.Went)
+step-source : (H : Type 0) (mode : Mode) (a t p : ℕ) (m : Contents) → a / 4096 < 2 ^ 34 → p < 2 ^ 34 → t < 2 ^ 34 → (H → AreHeld m (move_writes mode t p)) → word (at m) a ≡ code (Source p) → Steps H (state_at mode a t m) (state_at mode (a + 8) (suc t) (after_move mode m t p), steps.Went)
 unfolding step_of writes_of
-step-source mode a t p m l lp lt held e =
+step-source H mode a t p m l lp lt held e =
     let near : nat_le (2 ^ 46) a ≡ false = grind (arith, nat_tests) in
     let near_p : nat_le (2 ^ 46) (4096 * p) ≡ false = grind (arith, nat_tests) in
     let near_t : nat_le (2 ^ 46) (4096 * t) ≡ false = grind (arith, nat_tests) in
@@ -132,44 +133,44 @@ step-source mode a t p m l lp lt held e =
     let dp : 4096 * p / 4096 ≡ p = omega arith in
     let dt : 4096 * t / 4096 ≡ t = omega arith in
     let next : 4096 * t + 4096 ≡ 4096 * suc t = omega arith in
-    (rw (near, w, k, x, near_p, near_t, dp, dt, next) refl, rw (near, w, k, x, near_p, near_t, dp, dt) held)
+    (rw (near, w, k, x, near_p, near_t, dp, dt, next) refl, λ h. rw (near, w, k, x, near_p, near_t, dp, dt) (held h))
 
--- from s the run ends after exactly n more steps, leaves M, and each page that it writes is held
-pub record Comes (n k : ℕ) (s : State) (M : Mem) : Type 0 where
+-- from s the run ends after exactly n more steps and leaves M; each page that it writes is held, where H is so
+pub record Comes (H : Type 0) (n k : ℕ) (s : State) (M : Mem) : Type 0 where
   pub out : (run_from n k s).1 ≡ outcomes.Done (k + n)
   pub leaves : (p : ℕ) → at (run_from n k s).0.memory p ≡ M p
   pub sets : (run_from n k s).0.memory.sets ≡ s.memory.sets
-  pub held : HeldFrom n s
+  pub held : H → HeldFrom n s
   pub stay : (q : ℕ) → IsHeld s.memory q → IsHeld (run_from n k s).0.memory q
 
-one_more : (n k : ℕ) (s t : State) (M : Mem) → Steps s (t, steps.Went) → t.memory.sets ≡ s.memory.sets → ((q : ℕ) → IsHeld s.memory q → IsHeld t.memory q) → Comes n (k + 1) t M → Comes (suc n) k s M
+one_more : (H : Type 0) (n k : ℕ) (s t : State) (M : Mem) → Steps H s (t, steps.Went) → t.memory.sets ≡ s.memory.sets → ((q : ℕ) → IsHeld s.memory q → IsHeld t.memory q) → Comes H n (k + 1) t M → Comes H (suc n) k s M
 unfolding run_from HeldFrom
-one_more n k s t M st same stay f =
+one_more H n k s t M st same stay f =
     let e = ap (run_after k (λ t. run_from n (k + 1) t)) st.0 in
     let count : k + 1 + n ≡ k + suc n = omega arith in
     record {
       out = ap (λ r. r.1) e ∙ f.out ∙ ap outcomes.Done count;
       leaves = λ p. ap (λ r. at r.0.memory p) e ∙ f.leaves p;
       sets = ap (λ r. r.0.memory.sets) e ∙ f.sets ∙ same;
-      held = (st.1, subst (HeldAfter (λ t. HeldFrom n t)) (sym st.0) f.held);
+      held = λ h. (st.1 h, subst (HeldAfter (λ t. HeldFrom n t)) (sym st.0) (f.held h));
       stay = λ q h. subst (λ r. IsHeld r.0.memory q) (sym e) (f.stay q (stay q h));
     }
 
-last_one : (k : ℕ) (s t : State) → Steps s (t, steps.Ended) → t.memory ≡ s.memory → Comes 1 k s (at s.memory)
+last_one : (H : Type 0) (k : ℕ) (s t : State) → Steps H s (t, steps.Ended) → t.memory ≡ s.memory → Comes H 1 k s (at s.memory)
 unfolding run_from HeldFrom
-last_one k s t st same =
+last_one H k s t st same =
     let e = ap (run_after k (λ t. run_from 0 (k + 1) t)) st.0 in
     record {
       out = ap (λ r. r.1) e;
       leaves = λ p. ap (λ r. at r.0.memory p) e ∙ ap (λ m. at m p) same;
       sets = ap (λ r. r.0.memory.sets) e ∙ ap (λ m. m.sets) same;
-      held = (st.1, subst (HeldAfter (λ t. HeldFrom 0 t)) (sym st.0) tt);
+      held = λ h. (st.1 h, subst (HeldAfter (λ t. HeldFrom 0 t)) (sym st.0) tt);
       stay = λ q h. subst (λ r. IsHeld r.0.memory q) (sym e) (subst (λ m. IsHeld m q) (sym same) h);
     }
 
 -- the same to an alike memory
-alike : (n k : ℕ) (s : State) (M N : Mem) → ((p : ℕ) → M p ≡ N p) → Comes n k s M → Comes n k s N
-alike n k s M N h f = record { out = f.out; leaves = λ p. f.leaves p ∙ h p; sets = f.sets; held = f.held; stay = f.stay }
+alike : (H : Type 0) (n k : ℕ) (s : State) (M N : Mem) → ((p : ℕ) → M p ≡ N p) → Comes H n k s M → Comes H n k s N
+alike H n k s M N h f = record { out = f.out; leaves = λ p. f.leaves p ∙ h p; sets = f.sets; held = f.held; stay = f.stay }
 
 at_copied : (m : Contents) (d s q : ℕ) → at (copied m d s) q ≡ copied_page (at m) s d q
 at_copied m d s q = by_test (eqb q d) refl
@@ -203,99 +204,100 @@ still_held Plain m n d s stay h = (stay d h.0, tt, tt)
 still_held (Kept w) m n d s stay h = (stay d h.0, stay s h.1, stay w h.2)
 
 -- what a pair's move needs
-abbrev pub Ready : Mode → Contents → (ℕ → Type 0) → ℕ × ℕ → Type 0
-Ready mode m K q = (q.0 < 2 ^ 34) × AreHeld m (move_writes mode q.0 q.1) × ((p : ℕ) → K p → Spares mode q p)
+abbrev pub Ready : Type 0 → Mode → Contents → (ℕ → Type 0) → ℕ × ℕ → Type 0
+Ready H mode m K q = (q.0 < 2 ^ 34) × (H → AreHeld m (move_writes mode q.0 q.1)) × ((p : ℕ) → K p → Spares mode q p)
 
-still_ready : (mode : Mode) (m : Contents) (K : ℕ → Type 0) (d s : ℕ) (qs : List (ℕ × ℕ)) → Each (Ready mode m K) qs → Each (Ready mode (after_move mode m d s) K) qs
-still_ready mode m K d s [] h = tt
-still_ready mode m K d s (q ∷ qs) h = ((h.0.0, still_held mode m (after_move mode m d s) q.0 q.1 (stays_moved mode m d s) h.0.1, h.0.2), still_ready mode m K d s qs h.1)
+still_ready : (H : Type 0) (mode : Mode) (m : Contents) (K : ℕ → Type 0) (d s : ℕ) (qs : List (ℕ × ℕ)) → Each (Ready H mode m K) qs → Each (Ready H mode (after_move mode m d s) K) qs
+still_ready H mode m K d s [] h = tt
+still_ready H mode m K d s (q ∷ qs) h =
+    ((h.0.0, λ x. still_held mode m (after_move mode m d s) q.0 q.1 (stays_moved mode m d s) (h.0.1 x), h.0.2), still_ready H mode m K d s qs h.1)
 
 -- K says which pages hold the list
-finishes : (mode : Mode) (M₀ : Mem) (K : ℕ → Type 0) (is : List Item) (a t k : ℕ) (m : Contents)
+finishes : (H : Type 0) (mode : Mode) (M₀ : Mem) (K : ℕ → Type 0) (is : List Item) (a t k : ℕ) (m : Contents)
     → a / 4096 < 2 ^ 34 → K (a / 4096)
     → ((p : ℕ) → K p → at m p ≡ M₀ p)
     → ((p : ℕ) → Has p (links is) → K p)
-    → Each (Ready mode m K) (pairs_from t is)
+    → Each (Ready H mode m K) (pairs_from t is)
     → Reads M₀ a is
-    → Comes (length is) k (state_at mode a t m) (moves mode (at m) (pairs_from t is))
-finishes mode M₀ K [] a t k m la ka same list ready r = absurd r
-finishes mode M₀ K (Done p ∷ is) a t k m la ka same list ready r =
+    → Comes H (length is) k (state_at mode a t m) (moves mode (at m) (pairs_from t is))
+finishes H mode M₀ K [] a t k m la ka same list ready r = absurd r
+finishes H mode M₀ K (Done p ∷ is) a t k m la ka same list ready r =
     let w : word (at m) a ≡ code (Done p) = word-same_page (at m) M₀ a (same (a / 4096) ka) ∙ r.0 in
-    subst (λ l. Comes (length (Done p ∷ l)) k (state_at mode a t m) (moves mode (at m) (pairs_from t l))) (sym r.1) (last_one k (state_at mode a t m) (end_at mode (a + 8) t m) (step-done mode a t p m la w) refl)
-finishes mode M₀ K (Link p ∷ is) a t k m la ka same list ready r =
+    subst (λ l. Comes H (length (Done p ∷ l)) k (state_at mode a t m) (moves mode (at m) (pairs_from t l))) (sym r.1) (last_one H k (state_at mode a t m) (end_at mode (a + 8) t m) (step-done H mode a t p m la w) refl)
+finishes H mode M₀ K (Link p ∷ is) a t k m la ka same list ready r =
     let w : word (at m) a ≡ code (Link p) = word-same_page (at m) M₀ a (same (a / 4096) ka) ∙ r.0 in
     let e : 4096 * p / 4096 ≡ p = omega arith in
     let l' : 4096 * p / 4096 < 2 ^ 34 = rw e r.1 in
-    one_more (length is) k _ _ _ (step-link mode a t p m la w) refl (λ q h. h)
-    (finishes mode M₀ K is (4096 * p) t (k + 1) m l' (rw e (list p (inl refl))) same (λ q h. list q (inr h)) ready r.2)
-finishes mode M₀ K (Destination p ∷ is) a t k m la ka same list ready r =
+    one_more H (length is) k _ _ _ (step-link H mode a t p m la w) refl (λ q h. h)
+    (finishes H mode M₀ K is (4096 * p) t (k + 1) m l' (rw e (list p (inl refl))) same (λ q h. list q (inr h)) ready r.2)
+finishes H mode M₀ K (Destination p ∷ is) a t k m la ka same list ready r =
     let w : word (at m) a ≡ code (Destination p) = word-same_page (at m) M₀ a (same (a / 4096) ka) ∙ r.0 in
     let e : (a + 8) / 4096 ≡ a / 4096 = omega (arith, r.2) in
-    one_more (length is) k _ _ _ (step-destination mode a t p m la w) refl (λ q h. h)
-    (finishes mode M₀ K is (a + 8) p (k + 1) m (rw e la) (rw e ka) same list ready r.3)
-finishes mode M₀ K (Source p ∷ is) a t k m la ka same list ready r =
+    one_more H (length is) k _ _ _ (step-destination H mode a t p m la w) refl (λ q h. h)
+    (finishes H mode M₀ K is (a + 8) p (k + 1) m (rw e la) (rw e ka) same list ready r.3)
+finishes H mode M₀ K (Source p ∷ is) a t k m la ka same list ready r =
     let w : word (at m) a ≡ code (Source p) = word-same_page (at m) M₀ a (same (a / 4096) ka) ∙ r.0 in
     let e : (a + 8) / 4096 ≡ a / 4096 = omega (arith, r.2) in
     let same' : (q : ℕ) → K q → at (after_move mode m t p) q ≡ M₀ q = λ q h. at_moved mode m t p q ∙ moved-apart mode (at m) (t, p) q (ready.0.2 q h) ∙ same q h in
-    one_more (length is) k _ _ _ (step-source mode a t p m la r.1 ready.0.0 ready.0.1 w) (sets_moved mode m t p) (stays_moved mode m t p)
-    (alike _ _ _ _ _ (moves_alike mode (at (after_move mode m t p)) (moved_in mode (at m) p t) (pairs_from (suc t) is) (at_moved mode m t p))
-    (finishes mode M₀ K is (a + 8) (suc t) (k + 1) (after_move mode m t p) (rw e la) (rw e ka) same' list (still_ready mode m K t p (pairs_from (suc t) is) ready.1) r.3))
+    one_more H (length is) k _ _ _ (step-source H mode a t p m la r.1 ready.0.0 ready.0.1 w) (sets_moved mode m t p) (stays_moved mode m t p)
+    (alike H _ _ _ _ _ (moves_alike mode (at (after_move mode m t p)) (moved_in mode (at m) p t) (pairs_from (suc t) is) (at_moved mode m t p))
+    (finishes H mode M₀ K is (a + 8) (suc t) (k + 1) (after_move mode m t p) (rw e la) (rw e ka) same' list (still_ready H mode m K t p (pairs_from (suc t) is) ready.1) r.3))
 
-begin-link : (mode : Mode) (p : ℕ) (m : Contents) (head : ℕ) → head ≡ code (Link p) → Steps (start_at m head mode) (state_at mode (4096 * p) 0 m, steps.Went)
+begin-link : (H : Type 0) (mode : Mode) (p : ℕ) (m : Contents) (head : ℕ) → head ≡ code (Link p) → Steps H (start_at m head mode) (state_at mode (4096 * p) 0 m, steps.Went)
 unfolding step_of writes_of
-begin-link mode p m head e =
+begin-link H mode p m head e =
     let w : head ≡ 4096 * p + 2 = e in
     let k = kind-link p in
     let x = masked-link p in
-    (rw (w, k, x) refl, rw (w, k) (no_held m))
+    (rw (w, k, x) refl, λ h. rw (w, k) (no_held m))
 
-begin-done : (mode : Mode) (p : ℕ) (m : Contents) (head : ℕ) → head ≡ code (Done p) → Steps (start_at m head mode) (end_at mode 0 0 m, steps.Ended)
+begin-done : (H : Type 0) (mode : Mode) (p : ℕ) (m : Contents) (head : ℕ) → head ≡ code (Done p) → Steps H (start_at m head mode) (end_at mode 0 0 m, steps.Ended)
 unfolding step_of writes_of
-begin-done mode p m head e =
+begin-done H mode p m head e =
     let w : head ≡ 4096 * p + 4 = e in
     let k = kind-done p in
-    (rw (w, k) refl, rw (w, k) (no_held m))
+    (rw (w, k) refl, λ h. rw (w, k) (no_held m))
 
-pub finishes_from : (mode : Mode) (M₀ : Mem) (m : Contents) (K : ℕ → Type 0) (head : ℕ) (is : List Item)
+pub finishes_from : (H : Type 0) (mode : Mode) (M₀ : Mem) (m : Contents) (K : ℕ → Type 0) (head : ℕ) (is : List Item)
     → ((p : ℕ) → K p → at m p ≡ M₀ p)
     → ((p : ℕ) → Has p (links is) → K p)
-    → Each (Ready mode m K) (pairs_from 0 is)
+    → Each (Ready H mode m K) (pairs_from 0 is)
     → Walk M₀ head is
-    → Comes (length is) 0 (start_at m head mode) (moves mode (at m) (pairs_from 0 is))
-finishes_from mode M₀ m K head [] same list ready r = absurd r
-finishes_from mode M₀ m K head (Destination p ∷ is) same list ready r = absurd r
-finishes_from mode M₀ m K head (Source p ∷ is) same list ready r = absurd r
-finishes_from mode M₀ m K head (Done p ∷ is) same list ready r =
-    subst (λ l. Comes (length (Done p ∷ l)) 0 (start_at m head mode) (moves mode (at m) (pairs_from 0 l))) (sym r.1) (last_one 0 (start_at m head mode) (end_at mode 0 0 m) (begin-done mode p m head r.0) refl)
-finishes_from mode M₀ m K head (Link p ∷ is) same list ready r =
+    → Comes H (length is) 0 (start_at m head mode) (moves mode (at m) (pairs_from 0 is))
+finishes_from H mode M₀ m K head [] same list ready r = absurd r
+finishes_from H mode M₀ m K head (Destination p ∷ is) same list ready r = absurd r
+finishes_from H mode M₀ m K head (Source p ∷ is) same list ready r = absurd r
+finishes_from H mode M₀ m K head (Done p ∷ is) same list ready r =
+    subst (λ l. Comes H (length (Done p ∷ l)) 0 (start_at m head mode) (moves mode (at m) (pairs_from 0 l))) (sym r.1) (last_one H 0 (start_at m head mode) (end_at mode 0 0 m) (begin-done H mode p m head r.0) refl)
+finishes_from H mode M₀ m K head (Link p ∷ is) same list ready r =
     let e : 4096 * p / 4096 ≡ p = omega arith in
     let l' : 4096 * p / 4096 < 2 ^ 34 = rw e r.1 in
-    one_more (length is) 0 _ _ _ (begin-link mode p m head r.0) refl (λ q h. h)
-    (finishes mode M₀ K is (4096 * p) 0 1 m l' (rw e (list p (inl refl))) same (λ q h. list q (inr h)) ready r.2)
+    one_more H (length is) 0 _ _ _ (begin-link H mode p m head r.0) refl (λ q h. h)
+    (finishes H mode M₀ K is (4096 * p) 0 1 m l' (rw e (list p (inl refl))) same (λ q h. list q (inr h)) ready r.2)
 
 -- the run of a list that is accepted with context preserved, over a memory that has its words
-pub kept_runs : (M₀ : Mem) (m : Contents) (W : Wants) (head control swap : ℕ) (is : List Item) → AcceptedKept M₀ W head control swap is
+pub kept_runs : (H : Type 0) (M₀ : Mem) (m : Contents) (W : Wants) (head control swap : ℕ) (is : List Item) → AcceptedKept M₀ W head control swap is
     → ((p : ℕ) → Has p (links is) → at m p ≡ M₀ p)
-    → Each (λ q. (q.0 < 2 ^ 34) × AreHeld m (move_writes (Kept swap) q.0 q.1)) (pairs is)
-    → Comes (length is) 0 (start_at m head (Kept swap)) (exchange (at m) (pairs is) swap)
-kept_runs M₀ m W head control swap is a same held =
+    → Each (λ q. (q.0 < 2 ^ 34) × (H → AreHeld m (move_writes (Kept swap) q.0 q.1))) (pairs is)
+    → Comes H (length is) 0 (start_at m head (Kept swap)) (exchange (at m) (pairs is) swap)
+kept_runs H M₀ m W head control swap is a same held =
     let K : ℕ → Type 0 = λ p. Has p (links is) in
     let one : Each (λ q. (p : ℕ) → K p → (q.0 ≢ p) × (q.1 ≢ p)) (pairs is) = Each-both (pairs is) (λ q x y p h. (Each-at (λ l. q.0 ≢ l) (links is) p x h, Each-at (λ l. q.1 ≢ l) (links is) p y h)) a.plain.links_unwritten a.links_no_sources in
-    let ready : Each (Ready (Kept swap) m K) (pairs is) = Each-both (pairs is) (λ q x b. (b.0, b.1, λ p h. ((x p h).0, (x p h).1, λ e. Each-at (λ l. l ≢ swap) (links is) p a.swap_apart.1 h (sym e)))) one held in
-    alike _ _ _ _ _ (λ p. exchanges swap (pairs is) (at m) p a.apart a.swap_apart.2) (finishes_from (Kept swap) M₀ m K head is same (λ p h. h) ready a.plain.walk)
+    let ready : Each (Ready H (Kept swap) m K) (pairs is) = Each-both (pairs is) (λ q x b. (b.0, b.1, λ p h. ((x p h).0, (x p h).1, λ e. Each-at (λ l. l ≢ swap) (links is) p a.swap_apart.1 h (sym e)))) one held in
+    alike H _ _ _ _ _ (λ p. exchanges swap (pairs is) (at m) p a.apart a.swap_apart.2) (finishes_from H (Kept swap) M₀ m K head is same (λ p h. h) ready a.plain.walk)
 
 -- the run of a plain list that is accepted
-pub plain_runs : (m : Contents) (W : Wants) (head control : ℕ) (is : List Item) → Accepted (at m) W head control is
-    → Each (λ q. (q.0 < 2 ^ 34) × AreHeld m (move_writes Plain q.0 q.1)) (pairs is)
-    → Comes (length is) 0 (start_at m head Plain) (overlay (at m) W)
-plain_runs m W head control is a held =
+pub plain_runs : (H : Type 0) (m : Contents) (W : Wants) (head control : ℕ) (is : List Item) → Accepted (at m) W head control is
+    → Each (λ q. (q.0 < 2 ^ 34) × (H → AreHeld m (move_writes Plain q.0 q.1))) (pairs is)
+    → Comes H (length is) 0 (start_at m head Plain) (overlay (at m) W)
+plain_runs H m W head control is a held =
     let K : ℕ → Type 0 = λ p. Has p (links is) in
-    let ready : Each (Ready Plain m K) (pairs is) = Each-both (pairs is) (λ q x b. (b.0, b.1, λ p h. Each-at (λ l. q.0 ≢ l) (links is) p x h)) a.links_unwritten held in
-    alike _ _ _ _ _ (λ p. lays_over (at m) W (pairs is) a.in_order a.whole a.right_bytes p) (finishes_from Plain (at m) m K head is (λ p h. refl) (λ p h. h) ready a.walk)
+    let ready : Each (Ready H Plain m K) (pairs is) = Each-both (pairs is) (λ q x b. (b.0, b.1, λ p h. Each-at (λ l. q.0 ≢ l) (links is) p x h)) a.links_unwritten held in
+    alike H _ _ _ _ _ (λ p. lays_over (at m) W (pairs is) a.in_order a.whole a.right_bytes p) (finishes_from H Plain (at m) m K head is (λ p h. refl) (λ p h. h) ready a.walk)
 
 -- the run of a list that is a done word alone
-pub done_runs : (mode : Mode) (m : Contents) (head : ℕ) → head % 4096 ≡ 4 → Comes 1 0 (start_at m head mode) (at m)
-done_runs mode m head e =
+pub done_runs : (H : Type 0) (mode : Mode) (m : Contents) (head : ℕ) → head % 4096 ≡ 4 → Comes H 1 0 (start_at m head mode) (at m)
+done_runs H mode m head e =
     let p = head / 4096 in
     let w : head ≡ code (Done p) = omega (arith, e) in
-    last_one 0 (start_at m head mode) (end_at mode 0 0 m) (begin-done mode p m head w) refl
+    last_one H 0 (start_at m head mode) (end_at mode 0 0 m) (begin-done H mode p m head w) refl

@@ -1,18 +1,18 @@
 -- A load comes to its end exactly where the pool has the pages that it takes.
-use Rattle.std.proofs.Common.{◌≡◌, ℕ, suc, ◌+◌, ◌/◌, ◌≤◌, List, [], ◌∷◌, ◌++◌, length, Option, Some, None, refl, sym, ap, ◌∙◌, subst, arith, cond, Bool, true, append_assoc, length-append}
-use Rattle.std.specs.Prelude.{◌↔◌, IsSome, is_some, eqb}
+use Rattle.std.proofs.Common.{◌≡◌, ℕ, ◌+◌, ◌/◌, ◌≤◌, List, [], ◌∷◌, ◌++◌, length, Some, None, refl, sym, ap, ◌∙◌, subst, arith, cond, Bool, true, append_assoc, length-append}
+use Rattle.std.specs.Prelude.{is_some}
 use Rattle.kx_laws.proofs.Options.{some_of}
-use Rattle.kx_pages.specs.Lists.{Each, Has, count, destinations, sources}
+use Rattle.kx_pages.specs.Lists.{Each, Has, count, sources}
 use Rattle.kx_pages.specs.declared.image.Wish.{Wish}
 use Rattle.segments.specs.Values.{SegmentValue, is_destination, need, pages}
-use Rattle.segments.proofs.Laws.{AreSegments, is_destination-from_Has, Has-from_is_destination, Distinct-pages}
-use Rattle.kimage_list.specs.Load.{Entry, Loading, Request, begun, given, loaded, pages_of, requests, served, starts, taken}
+use Rattle.segments.proofs.Laws.{AreSegments, Has-from_is_destination, Distinct-pages}
+use Rattle.kimage_list.specs.Load.{Loading, Request, begun, given, pages_of, requests, served, taken}
 use Rattle.kimage_list.specs.Counted.{Allowed}
 use Rattle.kimage_list.proofs.Counting.{Full, full_on, counted_fit}
 use Rattle.kimage_list.proofs.Enough.{has_of_count, taken_some}
 use Rattle.kimage_list.proofs.Lists.{eqb-self}
 use Rattle.kimage_list.proofs.Parts.{served-append}
-use Rattle.kimage_list.proofs.Standings.{length-entries, one_served}
+use Rattle.kimage_list.proofs.Standings.{length-entries}
 use Rattle.kimage_list.proofs.Takes.{others, wished}
 use Rattle.kx_pages.proofs.Lists.{length-sources}
 use Rattle.load_states.specs.Loads.{LoadsExactly, entries_of, loading_of}
@@ -21,7 +21,7 @@ use Rattle.load_states.proofs.LaidAccepted.{others_in, served_well, wished_in}
 use Rattle.load_states.proofs.LaidPlan.{pages_of-entries_of}
 use Rattle.kx_pages.proofs.Lists.{Each-left, Each-right, Each-from_Has, length-destinations}
 use Rattle.kx_pages.proofs.Counting.{count-append, Each-from_count}
-use Rattle.kx_pages.specs.Needs.{first_count, need_of}
+use Rattle.kx_pages.specs.Needs.{first_count}
 use Rattle.kx_pages.proofs.Counting.{count-from_Distinct}
 
 wished-cons : (r : Request) (rs : List Request) → wished (r ∷ []) ++ wished rs ≡ wished (r ∷ rs)
@@ -31,6 +31,9 @@ wished-cons (Some p) rs = refl
 others-cons : (r : Request) (rs : List Request) → others (r ∷ []) + others rs ≡ others (r ∷ rs)
 others-cons None rs = omega arith
 others-cons (Some p) rs = omega arith
+
+served_one : (D : ℕ → Bool) (r : Request) (l : Loading) (t : ℕ × Loading) → taken D r l ≡ Some t → served D (r ∷ []) l ≡ Some (given r t)
+served_one D r l t g = rw (g, served) refl
 
 -- where each page in all is wanted and the pool has as many pages as it takes, requests are served
 module _ (D : ℕ → Bool) (pool all : List ℕ) (need : ℕ) (once : (x : ℕ) → count x pool ≤ 1) (wanted : (p : ℕ) → D p ≡ true → Has p all) (enough : need ≤ length pool) where
@@ -53,7 +56,7 @@ module _ (D : ℕ → Bool) (pool all : List ℕ) (need : ℕ) (once : (x : ℕ)
       let more : (spent ++ wished (r ∷ [])) ++ wished rs ≡ spent ++ wished (r ∷ rs) = append_assoc spent (wished (r ∷ [])) (wished rs) ∙ ap (λ ys. spent ++ ys) (wished-cons r rs) in
       let ih = serves rs (spent ++ wished (r ∷ [])) (n + others (r ∷ [])) (given r t.0) (full_on D pool spent n r l t.0 once f t.1)
       (subst (Each (λ p. Has p all)) (sym more) inside) (λ x. subst (λ ys. count x ys ≤ 1) (sym more) (single x)) (omega (arith, fits, others-cons r rs)) in
-      (ih.0, served-append D (r ∷ []) rs l (given r t.0) (one_served D r l t.0 t.1) ∙ ih.1)
+      (ih.0, served-append D (r ∷ []) rs l (given r t.0) (served_one D r l t.0 t.1) ∙ ih.1)
 
 -- nothing is drawn yet
 full_begun : (D : ℕ → Bool) (pool : List ℕ) → Full D pool [] 0 (begun pool)

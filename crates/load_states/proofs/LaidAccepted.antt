@@ -263,7 +263,7 @@ pub served_well : (wish : Wish) (D : ℕ → Bool) (es : List Entry) (pool : Lis
 served_well wish D es pool l once e =
     let s = served_sound D pool [] 0 (requests wish es) (begun pool) l once (record { conserved = λ x. omega arith; homes = tt; order = refl; free = tt; many = refl }) e in
     subst (λ ys. Sound D pool ys (first_count wish + (length es + 510) / 511) l) (wished_in wish es)
-    (subst (λ n. Sound D pool (wished (requests wish es)) n l) (others_in wish es) s)
+    (subst (λ n. Sound D pool (wished (requests wish es)) n l) (let h : 0 + others (requests wish es) ≡ first_count wish + (length es + 510) / 511 = omega (arith, others_in wish es) in h) s)
 
 lead_is : (ls : List ℕ) (is : List Item) → 1 ≤ length ls → lead (chained ls is) ≡ code (Link (slice_index ls 0))
 lead_is [] is n = absurd (omega (arith, n))

@@ -1,9 +1,7 @@
 -- The entries of segments.
-use Rattle.std.proofs.Common.{◌≡◌, ℕ, zero, suc, ◌+◌, ◌/◌, ◌<◌, ◌≤◌, List, [], ◌∷◌, ◌++◌, length, Some, refl, sym, ap, ◌∙◌, subst, inl, inr, arith, true, false}
-use Rattle.std.specs.Prelude.{◌≢◌, ◌⊎◌, eqb}
+use Rattle.std.proofs.Common.{◌≡◌, ℕ, zero, suc, ◌+◌, ◌/◌, ◌<◌, ◌≤◌, List, [], ◌∷◌, ◌++◌, length, Some, refl, sym, ap, ◌∙◌, subst, arith, true}
 use Rattle.std.specs.List.{range_with_len}
-use Rattle.std.proofs.lemmas.Bool.Decides.{eqb_tells}
-use Rattle.kx_pages.specs.Lists.{Each, Has, Distinct, count}
+use Rattle.kx_pages.specs.Lists.{Each, Has, count}
 use Rattle.kx_pages.specs.declared.image.Wish.TheVariants.{Plain, Kept}
 use Rattle.segments.specs.Values.{SegmentValue, is_destination, want, page_count, pages_of_segment, pages}
 use Rattle.segments.proofs.Laws.{AreSegments, IsPlaced, is_destination-from_Has, want-from_Has, Has-from_want, Distinct-pages}

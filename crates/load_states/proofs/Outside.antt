@@ -1,6 +1,6 @@
 -- Which pages the list of a sealed load uses.
 use Rattle.std.proofs.Common.{◌≡◌, ℕ, zero, suc, ◌+◌, ◌*◌, ◌<◌, ◌≤◌, ◌/◌, List, [], ◌∷◌, length, take, Option, Some, None, sym, ap, ◌∙◌, subst, inl, inr, arith}
-use Rattle.std.specs.Prelude.{◌≢◌, slice_index, unwrap_or}
+use Rattle.std.specs.Prelude.{◌≢◌, slice_index}
 use Rattle.std.proofs.lemmas.List.{length-drop}
 use Rattle.kx_laws.proofs.Options.{none_some, some_same}
 use Rattle.kx_pages.specs.Lists.{Has, count, sources}
@@ -10,16 +10,15 @@ use Rattle.kx_pages.specs.declared.item.Item.{Item}
 use Rattle.page_memory.specs.Contents.{at}
 use Rattle.page_memory.specs.Memory.{Mem, Wants}
 use Rattle.segments.specs.Values.{is_destination, need, want}
-use Rattle.kimage_list.specs.Load.{Entry, Loading, Move, Start}
+use Rattle.kimage_list.specs.Load.{Entry, Move, Start}
 use Rattle.kimage_list.specs.Laying.{items, links_of, list_of, load_mode}
 use Rattle.kimage_list.proofs.Lists.{length-items}
 use Rattle.list_checker.specs.Walk.{Walk, IsAccepted, pairs, pairs_from}
 use Rattle.list_checker.proofs.Unique.{walk_same}
-use Rattle.load_states.specs.Exchange.{exchange}
 use Rattle.load_states.specs.Fillings.{IsSealed}
 use Rattle.load_states.specs.Loads.{entries_of}
 use Rattle.load_states.specs.Ready.{IsToGoBack, Told}
-use Rattle.load_states.specs.Runs.{IsTouched, RestoresOthers}
+use Rattle.load_states.specs.Runs.{RestoresOthers}
 use Rattle.load_states.specs.States.{Checked, Load, Returned, swap_of}
 use Rattle.load_states.proofs.LaidAccepted.{pairs-chained, served_well}
 use Rattle.load_states.proofs.Ready.{Undoes, swap_is}
@@ -85,8 +84,5 @@ pub restores_others : (c : Checked) (r : Returned) → IsToGoBack c → Undoes c
 restores_others c r back undoes M pool wish s sealed told same touched p z =
     let swap : swap_page s.image.mode ≡ Some (swap_of c.load) =
     ap (λ (t : Load). swap_page t.image.mode) (sym same) ∙ ap (λ mode. swap_page mode) back.kept.mode ∙ ap (λ w. Some w) (sym (swap_is back.before c back.swap back.items back.kept)) in
-    let image : swap_of s ≡ swap_of c.load = ap (λ o. unwrap_or o 0) swap in
-    undoes.undone (at s.memory)
-    (λ q none. touched q (ap (λ (t : Load). want t.segments q) (sym same) ∙ none) ∙ ap (λ w. exchange (at s.memory) c.pairs w q) image)
-    p (no_swap M pool wish s sealed (swap_of c.load) p swap z) (no_source M pool wish s sealed c.words c.links c.pairs told p z)
+    undoes.undone (at s.memory) touched p (no_swap M pool wish s sealed (swap_of c.load) p swap z) (no_source M pool wish s sealed c.words c.links c.pairs told p z)
     ∙ sealed.others p z

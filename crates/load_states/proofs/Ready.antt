@@ -1,8 +1,10 @@
 -- Accepted lists whose pages are held, and their runs.
-use Rattle.std.proofs.Common.{◌≡◌, ℕ, ◌%◌, ◌^◌, ◌<◌, List, [], ◌∷◌, Option, Some, None, refl, sym, ap, ◌∙◌, subst, inl, inr, ◌+◌, arith}
+use Rattle.std.proofs.Common.{◌≡◌, ℕ, ◌%◌, ◌^◌, ◌<◌, List, [], ◌∷◌, length, Option, Some, None, refl, sym, ap, ◌∙◌, subst, inl, inr, ◌+◌, arith}
 use Rattle.std.specs.Prelude.{◌≢◌, IsSome, map, unwrap_or}
 use Rattle.kx_pages.specs.declared.item.Item.{Item}
+use Rattle.kx_pages.specs.declared.image.Mode.{Mode}
 use Rattle.kx_pages.specs.declared.image.Mode.TheVariants.{Plain, Kept}
+use Rattle.relocate_machine.specs.Writes.{AreHeld, move_writes}
 use Rattle.kx_pages.specs.Lists.{Each, Has, destinations, sources}
 use Rattle.page_memory.specs.Contents.{Contents, at, IsHeld, after_set}
 use Rattle.page_memory.proofs.Laws.{frame_at-insert_other, held-insert}
@@ -70,15 +72,22 @@ kept_ready s a swap h k m held =
       };
     }
 
+-- pages that are held, so to say
+abbrev Held : Type 0
+Held = Unit {0}
+
+as_held : (m : Contents) (mode : Mode) (qs : List (ℕ × ℕ)) → HoldsPairs m mode qs → Each (λ q. (q.0 < 2 ^ 34) × (Held → AreHeld m (move_writes mode q.0 q.1))) qs
+as_held m mode qs h = Each-map qs (λ q x. (x.0, λ u. x.1)) h
+
 -- the run of a plain list
-pub ready_runs : (c : Checked) → IsReadyPlain c → Comes c.words 0 (start_at c.load.memory c.load.image.head c.load.image.mode) (overlay (at c.load.memory) (want c.load.segments))
+pub ready_runs : (c : Checked) → IsReadyPlain c → Comes Held c.words 0 (start_at c.load.memory c.load.image.head c.load.image.mode) (overlay (at c.load.memory) (want c.load.segments))
 ready_runs c r =
     let items = r.told.items in
     let plain : Accepted (at c.load.memory) (want c.load.segments) c.load.image.head c.load.image.control items = subst (λ mode. IsAccepted (at c.load.memory) (want c.load.segments) c.load.image.head c.load.image.control (swap_page mode) items) r.mode r.told.accepted in
     let held : HoldsPairs c.load.memory Plain (pairs items) = subst (HoldsPairs c.load.memory Plain) (sym r.told.same_pairs) r.held in
-    let run = plain_runs c.load.memory (want c.load.segments) c.load.image.head c.load.image.control items plain held in
-    let counted = subst (λ n. Comes n 0 (start_at c.load.memory c.load.image.head Plain) (overlay (at c.load.memory) (want c.load.segments))) r.told.count run in
-    subst (λ mode. Comes c.words 0 (start_at c.load.memory c.load.image.head mode) (overlay (at c.load.memory) (want c.load.segments))) (sym r.mode) counted
+    let run = plain_runs Held c.load.memory (want c.load.segments) c.load.image.head c.load.image.control items plain (as_held c.load.memory Plain (pairs items) held) in
+    let counted = subst (λ n. Comes Held n 0 (start_at c.load.memory c.load.image.head Plain) (overlay (at c.load.memory) (want c.load.segments))) r.told.count run in
+    subst (λ mode. Comes Held c.words 0 (start_at c.load.memory c.load.image.head mode) (overlay (at c.load.memory) (want c.load.segments))) (sym r.mode) counted
 
 -- the run of the image's list ends after exactly so many steps, its pages are held, and it leaves M
 pub record Ends (m : Contents) (i : Image) (words : ℕ) (M : Mem) : Type 0 where
@@ -88,8 +97,8 @@ pub record Ends (m : Contents) (i : Image) (words : ℕ) (M : Mem) : Type 0 wher
   pub sets : (run_of m i.head i.mode words).0.memory.sets ≡ m.sets
   pub stay : (q : ℕ) → IsHeld m q → IsHeld (run_of m i.head i.mode words).0.memory q
 
-ends_of : (m : Contents) (i : Image) (words : ℕ) (M : Mem) → Comes words 0 (start_at m i.head i.mode) M → Ends m i words M
-ends_of m i words M f = let z : 0 + words ≡ words = omega arith in record { held = f.held; ends = f.out ∙ ap outcomes.Done z; leaves = f.leaves; sets = f.sets; stay = f.stay }
+ends_of : (m : Contents) (i : Image) (words : ℕ) (M : Mem) → Comes Held words 0 (start_at m i.head i.mode) M → Ends m i words M
+ends_of m i words M f = let z : 0 + words ≡ words = omega arith in record { held = f.held tt; ends = f.out ∙ ap outcomes.Done z; leaves = f.leaves; sets = f.sets; stay = f.stay }
 
 -- the same of a memory and an image that were handed over
 handed : (m n : Contents) (i j : Image) (words : ℕ) (M : Mem) → m ≡ n → i ≡ j → Ends n j words M → Ends m i words M
@@ -110,14 +119,14 @@ plain_ends c m i r e f = handed m c.load.memory i c.load.image c.words _ e f (en
 pub swap_is : (M : Mem) (c : Checked) (swap : ℕ) (items : List Item) → IsKept M c swap items → swap_of c.load ≡ swap
 swap_is M c swap items k = ap (λ mode. unwrap_or (swap_page mode) 0) k.mode
 
-kept_comes : (M : Mem) (c : Checked) (swap : ℕ) (items : List Item) → IsKept M c swap items → Comes c.words 0 (start_at c.load.memory c.load.image.head c.load.image.mode) (exchange (at c.load.memory) c.pairs (swap_of c.load))
+kept_comes : (M : Mem) (c : Checked) (swap : ℕ) (items : List Item) → IsKept M c swap items → Comes Held c.words 0 (start_at c.load.memory c.load.image.head c.load.image.mode) (exchange (at c.load.memory) c.pairs (swap_of c.load))
 kept_comes M c swap items k =
     let held : HoldsPairs c.load.memory (Kept swap) (pairs items) = subst (HoldsPairs c.load.memory (Kept swap)) (sym k.same_pairs) k.held in
-    let run = kept_runs M c.load.memory (want c.load.segments) c.load.image.head c.load.image.control swap items k.accepted k.words held in
-    let counted = subst (λ n. Comes n 0 (start_at c.load.memory c.load.image.head (Kept swap)) (exchange (at c.load.memory) (pairs items) swap)) k.count run in
-    let paired = subst (λ qs. Comes c.words 0 (start_at c.load.memory c.load.image.head (Kept swap)) (exchange (at c.load.memory) qs swap)) k.same_pairs counted in
-    let swapped = subst (λ w. Comes c.words 0 (start_at c.load.memory c.load.image.head (Kept swap)) (exchange (at c.load.memory) c.pairs w)) (sym (swap_is M c swap items k)) paired in
-    subst (λ mode. Comes c.words 0 (start_at c.load.memory c.load.image.head mode) (exchange (at c.load.memory) c.pairs (swap_of c.load))) (sym k.mode) swapped
+    let run = kept_runs Held M c.load.memory (want c.load.segments) c.load.image.head c.load.image.control swap items k.accepted k.words (as_held c.load.memory (Kept swap) (pairs items) held) in
+    let counted = subst (λ n. Comes Held n 0 (start_at c.load.memory c.load.image.head (Kept swap)) (exchange (at c.load.memory) (pairs items) swap)) k.count run in
+    let paired = subst (λ qs. Comes Held c.words 0 (start_at c.load.memory c.load.image.head (Kept swap)) (exchange (at c.load.memory) qs swap)) k.same_pairs counted in
+    let swapped = subst (λ w. Comes Held c.words 0 (start_at c.load.memory c.load.image.head (Kept swap)) (exchange (at c.load.memory) c.pairs w)) (sym (swap_is M c swap items k)) paired in
+    subst (λ mode. Comes Held c.words 0 (start_at c.load.memory c.load.image.head mode) (exchange (at c.load.memory) c.pairs (swap_of c.load))) (sym k.mode) swapped
 
 pub kept_ends : (M : Mem) (c : Checked) (swap : ℕ) (items : List Item) (m : Contents) (i : Image) → IsKept M c swap items → m ≡ c.load.memory → i ≡ c.load.image → Ends m i c.words (exchange (at c.load.memory) c.pairs (swap_of c.load))
 kept_ends M c swap items m i k e f = handed m c.load.memory i c.load.image c.words _ e f (ends_of c.load.memory c.load.image c.words _ (kept_comes M c swap items k))
@@ -236,7 +245,7 @@ touched c d p bytes r h e words link_count same =
 pub crash_ends : (m n : Contents) (head h : ℕ) → m ≡ n → head ≡ h → h % 4096 ≡ 4 → Ends m (record { head = head; mode = Plain; control = 0 }) 1 (at n)
 crash_ends m n head h e f done =
     subst (λ x. Ends m (record { head = head; mode = Plain; control = 0 }) 1 (at x)) e
-    (ends_of m (record { head = head; mode = Plain; control = 0 }) 1 (at m) (done_runs Plain m head (ap (λ x. x % 4096) f ∙ done)))
+    (ends_of m (record { head = head; mode = Plain; control = 0 }) 1 (at m) (done_runs Held Plain m head (ap (λ x. x % 4096) f ∙ done)))
 
 -- what runs leave of a load whose list was accepted with context preserved
 module _ (c : Checked) (swap : ℕ) (mode : c.load.image.mode ≡ Kept swap) (t : Told c.load c.words c.links c.pairs) where
@@ -259,3 +268,27 @@ module _ (c : Checked) (swap : ℕ) (mode : c.load.image.mode ≡ Kept swap) (t 
       ap (λ qs. exchange (exchange (at c.load.memory) qs (swap_of c.load)) qs (swap_of c.load) p) (sym t.same_pairs)
       ∙ ap (λ w. exchange (exchange (at c.load.memory) (pairs t.items) w) (pairs t.items) w p) its_swap
       ∙ returns (at c.load.memory) (want c.load.segments) c.load.image.head c.load.image.control swap t.items accepted_kept p (λ s. n (s ∙ sym its_swap))
+
+-- The machine's run of an accepted list is done after as many steps as its walk has words, whichever pages are held.
+pub list_ends : (s : Load) (words link_count : ℕ) (qs : List (ℕ × ℕ)) → IsBare s.segments → Told s words link_count qs → EndsAfter s words
+list_ends s words link_count qs bare told = by_mode s.image.mode refl
+  where
+    low : (M : Mem) → Each (λ q. want s.segments q.0 ≡ Some (M q.1)) (pairs told.items) → Each (λ q. (q.0 < 2 ^ 34) × (⊥ → ⊥)) (pairs told.items)
+    low M right = Each-map (pairs told.items) (λ q x. (x, λ e. e)) (below (want s.segments) M (pairs told.items) (wanted_below s.segments bare) right)
+
+    counted : (mode : Mode) → (run_of s.memory s.image.head mode (length told.items)).1 ≡ outcomes.Done (0 + length told.items) → (run_of s.memory s.image.head mode words).1 ≡ outcomes.Done words
+    counted mode e = subst (λ n. (run_of s.memory s.image.head mode n).1 ≡ outcomes.Done n) told.count (e ∙ ap outcomes.Done (let z : 0 + length told.items ≡ length told.items = omega arith in z))
+
+    by_mode : (mode : Mode) → s.image.mode ≡ mode → EndsAfter s words
+    by_mode Plain e =
+        let plain : Accepted (at s.memory) (want s.segments) s.image.head s.image.control told.items =
+        subst (λ mode. IsAccepted (at s.memory) (want s.segments) s.image.head s.image.control (swap_page mode) told.items) e told.accepted in
+        let run = plain_runs ⊥ s.memory (want s.segments) s.image.head s.image.control told.items plain
+        (Each-map (pairs told.items) (λ q x. (x.0, λ n. absurd n)) (low (at s.memory) plain.right_bytes)) in
+        subst (λ mode. (run_of s.memory s.image.head mode words).1 ≡ outcomes.Done words) (sym e) (counted Plain run.out)
+    by_mode (Kept swap) e =
+        let kept : AcceptedKept (at s.memory) (want s.segments) s.image.head s.image.control swap told.items =
+        subst (λ mode. IsAccepted (at s.memory) (want s.segments) s.image.head s.image.control (swap_page mode) told.items) e told.accepted in
+        let run = kept_runs ⊥ (at s.memory) s.memory (want s.segments) s.image.head s.image.control swap told.items kept (λ p h. refl)
+        (Each-map (pairs told.items) (λ q x. (x.0, λ n. absurd n)) (low (at s.memory) kept.plain.right_bytes)) in
+        subst (λ mode. (run_of s.memory s.image.head mode words).1 ≡ outcomes.Done words) (sym e) (counted (Kept swap) run.out)

@@ -1,6 +1,6 @@
 -- A load of segments that is written whole.
-use Rattle.std.proofs.Common.{◌≡◌, ℕ, ◌+◌, ◌≤◌, List, Option, Some, None, refl, sym, ap, ◌∙◌, subst, arith, take, drop, Bool, true, false, cond}
-use Rattle.std.proofs.lemmas.List.{take_all}
+use Rattle.std.proofs.Common.{◌≡◌, ℕ, ◌+◌, ◌≤◌, List, Option, Some, None, refl, sym, ap, ◌∙◌, subst, arith, take, drop, Bool, true, false, cond, ◌++◌, append_assoc}
+use Rattle.std.proofs.lemmas.List.{append_cancel_right, take-append-drop, take_all}
 use Rattle.kx_pages.specs.Lists.{Has, has, count, sources}
 use Rattle.kx_pages.specs.Spans.{in_spans}
 use Rattle.kx_pages.specs.declared.image.Wish.{Wish}
@@ -23,6 +23,12 @@ use Rattle.load_states.proofs.LaidPlan.{pages_of-entries_of, load_is_accepted}
 use Rattle.load_states.proofs.FillSteps.{span_pages, need_same, starts-entries_of}
 use Rattle.kx_pages.proofs.Lists.{has-from_Has}
 use Rattle.kx_pages.specs.Modes.{swap_page}
+
+-- what is drawn where what is left are the pages from number n on
+drawn_first : (n : ℕ) (pool before drawn left : List ℕ) → left ≡ drop n pool → drawn ++ left ≡ before ++ pool → drawn ≡ before ++ take n pool
+drawn_first n pool before drawn left rest e =
+    append_cancel_right drawn (before ++ take n pool) (drop n pool)
+    (ap (λ xs. drawn ++ xs) (sym rest) ∙ e ∙ ap (λ xs. before ++ xs) (sym (take-append-drop n pool)) ∙ sym (append_assoc before (take n pool) (drop n pool)))
 
 module _ (M : Mem) (pool : List ℕ) (wish : Wish) (f : Fill) (k : FillsFrom M pool wish f) (done : left f ≡ 0) where
   all : take f.written f.segments ≡ f.segments
@@ -78,9 +84,10 @@ module _ (M : Mem) (pool : List ℕ) (wish : Wish) (f : Fill) (k : FillsFrom M p
         image = w.image;
         memory = w.memory;
         segments = refl;
-        drawn = w.drawn ∙ ap (λ n. drop n pool) need_is;
+        left = w.drawn ∙ ap (λ n. drop n pool) need_is;
         in_use = used;
         unfiled = w.unfiled;
+        drawn = λ before e. drawn_first (need wish f.segments) pool before r.pool.drawn r.pool.left (w.drawn ∙ ap (λ n. drop n pool) need_is) e;
         others = λ p z. w.others p (ap (λ n. count p (take n pool)) need_is ∙ z);
         accepted = subst (λ N. P N r.image) (sym laid) (subst (P (memory_of M wish f.segments l)) (sym w.image) a);
       }

@@ -1,5 +1,5 @@
 -- A load of segments while they are written.
-use Rattle.std.specs.Prelude.{◌≡◌, ℕ, ◌+◌, ◌-◌, ◌≤◌, List, length, take, drop, cond, false, Some, None, refl}
+use Rattle.std.specs.Prelude.{◌≡◌, ℕ, ◌+◌, ◌-◌, ◌≤◌, List, ◌++◌, length, take, drop, cond, false, Some, None, refl}
 use Rattle.std.specs.Coded.{Coded, code_by, coded×, coded_ℕ, coded_list}
 use Rattle.kx_pages.specs.Lists.{has, count, sources}
 use Rattle.kx_pages.specs.Spans.{in_spans}
@@ -10,6 +10,7 @@ use Rattle.page_pool.specs.Pages.{is_filed}
 use Rattle.kimage_list.specs.Load.{Loading, Entry, pages_of}
 use Rattle.kimage_list.specs.Laying.{image_of, list_of}
 use Rattle.kimage_list.specs.Writers.{Writer, writer_code, StandsAt}
+use Rattle.kimage_list.specs.Tracking.{whole_pool}
 use Rattle.kimage_list.specs.Writers as writers
 use Rattle.segments.specs.Values.{SegmentValue, is_destination, want, need}
 use Rattle.segments.proofs.Laws.{AreSegments}
@@ -59,9 +60,11 @@ pub record IsSealed (M : Mem) (pool : List ℕ) (wish : Wish) (ss : List Segment
   pub memory : (p : ℕ) → at r.memory p ≡ memory_of M wish ss loading p
   pub segments : r.segments ≡ ss
   -- the pool has left what follows its first pages, as many as the load takes: these are the pages in use
-  pub drawn : r.pool.left ≡ drop (need wish ss) pool
+  pub left : r.pool.left ≡ drop (need wish ss) pool
   pub in_use : (x : ℕ) → count x loading.spare + count x (sources loading.pairs) ≡ count x (take (need wish ss) pool)
   pub unfiled : (p : ℕ) → is_filed r.pool p ≡ false
+  -- the pages drawn are those drawn before the load, and then its first pages
+  pub drawn : (before : List ℕ) → whole_pool r.pool ≡ before ++ pool → r.pool.drawn ≡ before ++ take (need wish ss) pool
   -- memory agrees with what it was at every other page
   pub others : (p : ℕ) → count p (take (need wish ss) pool) ≡ 0 → at r.memory p ≡ M p
   -- the list is accepted for the segments

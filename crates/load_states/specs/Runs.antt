@@ -33,16 +33,16 @@ EndsAfter s steps = (run_of s.memory s.image.head s.image.mode steps).1 ≡ outc
 abbrev pub RunsTo : Load → ℕ → Contents → Type 0
 RunsTo s steps m = EndsAfter s steps × (m ≡ (run_of s.memory s.image.head s.image.mode steps).0.memory)
 
--- since the first run from the load s, whose pairs these are, at most pages of the segments were written
-abbrev pub IsTouched : Load → Checked → Type 0
-IsTouched s c = (q : ℕ) → want s.segments q ≡ None → at c.load.memory q ≡ exchange (at s.memory) c.pairs (swap_of s) q
+-- since the first run, from memory M, at most pages of the segments were written
+abbrev pub IsTouched : Mem → Checked → Type 0
+IsTouched M c = (q : ℕ) → want c.load.segments q ≡ None → at c.load.memory q ≡ exchange M c.pairs (swap_of c.load) q
 
 -- A list of this project's loader that was run, and of which at most pages of the segments were written since: the second
 -- run leaves every page but the first ones of the pool, as many as the load took, as it was before the load.
 abbrev pub RestoresOthers : Checked → Returned → Type 0
 RestoresOthers c r =
     (M : Mem) (pool : List ℕ) (wish : Wish) (s : Load) → IsSealed M pool wish s.segments s → Told s c.words c.links c.pairs →
-    c.load ≡ with_memory s c.load.memory → IsTouched s c →
+    c.load ≡ with_memory s c.load.memory → IsTouched (at s.memory) c →
     (p : ℕ) → count p (take (need wish s.segments) pool) ≡ 0 → at r.load.memory p ≡ M p
 
 -- the memories read alike, and image and segments are the same

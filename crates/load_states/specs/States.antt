@@ -1,5 +1,5 @@
 -- What clauses see of the states from a load to its run.
-use Rattle.std.specs.Prelude.{◌≡◌, ℕ, List, Option, Some, None, unwrap_or, map, refl}
+use Rattle.std.specs.Prelude.{◌≡◌, ℕ, List, Option, unwrap_or, map, refl}
 use Rattle.std.proofs.Common.{ap}
 use Rattle.std.specs.Coded.{Coded, code_by, coded×, coded_ℕ, coded_list, coded_option}
 use Rattle.kx_pages.specs.declared.image.Image.{Image}

@@ -36,7 +36,9 @@ pub enum Accepted {
 pub(crate) fn of_mode(loaded: Loaded, accept: Accept) -> Accepted
     requires told { IsAccept loaded.memory loaded.segments loaded.image accept }
     requires bare { IsBare loaded.segments }
-    requires held { Each (λ q. AreHeld loaded.memory (move_writes loaded.image.mode q.0 q.1)) (map as_pair accept.pairs.items) }
+    requires held { Each (λ q.
+        AreHeld loaded.memory (move_writes loaded.image.mode q.0 q.1))
+        (map as_pair accept.pairs.items) }
     ensures { IsMadeOf loaded accept result }
 {
     match loaded.image().mode {
@@ -105,7 +107,8 @@ impl AcceptedPlain {
     pub fn exec(self) -> RanPlain
         ensures steps { result.steps ≡ self.words }
         ensures run { RunsTo self.load self.words result.memory }
-        ensures memory { (p : ℕ) → at result.memory p ≡ overlay (at self.load.memory) (want self.load.segments) p }
+        ensures memory { (p : ℕ) →
+            at result.memory p ≡ overlay (at self.load.memory) (want self.load.segments) p }
         ensures sets { result.memory.sets ≡ self.load.memory.sets }
     {
         let AcceptedPlain { loaded, accept } = self;
@@ -175,8 +178,11 @@ impl AcceptedKept {
     /// is to be. All else stays.
     pub fn exec(self) -> RanKept
         ensures run { RunsTo self.load self.words result.load.memory }
-        ensures memory { (p : ℕ) → at result.load.memory p ≡ exchange (at self.load.memory) self.pairs (swap_of self.load) p }
-        ensures arrived { (p : ℕ) (bytes : List ℕ) → want self.load.segments p ≡ Some bytes → at result.load.memory p ≡ bytes }
+        ensures memory { (p : ℕ) →
+            at result.load.memory p ≡ exchange (at self.load.memory) self.pairs
+            (swap_of self.load) p }
+        ensures arrived { (p : ℕ) (bytes : List ℕ) → want self.load.segments p ≡ Some bytes →
+            at result.load.memory p ≡ bytes }
         ensures sets { result.load.memory.sets ≡ self.load.memory.sets }
         ensures rest { result ≡ record self { load = with_memory self.load result.load.memory } }
     {

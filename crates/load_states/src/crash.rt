@@ -93,9 +93,14 @@ impl CrashLoaded {
     /// Tests the list. Ok exactly where it is accepted: the head is a done word, and each page of the segments holds what
     /// it is to have. It takes no memory, and the load is as it was.
     pub fn accept(self) -> Result<AcceptedCrash, (CrashLoaded, ListFault)>
-        ensures accepted { IfOk result (λ a. (a ≡ self) × IsAcceptedCrash (at self.memory) (want self.segments) self.head) }
-        ensures refused { IfErr result (λ e. IsAcceptedCrash (at self.memory) (want self.segments) self.head → ⊥) }
-        ensures fault { IfErr result (λ e. (e.1.word ≡ 0) × (crash_reason (at self.memory) (want self.segments) (pages self.segments) (decode self.head) ≡ Some e.1.why)) }
+        ensures accepted { IfOk result (λ a.
+            (a ≡ self) × IsAcceptedCrash (at self.memory) (want self.segments) self.head) }
+        ensures refused { IfErr result (λ e.
+            IsAcceptedCrash (at self.memory) (want self.segments) self.head → ⊥) }
+        ensures fault { IfErr result (λ e.
+            (e.1.word ≡ 0) ×
+            (crash_reason (at self.memory) (want self.segments) (pages self.segments)
+            (decode self.head) ≡ Some e.1.why)) }
         ensures given_back { IfErr result (λ e. e.0 ≡ self) }
     {
         match check_crash(&self.memory, self.head, &self.segments) {
@@ -128,11 +133,13 @@ impl AcceptedCrash {
 /// Puts each page of the segments in its place: it becomes what it is to have, every other page stays, and the head is a
 /// done word. The list is accepted. Refused for want of memory alone, with what memory reads as unchanged.
 pub fn load_crash(mut memory: Memory, segments: Segments) -> Result<CrashLoaded, (Memory, Segments)>
-    ensures loaded { IfOk result (λ c. (p : ℕ) → at c.memory p ≡ overlay (at memory) (want segments) p) }
+    ensures loaded { IfOk result (λ c.
+        (p : ℕ) → at c.memory p ≡ overlay (at memory) (want segments) p) }
     ensures head { IfOk result (λ c. c.head ≡ 4) }
     ensures segments { IfOk result (λ c. c.segments ≡ segments) }
     ensures accepted { IfOk result (λ c. IsAcceptedCrash (at c.memory) (want c.segments) c.head) }
-    ensures given_back { IfErr result (λ r. ((p : ℕ) → at r.0 p ≡ at memory p) × (r.0.sets ≡ memory.sets) × (r.1 ≡ segments)) }
+    ensures given_back { IfErr result (λ r.
+        ((p : ℕ) → at r.0 p ≡ at memory p) × (r.0.sets ≡ memory.sets) × (r.1 ≡ segments)) }
 {
     match hold_set(&mut memory, segments.spans()) {
         Ok(()) => {

@@ -8,6 +8,7 @@ ghost use Rattle.page_memory.specs.Contents.{at, IsHeld};
 ghost use Rattle.page_memory.specs.Memory.{Mem};
 ghost use Rattle.page_pool.specs.Pages.{is_filed};
 ghost use Rattle.kimage_list.specs.Load.{Entry, Move, pages_of};
+ghost use Rattle.kimage_list.specs.Tracking.{whole_pool};
 ghost use Rattle.kimage_list.specs.Writers.{destination_after};
 ghost use Rattle.kimage_list.specs.Calls.{Refuses};
 ghost use Rattle.segments.specs.Values.{is_destination, need};
@@ -76,6 +77,7 @@ impl Filling {
         ensures begun { IfOk result (λ f. FillsFrom (at memory) pool.left wish f) }
         ensures segments { IfOk result (λ f. (f.segments ≡ segments) × (f.written ≡ 0)) }
         ensures enough { IfOk result (λ _. need wish segments ≤ length pool.left) }
+        ensures pages { IfOk result (λ f. whole_pool f.writer.pool ≡ whole_pool pool) }
         ensures exactly { LoadsExactly wish segments pool.left }
         ensures why { IfErr result (λ r. Refuses r.why (length pool.left) (need wish segments)) }
         ensures pool_back { IfErr result (λ r. r.pool ≡ pool) }
@@ -113,9 +115,11 @@ impl Filling {
     /// Writes the next segment, whole: its destination entry, and each of its pages. One is left.
     pub fn fill(&mut self)
         requires { 0 < left self.old }
-        ensures filled { (M : Mem) (pool : List ℕ) (wish : WishOf) → FillsFrom M pool wish self.old → FillsFrom M pool wish self.new }
+        ensures filled { (M : Mem) (pool : List ℕ) (wish : WishOf) →
+            FillsFrom M pool wish self.old → FillsFrom M pool wish self.new }
         ensures segments { self.new.segments ≡ self.old.segments }
         ensures written { self.new.written ≡ self.old.written + 1 }
+        ensures pages { whole_pool self.new.writer.pool ≡ whole_pool self.old.writer.pool }
     {
         fill_segment(&mut self.writer, &self.segments, self.written);
         self.written += 1;
@@ -124,7 +128,9 @@ impl Filling {
     /// Ends the list. No segment is left. The list is accepted for the segments, in the memory of the load.
     pub fn seal(self) -> Loaded
         requires { left self ≡ 0 }
-        ensures { (M : Mem) (pool : List ℕ) (wish : WishOf) → FillsFrom M pool wish self → IsSealed M pool wish self.segments result }
+        ensures sealed { (M : Mem) (pool : List ℕ) (wish : WishOf) → FillsFrom M pool wish self →
+            IsSealed M pool wish self.segments result }
+        ensures pages { whole_pool result.pool ≡ whole_pool self.writer.pool }
     {
         let Filling {
             writer,
@@ -151,34 +157,35 @@ fn pages_of(segments: &Segments) -> &PageSet
 fn fill_segment(writer: &mut ListWriter, segments: &Segments, i: usize)
     requires inside { i < length segments.now }
     requires good { AreSegments segments.now }
-    requires ready { (M : Mem) × (pool : List ℕ) × (wish : WishOf) × Fills M pool wish segments.now (entries_of (take i segments.now)) writer.old }
-    ensures { (M : Mem) (pool : List ℕ) (wish : WishOf) → Fills M pool wish segments.now (entries_of (take i segments.now)) writer.old → Fills M pool wish segments.now (entries_of (take (i + 1) segments.now)) writer.new }
+    requires ready { (M : Mem) × (pool : List ℕ) × (wish : WishOf) ×
+        Fills M pool wish segments.now (entries_of (take i segments.now)) writer.old }
+    ensures filled { (M : Mem) (pool : List ℕ) (wish : WishOf) →
+        Fills M pool wish segments.now (entries_of (take i segments.now)) writer.old →
+        Fills M pool wish segments.now (entries_of (take (i + 1) segments.now)) writer.new }
+    ensures pages { whole_pool writer.new.pool ≡ whole_pool writer.old.pool }
 {
     let segment = segments.segment(i);
     let first = segment.mem / PAGE_SIZE;
     let count = segment.memsz / PAGE_SIZE;
-    writer.add_destination(page_of_number(first));
+    writer.add_destination(Page::from_number(first));
     for number in first..first + count {
-        fill_page(writer, segments, page_of_number(number));
+        fill_page(writer, segments, Page::from_number(number));
     }
 }
 
 // Loads page p of the segments, which is the next destination, with what it is to have.
 fn fill_page(writer: &mut ListWriter, segments: &Segments, p: Page)
     requires wanted { is_destination segments.now p ≡ true }
-    requires ready { (M : Mem) × (pool : List ℕ) × (wish : WishOf) × (es : List Entry) × Fills M pool wish segments.now es writer.old × (destination_after None es ≡ Some p) × (Has p (pages_of es) → ⊥) }
-    ensures { (M : Mem) (pool : List ℕ) (wish : WishOf) (es : List Entry) → Fills M pool wish segments.now es writer.old → destination_after None es ≡ Some p → Fills M pool wish segments.now (es ++ Move p ∷ []) writer.new }
+    requires ready { (M : Mem) × (pool : List ℕ) × (wish : WishOf) × (es : List Entry) ×
+        Fills M pool wish segments.now es writer.old × (destination_after None es ≡ Some p) ×
+        (Has p (pages_of es) → ⊥) }
+    ensures filled { (M : Mem) (pool : List ℕ) (wish : WishOf) (es : List Entry) →
+        Fills M pool wish segments.now es writer.old → destination_after None es ≡ Some p →
+        Fills M pool wish segments.now (es ++ Move p ∷ []) writer.new }
+    ensures pages { whole_pool writer.new.pool ≡ whole_pool writer.old.pool }
 {
     match segments.wanted(p) {
         Some(bytes) => writer.add_source(bytes),
         None => unreachable!(),
     }
-}
-
-// The page of a number that is one.
-fn page_of_number(number: u64) -> Page
-    requires { number < 2 ^ 34 }
-    ensures { result ≡ number }
-{
-    Page::new(number).unwrap()
 }

@@ -14,7 +14,8 @@ use std::alloc::{AllocError, Global};
 
 // Puts the pairs' destinations behind the pages.
 fn push_destinations(pages: &mut Vec<Page>, pairs: &[Pair]) -> Result<(), AllocError>
-    ensures { OnOk result (pages.new.items ≡ pages.old.items ++ destinations (map as_pair pairs.now)) }
+    ensures { OnOk result (pages.new.items ≡ pages.old.items ++ destinations
+        (map as_pair pairs.now)) }
 {
     for pair in pairs {
         pages.push(pair.destination)?;
@@ -53,7 +54,8 @@ pub(crate) fn hold_pairs(
     mode: &Mode,
     pairs: &[Pair],
 ) -> Result<(), AllocError>
-    ensures held { OnOk result (Each (λ q. AreHeld memory.new (move_writes mode.now q.0 q.1)) (map as_pair pairs.now)) }
+    ensures held { OnOk result (Each (λ q.
+        AreHeld memory.new (move_writes mode.now q.0 q.1)) (map as_pair pairs.now)) }
     ensures same { (q : ℕ) → at memory.new q ≡ at memory.old q }
     ensures sets { memory.new.sets ≡ memory.old.sets }
     ensures stay { (q : ℕ) → IsHeld memory.old q → IsHeld memory.new q }

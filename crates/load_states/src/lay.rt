@@ -12,7 +12,8 @@ use segments::Segments;
 use std::alloc::AllocError;
 
 fn hold_span(memory: &mut Memory, span: Span) -> Result<(), AllocError>
-    ensures held { OnOk result ((p : ℕ) → span.first ≤ p → p < span.first + span.count → IsHeld memory.new p) }
+    ensures held { OnOk result ((p : ℕ) → span.first ≤ p → p < span.first + span.count →
+        IsHeld memory.new p) }
     ensures same { (q : ℕ) → at memory.new q ≡ at memory.old q }
     ensures sets { memory.new.sets ≡ memory.old.sets }
     ensures stay { (q : ℕ) → IsHeld memory.old q → IsHeld memory.new q }
@@ -39,7 +40,8 @@ pub(crate) fn hold_set(memory: &mut Memory, set: &PageSet) -> Result<(), AllocEr
 fn lay_page(memory: &mut Memory, segments: &Segments, page: Page)
     requires { IsHeld memory.old page }
     ensures lays { Lays segments.now (at memory.old) (at memory.new) }
-    ensures right { IsSome (want segments.now page) → want segments.now page ≡ Some (at memory.new page) }
+    ensures right { IsSome (want segments.now page) →
+        want segments.now page ≡ Some (at memory.new page) }
     ensures stay { (q : ℕ) → IsHeld memory.old q → IsHeld memory.new q }
 {
     if let Some(bytes) = segments.wanted(page) {
@@ -50,7 +52,8 @@ fn lay_page(memory: &mut Memory, segments: &Segments, page: Page)
 fn lay_span(memory: &mut Memory, segments: &Segments, span: Span)
     requires { (p : ℕ) → span.first ≤ p → p < span.first + span.count → IsHeld memory.old p }
     ensures lays { Lays segments.now (at memory.old) (at memory.new) }
-    ensures right { (p : ℕ) → span.first ≤ p → p < span.first + span.count → IsSome (want segments.now p) → want segments.now p ≡ Some (at memory.new p) }
+    ensures right { (p : ℕ) → span.first ≤ p → p < span.first + span.count →
+        IsSome (want segments.now p) → want segments.now p ≡ Some (at memory.new p) }
     ensures stay { (q : ℕ) → IsHeld memory.old q → IsHeld memory.new q }
 {
     for n in span.first()..span.first() + span.count() {
@@ -62,7 +65,8 @@ fn lay_span(memory: &mut Memory, segments: &Segments, span: Span)
 pub(crate) fn lay_set(memory: &mut Memory, segments: &Segments, set: &PageSet)
     requires { (p : ℕ) → IsTrue (in_spans set.now p) → IsHeld memory.old p }
     ensures lays { Lays segments.now (at memory.old) (at memory.new) }
-    ensures right { (p : ℕ) → IsTrue (in_spans set.now p) → IsSome (want segments.now p) → want segments.now p ≡ Some (at memory.new p) }
+    ensures right { (p : ℕ) → IsTrue (in_spans set.now p) → IsSome (want segments.now p) →
+        want segments.now p ≡ Some (at memory.new p) }
 {
     for i in 0..set.spans() {
         lay_span(memory, segments, set.span(i));

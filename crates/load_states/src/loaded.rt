@@ -50,7 +50,12 @@ pub struct NotAccepted {
 impl Loaded {
     /// The load of these parts, whatever its list is.
     pub fn from_parts(memory: Memory, pool: Pool, image: Image, segments: Segments) -> Loaded
-        ensures { result ≡ record { memory = memory; pool = pool; image = image; segments = segments } }
+        ensures { result ≡ record {
+          memory = memory;
+          pool = pool;
+          image = image;
+          segments = segments;
+        } }
     {
         Loaded {
             memory,
@@ -99,7 +104,9 @@ impl Loaded {
 
     // Holds each page that the pairs' moves write.
     fn hold(&mut self, alloc: Global, pairs: &[Pair]) -> Result<(), AllocError>
-        ensures held { OnOk result (Each (λ q. AreHeld self.new.memory (move_writes self.new.image.mode q.0 q.1)) (map as_pair pairs.now)) }
+        ensures held { OnOk result (Each (λ q.
+            AreHeld self.new.memory (move_writes self.new.image.mode q.0 q.1))
+            (map as_pair pairs.now)) }
         ensures same { IsLeftAs self.old self.new }
     {
         hold_pairs(alloc, &mut self.memory, &self.image.mode, pairs)
@@ -109,7 +116,8 @@ impl Loaded {
     pub(crate) fn set(&mut self, p: Page, bytes: &[u8])
         requires held { IsHeld self.old.memory p }
         requires fits { length bytes.now ≤ 4096 }
-        ensures { self.new ≡ with_memory self.old (after_set self.old.memory p (page_of bytes.now)) }
+        ensures { self.new ≡ with_memory self.old (after_set self.old.memory p
+            (page_of bytes.now)) }
     {
         self.memory.set(p, bytes);
     }
@@ -120,7 +128,8 @@ impl Loaded {
         ensures accepted { IfOk result (λ a. IsAcceptedAs self a) }
         // Of a load that reads alike the same is told, and its runs leave the same.
         ensures alike { IfOk result (λ a. TellsAlike (checked_in a)) }
-        ensures refused { IfErr result (λ e. IsCheckFault self.memory self.segments self.image e.why) }
+        ensures refused { IfErr result (λ e.
+            IsCheckFault self.memory self.segments self.image e.why) }
         ensures given_back { IfErr result (λ e. IsLeftAs self e.loaded) }
     {
         match check(alloc, &self.memory, &self.image, &self.segments) {

@@ -8,7 +8,7 @@ ghost use Rattle.segments.specs.Values.{want};
 ghost use Rattle.load_states.specs.Exchange.{exchange};
 ghost use Rattle.load_states.specs.States.{swap_of, with_memory, checked_of};
 ghost use Rattle.load_states.specs.Ready.{IsToGoBack};
-ghost use Rattle.load_states.specs.Runs.{RestoresOthers, RunsTo};
+ghost use Rattle.load_states.specs.Runs.{IsTouched, RestoresOthers, RunsTo};
 
 use crate::loaded::Loaded;
 use crate::run::run_to_end;
@@ -118,7 +118,10 @@ impl RanKept {
     pub fn touch(&mut self, p: Page, bytes: &[u8])
         requires wanted { IsSome (want self.old.load.segments p) }
         requires fits { length bytes.now ≤ 4096 }
-        ensures { self.new ≡ record self.old { load = with_memory self.old.load (after_set self.old.load.memory p (page_of bytes.now)) } }
+        ensures { self.new ≡ record self.old {
+          load = with_memory self.old.load
+              (after_set self.old.load.memory p (page_of bytes.now));
+        } }
     {
         self.loaded.set(p, bytes);
     }
@@ -128,15 +131,20 @@ impl RanKept {
     pub fn back(self) -> Back
         ensures steps { result.steps ≡ self.words }
         ensures run { RunsTo self.load self.words result.load.memory }
-        ensures memory { (p : ℕ) → at result.load.memory p ≡ exchange (at self.load.memory) self.pairs (swap_of self.load) p }
-        ensures restored { (M : Mem) → ((q : ℕ) → at self.load.memory q ≡ exchange M self.pairs (swap_of self.load) q) → (p : ℕ) → p ≢ swap_of self.load → at result.load.memory p ≡ M p }
+        ensures memory { (p : ℕ) →
+            at result.load.memory p ≡ exchange (at self.load.memory) self.pairs
+            (swap_of self.load) p }
+        ensures restored { (M : Mem) →
+            ((q : ℕ) → at self.load.memory q ≡ exchange M self.pairs (swap_of self.load) q) →
+            (p : ℕ) → p ≢ swap_of self.load → at result.load.memory p ≡ M p }
         // Where at most pages of the segments were written since the first run, from memory M.
-        ensures undone { (M : Mem) → ((q : ℕ) → want self.load.segments q ≡ None → at self.load.memory q ≡ exchange M self.pairs (swap_of self.load) q)
-            → (p : ℕ) → p ≢ swap_of self.load → (Has p (sources self.pairs) → ⊥) → at result.load.memory p ≡ M p }
+        ensures undone { (M : Mem) → IsTouched M self → (p : ℕ) → p ≢ swap_of self.load →
+            (Has p (sources self.pairs) → ⊥) → at result.load.memory p ≡ M p }
         // Of a list that `Filling::seal` made, whatever was written to pages of the segments.
         ensures others { RestoresOthers self result }
         // Each source holds what its destination held.
-        ensures sources { Each (λ q. at result.load.memory q.1 ≡ at self.load.memory q.0) self.pairs }
+        ensures sources { Each (λ q.
+            at result.load.memory q.1 ≡ at self.load.memory q.0) self.pairs }
         ensures sets { result.load.memory.sets ≡ self.load.memory.sets }
         ensures rest { result.load ≡ with_memory self.load result.load.memory }
     {

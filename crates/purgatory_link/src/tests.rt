@@ -4,7 +4,7 @@ ghost use Rattle.elf_image.specs.Section.{IsInside};
 ghost use Rattle.elf_image.specs.Object.{IsDefined, IsReloc, IsObject};
 
 use crate::{LinkFault, Linked, link, size};
-use elf_image::{Reloc, Section, Symbol};
+use elf_image::{Object, Reloc, Section, Symbol};
 use std::alloc::Global;
 use std::test::Fail;
 

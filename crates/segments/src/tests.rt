@@ -1,5 +1,6 @@
 use super::*;
-use kx_pages::{Page, Span};
+use kx_pages::{Page, PageSet, Span, Wish};
+use std::alloc::Global;
 use std::test::*;
 
 // Segments with no bytes, at these addresses and of these sizes.
@@ -103,6 +104,8 @@ fn a_page_has_its_bytes(rt: HostRuntime) -> Result<(), Fail> {
     assert_eq!(rt; segments.need(Wish::Plain), 4);
     assert_eq!(rt; segments.need(Wish::Kept), 5);
     if segments.count() == 1 && segments.segment(0).bytes.len() == 3 {
+        assert_eq!(rt; segments.span(0).first(), 2);
+        assert_eq!(rt; segments.span(0).count(), 2);
         segments.replace(0, b"abd");
     }
     let two = Page::new(2).ok_or("a page")?;

@@ -14,14 +14,14 @@ returns-in_err-outputs c =
     let x = trace_inputs c.args.trace in
     let e : c.from_residual-in_err-outputs.result ≡ Err c.in_err-outputs.field-0.0 = search rules in
     let run = run_of x.memory x.head x.mode x.limit in
-    let r = c.in_ok-outcome.ensures.ok in
+    let left = c.in_ok-outcome.ensures.memory in
     let N = at c.run.new.memory in
     handed_on_as (λ g. traces x (Ok (goods_of g))) (λ why. traces x (Err (by why))) (HasNoFile N) _ _ e
-    (λ why h. no_file_as N (at run.0.memory) why (λ p. sym (r.1 p)) h) c.in_err-outputs.ensures
+    (λ why h. no_file_as N (at run.0.memory) why (λ p. ap (λ m. at m p) left) h) c.in_err-outputs.ensures
 
 pub returns : goal.returns
 returns c =
     let x = trace_inputs c.args.trace in
     let run = run_of x.memory x.head x.mode x.limit in
-    let r = c.in_ok-outcome.ensures.ok in
-    (c.in_ok-text.ensures ∙ ap outcome_line r.0, refl, output_as (at c.run.new.memory) (at run.0.memory) _ x.out (λ p. sym (r.1 p)) c.in_ok-outputs.ensures)
+    let left = c.in_ok-outcome.ensures.memory in
+    (c.in_ok-text.ensures ∙ ap outcome_line c.in_ok-outcome.ensures.outcome, refl, output_as (at c.run.new.memory) (at run.0.memory) _ x.out (λ p. ap (λ m. at m p) left) c.in_ok-outputs.ensures)

@@ -15,8 +15,8 @@ add_source-requires-clause-destination c =
 pub unreachable-requires : goal.unreachable-requires
 unreachable-requires c = false≢true (ap is_some c.in-None.ensures.filled ∙ is_some-want c.args.segments.now c.args.p ∙ c.requires.wanted)
 
-pub returns : goal.returns
-returns c = λ M pool wish es k e.
+pub returns-clause-filled : goal.returns-clause-filled
+returns-clause-filled c = λ M pool wish es k e.
     let ss = c.args.segments.now in
     let w = c.args.writer.now in
-    page_filled M pool wish ss es w k c.args.p _ c.add_source.new.self (sym c.in-Some.ensures.filled) (c.add_source.ensures k.load c.args.p (goes_to M pool wish ss es w k c.args.p e) k.stands)
+    page_filled M pool wish ss es w k c.args.p _ c.add_source.new.self (sym c.in-Some.ensures.filled) (c.add_source.ensures.stands k.load c.args.p (goes_to M pool wish ss es w k c.args.p e) k.stands)

@@ -24,10 +24,10 @@ pub loop-number-init : goal.loop-number-init
 loop-number-init c =
     let r = c.requires.ready in
     let ss = c.args.segments.now in
-    (omega arith, omega arith, subst (λ x. Goes ss c.args.i x x c.args.writer.now c.add_destination.new.self) c.page_of_number.ensures (goes_begun ss c.args.i c.page_of_number.result c.args.writer.now c.add_destination.new.self r.0 r.1 r.2 r.3 c.add_destination.ensures))
+    (omega arith, omega arith, subst (λ x. Goes ss c.args.i x x c.args.writer.now c.add_destination.new.self) c.from_number.ensures (goes_begun ss c.args.i c.from_number.result c.args.writer.now c.add_destination.new.self r.0 r.1 r.2 r.3 c.add_destination.ensures.stands), c.add_destination.ensures.pages)
 
-pub page_of_number-requires-in-loop-number : goal.page_of_number-requires-in-loop-number
-page_of_number-requires-in-loop-number c =
+pub from_number-requires-in-loop-number : goal.from_number-requires-in-loop-number
+from_number-requires-in-loop-number c =
     let s : SegmentValue = record { bytes = c.segment.inside.bytes.items; mem = c.segment.inside.mem; memsz = c.segment.inside.memsz } in
     let k = placed_at c.args.segments.now c.args.i s c.requires.good.placed (c.segment-segment.ensures ∙ ap (λ x. Some x) (sym c.segment.view_is)) in
     omega (arith, k.below, c.loop-number-test.true)
@@ -37,7 +37,7 @@ fill_page-requires-clause-wanted c =
     let s : SegmentValue = record { bytes = c.segment.inside.bytes.items; mem = c.segment.inside.mem; memsz = c.segment.inside.memsz } in
     let e = c.segment-segment.ensures ∙ ap (λ x. Some x) (sym c.segment.view_is) in
     let d = is_page c.args.segments.now c.args.i s e c.requires.good c.loop-number.number c.loop-number.invariant.0 c.loop-number-test.true in
-    ap (is_destination c.args.segments.now) c.page_of_number-in-loop-number.ensures ∙ d
+    ap (is_destination c.args.segments.now) c.from_number-in-loop-number.ensures ∙ d
 
 pub fill_page-requires-clause-ready : goal.fill_page-requires-clause-ready
 fill_page-requires-clause-ready c =
@@ -46,7 +46,7 @@ fill_page-requires-clause-ready c =
     let e = c.segment-segment.ensures ∙ ap (λ x. Some x) (sym c.segment.view_is) in
     let g = c.loop-number.invariant.2 in
     let n = c.loop-number.number in
-    let same = c.page_of_number-in-loop-number.ensures in
+    let same = c.from_number-in-loop-number.ensures in
     let first = c.segment.inside.mem / 4096 in (
       g.memory,
       g.pool,
@@ -62,11 +62,12 @@ loop-number-preserved c = (
   omega (arith, c.loop-number.invariant.0),
   omega (arith, c.loop-number-test.true),
   goes_more c.args.segments.now c.args.i (c.segment.inside.mem / 4096) c.loop-number.number c.args.writer.now c.loop-number.writer c.fill_page.new.writer c.loop-number.invariant.0 c.loop-number.invariant.2
-      (λ M pool wish es g e. subst (λ x. Fills M pool wish c.args.segments.now (es ++ Move x ∷ []) c.fill_page.new.writer) c.page_of_number-in-loop-number.ensures (c.fill_page.ensures M pool wish es g (e ∙ ap (λ x. Some x) (sym c.page_of_number-in-loop-number.ensures)))),
+      (λ M pool wish es g e. subst (λ x. Fills M pool wish c.args.segments.now (es ++ Move x ∷ []) c.fill_page.new.writer) c.from_number-in-loop-number.ensures (c.fill_page.ensures.filled M pool wish es g (e ∙ ap (λ x. Some x) (sym c.from_number-in-loop-number.ensures)))),
+  c.fill_page.ensures.pages ∙ c.loop-number.invariant.3,
 )
 
-pub returns : goal.returns
-returns c = λ M pool wish b.
+pub returns-clause-filled : goal.returns-clause-filled
+returns-clause-filled c = λ M pool wish b.
     let s : SegmentValue = record { bytes = c.segment.inside.bytes.items; mem = c.segment.inside.mem; memsz = c.segment.inside.memsz } in
     let ss = c.args.segments.now in
     let e = c.segment-segment.ensures ∙ ap (λ x. Some x) (sym c.segment.view_is) in

@@ -3,7 +3,8 @@ use Rattle.page_memory.specs.Contents.{Contents, at, IsHeld}
 use Rattle.load_states.specs.States.{Load, Checked, checked_of, swap_of}
 use Rattle.load_states.specs.Exchange.{exchange}
 use Rattle.segments.specs.Values.{want}
-use Rattle.load_states.proofs.Ready.{kept_ends, kept_arrives, goes_back}
+use Rattle.load_states.specs.Runs.{RunsTo}
+use Rattle.load_states.proofs.Ready.{kept_ends, kept_arrives, goes_back, runs_to}
 use Rattle.load_states.proofs.accepted.AcceptedKept.exec.Goals as goal
 
 pub run_to_end-requires : goal.run_to_end-requires
@@ -49,3 +50,12 @@ returns-clause-sets c =
     let runs = kept_ends (at c.self.inside.loaded.memory) (checked_of c.self.inside.loaded c.self.inside.accept) k.swap k.items c.parts-memory.result.0 c.parts-memory.result.2 k.kept c.parts-memory.ensures.memory c.parts-memory.ensures.image in
     ap (λ (r : Checked). r.load.memory.sets) c.new.ensures ∙ ap (λ (l : Load). l.memory.sets) c.from_parts.ensures ∙ ap (λ (m : Contents). m.sets) c.run_to_end.ensures.memory ∙ runs.sets
     ∙ ap (λ (m : Contents). m.sets) c.parts-memory.ensures.memory ∙ ap (λ (s : Checked). s.load.memory.sets) c.self.view_is
+
+pub returns-clause-run : goal.returns-clause-run
+returns-clause-run c =
+    let k = c.self.invariant in
+    let s : Checked = checked_of c.self.inside.loaded c.self.inside.accept in
+    let runs = kept_ends (at c.self.inside.loaded.memory) s k.swap k.items c.parts-memory.result.0 c.parts-memory.result.2 k.kept c.parts-memory.ensures.memory c.parts-memory.ensures.image in
+    subst (λ (s : Checked). RunsTo s.load s.words c.new.result.load.memory) c.self.view_is
+    (runs_to s.load c.parts-memory.result.0 c.new.result.load.memory c.parts-memory.result.2 s.words _ c.parts-memory.ensures.memory c.parts-memory.ensures.image runs
+    (ap (λ (r : Checked). r.load.memory) c.new.ensures ∙ ap (λ (l : Load). l.memory) c.from_parts.ensures ∙ c.run_to_end.ensures.memory))

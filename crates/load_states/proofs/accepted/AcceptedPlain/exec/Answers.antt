@@ -1,8 +1,9 @@
-use Rattle.std.proofs.Common.{ap, ◌∙◌}
+use Rattle.std.proofs.Common.{ap, ◌∙◌, subst}
 use Rattle.page_memory.specs.Contents.{Contents, at}
 use Rattle.segments.specs.Values.{overlay, want}
 use Rattle.load_states.specs.States.{Checked, Ran, checked_of}
-use Rattle.load_states.proofs.Ready.{plain_ends}
+use Rattle.load_states.specs.Runs.{RunsTo}
+use Rattle.load_states.proofs.Ready.{plain_ends, runs_to}
 use Rattle.load_states.proofs.accepted.AcceptedPlain.exec.Goals as goal
 
 pub run_to_end-steps-requires : goal.run_to_end-steps-requires
@@ -22,3 +23,11 @@ pub returns-clause-sets : goal.returns-clause-sets
 returns-clause-sets c =
     let runs = plain_ends (checked_of c.self.inside.loaded c.self.inside.accept) c.parts-memory.result.0 c.parts-memory.result.2 c.self.invariant c.parts-memory.ensures.memory c.parts-memory.ensures.image in
     ap (λ (r : Ran). r.memory.sets) c.new.ensures ∙ ap (λ (m : Contents). m.sets) c.run_to_end-steps.ensures.memory ∙ runs.sets ∙ ap (λ (m : Contents). m.sets) c.parts-memory.ensures.memory ∙ ap (λ (s : Checked). s.load.memory.sets) c.self.view_is
+
+pub returns-clause-run : goal.returns-clause-run
+returns-clause-run c =
+    let s : Checked = checked_of c.self.inside.loaded c.self.inside.accept in
+    let runs = plain_ends s c.parts-memory.result.0 c.parts-memory.result.2 c.self.invariant c.parts-memory.ensures.memory c.parts-memory.ensures.image in
+    subst (λ (s : Checked). RunsTo s.load s.words c.new.result.memory) c.self.view_is
+    (runs_to s.load c.parts-memory.result.0 c.new.result.memory c.parts-memory.result.2 s.words _ c.parts-memory.ensures.memory c.parts-memory.ensures.image runs
+    (ap (λ (r : Ran). r.memory) c.new.ensures ∙ c.run_to_end-steps.ensures.memory))

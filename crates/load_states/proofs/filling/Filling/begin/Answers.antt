@@ -3,6 +3,8 @@ use Rattle.page_memory.specs.Contents.{at}
 use Rattle.kimage_list.specs.Calls.{Refuses}
 use Rattle.segments.proofs.Laws.{AreSegments-from_IsBare}
 use Rattle.load_states.proofs.FillSteps.{filling_begun, span_pages, need_same}
+use Rattle.kx_pages.proofs.Counting.{count-append}
+use Rattle.load_states.proofs.Exact.{loads_exactly}
 use Rattle.load_states.proofs.filling.Filling.begin.Goals as goal
 
 pub begin-begun-requires-clause-some : goal.begin-begun-requires-clause-some
@@ -37,3 +39,13 @@ returns-in-Err-clause-why c =
     let k = AreSegments-from_IsBare c.args.segments c.count-count.ensures.valid in
     let e = need_same c.args.wish c.args.segments c.count-count.result _ c.count-count.ensures.value (span_pages c.args.segments c.pages_of.result.now k c.pages_of.ensures.apart c.pages_of.ensures.pages) in
     subst (Refuses c.in-Err.refused.why (length c.args.pool.left)) e c.in-Err.ensures.why
+
+pub returns-in-Ok-clause-exactly : goal.returns-in-Ok-clause-exactly
+returns-in-Ok-clause-exactly c =
+    loads_exactly c.args.wish c.args.segments c.args.pool.left (AreSegments-from_IsBare c.args.segments c.count-count.ensures.valid)
+    (λ x. omega (arith, c.left-left.ensures.once.each x, count-append x c.args.pool.drawn c.args.pool.left))
+
+pub returns-in-Err-clause-exactly : goal.returns-in-Err-clause-exactly
+returns-in-Err-clause-exactly c =
+    loads_exactly c.args.wish c.args.segments c.args.pool.left (AreSegments-from_IsBare c.args.segments c.count-count.ensures.valid)
+    (λ x. omega (arith, c.left-left.ensures.once.each x, count-append x c.args.pool.drawn c.args.pool.left))

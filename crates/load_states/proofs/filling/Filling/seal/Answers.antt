@@ -15,9 +15,9 @@ finish-written-requires-clause-loaded c =
     let f : Fill = record { writer = c.self.inside.writer; segments = c.self.inside.segments; written = c.self.inside.written } in
     none_awaited k.0 k.1 k.2 f k.3 (rw (← c.self.view_is) at c.requires)
 
-pub returns : goal.returns
-returns c = λ M pool wish t.
+pub returns-clause-sealed : goal.returns-clause-sealed
+returns-clause-sealed c = λ M pool wish t.
     let f : Fill = record { writer = c.self.inside.writer; segments = c.self.inside.segments; written = c.self.inside.written } in
     let k = subst (FillsFrom M pool wish) (sym c.self.view_is) t in
-    let s = sealed M pool wish f k (rw (← c.self.view_is) at c.requires) c.finish-written.result (c.finish-written.ensures k.fills.load k.fills.stands) in
+    let s = sealed M pool wish f k (rw (← c.self.view_is) at c.requires) c.finish-written.result (c.finish-written.ensures.written k.fills.load k.fills.stands) in
     subst (λ v. IsSealed M pool wish v.segments c.from_parts.result) c.self.view_is (subst (IsSealed M pool wish f.segments) (sym c.from_parts.ensures) s)

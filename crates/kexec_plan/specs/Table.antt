@@ -1,0 +1,40 @@
+-- The table of places: for each part the least address, the alignment, the greatest address of its last byte, and
+-- whether the lowest or the highest place is taken (this project's own; the limits of a bzImage are those of the
+-- Linux/x86 boot protocol, "The Real-Mode Kernel Header").
+use Rattle.std.specs.Prelude.{ℕ, ◌+◌, ◌-◌, ◌^◌, Bool, List, length, max, if◌then◌else◌}
+use Rattle.hole_search.specs.declared.search.End.TheVariants.{Least, Greatest}
+use Rattle.bzimage.specs.Kernel.{Kernel}
+use Rattle.kexec_plan.specs.declared.fault.Part.{Part}
+use Rattle.kexec_plan.specs.declared.fault.Part.TheVariants as parts
+use Rattle.kexec_plan.specs.declared.places.PlaceRule.{PlaceRule}
+
+-- the last address below 4 GiB, or where a kernel may lie above it the last below the limit of addresses
+abbrev pub last_address : Bool → ℕ
+last_address above4g = if above4g then 2 ^ 46 - 1 else 2 ^ 32 - 1
+
+-- a part of so many bytes, as high as it can lie
+abbrev pub highest : Part → ℕ → ℕ → PlaceRule
+highest part n most = record { part = part; length = n; end = Greatest; align = 4096; min = 0; most = most }
+
+-- a bzImage: its protected-mode part, or as much as it needs at its start, as low as it can lie from the address that it
+-- prefers on, and not below 1 MiB
+abbrev pub kernel_rule : Kernel → ℕ → PlaceRule
+kernel_rule k n = record {
+  part = parts.Kernel;
+  length = max k.init_size (n - k.start);
+  end = Least;
+  align = k.align;
+  min = max k.pref 0x100000;
+  most = last_address k.above4g;
+}
+
+-- its initrd: at most at initrd_addr_max, which counts for kernels below 4 GiB alone
+abbrev pub initrd_most : Kernel → ℕ
+initrd_most k = if k.above4g then 2 ^ 46 - 1 else k.initrd_max
+
+abbrev pub initrd_rule : Kernel → List ℕ → PlaceRule
+initrd_rule k initrd = highest parts.Initrd (length initrd) (initrd_most k)
+
+-- its boot parameters: the zero page, the command and a NUL
+abbrev pub parameters_rule : Kernel → List ℕ → PlaceRule
+parameters_rule k command = highest parts.Parameters (4096 + length command + 1) (last_address k.above4g)

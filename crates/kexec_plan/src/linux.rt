@@ -1,0 +1,136 @@
+//! A bzImage with its initrd and its command.
+
+ghost use Rattle.std.specs.Prelude.{◌≡◌, ◌<◌, ◌≤◌, ◌^◌, ℕ, [], ◌∷◌, ◌++◌, length, drop, ◌+◌, option_map, IfOk, IfSome, OnOk};
+ghost use Rattle.kx_laws.specs.Results.{Gives};
+ghost use Rattle.kx_pages.specs.Spans.{in_spans};
+ghost use Rattle.bzimage.specs.Kernel.{IsSound};
+ghost use Rattle.kexec_plan.specs.Requests.{request_of, lent};
+ghost use Rattle.kexec_plan.specs.Linux.{command_of, linux_sites, linux_parts, linux_start, segment_at, segment_if, initrd_told, rows_of, AreLow};
+
+use crate::fault::PlanFault;
+use crate::linux_sites::{LinuxSites, command_of};
+use crate::places::Site;
+use crate::request::Request;
+use boot_params::make;
+use bzimage::BzImage;
+use kx_pages::Start;
+use memory_map::{Map, Row};
+use segments::{Kind, Segment};
+use std::alloc::{AllocError, Global};
+
+// The bytes from number `n` on.
+fn cut_front(bytes: &mut Vec<u8>, n: usize)
+    requires { n ≤ length bytes.old.items }
+    ensures { bytes.new.items ≡ drop n bytes.old.items }
+{
+    bytes.drain(..n);
+}
+
+// The segment of a part at its place.
+fn segment_at(site: Site, bytes: Vec<u8>) -> Segment
+    ensures { result ≡ segment_at site bytes.items }
+{
+    Segment {
+        bytes,
+        mem: site.at,
+        memsz: site.size,
+    }
+}
+
+// Puts the segment of a part that may be left out behind the others.
+fn push_some(
+    list: &mut Vec<Segment>,
+    site: Option<Site>,
+    bytes: Option<Vec<u8>>,
+) -> Result<(), AllocError>
+    ensures { OnOk result (list.new.items ≡ list.old.items ++ segment_if site (option_map (λ v. v.items) bytes)) }
+{
+    if let (Some(site), Some(bytes)) = (site, bytes) {
+        list.push(segment_at(site, bytes))?;
+    }
+    Ok(())
+}
+
+// Address and length of the initrd.
+fn initrd_told(site: Option<Site>, initrd: &Option<Vec<u8>>) -> Option<(u64, u64)>
+    ensures { result ≡ initrd_told site (option_map (λ v. v.items) initrd.now) }
+{
+    match (site, initrd) {
+        (Some(site), Some(initrd)) => Some((site.at, initrd.len() as u64)),
+        _ => None,
+    }
+}
+
+/// The rows of the memory map for the kernel.
+pub(crate) fn rows_of<'a>(map: Option<&'a Map>, kind: &Kind) -> &'a [Row]
+    ensures { result.now ≡ rows_of (lent map.entry) kind.now }
+{
+    match (map, kind) {
+        (Some(map), Kind::Normal) => map.rows(),
+        (Some(map), Kind::Crash { .. }) => map.crash_rows(),
+        (None, _) => &[],
+    }
+}
+
+// The segments of kernel, initrd and boot parameters.
+fn segments_of(
+    alloc: Global,
+    sites: &LinuxSites,
+    kernel: Vec<u8>,
+    initrd: Option<Vec<u8>>,
+    parameters: Vec<u8>,
+) -> Result<Vec<Segment>, AllocError>
+    ensures { IfOk result (λ v. v.items ≡ segment_at sites.now.front.kernel kernel.items ∷ segment_if sites.now.front.initrd (option_map (λ b. b.items) initrd) ++ segment_at sites.now.back.parameters parameters.items ∷ []) }
+{
+    let mut list = Vec::new(alloc);
+    list.push(segment_at(sites.front.kernel, kernel))?;
+    push_some(&mut list, sites.front.initrd, initrd)?;
+    list.push(segment_at(sites.back.parameters, parameters))?;
+    Ok(list)
+}
+
+/// The segments of a bzImage at these places. The bytes of kernel and initrd are moved.
+#[tactic(auto, unfolding(crate::specs::Linux::linux_parts))]
+pub(crate) fn linux_parts(
+    alloc: Global,
+    image: &BzImage,
+    request: Request,
+    rows: &[Row],
+    sites: &LinuxSites,
+) -> Result<Vec<Segment>, PlanFault>
+    requires sound { IsSound (length request.kernel.items) image.now }
+    requires low { AreLow sites.now }
+    ensures { Gives PlanFault.Memory (λ v. v.items) result (linux_parts image.now (request_of request) rows.now sites.now) }
+{
+    let Request {
+        mut kernel,
+        initrd,
+        command,
+        ..
+    } = request;
+    let told = initrd_told(sites.front.initrd, &initrd);
+    let parameters = match make(alloc, image, rows, command_of(&command), sites.back.parameters.at, told)
+    {
+        Ok(parameters) => parameters,
+        Err(fault) => return Err(PlanFault::of_params(fault)),
+    };
+    cut_front(&mut kernel, image.start);
+    let list = segments_of(alloc, sites, kernel, initrd, parameters)?;
+    Ok(list)
+}
+
+/// The start at the 64-bit entry.
+pub(crate) fn linux_start(sites: &LinuxSites) -> Start
+    requires { AreLow sites.now }
+    ensures { result ≡ linux_start sites.now }
+{
+    Start {
+        entry: sites.front.kernel.at + ENTRY,
+        rax: 0,
+        rbx: 0,
+        rsi: sites.back.parameters.at,
+    }
+}
+
+/// The 64-bit entry lies so many bytes behind the kernel's start.
+const ENTRY: u64 = 0x200;
