@@ -38,8 +38,8 @@ unless_outside notes ranges (Some i) = Err (faults.NotesOutside i)
 unless_outside notes ranges None = Ok (headers notes ranges)
 
 -- the headers, or the first reason why there are none
-abbrev pub made : List Note → List Row → Result (List ℕ) CrashFault
-made notes ranges =
+abbrev pub headers_or_fault : List Note → List Row → Result (List ℕ) CrashFault
+headers_or_fault notes ranges =
     if nat_lt 1024 (count_of notes ranges) then
     Err (faults.TooManyRanges (count_of notes ranges))
     else unless_outside notes ranges (position (is_outside ranges) notes)

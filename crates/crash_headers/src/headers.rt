@@ -7,7 +7,7 @@ ghost use Rattle.memory_map.specs.Named.{core_ranges};
 ghost use Rattle.crash_headers.specs.declared.fault.CrashFault.TheVariants.{Memory};
 ghost use Rattle.crash_headers.specs.FileHeader.{core_header, IsHeaderReadBack};
 ghost use Rattle.crash_headers.specs.ProgramHeader.{row_text, table_text, note_row, load_row, IsRowReadBack, AreReadBack};
-ghost use Rattle.crash_headers.specs.Headers.{count_of, rows, headers, headers_length, length_for, made, HasIdentification, HasFileHeader, HasProgramHeaders};
+ghost use Rattle.crash_headers.specs.Headers.{count_of, rows, headers, headers_length, length_for, headers_or_fault, HasIdentification, HasFileHeader, HasProgramHeaders};
 
 use crate::fault::CrashFault;
 use crate::file_header::FileHeader;
@@ -39,8 +39,8 @@ fn put_notes(out: &mut Vec<u8>, notes: &[Note]) -> Result<(), AllocError>
     ensures text { OnOk result (out.new.items ≡ out.old.items ++ table_text (map note_row notes.now)) }
     ensures back { OnOk result (AreReadBack (map note_row notes.now)) }
 {
-    for i in 0..notes.len() {
-        put_row(out, ProgramHeader::of_note(notes[i]))?;
+    for note in notes {
+        put_row(out, ProgramHeader::of_note(*note))?;
     }
     Ok(())
 }
@@ -51,8 +51,8 @@ fn put_loads(out: &mut Vec<u8>, ranges: &[Row]) -> Result<(), AllocError>
     ensures text { OnOk result (out.new.items ≡ out.old.items ++ table_text (map load_row ranges.now)) }
     ensures back { OnOk result (AreReadBack (map load_row ranges.now)) }
 {
-    for i in 0..ranges.len() {
-        put_row(out, ProgramHeader::of_range(ranges[i]))?;
+    for range in ranges {
+        put_row(out, ProgramHeader::of_range(*range))?;
     }
     Ok(())
 }
@@ -79,7 +79,7 @@ fn headers(alloc: Global, notes: &[Note], ranges: &[Row]) -> Result<Vec<u8>, All
 /// TooManyRanges comes exactly where there are more than 1,024 notes and core ranges together; otherwise NotesOutside
 /// exactly where a note does not lie inside one core range, with the first. Memory comes only where memory ran out.
 pub fn make(alloc: Global, map: &Map, notes: &[Note]) -> Result<Vec<u8>, CrashFault>
-    ensures exact { Gives Memory (λ v. v.items) result (made notes.now (core_ranges map.now)) }
+    ensures exact { Gives Memory (λ v. v.items) result (headers_or_fault notes.now (core_ranges map.now)) }
     ensures length { IfOk result (λ v. length v.items ≡ headers_length notes.now (core_ranges map.now)) }
     // What its bytes read as.
     ensures identification { IfOk result (λ v. HasIdentification v.items) }

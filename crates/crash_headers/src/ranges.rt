@@ -16,8 +16,8 @@ pub(crate) fn end_of(range: &Row) -> u128
     u128::from(range.start) + u128::from(range.size)
 }
 
-/// The ranges by their starts.
-fn sorted(alloc: Global, ranges: &[Row]) -> Result<Vec<Row>, AllocError>
+/// The ranges in the order of their starts.
+fn by_starts(alloc: Global, ranges: &[Row]) -> Result<Vec<Row>, AllocError>
     ensures same { IfOk result (λ v. IsPermutation ranges.now v.items) }
     ensures sorted { IfOk result (λ v. AreSorted v.items) }
 {
@@ -58,7 +58,7 @@ pub(crate) fn rising(alloc: Global, ranges: &[Row]) -> Result<Vec<Row>, AllocErr
     ensures notes { IfOk result (λ v. HoldSameNotes v.items ranges.now) }
     ensures rising { IfOk result (λ v. AreRising v.items) }
 {
-    let by_start = sorted(alloc, ranges)?;
-    let outer = outermost(alloc, &by_start)?;
+    let sorted = by_starts(alloc, ranges)?;
+    let outer = outermost(alloc, &sorted)?;
     Ok(outer)
 }

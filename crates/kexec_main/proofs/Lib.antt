@@ -7,3 +7,4 @@ pub mod Done
 pub mod Complete
 pub mod Holding
 pub mod Rising
+pub mod Serving

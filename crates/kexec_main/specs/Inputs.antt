@@ -20,11 +20,12 @@ use Rattle.kexec_main.specs.declared.status.Reason.{Reason}
 use Rattle.kexec_main.specs.declared.status.Reason.TheVariants as reasons
 use Rattle.kexec_main.specs.Files.{map_file, memory_file, pool_file}
 
--- what of a request is not served yet: only raw kernels without a purgatory are
+-- what of a request is not served yet: the type that is told by the file alone, Multiboot, and a purgatory
 abbrev pub unserved : ImageType → Option (List ℕ) → Option NotBuilt
-unserved (types.Raw address entry) None = None
-unserved (types.Raw address entry) (Some purgatory) = Some Purgatory
-unserved other purgatory = Some Format
+unserved types.Auto purgatory = Some Format
+unserved types.Multiboot purgatory = Some Format
+unserved image None = None
+unserved image (Some purgatory) = Some Purgatory
 
 -- the most bytes of the kernel, the initrd and the modules together, and of a purgatory
 abbrev pub kernel_limit : ℕ

@@ -1,6 +1,6 @@
 //! The files of the commands are taken, each with its limit, and read.
 
-ghost use Rattle.std.specs.Prelude.{◌≡◌, ℕ, false, option_map, string_bytes, IfOk};
+ghost use Rattle.std.specs.Prelude.{◌≡◌, ℕ, false, is_some, option_map, string_bytes, IfOk};
 ghost use Rattle.file_commands.specs.Calls.{Takes};
 ghost use Rattle.file_commands.specs.Files.{optional_file};
 ghost use Rattle.kexec_main.specs.Files.{load_files, load_record_file, map_file, memory_file, pool_file};
@@ -95,7 +95,8 @@ pub(crate) fn take_map<S: Shelf>(
     name: Option<String>,
     shelf: &mut S,
 ) -> Result<Option<Map>, TakeFault<Reason>>
-    ensures { Takes S.Shelf (optional_file map_file (option_map string_bytes name)) (λ m. m) shelf.old result shelf.new }
+    ensures takes { Takes S.Shelf (optional_file map_file (option_map string_bytes name)) (λ m. m) shelf.old result shelf.new }
+    ensures named { IfOk result (λ m. is_some m ≡ is_some name) }
 {
     match name {
         Some(name) => Ok(Some(take_map_file(alloc, name, shelf)?)),

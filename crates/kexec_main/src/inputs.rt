@@ -24,14 +24,16 @@ const KERNEL_LIMIT: usize = 268_435_456;
 /// The most bytes of a purgatory.
 const PURGATORY_LIMIT: usize = 16_777_216;
 
-/// What of a request is not served yet: only raw kernels without a purgatory are.
+/// What of a request is not served yet: the type that is told by the file alone, Multiboot, and a purgatory.
 fn unserved(image: ImageType, purgatory: &Option<String>) -> Option<NotBuilt>
     ensures { result ≡ unserved image (option_map string_bytes purgatory.now) }
 {
     match image {
-        ImageType::Raw { .. } if purgatory.is_none() => None,
-        ImageType::Raw { .. } => Some(NotBuilt::Purgatory),
-        _ => Some(NotBuilt::Format),
+        ImageType::Auto | ImageType::Multiboot => Some(NotBuilt::Format),
+        ImageType::Raw { .. } | ImageType::Elf | ImageType::Bzimage => match purgatory {
+            Some(_) => Some(NotBuilt::Purgatory),
+            None => None,
+        },
     }
 }
 

@@ -34,7 +34,7 @@ pub enum InputFault {
 pub enum NotBuilt {
     #[error("this command is not served yet: boot, load, check, dump, exec and trace are")]
     Command,
-    #[error("only raw kernels are served yet: give --type raw and --at")]
+    #[error("this type is not served yet: give --type raw with --at, --type elf or --type bzimage")]
     Format,
     #[error("--purgatory is not served yet")]
     Purgatory,

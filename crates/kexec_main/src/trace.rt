@@ -1,6 +1,6 @@
 //! `trace`: runs any list for some steps.
 
-ghost use Rattle.std.specs.Prelude.{◌≡◌, ◌<◌, ◌^◌, IfSome, IfOk, string_bytes};
+ghost use Rattle.std.specs.Prelude.{◌≡◌, ◌<◌, ◌^◌, ℕ, Some, IfOk, string_bytes};
 ghost use Rattle.file_commands.specs.Calls.{Makes, Takes};
 ghost use Rattle.kexec_words.specs.Values.{trace_value};
 ghost use Rattle.kexec_main.specs.Trace.{TraceInputs as Inputs, mode_by, outcome_line, trace_files, trace_inputs, traces};
@@ -41,7 +41,7 @@ fn outcome_line(alloc: Global, outcome: Outcome) -> Result<String, AllocError>
 
 // The mode of a run: with a swap page, whose address this is, its moves are those of kept mode.
 fn mode_by(swap: Option<u64>) -> Mode
-    requires { IfSome swap (λ a. a < 2 ^ 46) }
+    requires { (a : ℕ) → swap ≡ Some a → a < 2 ^ 46 }
     ensures { result ≡ mode_by swap }
 {
     match swap {

@@ -1,7 +1,8 @@
 //! The words of the commands, with what is known of them once they are read.
 
-ghost use Rattle.kexec_words.specs.Limits.{HasParts, HasRange};
-ghost use Rattle.kexec_words.specs.Values.{inputs_value, trace_value};
+ghost use Rattle.std.specs.Prelude.{◌≡◌, ◌<◌, ◌^◌, ℕ, Some};
+ghost use Rattle.kexec_words.specs.Limits.{HasParts};
+ghost use Rattle.kexec_words.specs.Values.{inputs_value};
 
 use kexec_words::{Boot, Exec, Load, Loaded, Trace};
 
@@ -44,5 +45,5 @@ pub(crate) struct ExecWords {
 pub(crate) struct TraceWords {
     pub(crate) words: Trace,
     /// The swap page is a page.
-    pub(crate) ghost range: { HasRange (trace_value words) },
+    pub(crate) ghost swap_page: { (a : ℕ) → words.swap ≡ Some a → a < 2 ^ 46 },
 }

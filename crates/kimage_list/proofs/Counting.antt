@@ -1,14 +1,13 @@
 -- How many pages a load takes.
-use Rattle.std.proofs.Common.{◌≡◌, ℕ, suc, ◌+◌, ◌≤◌, List, [], ◌∷◌, ◌++◌, length, Option, Some, None, refl, sym, ap, ◌∙◌, subst, ⊎_elim, inl, inr, arith, append_assoc, length-append, Bool, true, false, cond}
-use Rattle.std.specs.Prelude.{◌≢◌, ◌⊎◌, eqb, not, ◌||◌}
+use Rattle.std.proofs.Common.{◌≡◌, ℕ, ◌+◌, ◌≤◌, List, [], ◌∷◌, ◌++◌, length, Option, Some, None, refl, sym, ap, ◌∙◌, subst, ⊎_elim, arith, append_assoc, length-append, Bool, true, false}
+use Rattle.std.specs.Prelude.{◌≢◌, eqb, not, ◌||◌}
 use Rattle.std.proofs.lemmas.Option.{none-some}
 use Rattle.std.proofs.lemmas.Bool.{or_parts, eqb-false, ne_eqb}
-use Rattle.std.proofs.lemmas.Bool.Decides.{eqb_tells}
 use Rattle.kx_pages.proofs.Counting.{Distinct-from_count, count-from_has_not, no_longer}
-use Rattle.kx_pages.proofs.Lists.{Has-either, length-destinations}
-use Rattle.kimage_list.proofs.Takes.{Takes, size, no_destination, destinations-append, Awaited, taken_took, Sound, given_sound, wished, others, length-without}
+use Rattle.kx_pages.proofs.Lists.{Has-either}
+use Rattle.kimage_list.proofs.Takes.{Takes, size, no_destination, destinations-append, Awaited, taken_took, Sound, given_sound, wished, others}
 use Rattle.kimage_list.specs.Drafts.{one, amount}
-use Rattle.kimage_list.specs.Load.{without, source_of, is_for, Loading, draw, taken, given}
+use Rattle.kimage_list.specs.Load.{source_of, is_for, Loading, draw, taken, given}
 use Rattle.kx_pages.specs.Lists.{Each, Has, destinations, has, count}
 use Rattle.kx_pages.proofs.Lists.{Each-map, Each-both, Each-append}
 use Rattle.kx_pages.proofs.Counting.{Each-from_no_count}

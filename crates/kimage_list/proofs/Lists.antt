@@ -1,13 +1,13 @@
 -- Pages that are set.
-use Rattle.std.proofs.Common.{◌≡◌, ℕ, suc, ◌+◌, ◌≤◌, List, [], ◌∷◌, ◌++◌, length, Some, refl, sym, ap, ◌∙◌, ⊎_elim, inl, inr, arith, drop}
-use Rattle.std.specs.Prelude.{◌≢◌, map, unwrap_or, eqb, true}
+use Rattle.std.proofs.Common.{◌≡◌, ℕ, suc, ◌≤◌, List, [], ◌∷◌, ◌++◌, length, refl, sym, ap, ◌∙◌, ⊎_elim, arith, drop}
+use Rattle.std.specs.Prelude.{◌≢◌, map, eqb, true}
 use Rattle.std.proofs.lemmas.Bool.Decides.{eqb_tells}
-use Rattle.kx_pages.specs.Lists.{Each, Has, Distinct, count, sources}
+use Rattle.kx_pages.specs.Lists.{Each, count, sources}
 use Rattle.kx_pages.proofs.Lists.{Each-both}
 use Rattle.kx_pages.proofs.Counting.{Each-from_no_count}
 use Rattle.page_memory.proofs.Laws.{put-apart, put-same}
 use Rattle.kx_pages.specs.declared.item.Item.{Item}
-use Rattle.page_memory.specs.Memory.{Mem, Wants, put}
+use Rattle.page_memory.specs.Memory.{Mem, Wants}
 use Rattle.kimage_list.specs.Load.{Entry, Start, Move}
 use Rattle.kimage_list.specs.Laying.{Holds, items, link_pages, source_pages, put_all}
 

@@ -136,7 +136,7 @@ loaded-more D wish es e pool l m o f g k =
     ∙ served-append D (requests wish es) (link_request (length es) ++ own_request e) (begun pool) l f
     ∙ served-append D (link_request (length es)) (own_request e) l m g ∙ k
 
-one_served : (D : ℕ → Bool) (r : Request) (l : Loading) (t : ℕ × Loading) → taken D r l ≡ Some t → served D (r ∷ []) l ≡ Some (given r t)
+pub one_served : (D : ℕ → Bool) (r : Request) (l : Loading) (t : ℕ × Loading) → taken D r l ≡ Some t → served D (r ∷ []) l ≡ Some (given r t)
 one_served D r l t g = rw (g, served) refl
 
 -- room for one more entry

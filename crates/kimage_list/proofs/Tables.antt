@@ -1,5 +1,5 @@
 -- A table as a finite map.
-use Rattle.std.proofs.Common.{◌≡◌, ℕ, true, false, cond, refl, sym, ap, ◌∙◌, Some, None, Option, inl, inr}
+use Rattle.std.proofs.Common.{◌≡◌, ℕ, true, false, cond, sym, ap, ◌∙◌, Some, None, Option, inl, inr}
 use Rattle.std.specs.Prelude.{◌≢◌, ◌⊎◌, eqb, IsSome, is_some, []}
 use Rattle.std.specs.Map.{lookup}
 use Rattle.std.proofs.lemmas.Bool.{false≢true}

@@ -1,7 +1,7 @@
 -- Which pages a load takes: its entries, the requests for pages that they make, and how the pool serves them. The rules
 -- and their order are this project's own; they follow the kernel's kexec core, which keeps a drawn destination page for
 -- its own request (kimage_alloc_page).
-use Rattle.std.specs.Prelude.{ℕ, zero, suc, ◌+◌, ◌/◌, ◌%◌, Bool, true, false, cond, not, ◌||◌, eqb, List, [], ◌∷◌, ◌++◌, replicate, Option, Some, None}
+use Rattle.std.specs.Prelude.{ℕ, zero, suc, ◌%◌, Bool, true, false, cond, not, ◌||◌, eqb, List, [], ◌∷◌, ◌++◌, replicate, Option, Some, None}
 use Rattle.kx_pages.specs.Lists.{has}
 use Rattle.kx_pages.specs.Needs.{first_count}
 use Rattle.kx_pages.specs.declared.image.Wish.{Wish}

@@ -22,7 +22,8 @@ pub fn prepare(
     need: u64,
 ) -> Result<Table, AllocError>
     requires { need ≤ length pool.now.left }
-    ensures ready { IfOk result (λ table. IsFresh wanted.now table × AreApart 0 wanted.now × AreHeld need pool.now.left memory.new) }
+    ensures ready { IfOk result (λ table.
+        IsFresh wanted.now table × AreApart 0 wanted.now × AreHeld need pool.now.left memory.new) }
     ensures same { (q : ℕ) → at memory.new q ≡ at memory.old q }
     ensures sets { memory.new.sets ≡ memory.old.sets }
     ensures stay { (q : ℕ) → IsHeld memory.old q → IsHeld memory.new q }
@@ -43,7 +44,8 @@ fn table_of(alloc: Global, wanted: &PageSet) -> Result<Table, AllocError>
 }
 
 fn add_span(table: &mut Table, span: Span) -> Result<(), AllocError>
-    ensures { IfOk result (λ _. (q : ℕ) → slot table.new q ≡ cond (in_span span q) (Some None) (slot table.old q)) }
+    ensures { IfOk result (λ _.
+        (q : ℕ) → slot table.new q ≡ cond (in_span span q) (Some None) (slot table.old q)) }
 {
     for number in span.first()..span.first() + span.count() {
         table.add(Page::from_number(number))?;

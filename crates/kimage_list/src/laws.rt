@@ -47,5 +47,6 @@ pub fn first_pages_are_not_wanted()
 
 /// A page is awaited exactly where it is wanted and has no source entry yet.
 pub fn awaited_pages_have_no_entry()
-    ensures { (h : History) (w : Writer) → StandsAt h w → (d : ℕ) → IsAwaited w d ↔ ((is_wanted h d ≡ true) × (Has d (pages_of h.entries) → ⊥)) }
+    ensures { (h : History) (w : Writer) → StandsAt h w → (d : ℕ) →
+        IsAwaited w d ↔ ((is_wanted h d ≡ true) × (Has d (pages_of h.entries) → ⊥)) }
 {}

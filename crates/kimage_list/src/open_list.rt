@@ -65,7 +65,8 @@ impl OpenList {
 
     // A page for a wanted page, or for none.
     fn take(&mut self, wanted: &Option<Page>) -> Page
-        requires { (d : Draft) × (t : ℕ × Loading) × IsRendered self.old d × CanTake d wanted.now t }
+        requires { (d : Draft) × (t : ℕ × Loading) × IsRendered self.old d ×
+            CanTake d wanted.now t }
         ensures given { (d : Draft) (t : ℕ × Loading) → IsRendered self.old d → CanTake d wanted.now t → (result ≡ t.0) ×
             IsRenderedBut (t.0 ∷ []) self.new (record d { loading = t.1 }) × (self.new.next ≡ self.old.next) ×
             (self.new.entries ≡ self.old.entries) × (self.new.head ≡ self.old.head) ×
@@ -83,7 +84,8 @@ impl OpenList {
 
     // A link page more, cleared, and the word that leads to it.
     fn take_link(&mut self)
-        requires { (d : Draft) × (t : ℕ × Loading) × IsRendered self.old d × CanTake d None t × IsFull d }
+        requires { (d : Draft) × (t : ℕ × Loading) × IsRendered self.old d × CanTake d None t ×
+            IsFull d }
         ensures written { (d : Draft) (t : ℕ × Loading) → IsRendered self.old d → CanTake d None t → IsFull d →
             IsRendered self.new (linked d t) }
         ensures head { (d : Draft) (t : ℕ × Loading) → IsRendered self.old d → CanTake d None t → IsFull d →
@@ -121,7 +123,8 @@ impl OpenList {
         ensures stay { (q : ℕ) → IsHeld self.old.memory q → IsHeld self.new.memory q }
         ensures others { (self.new.pool ≡ self.old.pool) × (self.new.table ≡ self.old.table) ×
             (self.new.head ≡ self.old.head) }
-        ensures next { (self.new.next ≡ self.old.next + 8) × (self.new.entries ≡ self.old.entries + 1) }
+        ensures next { (self.new.next ≡ self.old.next + 8) ×
+            (self.new.entries ≡ self.old.entries + 1) }
     {
         write_word(&mut self.memory, self.next, word);
         self.next += 8;
@@ -164,7 +167,8 @@ impl OpenList {
     // Writes the done word.
     pub(crate) fn end(self) -> EndedList
         requires { (d : Draft) × IsRendered self d × HasLink d }
-        ensures memory { (d : Draft) → IsRendered self d → HasLink d → (p : ℕ) → at result.memory p ≡ laid_by d p }
+        ensures memory { (d : Draft) → IsRendered self d → HasLink d → (p : ℕ) →
+            at result.memory p ≡ laid_by d p }
         ensures pool { result.pool ≡ self.pool }
         ensures head { result.head ≡ self.head }
     {

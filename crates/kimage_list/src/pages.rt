@@ -38,7 +38,8 @@ pub fn move_source(memory: &mut Memory, page: Page, from: Page, place: u64)
     requires aligned { place % 8 ≡ 0 }
     requires held { IsHeld memory.old page }
     requires list_held { IsHeld memory.old (place / 4096) }
-    ensures value { at memory.new ≡ set_word (put (at memory.old) page (at memory.old from)) place (code (Source page)) }
+    ensures value { at memory.new ≡ set_word (put (at memory.old) page (at memory.old from)) place
+        (code (Source page)) }
     ensures stay { (q : ℕ) → IsHeld memory.old q → IsHeld memory.new q }
 {
     memory.copy(page, from);

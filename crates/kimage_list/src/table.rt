@@ -43,7 +43,8 @@ impl Table {
 
     /// The page is wanted, and not loaded yet.
     pub(crate) fn add(&mut self, p: Page) -> Result<(), AllocError>
-        ensures { IfOk result (λ _. (q : ℕ) → slot self.new q ≡ cond (eqb q p) (Some None) (slot self.old q)) }
+        ensures { IfOk result (λ _.
+            (q : ℕ) → slot self.new q ≡ cond (eqb q p) (Some None) (slot self.old q)) }
     {
         self.slots.insert(p, None)?;
         Ok(())

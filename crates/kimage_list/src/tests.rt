@@ -37,7 +37,8 @@ fn load(
     wish: Wish,
 ) -> Result<Written, BeginRefused>
     requires unfiled { (q : ℕ) → is_filed pool q ≡ false }
-    requires wanted { (q : ℕ) → in_spans wanted.now q ≡ in_span (record { first = first; count = count }) q }
+    requires wanted { (q : ℕ) → in_spans wanted.now q ≡ in_span
+        (record { first = first; count = count }) q }
     requires pages { pages wanted.now ≤ 65536 }
     requires below { first + count ≤ 2 ^ 34 }
 {

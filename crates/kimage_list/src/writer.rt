@@ -67,7 +67,8 @@ impl ListWriter {
         ensures begun { IfOk result (λ w.
             StandsAt (load_begun (at memory) pool.left wanted.now segments wish) w) }
         ensures pages { IfOk result (λ w. whole_pool w.pool ≡ whole_pool pool) }
-        ensures enough { IfOk result (λ _. need_of wish segments (pages wanted.now) ≤ length pool.left) }
+        ensures enough { IfOk result (λ _.
+            need_of wish segments (pages wanted.now) ≤ length pool.left) }
         ensures why { IfErr result (λ r.
             Refuses r.why (length pool.left) (need_of wish segments (pages wanted.now))) }
         ensures pool_back { IfErr result (λ r. r.pool ≡ pool) }
@@ -98,7 +99,8 @@ impl ListWriter {
     /// all destination entries were written.
     pub fn add_destination(&mut self, d: Page)
         requires { 0 < self.old.segments_left }
-        ensures stands { (h : History) → StandsAt h self.old → StandsAt (with_destination h d) self.new }
+        ensures stands { (h : History) → StandsAt h self.old →
+            StandsAt (with_destination h d) self.new }
         ensures pages { whole_pool self.new.pool ≡ whole_pool self.old.pool }
     {
         self.list.add_start(d);

@@ -1,6 +1,6 @@
 -- Facts on each element of a list, on membership, and on tests in a row.
 use Rattle.std.proofs.Common.{◌≡◌, ℕ, ◌++◌, List, [], ◌∷◌, Option, Some, None, refl, sym, ap, arith, Bool, true, false}
-use Rattle.std.specs.Prelude.{◌≢◌, not}
+use Rattle.std.specs.Prelude.{◌≢◌}
 use Rattle.std.proofs.lemmas.Option.{none-some}
 use Rattle.std.proofs.lemmas.Bool.{eq-eqb, false≢true}
 use Rattle.list_checker.specs.declared.fault.Why.{Why}

@@ -1,16 +1,15 @@
 -- Runs of pages, and the first page that passes a test.
-use Rattle.std.proofs.Common.{◌≡◌, ℕ, zero, suc, ◌+◌, ◌-◌, ◌<◌, ◌++◌, List, [], ◌∷◌, Some, None, Bool, true, false, refl, sym, ap, ◌∙◌, subst, arith, length, drop}
+use Rattle.std.proofs.Common.{◌≡◌, ℕ, suc, ◌+◌, ◌-◌, ◌<◌, ◌++◌, List, ◌∷◌, Option, Some, None, Bool, true, false, refl, sym, ap, ◌∙◌, arith, length, drop}
 use Rattle.std.specs.List.{find, range_with_len}
 use Rattle.std.specs.Prelude.{slice_get}
-use Rattle.std.specs.Option.{option_or}
+use Rattle.std.specs.Option.{option_map, option_or}
 use Rattle.std.proofs.lemmas.List.Folds.{find-append}
-use Rattle.std.proofs.lemmas.Option.{get_or_from_slice_get}
+use Rattle.std.proofs.lemmas.Option.{get_or_from_slice_get, slice_get_within}
 use Rattle.std.proofs.Common.{get_or, drop-cons}
 use Rattle.std.proofs.lemmas.Grind.{common_steps}
-use Rattle.kx_pages.specs.Lists.{Each}
-use Rattle.segments.specs.Rules.{IsBare}
-use Rattle.segments.proofs.Laws.{IsPlaced, AreSegments-from_IsBare}
-use Rattle.segments.specs.Values.{SegmentValue, pages_of_segment, pages}
+use Rattle.kx_laws.proofs.Options.{none_some, some_same}
+use Rattle.kx_pages.specs.Spans.{Run}
+use Rattle.segments.specs.Values.{SegmentValue, pages_of_segment, pages, span_of}
 
 pub run_more : (n e : ℕ) → n < e → range_with_len n (e - n) ≡ n ∷ range_with_len (n + 1) (e - (n + 1))
 run_more n e l =
@@ -35,21 +34,23 @@ pub drop_at : (ss : List SegmentValue) (i : ℕ) (s : SegmentValue) → i < leng
 drop_at ss i s l e = grind (arith, common_steps, drop-cons)
 
 -- the first page outside is in the segment at i
-pub found_in_part : (test : ℕ → Bool) (ss : List SegmentValue) (i : ℕ) (s : SegmentValue) (p : ℕ) → i < length ss → s ≡ get_or ss i s → find test (pages_of_segment s) ≡ Some p → find test (pages (drop i ss)) ≡ Some p
-found_in_part test ss i s p l e f = ap (λ xs. find test (pages xs)) (drop_at ss i s l e) ∙ found_front test (pages_of_segment s) (pages (drop (i + 1) ss)) p f
+pub found_in_segment : (test : ℕ → Bool) (ss : List SegmentValue) (i : ℕ) (s : SegmentValue) (p : ℕ) → i < length ss → s ≡ get_or ss i s → find test (pages_of_segment s) ≡ Some p → find test (pages (drop i ss)) ≡ Some p
+found_in_segment test ss i s p l e f = ap (λ xs. find test (pages xs)) (drop_at ss i s l e) ∙ found_front test (pages_of_segment s) (pages (drop (i + 1) ss)) p f
 
-pub found_past_part : (test : ℕ → Bool) (ss : List SegmentValue) (i : ℕ) (s : SegmentValue) → i < length ss → s ≡ get_or ss i s → find test (pages_of_segment s) ≡ None → find test (pages (drop (i + 1) ss)) ≡ find test (pages (drop i ss))
-found_past_part test ss i s l e f = sym (ap (λ xs. find test (pages xs)) (drop_at ss i s l e) ∙ found_back test (pages_of_segment s) (pages (drop (i + 1) ss)) f)
+pub found_past_segment : (test : ℕ → Bool) (ss : List SegmentValue) (i : ℕ) (s : SegmentValue) → i < length ss → s ≡ get_or ss i s → find test (pages_of_segment s) ≡ None → find test (pages (drop (i + 1) ss)) ≡ find test (pages (drop i ss))
+found_past_segment test ss i s l e f = sym (ap (λ xs. find test (pages xs)) (drop_at ss i s l e) ∙ found_back test (pages_of_segment s) (pages (drop (i + 1) ss)) f)
 
 -- the same, where the part is known by its place
 pub got : (ss : List SegmentValue) (i : ℕ) (s : SegmentValue) → slice_get ss i ≡ Some s → s ≡ get_or ss i s
 got ss i s e = sym (get_or_from_slice_get ss i s s e)
 
--- each segment has whole pages
-pub placed_at : (ss : List SegmentValue) → IsBare ss → (i : ℕ) (s : SegmentValue) → i < length ss → slice_get ss i ≡ Some s → IsPlaced s
-placed_at ss k i s l e = each_at ss i s l (got ss i s e) (AreSegments-from_IsBare ss k).placed
+-- the segment whose pages this run is
+pub segment_of : (ss : List SegmentValue) (i : ℕ) (run : Run) → option_map span_of (slice_get ss i) ≡ Some run → (s : SegmentValue) × (slice_get ss i ≡ Some s) × (span_of s ≡ run)
+segment_of ss i run e = go (slice_get ss i) refl
   where
-    each_at : (ss : List SegmentValue) (i : ℕ) (s : SegmentValue) → i < length ss → s ≡ get_or ss i s → Each IsPlaced ss → IsPlaced s
-    each_at [] i s l e h = absurd (omega (arith, l))
-    each_at (t ∷ ss) zero s l e h = subst IsPlaced (sym e) h.0
-    each_at (t ∷ ss) (suc i) s l e h = each_at ss i s (omega (arith, l)) e h.1
+    go : (o : Option SegmentValue) → slice_get ss i ≡ o → (s : SegmentValue) × (slice_get ss i ≡ Some s) × (span_of s ≡ run)
+    go None h = absurd (none_some None run refl (sym (ap (option_map span_of) h) ∙ e))
+    go (Some s) h = (s, h, some_same (span_of s) run (sym (ap (option_map span_of) h) ∙ e))
+
+pub within : (ss : List SegmentValue) (i : ℕ) (s : SegmentValue) → slice_get ss i ≡ Some s → i < length ss
+within ss i s e = slice_get_within ss i s e

@@ -26,7 +26,8 @@ fn head_reason(n: u64) -> Why
 
 // Why a crash list is refused, if it is.
 fn crash_refusal(memory: &Memory, head: u64, segments: &Segments) -> Option<Why>
-    ensures value { result ≡ crash_reason (at memory.now) (want segments.now) (pages segments.now) (decode head) }
+    ensures value { result ≡ crash_reason (at memory.now) (want segments.now) (pages segments.now)
+        (decode head) }
     ensures valid { IsBare segments.now }
 {
     // for its clause: what every value of the type keeps
@@ -47,8 +48,12 @@ fn crash_refusal(memory: &Memory, head: u64, segments: &Segments) -> Option<Why>
 /// it is to have. Otherwise its fault, which is at word 0. It takes no memory.
 pub fn check_crash(memory: &Memory, head: u64, segments: &Segments) -> Result<(), ListFault>
     ensures accepted { IfOk result (λ _. AcceptedCrash (at memory.now) (want segments.now) head) }
-    ensures fault { IfErr result (λ f. (f.word ≡ 0) × (crash_reason (at memory.now) (want segments.now) (pages segments.now) (decode head) ≡ Some f.why)) }
-    ensures refused { IfErr result (λ f. AcceptedCrash (at memory.now) (want segments.now) head → ⊥) }
+    ensures fault { IfErr result (λ f.
+        (f.word ≡ 0) ×
+        (crash_reason (at memory.now) (want segments.now) (pages segments.now)
+        (decode head) ≡ Some f.why)) }
+    ensures refused { IfErr result (λ f.
+        AcceptedCrash (at memory.now) (want segments.now) head → ⊥) }
 {
     match crash_refusal(memory, head, segments) {
         None => Ok(()),

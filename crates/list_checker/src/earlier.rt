@@ -53,7 +53,8 @@ pub(crate) struct Earlier {
 // Nothing is added where no sources are kept.
 fn add_source_page(sources: &mut Option<BTreeSet<Page>>, p: Page) -> Result<(), AllocError>
     ensures kept { is_some sources.new ≡ is_some sources.old }
-    ensures added { OnOk result ((q : ℕ) → is_among sources.new q ≡ (is_some sources.old && (is_among sources.old q || eqb p q))) }
+    ensures added { OnOk result ((q : ℕ) → is_among sources.new q ≡
+        (is_some sources.old && (is_among sources.old q || eqb p q))) }
 {
     if let Some(kept) = sources {
         kept.insert(p)?;
@@ -101,7 +102,8 @@ impl Earlier {
 
     // The first page of the segments that is no destination.
     pub(crate) fn first_missing(&self, segments: &Segments) -> Option<Page>
-        ensures { result ≡ find (λ p. not (contains nat_cmp self.now.destinations p)) (pages segments.now) }
+        ensures { result ≡ find (λ p. not (contains nat_cmp self.now.destinations p))
+            (pages segments.now) }
     {
         first_outside(segments, &self.destinations)
     }
@@ -114,20 +116,23 @@ impl Earlier {
     }
 
     fn add_link(&mut self, p: Page) -> Result<(), AllocError>
-        ensures { OnOk result ((swap : Option ℕ) (s : spec.Earlier) → Shows swap self.old s → has p s.links ≡ false → Shows swap self.new (spec.with_item s (Item.Link p))) }
+        ensures { OnOk result ((swap : Option ℕ) (s : spec.Earlier) → Shows swap self.old s →
+            has p s.links ≡ false → Shows swap self.new (spec.with_item s (Item.Link p))) }
     {
         self.links.insert(p)?;
         Ok(())
     }
 
     fn add_destination(&mut self, n: u64)
-        ensures { (swap : Option ℕ) (s : spec.Earlier) → Shows swap self.old s → Shows swap self.new (spec.with_item s (Item.Destination n)) }
+        ensures { (swap : Option ℕ) (s : spec.Earlier) → Shows swap self.old s →
+            Shows swap self.new (spec.with_item s (Item.Destination n)) }
     {
         self.next = Some(n);
     }
 
     fn add_pair(&mut self, d: Page, p: Page) -> Result<(), AllocError>
-        ensures { OnOk result ((swap : Option ℕ) (s : spec.Earlier) → Shows swap self.old s → s.next ≡ Some d → Shows swap self.new (spec.with_item s (Item.Source p))) }
+        ensures { OnOk result ((swap : Option ℕ) (s : spec.Earlier) → Shows swap self.old s →
+            s.next ≡ Some d → Shows swap self.new (spec.with_item s (Item.Source p))) }
     {
         self.destinations.insert(d)?;
         add_source_page(&mut self.sources, p)?;
@@ -140,7 +145,8 @@ impl Earlier {
     }
 
     fn add_source(&mut self, n: u64) -> Result<(), AllocError>
-        ensures { OnOk result ((swap : Option ℕ) (s : spec.Earlier) → Shows swap self.old s → Fits s (Item.Source n) → Shows swap self.new (spec.with_item s (Item.Source n))) }
+        ensures { OnOk result ((swap : Option ℕ) (s : spec.Earlier) → Shows swap self.old s →
+            Fits s (Item.Source n) → Shows swap self.new (spec.with_item s (Item.Source n))) }
     {
         match self.next {
             None => Ok(()),
@@ -156,7 +162,8 @@ impl Earlier {
 
     // Adds a word that fits what came before it.
     pub(crate) fn add(&mut self, item: Item) -> Result<(), AllocError>
-        ensures { OnOk result ((swap : Option ℕ) (s : spec.Earlier) → Shows swap self.old s → Fits s item → Shows swap self.new (spec.with_item s item)) }
+        ensures { OnOk result ((swap : Option ℕ) (s : spec.Earlier) → Shows swap self.old s →
+            Fits s item → Shows swap self.new (spec.with_item s item)) }
     {
         match item {
             Item::Link(n) => match Page::new(n) {

@@ -9,18 +9,20 @@ ghost use Rattle.segments.specs.Values.{want, pages};
 ghost use Rattle.list_checker.specs.Crash.{lacks};
 
 use crate::reasons::has_its_bytes;
-use kx_pages::{PAGE_SIZE, Page};
+use kx_pages::{Page, Span};
 use page_memory::Memory;
 use segments::Segments;
 use std::collections::BTreeSet;
 
 // The first page of a run that is not in the set.
-fn outside_in_run(set: &BTreeSet<Page>, first: u64, count: u64) -> Option<Page>
-    requires { first + count ≤ 2 ^ 34 }
-    ensures { result ≡ find (λ p. not (contains nat_cmp set.now p)) (range_with_len first count) }
+fn outside_in_run(set: &BTreeSet<Page>, run: Span) -> Option<Page>
+    ensures { result ≡ find (λ p. not (contains nat_cmp set.now p))
+        (range_with_len run.first run.count) }
 {
+    let first = run.first();
+    let count = run.count();
     for n in first..first + count {
-        let page = Page::new(n).unwrap();
+        let page = Page::from_number(n);
         if !set.contains(&page) {
             return Some(page);
         }
@@ -33,8 +35,7 @@ pub(crate) fn first_outside(segments: &Segments, set: &BTreeSet<Page>) -> Option
     ensures { result ≡ find (λ p. not (contains nat_cmp set.now p)) (pages segments.now) }
 {
     for i in 0..segments.count() {
-        let s = segments.segment(i);
-        if let Some(page) = outside_in_run(set, s.mem / PAGE_SIZE, s.memsz / PAGE_SIZE) {
+        if let Some(page) = outside_in_run(set, segments.span(i)) {
             return Some(page);
         }
     }
@@ -42,12 +43,14 @@ pub(crate) fn first_outside(segments: &Segments, set: &BTreeSet<Page>) -> Option
 }
 
 // The first page of a run that does not hold what it is to have.
-fn lacking_in_run(memory: &Memory, segments: &Segments, first: u64, count: u64) -> Option<Page>
-    requires { first + count ≤ 2 ^ 34 }
-    ensures { result ≡ find (lacks (at memory.now) (want segments.now)) (range_with_len first count) }
+fn lacking_in_run(memory: &Memory, segments: &Segments, run: Span) -> Option<Page>
+    ensures { result ≡ find (lacks (at memory.now) (want segments.now))
+        (range_with_len run.first run.count) }
 {
+    let first = run.first();
+    let count = run.count();
     for n in first..first + count {
-        let page = Page::new(n).unwrap();
+        let page = Page::from_number(n);
         if !has_its_bytes(memory, segments, page, page) {
             return Some(page);
         }
@@ -60,13 +63,7 @@ pub(crate) fn first_lacking(memory: &Memory, segments: &Segments) -> Option<Page
     ensures { result ≡ find (lacks (at memory.now) (want segments.now)) (pages segments.now) }
 {
     for i in 0..segments.count() {
-        let s = segments.segment(i);
-        if let Some(page) = lacking_in_run(
-            memory,
-            segments,
-            s.mem / PAGE_SIZE,
-            s.memsz / PAGE_SIZE,
-        ) {
+        if let Some(page) = lacking_in_run(memory, segments, segments.span(i)) {
             return Some(page);
         }
     }

@@ -18,7 +18,8 @@ use std::collections::BTreeSet;
 
 // Why a link to a page cannot be followed.
 fn met_again(links: &BTreeSet<Page>, p: Page) -> Option<Why>
-    ensures { (s : spec.Earlier) → ShowsLinks links.now s → result ≡ first_of ((has p s.links, Why.LinkAgain) ∷ []) }
+    ensures { (s : spec.Earlier) → ShowsLinks links.now s →
+        result ≡ first_of ((has p s.links, Why.LinkAgain) ∷ []) }
 {
     if links.contains(&p) {
         Some(Why::LinkAgain)
@@ -29,7 +30,8 @@ fn met_again(links: &BTreeSet<Page>, p: Page) -> Option<Why>
 
 // Why a word cannot be followed.
 fn obstacle(links: &BTreeSet<Page>, place: Option<u64>, item: Item) -> Option<Why>
-    ensures { (s : spec.Earlier) → ShowsLinks links.now s → result ≡ why_by walk_reasons place s (Some item) }
+    ensures { (s : spec.Earlier) → ShowsLinks links.now s →
+        result ≡ why_by walk_reasons place s (Some item) }
 {
     match item {
         Item::Done(_) => None,
@@ -61,7 +63,8 @@ fn followed(links: &BTreeSet<Page>, place: Option<u64>, w: u64) -> Result<Item, 
 }
 
 fn insert_link(links: &mut BTreeSet<Page>, p: Page) -> Result<(), AllocError>
-    ensures { OnOk result ((s : spec.Earlier) → ShowsLinks links.old s → FitsLinks s (Item.Link p) → ShowsLinks links.new (spec.with_item s (Item.Link p))) }
+    ensures { OnOk result ((s : spec.Earlier) → ShowsLinks links.old s →
+        FitsLinks s (Item.Link p) → ShowsLinks links.new (spec.with_item s (Item.Link p))) }
 {
     links.insert(p)?;
     Ok(())
@@ -69,7 +72,8 @@ fn insert_link(links: &mut BTreeSet<Page>, p: Page) -> Result<(), AllocError>
 
 // Adds the page of a link.
 fn add_link(links: &mut BTreeSet<Page>, item: Item) -> Result<(), AllocError>
-    ensures { OnOk result ((s : spec.Earlier) → ShowsLinks links.old s → FitsLinks s item → ShowsLinks links.new (spec.with_item s item)) }
+    ensures { OnOk result ((s : spec.Earlier) → ShowsLinks links.old s → FitsLinks s item →
+        ShowsLinks links.new (spec.with_item s item)) }
 {
     match item {
         Item::Link(n) => match Page::new(n) {

@@ -65,21 +65,24 @@ pub(crate) fn has_its_bytes(memory: &Memory, segments: &Segments, d: Page, p: Pa
 
 // A link page is an earlier pair's page.
 fn link_is_spoiled(earlier: &Earlier, p: Page) -> bool
-    ensures { (swap : Option ℕ) (s : spec.Earlier) → Shows swap earlier.now s → result ≡ (has p (destinations s.pairs) || (spec.is_kept swap && has p (sources s.pairs))) }
+    ensures { (swap : Option ℕ) (s : spec.Earlier) → Shows swap earlier.now s →
+        result ≡ (has p (destinations s.pairs) || (spec.is_kept swap && has p (sources s.pairs))) }
 {
     earlier.is_destination(p) || earlier.is_source(p)
 }
 
 // A pair's page is a link page.
 fn pair_spoils_link(image: &Image, earlier: &Earlier, d: Page, p: Page) -> bool
-    ensures { (s : spec.Earlier) → Shows (swap_page image.now.mode) earlier.now s → result ≡ (has d s.links || (spec.is_kept (swap_page image.now.mode) && has p s.links)) }
+    ensures { (s : spec.Earlier) → Shows (swap_page image.now.mode) earlier.now s →
+        result ≡ (has d s.links || (spec.is_kept (swap_page image.now.mode) && has p s.links)) }
 {
     earlier.is_link(d) || is_kept(image) && earlier.is_link(p)
 }
 
 // A pair's page is an earlier pair's source.
 fn pairs_meet(earlier: &Earlier, d: Page, p: Page) -> bool
-    ensures { (swap : Option ℕ) (s : spec.Earlier) → Shows swap earlier.now s → result ≡ (spec.is_kept swap && (has d (sources s.pairs) || has p (sources s.pairs))) }
+    ensures { (swap : Option ℕ) (s : spec.Earlier) → Shows swap earlier.now s →
+        result ≡ (spec.is_kept swap && (has d (sources s.pairs) || has p (sources s.pairs))) }
 {
     earlier.is_source(d) || earlier.is_source(p)
 }
@@ -97,13 +100,16 @@ fn pair_touches_control(image: &Image, d: Page, p: Page) -> bool
 }
 
 fn pair_touches_swap(image: &Image, d: Page, p: Page) -> bool
-    ensures { result ≡ (is_swap (swap_page image.now.mode) d || is_swap (swap_page image.now.mode) p) }
+    ensures { result ≡ (is_swap (swap_page image.now.mode) d || is_swap
+        (swap_page image.now.mode) p) }
 {
     is_swap(image, d) || is_swap(image, p)
 }
 
 fn link_touches_swap(image: &Image, place: Option<u64>, p: Page) -> bool
-    ensures { result ≡ (is_swap (swap_page image.now.mode) p || spec.swap_meets_control image.now.control (swap_page image.now.mode) place) }
+    ensures { result ≡ (is_swap
+        (swap_page image.now.mode) p || spec.swap_meets_control image.now.control
+        (swap_page image.now.mode) place) }
 {
     is_swap(image, p) || swap_meets_control(image, place)
 }
@@ -123,7 +129,8 @@ fn pair_reason(
     d: Page,
     p: Page,
 ) -> Option<Why>
-    ensures { (s : spec.Earlier) → Shows (swap_page image.now.mode) earlier.now s → result ≡ first_of (reasons_of_pair memory.now segments.now image.now s d p) }
+    ensures { (s : spec.Earlier) → Shows (swap_page image.now.mode) earlier.now s →
+        result ≡ first_of (reasons_of_pair memory.now segments.now image.now s d p) }
 {
     first(&[
         (!is_wanted(segments, d), Why::NotWanted),
@@ -139,7 +146,8 @@ fn pair_reason(
 
 // Why a link to a page is refused.
 fn link_reason(image: &Image, earlier: &Earlier, place: Option<u64>, p: Page) -> Option<Why>
-    ensures { (s : spec.Earlier) → Shows (swap_page image.now.mode) earlier.now s → result ≡ first_of (reasons_of_link image.now place s p) }
+    ensures { (s : spec.Earlier) → Shows (swap_page image.now.mode) earlier.now s →
+        result ≡ first_of (reasons_of_link image.now place s p) }
 {
     first(&[
         (earlier.is_link(p), Why::LinkAgain),
@@ -170,7 +178,8 @@ fn done_reason(
     earlier: &Earlier,
     place: Option<u64>,
 ) -> Option<Why>
-    ensures { (s : spec.Earlier) → Shows (swap_page image.now.mode) earlier.now s → result ≡ first_of (reasons_of_done segments.now image.now place s) }
+    ensures { (s : spec.Earlier) → Shows (swap_page image.now.mode) earlier.now s →
+        result ≡ first_of (reasons_of_done segments.now image.now place s) }
 {
     if swap_meets_control(image, place) {
         return Some(Why::SwapTouched);
@@ -199,7 +208,8 @@ fn source_reason(
     earlier: &Earlier,
     p: Page,
 ) -> Option<Why>
-    ensures { (s : spec.Earlier) → Shows (swap_page image.now.mode) earlier.now s → result ≡ first_of (reasons_of_source memory.now segments.now image.now s p) }
+    ensures { (s : spec.Earlier) → Shows (swap_page image.now.mode) earlier.now s →
+        result ≡ first_of (reasons_of_source memory.now segments.now image.now s p) }
 {
     match earlier.next() {
         None => Some(Why::NoDestination),
@@ -219,7 +229,8 @@ pub(crate) fn refusal(
     place: Option<u64>,
     item: Item,
 ) -> Option<Why>
-    ensures { (s : spec.Earlier) → Shows (swap_page image.now.mode) earlier.now s → result ≡ why_refused memory.now segments.now image.now place s (Some item) }
+    ensures { (s : spec.Earlier) → Shows (swap_page image.now.mode) earlier.now s →
+        result ≡ why_refused memory.now segments.now image.now place s (Some item) }
 {
     match item {
         Item::Done(_) => done_reason(image, segments, earlier, place),
@@ -250,7 +261,8 @@ pub(crate) fn judged(
     place: Option<u64>,
     w: u64,
 ) -> Result<Item, Why>
-    ensures exact { (s : spec.Earlier) → Shows (swap_page image.now.mode) earlier.now s → IsJudged memory.now segments.now image.now place s w result }
+    ensures exact { (s : spec.Earlier) → Shows (swap_page image.now.mode) earlier.now s →
+        IsJudged memory.now segments.now image.now place s w result }
     ensures valid { IsBare segments.now }
 {
     // for its clause: what every value of the type keeps

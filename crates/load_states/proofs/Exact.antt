@@ -6,13 +6,13 @@ use Rattle.kx_pages.specs.Lists.{Each, Has, count, sources}
 use Rattle.kx_pages.specs.declared.image.Wish.{Wish}
 use Rattle.segments.specs.Values.{SegmentValue, is_destination, need, pages}
 use Rattle.segments.proofs.Laws.{AreSegments, Has-from_is_destination, Distinct-pages}
-use Rattle.kimage_list.specs.Load.{Loading, Request, begun, given, pages_of, requests, served, taken}
+use Rattle.kimage_list.specs.Load.{Loading, Request, begun, given, pages_of, requests, served}
 use Rattle.kimage_list.specs.Counted.{Allowed}
 use Rattle.kimage_list.proofs.Counting.{Full, full_on, counted_fit}
 use Rattle.kimage_list.proofs.Enough.{has_of_count, taken_some}
 use Rattle.kimage_list.proofs.Lists.{eqb-self}
 use Rattle.kimage_list.proofs.Parts.{served-append}
-use Rattle.kimage_list.proofs.Standings.{length-entries}
+use Rattle.kimage_list.proofs.Standings.{length-entries, one_served}
 use Rattle.kimage_list.proofs.Takes.{others, wished}
 use Rattle.kx_pages.proofs.Lists.{length-sources}
 use Rattle.load_states.specs.Loads.{LoadsExactly, entries_of, loading_of}
@@ -31,9 +31,6 @@ wished-cons (Some p) rs = refl
 others-cons : (r : Request) (rs : List Request) → others (r ∷ []) + others rs ≡ others (r ∷ rs)
 others-cons None rs = omega arith
 others-cons (Some p) rs = omega arith
-
-served_one : (D : ℕ → Bool) (r : Request) (l : Loading) (t : ℕ × Loading) → taken D r l ≡ Some t → served D (r ∷ []) l ≡ Some (given r t)
-served_one D r l t g = rw (g, served) refl
 
 -- where each page in all is wanted and the pool has as many pages as it takes, requests are served
 module _ (D : ℕ → Bool) (pool all : List ℕ) (need : ℕ) (once : (x : ℕ) → count x pool ≤ 1) (wanted : (p : ℕ) → D p ≡ true → Has p all) (enough : need ≤ length pool) where
@@ -56,7 +53,7 @@ module _ (D : ℕ → Bool) (pool all : List ℕ) (need : ℕ) (once : (x : ℕ)
       let more : (spent ++ wished (r ∷ [])) ++ wished rs ≡ spent ++ wished (r ∷ rs) = append_assoc spent (wished (r ∷ [])) (wished rs) ∙ ap (λ ys. spent ++ ys) (wished-cons r rs) in
       let ih = serves rs (spent ++ wished (r ∷ [])) (n + others (r ∷ [])) (given r t.0) (full_on D pool spent n r l t.0 once f t.1)
       (subst (Each (λ p. Has p all)) (sym more) inside) (λ x. subst (λ ys. count x ys ≤ 1) (sym more) (single x)) (omega (arith, fits, others-cons r rs)) in
-      (ih.0, served-append D (r ∷ []) rs l (given r t.0) (served_one D r l t.0 t.1) ∙ ih.1)
+      (ih.0, served-append D (r ∷ []) rs l (given r t.0) (one_served D r l t.0 t.1) ∙ ih.1)
 
 -- nothing is drawn yet
 full_begun : (D : ℕ → Bool) (pool : List ℕ) → Full D pool [] 0 (begun pool)

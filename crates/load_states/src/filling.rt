@@ -18,7 +18,7 @@ ghost use Rattle.load_states.specs.Fillings.{Fills, FillsFrom, IsSealed, left};
 
 use crate::loaded::Loaded;
 use kimage_list::{BeginFault, ListWriter};
-use kx_pages::{PAGE_SIZE, Page, PageSet, Wish};
+use kx_pages::{Page, PageSet, Wish};
 use page_memory::Memory;
 use page_pool::Pool;
 use segments::Segments;
@@ -164,9 +164,9 @@ fn fill_segment(writer: &mut ListWriter, segments: &Segments, i: usize)
         Fills M pool wish segments.now (entries_of (take (i + 1) segments.now)) writer.new }
     ensures pages { whole_pool writer.new.pool ≡ whole_pool writer.old.pool }
 {
-    let segment = segments.segment(i);
-    let first = segment.mem / PAGE_SIZE;
-    let count = segment.memsz / PAGE_SIZE;
+    let run = segments.span(i);
+    let first = run.first();
+    let count = run.count();
     writer.add_destination(Page::from_number(first));
     for number in first..first + count {
         fill_page(writer, segments, Page::from_number(number));

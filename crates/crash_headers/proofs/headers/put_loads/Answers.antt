@@ -5,16 +5,16 @@ use Rattle.crash_headers.proofs.Rows.{no_row, each_at, row_more, rows_all, back_
 use Rattle.crash_headers.proofs.headers.put_loads.Goals as goal
 
 pub of_range-requires : goal.of_range-requires
-of_range-requires c = each_at IsBelow c.args.ranges.now c.loop-i.i no_row c.requires c.loop-i-test.true
+of_range-requires c = each_at IsBelow c.args.ranges.now c.loop-range.range-index no_row c.requires c.loop-range-test.true
 
-pub loop-i-preserved : goal.loop-i-preserved
-loop-i-preserved c = record {
-  text = row_more load_row c.args.ranges.now c.loop-i.i _ c.args.out.now.items c.loop-i.out.items c.put_row.new.out.items c.loop-i-test.true (c.in_ok-put_row.ensures.text ∙ ap (λ h. c.loop-i.out.items ++ row_text h) c.of_range.ensures) c.loop-i.invariant.text;
-  back = back_more load_row c.args.ranges.now c.loop-i.i _ c.loop-i-test.true (subst IsRowReadBack c.of_range.ensures c.put_row.ensures.back) c.loop-i.invariant.back;
+pub loop-range-preserved : goal.loop-range-preserved
+loop-range-preserved c = record {
+  text = row_more load_row c.args.ranges.now c.loop-range.range-index _ c.args.out.now.items c.loop-range.out.items c.put_row.new.out.items c.loop-range-test.true (c.in_ok-put_row.ensures.text ∙ ap (λ h. c.loop-range.out.items ++ row_text h) c.of_range.ensures) c.loop-range.invariant.text;
+  back = back_more load_row c.args.ranges.now c.loop-range.range-index _ c.loop-range-test.true (subst IsRowReadBack c.of_range.ensures c.put_row.ensures.back) c.loop-range.invariant.back;
 }
 
 pub returns-clause-text : goal.returns-clause-text
-returns-clause-text c = rows_all load_row c.args.ranges.now c.loop-i.i c.args.out.now.items c.loop-i.out.items (omega arith) c.loop-i.invariant.text
+returns-clause-text c = rows_all load_row c.args.ranges.now c.loop-range.range-index c.args.out.now.items c.loop-range.out.items (omega arith) c.loop-range.invariant.text
 
 pub returns-clause-back : goal.returns-clause-back
-returns-clause-back c = back_all load_row c.args.ranges.now c.loop-i.i (omega arith) c.loop-i.invariant.back
+returns-clause-back c = back_all load_row c.args.ranges.now c.loop-range.range-index (omega arith) c.loop-range.invariant.back

@@ -3,8 +3,8 @@ use Rattle.std.specs.List.{flat_map}
 use Rattle.crash_headers.specs.ProgramHeader.{row_text, load_row, AreReadBack}
 use Rattle.crash_headers.proofs.headers.put_loads.Given as goal
 
-abbrev pub invariant-loop-i : goal.invariant-loop-i
-invariant-loop-i l = record {
-  text : l.out.items ≡ l.fn.out.items ++ flat_map row_text (map load_row (take l.i l.ranges));
-  back : AreReadBack (map load_row (take l.i l.ranges));
+abbrev pub invariant-loop-range : goal.invariant-loop-range
+invariant-loop-range l = record {
+  text : l.out.items ≡ l.fn.out.items ++ flat_map row_text (map load_row (take l.range-index l.ranges));
+  back : AreReadBack (map load_row (take l.range-index l.ranges));
 }

@@ -3,14 +3,14 @@ use Rattle.crash_headers.specs.ProgramHeader.{row_text, note_row, IsRowReadBack}
 use Rattle.crash_headers.proofs.Rows.{row_more, rows_all, back_more, back_all}
 use Rattle.crash_headers.proofs.headers.put_notes.Goals as goal
 
-pub loop-i-preserved : goal.loop-i-preserved
-loop-i-preserved c = record {
-  text = row_more note_row c.args.notes.now c.loop-i.i _ c.args.out.now.items c.loop-i.out.items c.put_row.new.out.items c.loop-i-test.true (c.in_ok-put_row.ensures.text ∙ ap (λ h. c.loop-i.out.items ++ row_text h) c.of_note.ensures) c.loop-i.invariant.text;
-  back = back_more note_row c.args.notes.now c.loop-i.i _ c.loop-i-test.true (subst IsRowReadBack c.of_note.ensures c.put_row.ensures.back) c.loop-i.invariant.back;
+pub loop-note-preserved : goal.loop-note-preserved
+loop-note-preserved c = record {
+  text = row_more note_row c.args.notes.now c.loop-note.note-index _ c.args.out.now.items c.loop-note.out.items c.put_row.new.out.items c.loop-note-test.true (c.in_ok-put_row.ensures.text ∙ ap (λ h. c.loop-note.out.items ++ row_text h) c.of_note.ensures) c.loop-note.invariant.text;
+  back = back_more note_row c.args.notes.now c.loop-note.note-index _ c.loop-note-test.true (subst IsRowReadBack c.of_note.ensures c.put_row.ensures.back) c.loop-note.invariant.back;
 }
 
 pub returns-clause-text : goal.returns-clause-text
-returns-clause-text c = rows_all note_row c.args.notes.now c.loop-i.i c.args.out.now.items c.loop-i.out.items (omega arith) c.loop-i.invariant.text
+returns-clause-text c = rows_all note_row c.args.notes.now c.loop-note.note-index c.args.out.now.items c.loop-note.out.items (omega arith) c.loop-note.invariant.text
 
 pub returns-clause-back : goal.returns-clause-back
-returns-clause-back c = back_all note_row c.args.notes.now c.loop-i.i (omega arith) c.loop-i.invariant.back
+returns-clause-back c = back_all note_row c.args.notes.now c.loop-note.note-index (omega arith) c.loop-note.invariant.back

@@ -3,8 +3,8 @@ use Rattle.std.specs.List.{flat_map}
 use Rattle.crash_headers.specs.ProgramHeader.{row_text, note_row, AreReadBack}
 use Rattle.crash_headers.proofs.headers.put_notes.Given as goal
 
-abbrev pub invariant-loop-i : goal.invariant-loop-i
-invariant-loop-i l = record {
-  text : l.out.items ≡ l.fn.out.items ++ flat_map row_text (map note_row (take l.i l.notes));
-  back : AreReadBack (map note_row (take l.i l.notes));
+abbrev pub invariant-loop-note : goal.invariant-loop-note
+invariant-loop-note l = record {
+  text : l.out.items ≡ l.fn.out.items ++ flat_map row_text (map note_row (take l.note-index l.notes));
+  back : AreReadBack (map note_row (take l.note-index l.notes));
 }

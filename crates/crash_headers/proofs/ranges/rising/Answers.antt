@@ -5,4 +5,4 @@ use Rattle.crash_headers.proofs.ranges.rising.Goals as goal
 
 pub returns-clause-notes : goal.returns-clause-notes
 returns-clause-notes c =
-    same_sorted c.in_ok-outer.outer.items c.in_ok-by_start.by_start.items c.args.ranges.now (subst (HoldSameNotes c.in_ok-outer.outer.items) c.deref.ensures.value c.in_ok-outer.ensures.notes) c.in_ok-by_start.ensures.same
+    same_sorted c.in_ok-outer.outer.items c.in_ok-sorted.sorted.items c.args.ranges.now (subst (HoldSameNotes c.in_ok-outer.outer.items) c.deref.ensures.value c.in_ok-outer.ensures.notes) c.in_ok-sorted.ensures.same

@@ -7,7 +7,7 @@ pub add_destination-requires : goal.add_destination-requires
 add_destination-requires c = one_begun _ c.in-Ok.writer c.in-Ok.ensures.begun refl refl
 
 pub loop-i-init : goal.loop-i-init
-loop-i-init c = (omega arith, one_started c.args.wanted.now _ c.args.first c.add_destination.new.self refl refl refl (c.add_destination.ensures _ c.in-Ok.ensures.begun))
+loop-i-init c = (omega arith, one_started c.args.wanted.now _ c.args.first c.add_destination.new.self refl refl refl (c.add_destination.ensures.stands _ c.in-Ok.ensures.begun))
 
 pub add_source-requires-clause-destination : goal.add_source-requires-clause-destination
 add_source-requires-clause-destination c =
@@ -19,7 +19,7 @@ pub loop-i-preserved : goal.loop-i-preserved
 loop-i-preserved c =
     let k = c.loop-i.invariant.1 in
     let w = c.args.wanted.now in
-    (omega (arith, c.loop-i-test.true), page_more w c.args.first c.loop-i.i c.loop-i.writer k _ c.add_source.new.self (c.add_source.ensures k.load (c.args.first + c.loop-i.i) (goes_to w c.args.first c.loop-i.i c.loop-i.writer k) k.stands))
+    (omega (arith, c.loop-i-test.true), page_more w c.args.first c.loop-i.i c.loop-i.writer k _ c.add_source.new.self (c.add_source.ensures.stands k.load (c.args.first + c.loop-i.i) (goes_to w c.args.first c.loop-i.i c.loop-i.writer k) k.stands))
 
 pub finish-requires-clause-segments : goal.finish-requires-clause-segments
 finish-requires-clause-segments c = none_left c.args.wanted.now c.args.first c.loop-i.i c.loop-i.writer c.loop-i.invariant.1

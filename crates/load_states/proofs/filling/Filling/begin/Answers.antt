@@ -1,9 +1,9 @@
-use Rattle.std.proofs.Common.{length, subst, arith}
+use Rattle.std.proofs.Common.{length, subst, arith, ◌++◌}
 use Rattle.page_memory.specs.Contents.{at}
 use Rattle.kimage_list.specs.Calls.{Refuses}
 use Rattle.segments.proofs.Laws.{AreSegments-from_IsBare}
 use Rattle.load_states.proofs.FillSteps.{filling_begun, span_pages, need_same}
-use Rattle.kx_pages.proofs.Counting.{count-append}
+use Rattle.kx_pages.proofs.Counting.{count-append, count-from_Distinct}
 use Rattle.load_states.proofs.Exact.{loads_exactly}
 use Rattle.load_states.proofs.filling.Filling.begin.Goals as goal
 
@@ -43,9 +43,9 @@ returns-in-Err-clause-why c =
 pub returns-in-Ok-clause-exactly : goal.returns-in-Ok-clause-exactly
 returns-in-Ok-clause-exactly c =
     loads_exactly c.args.wish c.args.segments c.args.pool.left (AreSegments-from_IsBare c.args.segments c.count-count.ensures.valid)
-    (λ x. omega (arith, c.left-left.ensures.once.each x, count-append x c.args.pool.drawn c.args.pool.left))
+    (λ x. omega (arith, count-from_Distinct x (c.args.pool.drawn ++ c.args.pool.left) c.left-left.ensures.once, count-append x c.args.pool.drawn c.args.pool.left))
 
 pub returns-in-Err-clause-exactly : goal.returns-in-Err-clause-exactly
 returns-in-Err-clause-exactly c =
     loads_exactly c.args.wish c.args.segments c.args.pool.left (AreSegments-from_IsBare c.args.segments c.count-count.ensures.valid)
-    (λ x. omega (arith, c.left-left.ensures.once.each x, count-append x c.args.pool.drawn c.args.pool.left))
+    (λ x. omega (arith, count-from_Distinct x (c.args.pool.drawn ++ c.args.pool.left) c.left-left.ensures.once, count-append x c.args.pool.drawn c.args.pool.left))

@@ -1,7 +1,7 @@
 use Rattle.std.proofs.Common.{rules}
 use Rattle.std.proofs.lemmas.List.Sorted.{answers_always, IsNonDecreasingBy-from_sort}
 use Rattle.memory_map.specs.declared.row.Row.{Row}
-use Rattle.crash_headers.proofs.ranges.sorted.Goals as goal
+use Rattle.crash_headers.proofs.ranges.by_starts.Goals as goal
 
 pub returns-clause-sorted : goal.returns-clause-sorted
 returns-clause-sorted c =

@@ -1,0 +1,48 @@
+-- What is not served is refused before any file is taken; what is served is what the plan takes.
+use Rattle.std.proofs.Common.{◌≡◌, ◌∙◌, Bool, true, false, List, ℕ, Option, Some, None, Ok, Err, ap, refl, sym}
+use Rattle.std.specs.Prelude.{is_some, not, ◌||◌}
+use Rattle.kx_laws.proofs.Booleans.{or_false, or_true}
+use Rattle.kx_laws.specs.Results.{unless}
+use Rattle.kx_pages.specs.declared.image.ImageType.{ImageType}
+use Rattle.kx_pages.specs.declared.image.ImageType.TheVariants as types
+use Rattle.memory_map.specs.Named.{Named}
+use Rattle.kexec_words.specs.Limits.{HasParts}
+use Rattle.kexec_words.specs.Meaning.{needs_map}
+use Rattle.kexec_words.specs.Values.{InputsValue}
+use Rattle.kexec_plan.specs.Plan.{IsServed, is_served}
+use Rattle.kexec_plan.specs.Requests.{Asked, IsMapped, is_raw}
+use Rattle.kexec_main.specs.Inputs.{unserved}
+
+pub unless_none : {F : Type 0} (o : Option F) → o ≡ None → unless o ≡ Ok tt
+unless_none o e = ap unless e
+
+pub unless_some : {F : Type 0} (o : Option F) (f : F) → o ≡ Some f → unless o ≡ Err f
+unless_some o f e = ap unless e
+
+-- what is served is what the plan serves
+pub served : (image : ImageType) (purgatory : Option (List ℕ)) → unserved image purgatory ≡ None → (is_served image ≡ true) × (is_some purgatory ≡ false)
+served (types.Raw address entry) None e = (refl, refl)
+served (types.Raw address entry) (Some p) e = absurd cc
+served types.Elf None e = (refl, refl)
+served types.Elf (Some p) e = absurd cc
+served types.Bzimage None e = (refl, refl)
+served types.Bzimage (Some p) e = absurd cc
+served types.Auto p e = absurd cc
+served types.Multiboot p e = absurd cc
+
+pub request_served : (r : Asked) (image : ImageType) (purgatory : Option (List ℕ)) → r.crash ≡ false → r.image ≡ image → is_some r.purgatory ≡ is_some purgatory → unserved image purgatory ≡ None → IsServed r
+request_served r image purgatory crash type same e =
+    let k = served image purgatory e in
+    record { type = ap is_served type ∙ k.0; no_purgatory = same ∙ k.1; no_crash = crash }
+
+-- a memory map is named where the plan needs one
+needs_same : (image : ImageType) (i : InputsValue) → (false || (is_some i.purgatory || not (is_raw image))) ≡ needs_map image i
+needs_same (types.Raw address entry) i = or_false (is_some i.purgatory)
+needs_same types.Auto i = or_true (is_some i.purgatory)
+needs_same types.Elf i = or_true (is_some i.purgatory)
+needs_same types.Bzimage i = or_true (is_some i.purgatory)
+needs_same types.Multiboot i = or_true (is_some i.purgatory)
+
+pub request_mapped : (r : Asked) (image : ImageType) (i : InputsValue) (map : Option Named) → r.crash ≡ false → r.image ≡ image → is_some r.purgatory ≡ is_some i.purgatory → is_some map ≡ is_some i.map → HasParts i image → IsMapped r map
+request_mapped r image i map crash type same there parts h =
+    there ∙ parts.1 (sym (needs_same image i) ∙ sym (ap (λ b. b || (is_some i.purgatory || not (is_raw image))) crash) ∙ sym (ap (λ p. r.crash || (p || not (is_raw image))) same) ∙ sym (ap (λ t. r.crash || (is_some r.purgatory || not (is_raw t))) type) ∙ h)
