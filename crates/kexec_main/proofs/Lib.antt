@@ -8,3 +8,5 @@ pub mod Complete
 pub mod Holding
 pub mod Rising
 pub mod Serving
+pub mod Pages
+pub mod Again

@@ -1,6 +1,6 @@
 -- What is not served is refused before any file is taken; what is served is what the plan takes.
 use Rattle.std.proofs.Common.{◌≡◌, ◌∙◌, Bool, true, false, List, ℕ, Option, Some, None, Ok, Err, ap, refl, sym}
-use Rattle.std.specs.Prelude.{is_some, not, ◌||◌}
+use Rattle.std.specs.Prelude.{is_some, not, option_map, ◌||◌}
 use Rattle.kx_laws.proofs.Booleans.{or_false, or_true}
 use Rattle.kx_laws.specs.Results.{unless}
 use Rattle.kx_pages.specs.declared.image.ImageType.{ImageType}
@@ -12,6 +12,10 @@ use Rattle.kexec_words.specs.Values.{InputsValue}
 use Rattle.kexec_plan.specs.Plan.{IsServed, is_served}
 use Rattle.kexec_plan.specs.Requests.{Asked, IsMapped, is_raw}
 use Rattle.kexec_main.specs.Inputs.{unserved}
+
+pub is_some_map : {A B : Type 0} (f : A → B) (o : Option A) → is_some (option_map f o) ≡ is_some o
+is_some_map f None = refl
+is_some_map f (Some x) = refl
 
 pub unless_none : {F : Type 0} (o : Option F) → o ≡ None → unless o ≡ Ok tt
 unless_none o e = ap unless e

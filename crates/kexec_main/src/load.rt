@@ -77,14 +77,14 @@ fn loaded_text(alloc: Global, loaded: &Loaded, start: &Start) -> Result<String, 
 {
     let image = loaded.image();
     match check(alloc, loaded.memory(), &image, loaded.segments()) {
-        Ok(accept) => load_lines(
+        Ok(accept) => Ok(load_lines(
             alloc,
             accept.words,
             accept.links,
             accept.pairs.len() as u64,
             &image,
             start,
-        ),
+        )?),
         Err(CheckFault::Memory) => Err(AllocError),
         Err(CheckFault::List { .. }) => unreachable!(),
     }

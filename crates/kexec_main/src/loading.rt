@@ -102,12 +102,13 @@ pub(crate) fn load_request(
         map,
         request,
     } = inputs;
+    let planned = plan_request(alloc, request, map.as_ref())?;
     let Planned {
         segments,
         start,
         regions,
         digest,
-    } = plan_request(alloc, request, map.as_ref())?;
+    } = planned;
     let loaded = load_segments(alloc, memory, pool, segments, wish)?;
     Ok(LoadedKernel {
         loaded,

@@ -9,13 +9,14 @@ ghost use Rattle.kx_pages.specs.Modes.{swap_page};
 ghost use Rattle.list_checker.specs.Walk.{IsAccepted};
 ghost use Rattle.list_checker.specs.Checked.{as_pair};
 ghost use Rattle.load_states.specs.Answers.{IsAcceptedAs};
-ghost use Rattle.load_states.specs.States.{Load};
+ghost use Rattle.load_states.specs.Exchange.{exchange};
+ghost use Rattle.load_states.specs.States.{Load, swap_of};
 ghost use Rattle.kexec_main.specs.Runs.{HasMode, HasRun, RunsLoaded};
 
 use kexec_words::Runs;
 use kx_pages::Image;
 use list_checker::CheckFault;
-use load_states::{Accepted, AcceptedKept, AcceptedPlain, Loaded};
+use load_states::{Accepted, AcceptedKept, AcceptedPlain, Loaded, RanKept};
 use page_memory::Memory;
 use std::alloc::{AllocError, Global};
 
@@ -53,6 +54,17 @@ fn run_plain(accepted: AcceptedPlain) -> Ran
     }
 }
 
+// Runs the list again, back to what memory held before: the memory and the steps of this run.
+fn run_back(ran: RanKept) -> (Memory, u64)
+    ensures memory { Agree (at result.0) (exchange (at ran.load.memory) ran.pairs (swap_of ran.load)) }
+    ensures ends { result.1 ≡ ran.words }
+{
+    let back = ran.back();
+    let steps = back.steps();
+    let (memory, _, _, _) = back.loaded().parts();
+    (memory, steps)
+}
+
 // Runs a list with context preserved, once, or once and back again.
 fn run_kept(accepted: AcceptedKept, runs: Runs) -> Ran
     ensures { HasRun (Some runs) accepted result }
@@ -62,23 +74,28 @@ fn run_kept(accepted: AcceptedKept, runs: Runs) -> Ran
     let (words, links, pairs) = (accept.words, accept.links, accept.pairs.len() as u64);
     let ran = accepted.exec();
     let steps = ran.steps();
-    let (memory, back) = match runs {
-        Runs::Once => (ran.into_memory(), None),
+    match runs {
+        Runs::Once => Ran {
+            memory: ran.into_memory(),
+            image,
+            words,
+            links,
+            pairs,
+            steps,
+            back: None,
+        },
         Runs::Twice => {
-            let back = ran.back();
-            let steps = back.steps();
-            let (memory, _, _, _) = back.loaded().parts();
-            (memory, Some(steps))
+            let (memory, second) = run_back(ran);
+            Ran {
+                memory,
+                image,
+                words,
+                links,
+                pairs,
+                steps,
+                back: Some(second),
+            }
         }
-    };
-    Ran {
-        memory,
-        image,
-        words,
-        links,
-        pairs,
-        steps,
-        back,
     }
 }
 

@@ -15,7 +15,7 @@ returns-in_err-outputs c = λ s a.
     let e : c.from_residual-in_err-outputs.result ≡ Err c.in_err-outputs.field-0.0 = search rules in
     let r = c.run_accepted-ran.ensures s a in
     let k = checked_with s r.0 r.1 r.2 in
-    let N = at c.run_accepted-ran.ran.memory in
+    let N = at c.run_accepted-ran.result.memory in
     handed_on_as (λ g. RunsList c.args.runs s c.args.start.now (string_bytes c.args.out) (goods_of g)) (RefusesRun c.args.runs s) (HasNoFile N) _ _ e
     (λ why h. (r.0, r.1, r.2, r.3, no_file_as N (after_runs c.args.runs k) why r.4.memory h)) c.in_err-outputs.ensures
 
@@ -23,5 +23,5 @@ pub returns : goal.returns
 returns c = λ s a.
     let r = c.run_accepted-ran.ensures s a in
     let k = checked_with s r.0 r.1 r.2 in
-    let ran = c.run_accepted-ran.ran in
+    let ran = c.run_accepted-ran.result in
     (r.0, r.1, r.2, r.3, c.in_ok-text.ensures ∙ text_of c.args.runs k ran c.args.start.now r.4, refl, output_as (at ran.memory) (after_runs c.args.runs k) _ (string_bytes c.args.out) r.4.memory c.in_ok-outputs.ensures)

@@ -1,30 +1,32 @@
 use Rattle.std.proofs.Common.{rules, ◌≡◌, ◌∙◌, Option, Some, None, Result, Ok, Err, ap, sym, refl}
+use Rattle.std.specs.Prelude.{is_some, string_bytes}
 use Rattle.kx_laws.specs.Results.{unless}
-use Rattle.file_commands.specs.declared.stop.TakeFault.TheVariants.{Memory}
+use Rattle.file_commands.specs.declared.stop.TakeFault.TheVariants.{Refused}
 use Rattle.file_commands.proofs.Steps.{start, next, passed, refused_here, stopped, wanting, finished}
 use Rattle.kexec_words.specs.Values.{inputs_value}
 use Rattle.kexec_main.specs.declared.status.Reason.TheVariants.{NotBuilt}
 use Rattle.kexec_main.specs.Inputs.{inputs_of, load_inputs, unserved}
-use Rattle.kexec_main.proofs.Serving.{unless_none, unless_some}
+use Rattle.kexec_plan.specs.Requests.{Asked, request_of}
+use Rattle.kexec_main.proofs.Serving.{is_some_map, request_mapped, request_served, unless_none, unless_some}
 use Rattle.kexec_main.proofs.inputs.take_inputs.Goals as goal
 
 pub returns-in-Some : goal.returns-in-Some
 returns-in-Some g c =
     let i = inputs_value c.args.inputs in
-    refused_here g.S.Shelf NotBuilt (unless (unserved c.args.image i.purgatory)) c.in-Some.what _ inputs_of _ (search rules) (unless_some _ _ (sym c.unserved.ensures ∙ c.in-Some.ensures)) (start g.S.Shelf (load_inputs c.args.image i) c.args.shelf.now)
+    refused_here g.S.Shelf NotBuilt (unless (unserved c.args.image i.purgatory)) c.in-Some.what _ inputs_of (Err (Refused (NotBuilt c.in-Some.what))) refl (unless_some _ _ (sym c.in-Some.ensures)) (start g.S.Shelf (load_inputs c.args.image i) c.args.shelf.now)
 
 pub returns-in_err-memory : goal.returns-in_err-memory
 returns-in_err-memory g c =
     let i = inputs_value c.args.inputs in
     let takes = load_inputs c.args.image i in
-    let served = passed g.S.Shelf NotBuilt (unless (unserved c.args.image i.purgatory)) tt _ (unless_none _ (sym c.unserved.ensures ∙ c.in_default.ensures)) (start g.S.Shelf takes c.args.shelf.now) in
+    let served = passed g.S.Shelf NotBuilt (unless (unserved c.args.image i.purgatory)) tt _ (unless_none _ (sym c.in_default.ensures)) (start g.S.Shelf takes c.args.shelf.now) in
     stopped g.S.Shelf _ _ _ inputs_of _ (search rules) served c.in_err-memory.ensures
 
 pub returns-in_err-pool : goal.returns-in_err-pool
 returns-in_err-pool g c =
     let i = inputs_value c.args.inputs in
     let takes = load_inputs c.args.image i in
-    let served = passed g.S.Shelf NotBuilt (unless (unserved c.args.image i.purgatory)) tt _ (unless_none _ (sym c.unserved.ensures ∙ c.in_default.ensures)) (start g.S.Shelf takes c.args.shelf.now) in
+    let served = passed g.S.Shelf NotBuilt (unless (unserved c.args.image i.purgatory)) tt _ (unless_none _ (sym c.in_default.ensures)) (start g.S.Shelf takes c.args.shelf.now) in
     let memory = next g.S.Shelf _ _ served c.in_ok-memory.ensures in
     stopped g.S.Shelf _ _ _ inputs_of _ (search rules) memory c.in_err-pool.ensures.takes
 
@@ -32,7 +34,7 @@ pub returns-in_err-map : goal.returns-in_err-map
 returns-in_err-map g c =
     let i = inputs_value c.args.inputs in
     let takes = load_inputs c.args.image i in
-    let served = passed g.S.Shelf NotBuilt (unless (unserved c.args.image i.purgatory)) tt _ (unless_none _ (sym c.unserved.ensures ∙ c.in_default.ensures)) (start g.S.Shelf takes c.args.shelf.now) in
+    let served = passed g.S.Shelf NotBuilt (unless (unserved c.args.image i.purgatory)) tt _ (unless_none _ (sym c.in_default.ensures)) (start g.S.Shelf takes c.args.shelf.now) in
     let memory = next g.S.Shelf _ _ served c.in_ok-memory.ensures in
     let pool = next g.S.Shelf _ _ memory c.in_ok-pool.ensures.takes in
     stopped g.S.Shelf _ _ _ inputs_of _ (search rules) pool c.in_err-map.ensures.takes
@@ -41,7 +43,7 @@ pub returns-in_err-files : goal.returns-in_err-files
 returns-in_err-files g c =
     let i = inputs_value c.args.inputs in
     let takes = load_inputs c.args.image i in
-    let served = passed g.S.Shelf NotBuilt (unless (unserved c.args.image i.purgatory)) tt _ (unless_none _ (sym c.unserved.ensures ∙ c.in_default.ensures)) (start g.S.Shelf takes c.args.shelf.now) in
+    let served = passed g.S.Shelf NotBuilt (unless (unserved c.args.image i.purgatory)) tt _ (unless_none _ (sym c.in_default.ensures)) (start g.S.Shelf takes c.args.shelf.now) in
     let memory = next g.S.Shelf _ _ served c.in_ok-memory.ensures in
     let pool = next g.S.Shelf _ _ memory c.in_ok-pool.ensures.takes in
     let map = next g.S.Shelf _ _ pool c.in_ok-map.ensures.takes in
@@ -51,7 +53,7 @@ pub returns-in_err-request : goal.returns-in_err-request
 returns-in_err-request g c =
     let i = inputs_value c.args.inputs in
     let takes = load_inputs c.args.image i in
-    let served = passed g.S.Shelf NotBuilt (unless (unserved c.args.image i.purgatory)) tt _ (unless_none _ (sym c.unserved.ensures ∙ c.in_default.ensures)) (start g.S.Shelf takes c.args.shelf.now) in
+    let served = passed g.S.Shelf NotBuilt (unless (unserved c.args.image i.purgatory)) tt _ (unless_none _ (sym c.in_default.ensures)) (start g.S.Shelf takes c.args.shelf.now) in
     let memory = next g.S.Shelf _ _ served c.in_ok-memory.ensures in
     let pool = next g.S.Shelf _ _ memory c.in_ok-pool.ensures.takes in
     let map = next g.S.Shelf _ _ pool c.in_ok-map.ensures.takes in
@@ -62,9 +64,25 @@ pub returns : goal.returns
 returns g c =
     let i = inputs_value c.args.inputs in
     let takes = load_inputs c.args.image i in
-    let served = passed g.S.Shelf NotBuilt (unless (unserved c.args.image i.purgatory)) tt _ (unless_none _ (sym c.unserved.ensures ∙ c.in_default.ensures)) (start g.S.Shelf takes c.args.shelf.now) in
+    let served = passed g.S.Shelf NotBuilt (unless (unserved c.args.image i.purgatory)) tt _ (unless_none _ (sym c.in_default.ensures)) (start g.S.Shelf takes c.args.shelf.now) in
     let memory = next g.S.Shelf _ _ served c.in_ok-memory.ensures in
     let pool = next g.S.Shelf _ _ memory c.in_ok-pool.ensures.takes in
     let map = next g.S.Shelf _ _ pool c.in_ok-map.ensures.takes in
     let files = next g.S.Shelf _ _ map c.in_ok-files.ensures.takes in
     rw c.in_ok-request.ensures (finished g.S.Shelf files)
+
+-- the request has the words' own parts
+pub invariant_of-result-clause-mapped : goal.invariant_of-result-clause-mapped
+invariant_of-result-clause-mapped g c =
+    let i = inputs_value c.args.inputs in
+    let e = c.in_ok-request.ensures in
+    request_mapped (request_of c.in_ok-request.request) c.args.image i c.in_ok-map.map (ap (λ (r : Asked). r.crash) e) (ap (λ (r : Asked). r.image) e)
+    (ap (λ (r : Asked). is_some r.purgatory) e ∙ is_some_map _ c.in_ok-files.files.purgatory ∙ c.in_ok-files.ensures.named ∙ sym (is_some_map string_bytes c.args.inputs.purgatory))
+    (c.in_ok-map.ensures.named ∙ sym (is_some_map string_bytes c.args.inputs.map)) c.requires
+
+pub invariant_of-result-clause-served : goal.invariant_of-result-clause-served
+invariant_of-result-clause-served g c =
+    let i = inputs_value c.args.inputs in
+    let e = c.in_ok-request.ensures in
+    request_served (request_of c.in_ok-request.request) c.args.image i.purgatory (ap (λ (r : Asked). r.crash) e) (ap (λ (r : Asked). r.image) e)
+    (ap (λ (r : Asked). is_some r.purgatory) e ∙ is_some_map _ c.in_ok-files.files.purgatory ∙ c.in_ok-files.ensures.named ∙ sym (is_some_map string_bytes c.args.inputs.purgatory)) (sym c.in_default.ensures)

@@ -4,28 +4,28 @@ use Rattle.file_commands.proofs.Steps.{start, next, stopped, finished}
 use Rattle.kexec_main.specs.Inputs.{kernel_bytes, kernel_files, left_after}
 use Rattle.kexec_main.proofs.inputs.take_kernel.Goals as goal
 
-pub returns-in_err-kernel : goal.returns-in_err-kernel
-returns-in_err-kernel g c =
+pub returns-in_err-kernel-clause-takes : goal.returns-in_err-kernel-clause-takes
+returns-in_err-kernel-clause-takes g c =
     let files = kernel_files (string_bytes c.args.kernel) (option_map string_bytes c.args.initrd) (option_map string_bytes c.args.purgatory) (map string_bytes c.args.modules.items) in
     stopped g.S.Shelf _ _ _ kernel_bytes _ (search rules) (start g.S.Shelf files c.args.shelf.now) c.in_err-kernel.ensures.takes
 
-pub returns-in_err-initrd : goal.returns-in_err-initrd
-returns-in_err-initrd g c =
+pub returns-in_err-initrd-clause-takes : goal.returns-in_err-initrd-clause-takes
+returns-in_err-initrd-clause-takes g c =
     let left : c.len-left.result ≡ length c.in_ok-kernel.kernel.items = search rules in
     let files = kernel_files (string_bytes c.args.kernel) (option_map string_bytes c.args.initrd) (option_map string_bytes c.args.purgatory) (map string_bytes c.args.modules.items) in
     let kernel = next g.S.Shelf _ _ (start g.S.Shelf files c.args.shelf.now) c.in_ok-kernel.ensures.takes in
     stopped g.S.Shelf _ _ _ kernel_bytes _ (search rules) kernel (rw left at c.in_err-initrd.ensures.takes)
 
-pub returns-in_err-purgatory : goal.returns-in_err-purgatory
-returns-in_err-purgatory g c =
+pub returns-in_err-purgatory-clause-takes : goal.returns-in_err-purgatory-clause-takes
+returns-in_err-purgatory-clause-takes g c =
     let left : c.len-left.result ≡ length c.in_ok-kernel.kernel.items = search rules in
     let files = kernel_files (string_bytes c.args.kernel) (option_map string_bytes c.args.initrd) (option_map string_bytes c.args.purgatory) (map string_bytes c.args.modules.items) in
     let kernel = next g.S.Shelf _ _ (start g.S.Shelf files c.args.shelf.now) c.in_ok-kernel.ensures.takes in
     let initrd = next g.S.Shelf _ _ kernel (rw left at c.in_ok-initrd.ensures.takes) in
     stopped g.S.Shelf _ _ _ kernel_bytes _ (search rules) initrd c.in_err-purgatory.ensures.takes
 
-pub returns-in_err-modules : goal.returns-in_err-modules
-returns-in_err-modules g c =
+pub returns-in_err-modules-clause-takes : goal.returns-in_err-modules-clause-takes
+returns-in_err-modules-clause-takes g c =
     let left : c.len-left.result ≡ length c.in_ok-kernel.kernel.items = search rules in
     let files = kernel_files (string_bytes c.args.kernel) (option_map string_bytes c.args.initrd) (option_map string_bytes c.args.purgatory) (map string_bytes c.args.modules.items) in
     let kernel = next g.S.Shelf _ _ (start g.S.Shelf files c.args.shelf.now) c.in_ok-kernel.ensures.takes in

@@ -9,4 +9,4 @@ returns-in_err-load g c =
     stopped g.S.Shelf _ _ _ load_command _ (search rules) (start g.S.Shelf (load_command_files (load_value c.args.load.words)) c.args.shelf.now) c.in_err-load.ensures
 
 pub returns : goal.returns
-returns g c = finished g.S.Shelf (next g.S.Shelf _ _ (start g.S.Shelf (load_command_files (load_value c.args.load.words)) c.args.shelf.now) c.in_ok-load.ensures)
+returns g c = rw c.kept_wish.ensures (finished g.S.Shelf (next g.S.Shelf _ _ (start g.S.Shelf (load_command_files (load_value c.args.load.words)) c.args.shelf.now) c.in_ok-load.ensures))

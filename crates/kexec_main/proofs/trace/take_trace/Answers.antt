@@ -9,4 +9,4 @@ returns-in_err-memory g c =
     stopped g.S.Shelf _ _ _ trace_inputs _ (search rules) (start g.S.Shelf (trace_files (trace_value c.args.trace.words)) c.args.shelf.now) c.in_err-memory.ensures
 
 pub returns : goal.returns
-returns g c = finished g.S.Shelf (next g.S.Shelf _ _ (start g.S.Shelf (trace_files (trace_value c.args.trace.words)) c.args.shelf.now) c.in_ok-memory.ensures)
+returns g c = rw c.mode_by-mode.ensures (finished g.S.Shelf (next g.S.Shelf _ _ (start g.S.Shelf (trace_files (trace_value c.args.trace.words)) c.args.shelf.now) c.in_ok-memory.ensures))

@@ -1,0 +1,17 @@
+use Rattle.std.proofs.Common.{rules, ◌≡◌, Ok, Err}
+use Rattle.file_commands.proofs.Made.{handed_on_as}
+use Rattle.kexec_plan.specs.Plan.{plan}
+use Rattle.kexec_plan.specs.Requests.{planned_of}
+use Rattle.kexec_main.specs.Inputs.{inputs_of}
+use Rattle.kexec_main.specs.Loading.{IsLoaded, IsTooFew, RefusesLoad, plan_of}
+use Rattle.kexec_main.proofs.Pages.{too_few_refuses}
+use Rattle.kexec_main.proofs.loading.load_request.Goals as goal
+
+pub returns-in_err-loaded : goal.returns-in_err-loaded
+returns-in_err-loaded c =
+    let i = inputs_of c.args.inputs in
+    let p = planned_of c.in_ok-planned.planned in
+    let planned : plan i.request i.map ≡ Ok p = search rules in
+    let e : c.from_residual-in_err-loaded.result ≡ Err c.in_err-loaded.field-0.0 = search rules in
+    handed_on_as (λ k. IsLoaded c.args.wish i (plan_of k) k.loaded) (RefusesLoad c.args.wish i) (IsTooFew i.pool c.args.wish p.segments) _ _ e
+    (too_few_refuses c.args.wish i p planned) c.in_err-loaded.ensures
