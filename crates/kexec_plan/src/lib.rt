@@ -24,6 +24,8 @@ mod request;
 mod rules;
 mod symbols;
 mod table;
+#[cfg(test)]
+mod tests;
 
 pub use fault::{Part, PlanFault};
 pub use planning::plan;
