@@ -51,7 +51,7 @@ Options:
   --map FILE        file to read: the memory map, as /proc/iomem prints it;
                     needed for each type but raw, and for --purgatory
   --type TYPE       raw, elf, bzimage or multiboot; default: what the file's own
-                    header tells; raw alone is served yet
+                    header tells
   --at ADDRESS      the address of a raw kernel; needed for it, and without
                     effect for the other types
   --entry ADDRESS   the address where a raw kernel is entered; default: that of
@@ -59,7 +59,7 @@ Options:
   --command TEXT    the kernel's command line; default: none
   --initrd FILE     file to read: the initial RAM disk; default: none
   --purgatory FILE  file to read: the purgatory, an ELF64 object for x86-64 that
-                    runs before the kernel; default: none; not served yet
+                    runs before the kernel; default: none
 
 ADDRESS is a hexadecimal number of 1 to 16 digits, without 0x. OUT is none of
 the files that are read. An option is given at most once, as --at 2000 or
@@ -88,7 +88,7 @@ Options:
   --map FILE        file to read: the memory map, as /proc/iomem prints it;
                     needed for each type but raw, and for --purgatory
   --type TYPE       raw, elf, bzimage or multiboot; default: what the file's own
-                    header tells; raw alone is served yet
+                    header tells
   --at ADDRESS      the address of a raw kernel; needed for it, and without
                     effect for the other types
   --entry ADDRESS   the address where a raw kernel is entered; default: that of
@@ -96,7 +96,7 @@ Options:
   --command TEXT    the kernel's command line; default: none
   --initrd FILE     file to read: the initial RAM disk; default: none
   --purgatory FILE  file to read: the purgatory, an ELF64 object for x86-64 that
-                    runs before the kernel; default: none; not served yet
+                    runs before the kernel; default: none
 
 ADDRESS is a hexadecimal number of 1 to 16 digits, without 0x. OUT and RECORD
 are two files, and none of those that are read. An option is given at most once,
