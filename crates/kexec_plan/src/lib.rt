@@ -24,8 +24,6 @@ mod request;
 mod rules;
 mod symbols;
 mod table;
-#[cfg(test)]
-mod tests;
 
 pub use fault::{Part, PlanFault};
 pub use planning::plan;
