@@ -3,7 +3,7 @@
 ghost use Rattle.std.specs.Prelude.{◌≡◌, ◌+◌, ◌*◌, ◌-◌, ◌^◌, ◌++◌, ◌≤◌, map, min, length, OnOk, IfOk};
 ghost use Rattle.kx_laws.specs.Results.{Gives};
 ghost use Rattle.memory_map.specs.Rows.{AreBelow};
-ghost use Rattle.memory_map.specs.Named.{core_ranges};
+ghost use Rattle.memory_map.specs.Maps.{core_ranges};
 ghost use Rattle.crash_headers.specs.declared.fault.CrashFault.TheVariants.{Memory};
 ghost use Rattle.crash_headers.specs.FileHeader.{core_header, IsHeaderReadBack};
 ghost use Rattle.crash_headers.specs.ProgramHeader.{row_text, table_text, note_row, load_row, IsRowReadBack, AreReadBack};

@@ -1,7 +1,7 @@
 //! Files are taken in their turn, each with a limit: one byte more is asked for, so that a longer file shows.
 
 ghost use Rattle.std.specs.Prelude.{◌≡◌, ◌+◌, ◌<◌, ◌≤◌, ◌^◌, ◌++◌, length, map, option_map, is_some, string_bytes, IfOk, IfSome};
-ghost use Rattle.kx_edge.specs.Edge.{IsCutAt};
+ghost use Rattle.kx_laws.specs.Cuts.{IsCutAt};
 ghost use Rattle.file_commands.specs.Files.{all_files, optional_file, whole_file};
 ghost use Rattle.file_commands.specs.Calls.{Takes, bytes_of, file_of};
 ghost use Rattle.file_commands.specs.Taking.{file_at};

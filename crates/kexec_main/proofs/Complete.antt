@@ -16,7 +16,7 @@ use Rattle.file_commands.specs.Taking.{Refusal, by, too_long, reads}
 use Rattle.file_commands.specs.Answers.{Answer, MeetsTold, RefusesFor, Stands, done, memory, refused}
 use Rattle.file_commands.proofs.Meeting.{refuses, stands_told}
 use Rattle.kexec_words.specs.declared.faults.UsageWhy.{UsageWhy}
-use Rattle.kexec_words.specs.Values.{CommandValue, BootValue, ExecValue, LoadValue, LoadedValue, TraceValue}
+use Rattle.kexec_words.specs.Values.{CommandValue, BootValue, ExecValue, LoadValue, LoadNamesValue, TraceValue}
 use Rattle.kexec_words.specs.Values as words
 use Rattle.kexec_plan.specs.Requests.{Plan}
 use Rattle.kexec_plan.specs.Plan.{plan}
@@ -86,14 +86,14 @@ load_stands l x can = record { unrefused = none; whole = λ goods m. m.4 }
     none (by why) (inr (p, c, k, f)) = heavy (at c.load.memory) why (λ n h. can.light c n (loaded_as x.wish x.load (λ c. at c.load.memory) p c can k.0) h) f
     none (too_long name limit) m = m
 
-check_stands : (l : LoadedValue) (x : LoadFiles) (is : List Item) → IsAcceptedIn x is → Stands (check l) x
+check_stands : (l : LoadNamesValue) (x : LoadFiles) (is : List Item) → IsAcceptedIn x is → Stands (check l) x
 check_stands l x is accepted = record { unrefused = λ a m. m; whole = λ goods m. whole goods goods.fault m refl }
   where
     whole : (goods : Made) (f : Option ListFault) → checks_as x goods f → goods.fault ≡ f → goods.fault ≡ None
     whole goods None m e = e
     whole goods (Some f) m e = absurd (m.0.1 is accepted)
 
-dump_stands : (l : LoadedValue) (x : LoadFiles) → Stands (dump l) x
+dump_stands : (l : LoadNamesValue) (x : LoadFiles) → Stands (dump l) x
 dump_stands l x = record { unrefused = λ a m. m; whole = λ goods m. m.1 }
 
 exec_stands : (e : ExecValue) (x : ExecInputs) → CanRun x → Stands (exec e) x

@@ -14,7 +14,7 @@ use Rattle.file_commands.specs.Taking.{File, Refusal, ok, reads}
 use Rattle.file_commands.specs.Answers.{Answer, FilesPut, GoesOut, MeetsTold, done}
 use Rattle.file_commands.proofs.Steps.{reads_cases}
 use Rattle.kexec_words.specs.declared.faults.UsageWhy.{UsageWhy}
-use Rattle.kexec_words.specs.Values.{CommandValue, BootValue, ExecValue, LoadValue, LoadedValue, TraceValue}
+use Rattle.kexec_words.specs.Values.{CommandValue, BootValue, ExecValue, LoadValue, LoadNamesValue, TraceValue}
 use Rattle.kexec_words.specs.Values as words
 use Rattle.kexec_plan.specs.Requests.{Plan}
 use Rattle.kexec_main.specs.declared.status.Reason.{Reason}
@@ -83,12 +83,12 @@ module _ {S O : Type 0} (D : Shelf S) (E : Sink O) (held : Files) (s : S) (o : O
         said = said_as goods.text _ n.3 out.said;
       }
 
-  checked : (l : LoadedValue) → MeetsTold D E (check l) held s o done s' o' → HasChecked D E held s o s' o' l
+  checked : (l : LoadNamesValue) → MeetsTold D E (check l) held s o done s' o' → HasChecked D E held s o s' o' l
   checked l (x, goods, read, m, fault, out) =
       let n = subst (λ f. checks_as x goods f) fault m in
       record { files = x; read = read; items = n.items; accepted = n.accepted; put = put_as goods.outputs [] n.outputs out.put; said = said_as goods.text _ n.text out.said }
 
-  dumped : (l : LoadedValue) → MeetsTold D E (dump l) held s o done s' o' → HasDumped D E held s o s' o' l
+  dumped : (l : LoadNamesValue) → MeetsTold D E (dump l) held s o done s' o' → HasDumped D E held s o s' o' l
   dumped l (x, goods, read, m, fault, out) =
       record { files = x; read = read; list = m.2.0; fault = m.2.1; walk = m.2.2; put = put_as goods.outputs [] m.0 out.put; said = said_as goods.text _ m.2.3 out.said }
 

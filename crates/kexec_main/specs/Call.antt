@@ -21,7 +21,7 @@ use Rattle.load_states.specs.Fillings.{IsSealed}
 use Rattle.relocate_machine.specs.Run.{run_of}
 use Rattle.file_commands.specs.Taking.{reads}
 use Rattle.file_commands.specs.Answers.{FilesPut}
-use Rattle.kexec_words.specs.Values.{CommandValue, BootValue, ExecValue, LoadValue, LoadedValue, TraceValue}
+use Rattle.kexec_words.specs.Values.{CommandValue, BootValue, ExecValue, LoadValue, LoadNamesValue, TraceValue}
 use Rattle.kexec_words.specs.Values as words
 use Rattle.kexec_plan.specs.Requests.{Plan}
 use Rattle.kexec_plan.specs.Plan.{plan}
@@ -82,7 +82,7 @@ module _ {S O : Type 0} (D : Shelf S) (E : Sink O) (held : Files) (s : S) (o : O
     pub said : Said (E.said o) (list_text checked planned.start) (E.said o')
 
   -- After `check`: the list of the record is accepted in the memory for its segments, and the text tells it.
-  pub record HasChecked (l : LoadedValue) : Type 0 where
+  pub record HasChecked (l : LoadNamesValue) : Type 0 where
     pub files : LoadFiles
     pub read : reads (load_files_of l) held ≡ Ok files
     pub items : List Item
@@ -92,7 +92,7 @@ module _ {S O : Type 0} (D : Shelf S) (E : Sink O) (held : Files) (s : S) (o : O
 
   -- After `dump`: the text tells each word of the record's list, up to the done word or the first that cannot be followed,
   -- and each segment.
-  pub record HasDumped (l : LoadedValue) : Type 0 where
+  pub record HasDumped (l : LoadNamesValue) : Type 0 where
     pub files : LoadFiles
     pub read : reads (load_files_of l) held ≡ Ok files
     pub list : List ℕ

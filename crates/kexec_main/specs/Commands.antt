@@ -4,7 +4,7 @@ use Rattle.list_checker.specs.declared.fault.ListFault.{ListFault}
 use Rattle.file_commands.specs.Taking.{refuse, by}
 use Rattle.file_commands.specs.Answers.{Command, command_of}
 use Rattle.kexec_words.specs.declared.faults.UsageWhy.{UsageWhy}
-use Rattle.kexec_words.specs.Values.{CommandValue, BootValue, ExecValue, LoadValue, LoadedValue, TraceValue}
+use Rattle.kexec_words.specs.Values.{CommandValue, BootValue, ExecValue, LoadValue, LoadNamesValue, TraceValue}
 use Rattle.kexec_words.specs.Values as words
 use Rattle.kexec_main.specs.declared.files.LoadFiles.{LoadFiles}
 use Rattle.kexec_main.specs.declared.status.NotBuilt.TheVariants as parts
@@ -28,10 +28,10 @@ boot b = command_of (boot_files b) boots
 abbrev pub load : LoadValue → Program LoadCommand
 load l = command_of (load_command_files l) loads
 
-abbrev pub check : LoadedValue → Program LoadFiles
+abbrev pub check : LoadNamesValue → Program LoadFiles
 check l = command_of (load_files_of l) checks
 
-abbrev pub dump : LoadedValue → Program LoadFiles
+abbrev pub dump : LoadNamesValue → Program LoadFiles
 dump l = command_of (load_files_of l) dumps
 
 abbrev pub exec : ExecValue → Program ExecInputs

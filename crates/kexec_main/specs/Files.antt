@@ -4,9 +4,9 @@ use Rattle.page_memory.specs.Contents.{Contents}
 use Rattle.page_memory.specs.File.{reading}
 use Rattle.page_pool.specs.File.{pool_reading}
 use Rattle.load_record.specs.File.{Record, record_reading}
-use Rattle.memory_map.specs.Named.{Named}
+use Rattle.memory_map.specs.Maps.{MapValue}
 use Rattle.memory_map.specs.Text.{map_reading}
-use Rattle.kexec_words.specs.Values.{LoadedValue}
+use Rattle.kexec_words.specs.Values.{LoadNamesValue}
 use Rattle.file_commands.specs.Taking.{Take, ok, refuse, by, ◌>>=◌}
 use Rattle.file_commands.specs.Files.{from_reader, whole_file}
 use Rattle.kexec_main.specs.declared.files.LoadFiles.{LoadFiles}
@@ -36,7 +36,7 @@ pool_file name = do
   bytes ← whole_file text_limit name
   from_reader (λ e. Input (inputs.Pool e)) (pool_reading bytes)
 
-abbrev pub map_file : List ℕ → Take Reason Named
+abbrev pub map_file : List ℕ → Take Reason MapValue
 map_file name = do
   bytes ← whole_file text_limit name
   from_reader (λ e. Input (inputs.Map e)) (map_reading bytes)
@@ -60,5 +60,5 @@ load_files memory load_record = do
   ok (record { memory = m; load_record = r })
 
 -- what `check` and `dump` take
-abbrev pub load_files_of : LoadedValue → Take Reason LoadFiles
+abbrev pub load_files_of : LoadNamesValue → Take Reason LoadFiles
 load_files_of l = load_files l.memory l.load_record

@@ -6,11 +6,11 @@ use Rattle.clap.specs.Kinds.{Kinds}
 use Rattle.clap.proofs.WalkLemmas.{both}
 use Rattle.kexec_words.specs.Found.{word_of, flag_of}
 use Rattle.kx_pages.specs.Numbers.{is_page_address}
-use Rattle.kexec_words.specs.Numbers.{number_of, passing, in_form, some_in_form, hex_of, page_address_of, steps_of, swap_of, head_of, limit_of, trace_numbers_from}
+use Rattle.kexec_words.specs.Numbers.{number_of, if_passes, in_form, some_in_form, hex_of, page_address_of, steps_of, swap_of, head_of, limit_of, trace_numbers_from}
 use Rattle.kexec_words.specs.Values.{InputsValue, CrashInputsValue, ExecValue, CommandValue}
 use Rattle.kexec_words.specs.Values.{boot, load, load_panic, check, dump, exec, trace, sample}
-use Rattle.kexec_words.specs.Meaning.{has_same_name, files_of, crash_files_of, with_numbers, mapped, image_from, needs_map, typed, image_where, inputs_of, boot_by, boot_with, boot_in, load_by, load_with, load_in, with_map, load_panic_with, load_panic_in, crash_inputs_of, exec_of, exec_with, exec_in, trace_with, trace_in, trace_numbers_by, sample_by, sample_in, taken_where, taken_by, command_named, plan_numbers_by}
-use Rattle.kexec_words.specs.Meaning.{Answers, loaded_in}
+use Rattle.kexec_words.specs.Meaning.{has_same_name, files_of, crash_files_of, with_numbers, map_answer, image_from, needs_map, image_or_refusal, image_where, inputs_of, boot_by, boot_with, boot_in, load_by, load_with, load_in, with_map, load_panic_with, load_panic_in, crash_inputs_of, exec_of, exec_with, exec_in, trace_with, trace_in, trace_numbers_by, sample_by, sample_in, answer_where, answer_by, command_by_name, plan_numbers_by}
+use Rattle.kexec_words.specs.Meaning.{Answers, load_names_in}
 use Rattle.kexec_words.specs.Values.{command_value}
 use Rattle.kexec_words.specs.Apps.{boot_app, load_app, load_panic_app, check_app, dump_app, exec_app, trace_app, sample_app}
 use Rattle.kexec_words.specs.declared.commands.Command.{Command}
@@ -30,11 +30,11 @@ use Rattle.kexec_words.proofs.Digits.{number_has}
 abbrev Keeps : CommandValue → Type 0
 Keeps v = IsWithinLimits v × HasOutputsApart v
 
-mapped_has : {A B : Type 0} (f : A → B) (r : Result A UsageWhy) (P : A → Type 0) (Q : B → Type 0) → ((a : A) → P a → Q (f a)) → IfOk r P → IfOk (mapped f r) Q
+mapped_has : {A B : Type 0} (f : A → B) (r : Result A UsageWhy) (P : A → Type 0) (Q : B → Type 0) → ((a : A) → P a → Q (f a)) → IfOk r P → IfOk (map_answer f r) Q
 mapped_has f (Ok a) P Q to h = to a h
 mapped_has f (Err w) P Q to h = tt
 
-taken_has : {A : Type 0} (kinds : Kinds) (r : Result A UsageWhy) (P : A → Type 0) → IfOk r P → IfOk (taken_where kinds r) P
+taken_has : {A : Type 0} (kinds : Kinds) (r : Result A UsageWhy) (P : A → Type 0) → IfOk r P → IfOk (answer_where kinds r) P
 taken_has [] r P h = h
 taken_has (k ∷ ks) r P h = tt
 
@@ -49,7 +49,7 @@ anything (Err e) = tt
 
 -- ---- boot and load
 
-typed_has : (i : InputsValue) (o : Option ImageType) → IfOk (typed i o) (λ image. needs_map image i ≡ true → is_some i.map ≡ true)
+typed_has : (i : InputsValue) (o : Option ImageType) → IfOk (image_or_refusal i o) (λ image. needs_map image i ≡ true → is_some i.map ≡ true)
 typed_has i None = tt
 typed_has i (Some image) = go (needs_map image i) refl (is_some i.map) refl
   where
@@ -68,10 +68,10 @@ image_has i b n = go (nat_lt 12 (length i.modules)) refl b (image_from n.kind n.
     last (Err w) few h = tt
 
     go : (x : Bool) → nat_lt 12 (length i.modules) ≡ x → (y : Bool) → (o : Option ImageType)
-        → IfOk (if x then Err why.TooManyModules else (if y then Err why.SameName else typed i o)) (λ image. HasParts i image × (y ≡ false))
+        → IfOk (if x then Err why.TooManyModules else (if y then Err why.SameName else image_or_refusal i o)) (λ image. HasParts i image × (y ≡ false))
     go true e y o = tt
     go false e true o = tt
-    go false e false o = let few : length i.modules ≤ 12 = search (rules, e) in last (typed i o) few (typed_has i o)
+    go false e false o = let few : length i.modules ≤ 12 = search (rules, e) in last (image_or_refusal i o) few (typed_has i o)
 
 boot_has : (i : InputsValue) (o : Text) (n : PlanNumbers) → IfOk (boot_with i o n) (λ b. Keeps (boot b))
 boot_has i o n = mapped_has (boot_by i o n) (image_where i (has_same_name (o ∷ []) (files_of i)) n) _ _ (λ image h. h)
@@ -118,7 +118,7 @@ exec_has v = go (has_same_name (v.out ∷ []) (v.memory ∷ v.load_record ∷ []
 
 -- ---- trace and sample
 
-passing_has : (test : ℕ → Bool) (o : Option ℕ) → IfSome (passing test o) (λ n. test n ≡ true)
+passing_has : (test : ℕ → Bool) (o : Option ℕ) → IfSome (if_passes test o) (λ n. test n ≡ true)
 passing_has test None = tt
 passing_has test (Some n) = go (test n) refl
   where
@@ -182,29 +182,29 @@ sample_keeps rows =
 -- ---- all commands
 
 said : {A : Type 0} (as_command : A → CommandValue) (app : App) (read : List Row → Result A UsageWhy) (words : List Text)
-    → ((rows : List Row) → IfOk (read rows) (λ a. Keeps (as_command a))) → IfOk (mapped as_command (taken_by app read words)) Keeps
-said as_command app read words keeps = mapped_has as_command (taken_by app read words) (λ a. Keeps (as_command a)) Keeps (λ a h. h)
+    → ((rows : List Row) → IfOk (read rows) (λ a. Keeps (as_command a))) → IfOk (map_answer as_command (answer_by app read words)) Keeps
+said as_command app read words keeps = mapped_has as_command (answer_by app read words) (λ a. Keeps (as_command a)) Keeps (λ a h. h)
     (taken_has (fault_of app words) (read (matches_of app words)) (λ a. Keeps (as_command a)) (keeps (matches_of app words)))
 
-named_keeps : (o : Option Name) (words : List Text) → IfOk (command_named o words) Keeps
+named_keeps : (o : Option Name) (words : List Text) → IfOk (command_by_name o words) Keeps
 named_keeps None words = tt
 named_keeps (Some name.Boot) words = said boot boot_app boot_in words boot_keeps
 named_keeps (Some name.Load) words = said load load_app load_in words load_keeps
 named_keeps (Some name.LoadPanic) words = said load_panic load_panic_app load_panic_in words panic_keeps
-named_keeps (Some name.Check) words = said check check_app loaded_in words (λ rows. (tt, tt))
-named_keeps (Some name.Dump) words = said dump dump_app loaded_in words (λ rows. (tt, tt))
+named_keeps (Some name.Check) words = said check check_app load_names_in words (λ rows. (tt, tt))
+named_keeps (Some name.Dump) words = said dump dump_app load_names_in words (λ rows. (tt, tt))
 named_keeps (Some name.Exec) words = said exec exec_app exec_in words (λ rows. exec_has (exec_of rows))
 named_keeps (Some name.Trace) words = said trace trace_app trace_in words trace_keeps
 named_keeps (Some name.Sample) words = said sample sample_app sample_in words sample_keeps
 
 -- a command that is answered keeps the limits
-pub within_limits : (o : Option Name) (words : List Text) (r : Result Command WordsFault) → Answers command_value (command_named o words) r
+pub within_limits : (o : Option Name) (words : List Text) (r : Result Command WordsFault) → Answers command_value (command_by_name o words) r
     → IfOk r (λ c. IsWithinLimits (command_value c))
 within_limits o words (Ok c) h = let keeps : Keeps (command_value c) = subst (λ x. IfOk x Keeps) h (named_keeps o words) in keeps.0
 within_limits o words (Err e) h = tt
 
 -- and its outputs are apart
-pub outputs_apart : (o : Option Name) (words : List Text) (r : Result Command WordsFault) → Answers command_value (command_named o words) r
+pub outputs_apart : (o : Option Name) (words : List Text) (r : Result Command WordsFault) → Answers command_value (command_by_name o words) r
     → IfOk r (λ c. HasOutputsApart (command_value c))
 outputs_apart o words (Ok c) h = let keeps : Keeps (command_value c) = subst (λ x. IfOk x Keeps) h (named_keeps o words) in keeps.1
 outputs_apart o words (Err e) h = tt

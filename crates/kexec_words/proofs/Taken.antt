@@ -5,7 +5,7 @@ use Rattle.clap.specs.Words.{App, Row, Text, fault_of, matches_of, rows_of, foun
 use Rattle.clap.specs.Kinds.{Kinds}
 use Rattle.clap.specs.declared.parser.matches.ArgMatches.{ArgMatches}
 use Rattle.kexec_words.specs.Found.{Parses}
-use Rattle.kexec_words.specs.Meaning.{Answers, taken_by, taken_where, mapped, with_numbers}
+use Rattle.kexec_words.specs.Meaning.{Answers, answer_by, answer_where, map_answer, with_numbers}
 use Rattle.kexec_words.specs.declared.faults.Which.{Which}
 use Rattle.kexec_words.specs.declared.faults.UsageWhy.{UsageWhy}
 use Rattle.kexec_words.specs.declared.faults.UsageWhy.TheVariants as why
@@ -14,18 +14,18 @@ use Rattle.kexec_words.specs.declared.faults.WordsFault.TheVariants.{Memory, Usa
 
 -- words that are taken say what their values say
 pub answers_taken : {A B : Type 0} (value : B → A) (app : App) (read : List Row → Result A UsageWhy) (words : List Text) (m : ArgMatches) (r : Result B WordsFault)
-    → Parses app words (Ok m) → Answers value (read (rows_of (found_of m))) r → Answers value (taken_by app read words) r
+    → Parses app words (Ok m) → Answers value (read (rows_of (found_of m))) r → Answers value (answer_by app read words) r
 answers_taken value app read words m r p h =
-    let e : read (rows_of (found_of m)) ≡ taken_by app read words = rw p.0 (ap read p.1) in
+    let e : read (rows_of (found_of m)) ≡ answer_by app read words = rw p.0 (ap read p.1) in
     subst (λ x. Answers value x r) e h
 
-no_kind : {A : Type 0} (kinds : Kinds) (answer : Result A UsageWhy) → (kinds ≡ [] → ⊥) → taken_where kinds answer ≡ Err why.Parse
+no_kind : {A : Type 0} (kinds : Kinds) (answer : Result A UsageWhy) → (kinds ≡ [] → ⊥) → answer_where kinds answer ≡ Err why.Parse
 no_kind [] answer h = absurd (h refl)
 no_kind (k ∷ ks) answer h = refl
 
 -- words that are not taken are refused
 pub answers_refused : {A B : Type 0} (value : B → A) (app : App) (read : List Row → Result A UsageWhy) (words : List Text) (e : WordsFault)
-    → Parses app words (Err e) → Answers value (taken_by app read words) (Err e)
+    → Parses app words (Err e) → Answers value (answer_by app read words) (Err e)
 answers_refused value app read words Memory p = tt
 answers_refused value app read words (Usage why.Parse) p = no_kind (fault_of app words) (read (matches_of app words)) p
 answers_refused value app read words (Usage why.Command) p = absurd p
@@ -43,8 +43,8 @@ exits value said (Err f) e h a = subst (λ x. Answers value said (Err x)) (sym h
 
 -- a reason passed on
 pub exits_mapped : {A B C : Type 0} (value : B → A) (f : C → A) (said : Result C UsageWhy) (w : UsageWhy) (r : Result B WordsFault)
-    → IsErrAnd r (λ e. e ≡ Usage w) → Err w ≡ said → Answers value (mapped f said) r
-exits_mapped value f said w r h e = exits value (mapped f said) r (Usage w) h (ap (mapped f) (sym e))
+    → IsErrAnd r (λ e. e ≡ Usage w) → Err w ≡ said → Answers value (map_answer f said) r
+exits_mapped value f said w r h e = exits value (map_answer f said) r (Usage w) h (ap (map_answer f) (sym e))
 
 -- a number out of its form
 pub exits_number : {A B C : Type 0} (value : B → A) (go : C → Result A UsageWhy) (said : Result C Which) (w : Which) (r : Result B WordsFault)

@@ -44,14 +44,14 @@ abbrev pub load_panic_app : App
 load_panic_app = app_with (codes "load-panic") (word (codes "MEMORY") ∷ word (codes "OUT") ∷ word (codes "RECORD") ∷ word (codes "KERNEL")
     ∷ option (codes "map") ∷ option (codes "command") ∷ option (codes "initrd") ∷ option (codes "purgatory") ∷ option (codes "notes") ∷ [])
 
-abbrev pub loaded_rules : List Rule
-loaded_rules = word (codes "MEMORY") ∷ word (codes "RECORD") ∷ []
+abbrev pub load_names_rules : List Rule
+load_names_rules = word (codes "MEMORY") ∷ word (codes "RECORD") ∷ []
 
 abbrev pub check_app : App
-check_app = app_with (codes "check") loaded_rules
+check_app = app_with (codes "check") load_names_rules
 
 abbrev pub dump_app : App
-dump_app = app_with (codes "dump") loaded_rules
+dump_app = app_with (codes "dump") load_names_rules
 
 abbrev pub exec_app : App
 exec_app = app_with (codes "exec") (word (codes "MEMORY") ∷ word (codes "RECORD") ∷ word (codes "OUT") ∷ flag (codes "twice") ∷ [])

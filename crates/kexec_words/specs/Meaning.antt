@@ -7,7 +7,7 @@ use Rattle.clap.specs.Kinds.{Kinds}
 use Rattle.kexec_words.specs.Apps.{boot_app, load_app, load_panic_app, check_app, dump_app, exec_app, trace_app, sample_app}
 use Rattle.kexec_words.specs.Found.{word_of, words_of, flag_of}
 use Rattle.kexec_words.specs.Numbers.{plan_numbers_of, trace_numbers_of, sample_of}
-use Rattle.kexec_words.specs.Values.{InputsValue, BootValue, LoadValue, CrashInputsValue, LoadPanicValue, LoadedValue, ExecValue, TraceValue, CommandValue}
+use Rattle.kexec_words.specs.Values.{InputsValue, BootValue, LoadValue, CrashInputsValue, LoadPanicValue, LoadNamesValue, ExecValue, TraceValue, CommandValue}
 use Rattle.kexec_words.specs.Values.{boot, load, load_panic, check, dump, exec, trace, sample}
 use Rattle.kx_pages.specs.declared.image.ImageType.{ImageType}
 use Rattle.kx_pages.specs.declared.image.ImageType.TheVariants as image
@@ -34,16 +34,16 @@ has_same_name [] inputs = false
 has_same_name (out ∷ outs) inputs = is_among out (outs ++ inputs) || has_same_name outs inputs
 
 -- a name that is given, before others
-abbrev pub given : Option Text → List Text → List Text
-given None names = names
-given (Some t) names = t ∷ names
+abbrev pub with_name : Option Text → List Text → List Text
+with_name None names = names
+with_name (Some t) names = t ∷ names
 
 -- the files that are read, in the order in which they are taken
 abbrev pub files_of : InputsValue → List Text
-files_of i = i.memory ∷ i.pool ∷ given i.map (i.kernel ∷ given i.initrd (given i.purgatory i.modules))
+files_of i = i.memory ∷ i.pool ∷ with_name i.map (i.kernel ∷ with_name i.initrd (with_name i.purgatory i.modules))
 
 abbrev pub crash_files_of : CrashInputsValue → Option Text → List Text
-crash_files_of i map = i.memory ∷ given map (given i.notes (i.kernel ∷ given i.initrd (given i.purgatory [])))
+crash_files_of i map = i.memory ∷ with_name map (with_name i.notes (i.kernel ∷ with_name i.initrd (with_name i.purgatory [])))
 
 -- ---- answers
 
@@ -52,9 +52,9 @@ abbrev pub with_numbers : {A B : Type 0} → Result A Which → (A → Result B 
 with_numbers (Ok n) go = go n
 with_numbers (Err which) go = Err (why.Number which)
 
-abbrev pub mapped : {A B : Type 0} → (A → B) → Result A UsageWhy → Result B UsageWhy
-mapped f (Ok a) = Ok (f a)
-mapped f (Err w) = Err w
+abbrev pub map_answer : {A B : Type 0} → (A → B) → Result A UsageWhy → Result B UsageWhy
+map_answer f (Ok a) = Ok (f a)
+map_answer f (Err w) = Err w
 
 -- ---- boot and load
 
@@ -72,14 +72,14 @@ abbrev pub needs_map : ImageType → InputsValue → Bool
 needs_map (image.Raw at entry) i = is_some i.purgatory
 needs_map other i = true
 
-abbrev pub typed : InputsValue → Option ImageType → Result ImageType UsageWhy
-typed i None = Err why.NeedsAt
-typed i (Some image) = if needs_map image i && not (is_some i.map) then Err why.NeedsMap else Ok image
+abbrev pub image_or_refusal : InputsValue → Option ImageType → Result ImageType UsageWhy
+image_or_refusal i None = Err why.NeedsAt
+image_or_refusal i (Some image) = if needs_map image i && not (is_some i.map) then Err why.NeedsMap else Ok image
 
 -- the image's type, or the first reason after the numbers' forms: too many modules, a name used twice, no --at, no --map
 abbrev pub image_where : InputsValue → Bool → PlanNumbers → Result ImageType UsageWhy
 image_where i is_same n = if nat_lt 12 (length i.modules) then Err why.TooManyModules
-    else (if is_same then Err why.SameName else typed i (image_from n.kind n.at n.entry))
+    else (if is_same then Err why.SameName else image_or_refusal i (image_from n.kind n.at n.entry))
 
 -- the type and the addresses, --kept RUNS among them where the command has it
 abbrev pub plan_numbers_by : Option Text → List Row → Result PlanNumbers Which
@@ -102,7 +102,7 @@ abbrev pub boot_by : InputsValue → Text → PlanNumbers → ImageType → Boot
 boot_by i out n image = record { inputs = i; out = out; kept = n.kept; image = image }
 
 abbrev pub boot_with : InputsValue → Text → PlanNumbers → Result BootValue UsageWhy
-boot_with i out n = mapped (boot_by i out n) (image_where i (has_same_name (out ∷ []) (files_of i)) n)
+boot_with i out n = map_answer (boot_by i out n) (image_where i (has_same_name (out ∷ []) (files_of i)) n)
 
 abbrev pub boot_in : List Row → Result BootValue UsageWhy
 boot_in rows = with_numbers (plan_numbers_by (first_of (codes "kept") rows) rows)
@@ -112,7 +112,7 @@ abbrev pub load_by : InputsValue → Text → Text → Bool → ImageType → Lo
 load_by i out load_record kept image = record { inputs = i; out = out; load_record = load_record; kept = kept; image = image }
 
 abbrev pub load_with : InputsValue → Text → Text → Bool → PlanNumbers → Result LoadValue UsageWhy
-load_with i out load_record kept n = mapped (load_by i out load_record kept) (image_where i (has_same_name (out ∷ load_record ∷ []) (files_of i)) n)
+load_with i out load_record kept n = map_answer (load_by i out load_record kept) (image_where i (has_same_name (out ∷ load_record ∷ []) (files_of i)) n)
 
 abbrev pub load_in : List Row → Result LoadValue UsageWhy
 load_in rows = with_numbers (plan_numbers_by None rows)
@@ -143,11 +143,11 @@ load_panic_in rows = load_panic_with (crash_inputs_of rows) (first_of (codes "ma
 
 -- ---- check, dump, exec, trace, sample
 
-abbrev pub loaded_of : List Row → LoadedValue
-loaded_of rows = record { memory = word_of (codes "MEMORY") rows; load_record = word_of (codes "RECORD") rows }
+abbrev pub load_names_of : List Row → LoadNamesValue
+load_names_of rows = record { memory = word_of (codes "MEMORY") rows; load_record = word_of (codes "RECORD") rows }
 
-abbrev pub loaded_in : List Row → Result LoadedValue UsageWhy
-loaded_in rows = Ok (loaded_of rows)
+abbrev pub load_names_in : List Row → Result LoadNamesValue UsageWhy
+load_names_in rows = Ok (load_names_of rows)
 
 abbrev pub exec_of : List Row → ExecValue
 exec_of rows = record {
@@ -181,17 +181,17 @@ sample_in rows = with_numbers (sample_by rows) (λ n. Ok n)
 
 -- ---- all commands
 
-abbrev pub taken_where : {A : Type 0} → Kinds → Result A UsageWhy → Result A UsageWhy
-taken_where [] answer = answer
-taken_where (k ∷ ks) answer = Err why.Parse
+abbrev pub answer_where : {A : Type 0} → Kinds → Result A UsageWhy → Result A UsageWhy
+answer_where [] answer = answer
+answer_where (k ∷ ks) answer = Err why.Parse
 
 -- the words have to be taken by the command; then they say what their values say
-abbrev pub taken_by : {A : Type 0} → App → (List Row → Result A UsageWhy) → List Text → Result A UsageWhy
-taken_by app read words = taken_where (fault_of app words) (read (matches_of app words))
+abbrev pub answer_by : {A : Type 0} → App → (List Row → Result A UsageWhy) → List Text → Result A UsageWhy
+answer_by app read words = answer_where (fault_of app words) (read (matches_of app words))
 
 -- the command of this name
-abbrev pub named : Text → Option Name
-named t = if bytes_eq t (codes "boot") then Some name.Boot
+abbrev pub name_of : Text → Option Name
+name_of t = if bytes_eq t (codes "boot") then Some name.Boot
     else (if bytes_eq t (codes "load") then Some name.Load
     else (if bytes_eq t (codes "load-panic") then Some name.LoadPanic
     else (if bytes_eq t (codes "check") then Some name.Check
@@ -200,21 +200,21 @@ named t = if bytes_eq t (codes "boot") then Some name.Boot
     else (if bytes_eq t (codes "trace") then Some name.Trace
     else (if bytes_eq t (codes "sample") then Some name.Sample else None)))))))
 
-abbrev pub command_named : Option Name → List Text → Result CommandValue UsageWhy
-command_named None words = Err why.Command
-command_named (Some name.Boot) words = mapped boot (taken_by boot_app boot_in words)
-command_named (Some name.Load) words = mapped load (taken_by load_app load_in words)
-command_named (Some name.LoadPanic) words = mapped load_panic (taken_by load_panic_app load_panic_in words)
-command_named (Some name.Check) words = mapped check (taken_by check_app loaded_in words)
-command_named (Some name.Dump) words = mapped dump (taken_by dump_app loaded_in words)
-command_named (Some name.Exec) words = mapped exec (taken_by exec_app exec_in words)
-command_named (Some name.Trace) words = mapped trace (taken_by trace_app trace_in words)
-command_named (Some name.Sample) words = mapped sample (taken_by sample_app sample_in words)
+abbrev pub command_by_name : Option Name → List Text → Result CommandValue UsageWhy
+command_by_name None words = Err why.Command
+command_by_name (Some name.Boot) words = map_answer boot (answer_by boot_app boot_in words)
+command_by_name (Some name.Load) words = map_answer load (answer_by load_app load_in words)
+command_by_name (Some name.LoadPanic) words = map_answer load_panic (answer_by load_panic_app load_panic_in words)
+command_by_name (Some name.Check) words = map_answer check (answer_by check_app load_names_in words)
+command_by_name (Some name.Dump) words = map_answer dump (answer_by dump_app load_names_in words)
+command_by_name (Some name.Exec) words = map_answer exec (answer_by exec_app exec_in words)
+command_by_name (Some name.Trace) words = map_answer trace (answer_by trace_app trace_in words)
+command_by_name (Some name.Sample) words = map_answer sample (answer_by sample_app sample_in words)
 
 -- what the words after the program's name say, or the first reason to refuse them
 abbrev pub command_of : List Text → Result CommandValue UsageWhy
 command_of [] = Err why.Command
-command_of (first ∷ words) = command_named (named first) words
+command_of (first ∷ words) = command_by_name (name_of first) words
 
 -- an answer to words that say this: its value, its reason, or want of memory
 abbrev pub Answers : {A B : Type 0} → (B → A) → Result A UsageWhy → Result B WordsFault → Type 0

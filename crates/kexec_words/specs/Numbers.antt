@@ -27,26 +27,26 @@ abbrev pub hex_of : Text → Option ℕ
 hex_of = number_of 16 16
 
 -- a number that passes a test
-abbrev pub passing : (ℕ → Bool) → Option ℕ → Option ℕ
-passing test None = None
-passing test (Some n) = if test n then Some n else None
+abbrev pub if_passes : (ℕ → Bool) → Option ℕ → Option ℕ
+if_passes test None = None
+if_passes test (Some n) = if test n then Some n else None
 
 -- the address of a page
 abbrev pub page_address_of : Text → Option ℕ
-page_address_of t = passing is_page_address (hex_of t)
+page_address_of t = if_passes is_page_address (hex_of t)
 
 -- the number of steps: 1 to 9 decimal digits, at most 100,000,000
 abbrev pub steps_of : Text → Option ℕ
-steps_of t = passing (λ n. nat_le n 100000000) (number_of 10 9 t)
+steps_of t = if_passes (λ n. nat_le n 100000000) (number_of 10 9 t)
 
-abbrev pub type_named : Text → Option TypeWord
-type_named t = if bytes_eq t (codes "raw") then Some kind.Raw
+abbrev pub type_word_of : Text → Option TypeWord
+type_word_of t = if bytes_eq t (codes "raw") then Some kind.Raw
     else (if bytes_eq t (codes "elf") then Some kind.Elf
     else (if bytes_eq t (codes "bzimage") then Some kind.Bzimage
     else (if bytes_eq t (codes "multiboot") then Some kind.Multiboot else None)))
 
-abbrev pub runs_named : Text → Option Runs
-runs_named t = if bytes_eq t (codes "1") then Some Once
+abbrev pub runs_of : Text → Option Runs
+runs_of t = if bytes_eq t (codes "1") then Some Once
     else (if bytes_eq t (codes "2") then Some Twice else None)
 
 -- what has its form, or the name of what has not
@@ -59,26 +59,26 @@ some_in_form w (Some a) = Ok (Some a)
 some_in_form w None = Err w
 
 -- an option that is not given, or is given in its form
-abbrev pub optional : {A : Type 0} → Which → (Text → Option A) → Option Text → Result (Option A) Which
-optional w read None = Ok None
-optional w read (Some t) = some_in_form w (read t)
+abbrev pub option_in_form : {A : Type 0} → Which → (Text → Option A) → Option Text → Result (Option A) Which
+option_in_form w read None = Ok None
+option_in_form w read (Some t) = some_in_form w (read t)
 
 -- --type; auto where it is not given
 abbrev pub type_of : Option Text → Result TypeWord Which
 type_of None = Ok kind.Auto
-type_of (Some t) = in_form which.Type (type_named t)
+type_of (Some t) = in_form which.Type (type_word_of t)
 
 -- --kept RUNS
 abbrev pub kept_of : Option Text → Result (Option Runs) Which
-kept_of = optional which.Kept runs_named
+kept_of = option_in_form which.Kept runs_of
 
 -- --at and --entry
 abbrev pub address_of : Which → Option Text → Result (Option ℕ) Which
-address_of w = optional w hex_of
+address_of w = option_in_form w hex_of
 
 -- --swap
 abbrev pub swap_of : Option Text → Result (Option ℕ) Which
-swap_of = optional which.Swap page_address_of
+swap_of = option_in_form which.Swap page_address_of
 
 abbrev pub head_of : Text → Result ℕ Which
 head_of t = in_form which.Head (hex_of t)

@@ -5,7 +5,7 @@ use Rattle.kexec_words.specs.declared.faults.Which.TheVariants as which
 use Rattle.kexec_words.specs.declared.naming.Name.{Name}
 use Rattle.kexec_words.specs.declared.naming.Name.TheVariants as name
 use Rattle.kexec_words.specs.declared.help.TheConstants as help
-use Rattle.kexec_words.specs.Meaning.{named}
+use Rattle.kexec_words.specs.Meaning.{name_of}
 
 -- the option or the word, as users write it
 abbrev pub which_text : Which → List ℕ
@@ -31,6 +31,6 @@ help_text (Some name.Trace) = help.TRACE.now
 help_text (Some name.Sample) = help.SAMPLE.now
 
 -- the command that the first word names
-abbrev pub first_named : List (List ℕ) → Option Name
-first_named [] = None
-first_named (word ∷ words) = named word
+abbrev pub first_name : List (List ℕ) → Option Name
+first_name [] = None
+first_name (word ∷ words) = name_of word

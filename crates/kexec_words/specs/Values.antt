@@ -8,7 +8,7 @@ use Rattle.kexec_words.specs.declared.commands.CrashInputs.{CrashInputs}
 use Rattle.kexec_words.specs.declared.commands.Boot.{Boot}
 use Rattle.kexec_words.specs.declared.commands.Load.{Load}
 use Rattle.kexec_words.specs.declared.commands.LoadPanic.{LoadPanic}
-use Rattle.kexec_words.specs.declared.commands.Loaded.{Loaded}
+use Rattle.kexec_words.specs.declared.commands.LoadNames.{LoadNames}
 use Rattle.kexec_words.specs.declared.commands.Exec.{Exec}
 use Rattle.kexec_words.specs.declared.commands.Trace.{Trace}
 use Rattle.kexec_words.specs.declared.commands.Command.{Command}
@@ -53,7 +53,7 @@ pub record LoadPanicValue : Type 0 where
   pub out : Text
   pub load_record : Text
 
-pub record LoadedValue : Type 0 where
+pub record LoadNamesValue : Type 0 where
   pub memory : Text
   pub load_record : Text
 
@@ -74,8 +74,8 @@ pub data CommandValue : Type 0 where
   boot : BootValue → CommandValue
   load : LoadValue → CommandValue
   load_panic : LoadPanicValue → CommandValue
-  check : LoadedValue → CommandValue
-  dump : LoadedValue → CommandValue
+  check : LoadNamesValue → CommandValue
+  dump : LoadNamesValue → CommandValue
   exec : ExecValue → CommandValue
   trace : TraceValue → CommandValue
   sample : ℕ → CommandValue
@@ -124,8 +124,8 @@ load_panic_value l = record {
   load_record = string_bytes l.load_record;
 }
 
-abbrev pub loaded_value : Loaded → LoadedValue
-loaded_value l = record { memory = string_bytes l.memory; load_record = string_bytes l.load_record }
+abbrev pub load_names_value : LoadNames → LoadNamesValue
+load_names_value l = record { memory = string_bytes l.memory; load_record = string_bytes l.load_record }
 
 abbrev pub exec_value : Exec → ExecValue
 exec_value e = record {
@@ -152,8 +152,8 @@ abbrev pub command_value : Command → CommandValue
 command_value (code.Boot b) = boot (boot_value b)
 command_value (code.Load l) = load (load_value l)
 command_value (code.LoadPanic l) = load_panic (load_panic_value l)
-command_value (code.Check l) = check (loaded_value l)
-command_value (code.Dump l) = dump (loaded_value l)
+command_value (code.Check l) = check (load_names_value l)
+command_value (code.Dump l) = dump (load_names_value l)
 command_value (code.Exec e) = exec (exec_value e)
 command_value (code.Trace t) = trace (trace_value t)
 command_value (code.Sample n) = sample n

@@ -92,7 +92,7 @@ pub struct LoadPanic {
 
 /// The files of `check` and `dump`: a memory, and a load record of it.
 #[derive(Drop)]
-pub struct Loaded {
+pub struct LoadNames {
     /// The memory file.
     pub memory: String,
     /// The file of the load record.
@@ -137,9 +137,9 @@ pub enum Command {
     /// Load a crash kernel and write its load record.
     LoadPanic(LoadPanic),
     /// Say whether a list is accepted, or its first fault.
-    Check(Loaded),
+    Check(LoadNames),
     /// Print a list and its segments.
-    Dump(Loaded),
+    Dump(LoadNames),
     /// Check a list and run it.
     Exec(Exec),
     /// Run a list for some steps.

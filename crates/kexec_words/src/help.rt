@@ -1,7 +1,7 @@
 //! What the commands and their words mean, for people.
 
 ghost use Rattle.std.specs.Prelude.{◌≡◌, map, string_bytes};
-ghost use Rattle.kexec_words.specs.Texts.{first_named, help_text};
+ghost use Rattle.kexec_words.specs.Texts.{first_name, help_text};
 
 use crate::naming::{Name, name_of};
 
@@ -203,7 +203,7 @@ Words:
 
 /// The text that says what a command takes, where the first word names one, and else what commands there are.
 pub fn help_of(words: &[String]) -> &'static str
-    ensures { result.now ≡ help_text (first_named (map string_bytes words.now)) }
+    ensures { result.now ≡ help_text (first_name (map string_bytes words.now)) }
 {
     let Some(first) = words.first() else {
         return COMMANDS;

@@ -1,7 +1,7 @@
 //! The names of the commands, and names of files.
 
 ghost use Rattle.std.specs.Prelude.{◌≡◌, option_map, string_bytes, map, [], ◌∷◌};
-ghost use Rattle.kexec_words.specs.Meaning.{named, is_among, given, files_of, crash_files_of, has_same_name};
+ghost use Rattle.kexec_words.specs.Meaning.{name_of, is_among, with_name, files_of, crash_files_of, has_same_name};
 ghost use Rattle.kexec_words.specs.Values.{inputs_value, crash_inputs_value};
 
 use crate::commands::{CrashInputs, Inputs};
@@ -19,7 +19,7 @@ pub(crate) enum Name {
 }
 
 pub(crate) fn name_of(word: &str) -> Option<Name>
-    ensures { result ≡ named word.now }
+    ensures { result ≡ name_of word.now }
 {
     if word == "boot" {
         Some(Name::Boot)
@@ -43,7 +43,7 @@ pub(crate) fn name_of(word: &str) -> Option<Name>
 }
 
 fn is_given(name: &Option<String>, text: &str) -> bool
-    ensures { result ≡ is_among text.now (given (option_map string_bytes name.now) []) }
+    ensures { result ≡ is_among text.now (with_name (option_map string_bytes name.now) []) }
 {
     match name {
         Some(name) => name.as_str() == text,

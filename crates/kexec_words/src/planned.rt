@@ -3,7 +3,7 @@
 ghost use Rattle.std.specs.Prelude.{◌≡◌, IfOk, map, string_bytes};
 ghost use Rattle.clap.specs.Words.{rows_of, found_of};
 ghost use Rattle.kexec_words.specs.Apps.{boot_app, load_app};
-ghost use Rattle.kexec_words.specs.Meaning.{Answers, taken_by, inputs_of, image_from, typed, image_where, plan_numbers_by, boot_with, boot_in, load_with, load_in};
+ghost use Rattle.kexec_words.specs.Meaning.{Answers, answer_by, inputs_of, image_from, image_or_refusal, image_where, plan_numbers_by, boot_with, boot_in, load_with, load_in};
 ghost use Rattle.kexec_words.specs.Found.{text_in};
 ghost use Rattle.kexec_words.specs.Values.{inputs_value, boot_value, load_value};
 
@@ -51,7 +51,7 @@ fn image_of(numbers: PlanNumbers) -> Option<ImageType>
 }
 
 fn with_map(inputs: &Inputs, image: Option<ImageType>) -> Result<ImageType, UsageWhy>
-    ensures { result ≡ typed (inputs_value inputs.now) image }
+    ensures { result ≡ image_or_refusal (inputs_value inputs.now) image }
 {
     let Some(image) = image else {
         return Err(UsageWhy::NeedsAt);
@@ -112,7 +112,7 @@ fn boot_found(alloc: Global, matches: &ArgMatches<'_>) -> Result<Boot, WordsFaul
 
 // The words after `boot`.
 pub(crate) fn read_boot(alloc: Global, words: &[String]) -> Result<Boot, WordsFault>
-    ensures { Answers boot_value (taken_by boot_app boot_in (map string_bytes words.now)) result }
+    ensures { Answers boot_value (answer_by boot_app boot_in (map string_bytes words.now)) result }
 {
     let matches = matches_for(alloc, "boot", &BOOT, words)?;
     boot_found(alloc, &matches)
@@ -149,7 +149,7 @@ fn load_found(alloc: Global, matches: &ArgMatches<'_>) -> Result<Load, WordsFaul
 
 // The words after `load`.
 pub(crate) fn read_load(alloc: Global, words: &[String]) -> Result<Load, WordsFault>
-    ensures { Answers load_value (taken_by load_app load_in (map string_bytes words.now)) result }
+    ensures { Answers load_value (answer_by load_app load_in (map string_bytes words.now)) result }
 {
     let matches = matches_for(alloc, "load", &LOAD, words)?;
     load_found(alloc, &matches)

@@ -1,7 +1,7 @@
 //! All commands.
 
 ghost use Rattle.std.specs.Prelude.{◌≡◌, IfOk, map, string_bytes, Some};
-ghost use Rattle.kexec_words.specs.Meaning.{Answers, command_of, command_named};
+ghost use Rattle.kexec_words.specs.Meaning.{Answers, command_of, command_by_name};
 ghost use Rattle.kexec_words.specs.Limits.{IsWithinLimits, HasOutputsApart};
 ghost use Rattle.kexec_words.specs.Values.{command_value};
 
@@ -15,7 +15,7 @@ use crate::unplanned::{
 use std::alloc::Global;
 
 fn read_named(alloc: Global, name: Name, words: &[String]) -> Result<Command, WordsFault>
-    ensures { Answers command_value (command_named (Some name) (map string_bytes words.now)) result }
+    ensures { Answers command_value (command_by_name (Some name) (map string_bytes words.now)) result }
 {
     Ok(match name {
         Name::Boot => Command::Boot(read_boot(alloc, words)?),

@@ -3,11 +3,11 @@
 ghost use Rattle.std.specs.Prelude.{◌≡◌, IfOk, map, option_map, string_bytes, codes};
 ghost use Rattle.clap.specs.Words.{rows_of, found_of};
 ghost use Rattle.kexec_words.specs.Apps.{load_panic_app, check_app, dump_app, exec_app, trace_app, sample_app};
-ghost use Rattle.kexec_words.specs.Meaning.{Answers, taken_by, crash_inputs_of, load_panic_with, load_panic_in, loaded_of, loaded_in, exec_of, exec_with, exec_in, trace_numbers_by, trace_with, trace_in, sample_by, sample_in};
-ghost use Rattle.kexec_words.specs.Values.{crash_inputs_value, load_panic_value, loaded_value, exec_value, trace_value, number_value};
+ghost use Rattle.kexec_words.specs.Meaning.{Answers, answer_by, crash_inputs_of, load_panic_with, load_panic_in, load_names_of, load_names_in, exec_of, exec_with, exec_in, trace_numbers_by, trace_with, trace_in, sample_by, sample_in};
+ghost use Rattle.kexec_words.specs.Values.{crash_inputs_value, load_panic_value, load_names_value, exec_value, trace_value, number_value};
 
 use crate::arguments::{EXEC, LOAD_PANIC, LOADED, SAMPLE, TRACE};
-use crate::commands::{CrashInputs, Exec, LoadPanic, Loaded, Trace};
+use crate::commands::{CrashInputs, Exec, LoadPanic, LoadNames, Trace};
 use crate::faults::{UsageWhy, Which, WordsFault};
 use crate::naming::is_repeated_for_crash;
 use crate::numbers::{TraceNumbers, sample_number, trace_numbers};
@@ -67,38 +67,38 @@ fn load_panic_found(alloc: Global, matches: &ArgMatches<'_>) -> Result<LoadPanic
 
 // The words after `load-panic`.
 pub(crate) fn read_load_panic(alloc: Global, words: &[String]) -> Result<LoadPanic, WordsFault>
-    ensures { Answers load_panic_value (taken_by load_panic_app load_panic_in (map string_bytes words.now)) result }
+    ensures { Answers load_panic_value (answer_by load_panic_app load_panic_in (map string_bytes words.now)) result }
 {
     let matches = matches_for(alloc, "load-panic", &LOAD_PANIC, words)?;
     load_panic_found(alloc, &matches)
 }
 
-fn loaded_names(alloc: Global, matches: &ArgMatches<'_>) -> Result<Loaded, AllocError>
-    ensures { IfOk result (λ l. loaded_value l ≡ loaded_of (rows_of (found_of matches.now))) }
+fn loaded_names(alloc: Global, matches: &ArgMatches<'_>) -> Result<LoadNames, AllocError>
+    ensures { IfOk result (λ l. load_names_value l ≡ load_names_of (rows_of (found_of matches.now))) }
 {
-    Ok(Loaded {
+    Ok(LoadNames {
         memory: name_in(alloc, matches, "MEMORY")?,
         load_record: name_in(alloc, matches, "RECORD")?,
     })
 }
 
-fn loaded_found(alloc: Global, matches: &ArgMatches<'_>) -> Result<Loaded, WordsFault>
-    ensures { Answers loaded_value (loaded_in (rows_of (found_of matches.now))) result }
+fn loaded_found(alloc: Global, matches: &ArgMatches<'_>) -> Result<LoadNames, WordsFault>
+    ensures { Answers load_names_value (load_names_in (rows_of (found_of matches.now))) result }
 {
     Ok(loaded_names(alloc, matches)?)
 }
 
 // The words after `check`.
-pub(crate) fn read_check(alloc: Global, words: &[String]) -> Result<Loaded, WordsFault>
-    ensures { Answers loaded_value (taken_by check_app loaded_in (map string_bytes words.now)) result }
+pub(crate) fn read_check(alloc: Global, words: &[String]) -> Result<LoadNames, WordsFault>
+    ensures { Answers load_names_value (answer_by check_app load_names_in (map string_bytes words.now)) result }
 {
     let matches = matches_for(alloc, "check", &LOADED, words)?;
     loaded_found(alloc, &matches)
 }
 
 // The words after `dump`.
-pub(crate) fn read_dump(alloc: Global, words: &[String]) -> Result<Loaded, WordsFault>
-    ensures { Answers loaded_value (taken_by dump_app loaded_in (map string_bytes words.now)) result }
+pub(crate) fn read_dump(alloc: Global, words: &[String]) -> Result<LoadNames, WordsFault>
+    ensures { Answers load_names_value (answer_by dump_app load_names_in (map string_bytes words.now)) result }
 {
     let matches = matches_for(alloc, "dump", &LOADED, words)?;
     loaded_found(alloc, &matches)
@@ -135,7 +135,7 @@ fn exec_found(alloc: Global, matches: &ArgMatches<'_>) -> Result<Exec, WordsFaul
 
 // The words after `exec`.
 pub(crate) fn read_exec(alloc: Global, words: &[String]) -> Result<Exec, WordsFault>
-    ensures { Answers exec_value (taken_by exec_app exec_in (map string_bytes words.now)) result }
+    ensures { Answers exec_value (answer_by exec_app exec_in (map string_bytes words.now)) result }
 {
     let matches = matches_for(alloc, "exec", &EXEC, words)?;
     exec_found(alloc, &matches)
@@ -179,7 +179,7 @@ fn trace_found(alloc: Global, matches: &ArgMatches<'_>) -> Result<Trace, WordsFa
 
 // The words after `trace`.
 pub(crate) fn read_trace(alloc: Global, words: &[String]) -> Result<Trace, WordsFault>
-    ensures { Answers trace_value (taken_by trace_app trace_in (map string_bytes words.now)) result }
+    ensures { Answers trace_value (answer_by trace_app trace_in (map string_bytes words.now)) result }
 {
     let matches = matches_for(alloc, "trace", &TRACE, words)?;
     trace_found(alloc, &matches)
@@ -199,7 +199,7 @@ fn sample_found(matches: &ArgMatches<'_>) -> Result<u64, WordsFault>
 
 // The words after `sample`.
 pub(crate) fn read_sample(alloc: Global, words: &[String]) -> Result<u64, WordsFault>
-    ensures { Answers number_value (taken_by sample_app sample_in (map string_bytes words.now)) result }
+    ensures { Answers number_value (answer_by sample_app sample_in (map string_bytes words.now)) result }
 {
     let matches = matches_for(alloc, "sample", &SAMPLE, words)?;
     sample_found(&matches)

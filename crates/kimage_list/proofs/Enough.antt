@@ -6,7 +6,8 @@ use Rattle.std.proofs.lemmas.Bool.Decides.{eqb_tells}
 use Rattle.kimage_list.proofs.Counting.{counted_fit, Full, Waits, taken_none, full_on}
 use Rattle.kimage_list.proofs.Parts.{served-append}
 use Rattle.kimage_list.proofs.Takes.{sources-append, wished, others}
-use Rattle.kimage_list.specs.Counted.{Counts, Allowed, AlwaysTakes, OneMore}
+use Rattle.kimage_list.specs.Counted.{Counts, Allowed}
+use Rattle.kimage_list.proofs.Claims.{AlwaysTakes, OneMore}
 use Rattle.kimage_list.specs.Drafts.{one, used, Draft}
 use Rattle.kimage_list.specs.Load.{Loading, taken, given, pages_of, served, begun}
 use Rattle.kx_pages.specs.Lists.{Each, Has, sources, count}

@@ -6,7 +6,7 @@ use Rattle.kimage_list.specs.Load.{Start, Move, page_entries, pages_of, starts}
 use Rattle.kimage_list.specs.Writers.{History, Writer, StandsAt, IsAwaited, with_destination, with_source, destination_after, pages_from}
 use Rattle.kimage_list.proofs.Spanned.{span_inside, span_tells, has-from, from-above}
 use Rattle.kimage_list.proofs.Segmented.{pages_of-page_entries, starts-page_entries, after-page_entries, page_entries-more}
-use Rattle.kimage_list.proofs.Standings.{awaited_exactly}
+use Rattle.kimage_list.proofs.Awaiting.{awaited_exactly}
 use Rattle.kx_pages.proofs.Counting.{count-from_Has}
 
 -- the writer stands behind n pages of the one segment

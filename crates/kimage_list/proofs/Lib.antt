@@ -17,6 +17,11 @@ pub mod Enough
 pub mod Opening
 pub mod Going
 pub mod Spanned
+pub mod Claims
 pub mod Standings
+pub mod MakingRoom
+pub mod Awaiting
+pub mod Beginning
+pub mod WrittenLists
 pub mod Segmented
 pub mod Examples

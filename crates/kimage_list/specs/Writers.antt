@@ -1,5 +1,5 @@
 -- A load under way: what it was asked for so far, and where the writer stands then.
-use Rattle.std.specs.Prelude.{◌≡◌, ℕ, zero, suc, ◌+◌, ◌≤◌, List, [], ◌∷◌, ◌++◌, ◌⊎◌, not, filter, length, take, slice_index, Bool, true, false, cond, eqb, Option, Some, None, refl}
+use Rattle.std.specs.Prelude.{◌≡◌, ℕ, zero, suc, ◌+◌, ◌≤◌, List, [], ◌∷◌, ◌++◌, ◌⊎◌, not, length, take, slice_index, Bool, true, false, cond, eqb, Option, Some, None, refl}
 use Rattle.std.specs.Coded.{Coded, code_by, coded×, coded_ℕ, coded_option}
 use Rattle.page_memory.specs.Contents.{Contents, contents_code, at}
 use Rattle.page_memory.specs.Memory.{Mem, Wants}
@@ -132,10 +132,3 @@ pub record KeepsPages (h : History) (l : Loading) : Type 0 where
   pub in_use : (x : ℕ) → count x drawn ≡ count x l.filed + count x l.spare + count x (sources l.pairs)
   pub filed : Each (λ p. (is_wanted h p ≡ true) × (Has p (pages_of h.entries) → ⊥)) l.filed
   pub sources : Each (λ q. (q.1 ≡ q.0) ⊎ (is_wanted h q.1 ≡ false)) l.pairs
-
--- The pages taken first, the control page, the swap page and the first link page, are the first pages of the pool that
--- are no destinations. D tells the destinations.
-abbrev pub FirstPages : Type 0
-FirstPages =
-    (D : ℕ → Bool) (wish : Wish) (e : Entry) (es : List Entry) (pool : List ℕ) (l : Loading) → loaded D wish (e ∷ es) pool ≡ Some l →
-    take (first_count wish + 1) l.spare ≡ take (first_count wish + 1) (filter (λ p. not (D p)) pool)

@@ -44,13 +44,5 @@ found_past_segment test ss i s l e f = sym (ap (λ xs. find test (pages xs)) (dr
 pub got : (ss : List SegmentValue) (i : ℕ) (s : SegmentValue) → slice_get ss i ≡ Some s → s ≡ get_or ss i s
 got ss i s e = sym (get_or_from_slice_get ss i s s e)
 
--- the segment whose pages this run is
-pub segment_of : (ss : List SegmentValue) (i : ℕ) (run : Run) → option_map span_of (slice_get ss i) ≡ Some run → (s : SegmentValue) × (slice_get ss i ≡ Some s) × (span_of s ≡ run)
-segment_of ss i run e = go (slice_get ss i) refl
-  where
-    go : (o : Option SegmentValue) → slice_get ss i ≡ o → (s : SegmentValue) × (slice_get ss i ≡ Some s) × (span_of s ≡ run)
-    go None h = absurd (none_some None run refl (sym (ap (option_map span_of) h) ∙ e))
-    go (Some s) h = (s, h, some_same (span_of s) run (sym (ap (option_map span_of) h) ∙ e))
-
 pub within : (ss : List SegmentValue) (i : ℕ) (s : SegmentValue) → slice_get ss i ≡ Some s → i < length ss
 within ss i s e = slice_get_within ss i s e

@@ -5,7 +5,8 @@ ghost use Rattle.std.specs.List.{flat_map};
 ghost use Rattle.kx_fields.specs.Fields.{zeros};
 ghost use Rattle.kx_fields.specs.Formats.{read, written};
 ghost use Rattle.kx_laws.specs.Results.{Gives};
-ghost use Rattle.load_record.specs.File.{IsInTwo, segment_format, segment_of, segment_at, segments_read, segment_text, record_file};
+ghost use Rattle.load_record.specs.File.{segment_format, segment_of, segment_at, segments_read, segment_text, record_file};
+ghost use Rattle.kx_laws.specs.Cuts.{IsCutAt};
 
 use crate::fault::RecFault;
 use crate::load::LoadRecord;
@@ -80,7 +81,7 @@ fn cut_segment<'a>(
     own: &[u8],
     behind: &'a [u8],
 ) -> Result<(SegmentHead, &'a [u8], &'a [u8]), RecFault>
-    requires apart { IsInTwo 24 own.now behind.now }
+    requires apart { IsCutAt 24 own.now behind.now }
     ensures exact { Gives RecFault.Memory (λ x. (segment_of x.0 x.1.now, x.2.now)) result
         (segment_at total (own.now ++ behind.now)) }
     ensures place { IfOk result (λ x. x.1.now ≡ take x.0.bufsz behind.now) }
@@ -149,7 +150,7 @@ pub fn take_segments(
     own: &[u8],
     mut rest: Vec<u8>,
 ) -> Result<Vec<Segment>, RecFault>
-    requires apart { IsInTwo 24 own.now rest.items }
+    requires apart { IsCutAt 24 own.now rest.items }
     requires last { length own.now + length rest.items ≤ total }
     requires some { 0 < count }
     requires few { count ≤ 16 }

@@ -5,7 +5,8 @@ ghost use Rattle.kx_fields.specs.Fields.{AreBytes};
 ghost use Rattle.kx_laws.specs.Results.{Gives};
 ghost use Rattle.segments.specs.Rules.{bare_refusal};
 ghost use Rattle.load_record.specs.Head.{head_fault};
-ghost use Rattle.load_record.specs.File.{IsInTwo, IsWritable, record_reading, record_file, ruled};
+ghost use Rattle.load_record.specs.File.{IsWritable, record_reading, record_file, ruled};
+ghost use Rattle.kx_laws.specs.Cuts.{IsCutAt};
 
 use crate::body::{give_segments, put_segments, read_segments, room_of, take_segments};
 use crate::fault::RecFault;
@@ -58,7 +59,7 @@ impl LoadRecord {
     /// others becomes that of the first segment's bytes, so that these are neither copied nor moved. A file that is
     /// shorter has no others.
     pub fn from_file(alloc: Global, front: &[u8], rest: Vec<u8>) -> Result<LoadRecord, RecFault>
-        requires apart { IsInTwo 120 front.now rest.items }
+        requires apart { IsCutAt 120 front.now rest.items }
         ensures exact { Gives RecFault.Memory (λ r. r) result
             (record_reading (front.now ++ rest.items)) }
         ensures found { IfOk result (λ r. record_file r ≡ front.now ++ rest.items) }

@@ -21,7 +21,8 @@ use Rattle.kimage_list.proofs.Counting.{counted_fit}
 use Rattle.kimage_list.proofs.Entering.{pages_of-start, pages_of-move}
 use Rattle.kimage_list.proofs.Spanned.{length-pages_in, has-pages_in, each-pages_in, pages-once}
 use Rattle.kimage_list.proofs.Segmented.{starts-page_entries, after-page_entries, page_entries-more}
-use Rattle.kimage_list.proofs.Standings.{awaited_exactly, starts-append, after-append}
+use Rattle.kimage_list.proofs.Awaiting.{awaited_exactly}
+use Rattle.kimage_list.proofs.Standings.{starts-append, after-append}
 use Rattle.load_states.specs.Loads.{entries_of}
 use Rattle.load_states.specs.Fillings.{Fills, FillsFrom}
 use Rattle.load_states.proofs.LaidPlan.{pages_of-entries_of, pages_of-append, pages_of-range}

@@ -15,7 +15,7 @@ use Rattle.kimage_list.specs.Writers.{History, StandsAt, IsAwaited}
 use Rattle.kimage_list.specs.Writers as writers
 use Rattle.kimage_list.specs.Calls.{IsWritten}
 use Rattle.kimage_list.specs.declared.written.Written.{Written}
-use Rattle.kimage_list.proofs.Standings.{awaited_exactly}
+use Rattle.kimage_list.proofs.Awaiting.{awaited_exactly}
 use Rattle.list_checker.specs.Walk.{IsAccepted}
 use Rattle.load_states.specs.Loads.{entries_of, loading_of, memory_of}
 use Rattle.load_states.specs.Fillings.{Fill, FillsFrom, IsSealed, left}

@@ -9,7 +9,7 @@ use Rattle.text_lines.specs.Lines.{cut, number}
 use Rattle.text_lines.proofs.Cutting.{has_no, cut_parts, cut_behind, number_digits, number_has_no}
 use Rattle.memory_map.specs.declared.row.Class.{Class}
 use Rattle.memory_map.specs.declared.row.Class.TheVariants.{Other}
-use Rattle.memory_map.specs.Text.{class_of, without_spaces, entry_named, entry_to, entry_from, entry_of}
+use Rattle.memory_map.specs.Text.{class_of, without_spaces, entry_with_name, entry_to, entry_from, entry_of}
 use Rattle.memory_map.specs.Grammar.{IsMapLine, IsEntry}
 
 abbrev Entry : Type 0
@@ -53,7 +53,7 @@ no_space (b ∷ bs) rest first is =
 -- ---- what is read is a line of the grammar
 module _ (line : List ℕ) (first last : ℕ) (class : Class) where
   by_numbers : (p q : List ℕ × List ℕ) → cut 45 (without_spaces line) ≡ Some p → cut 32 p.1 ≡ Some q → (b : Bool) → starts_with nat_eq q.1 (codes ": ") ≡ b → (x : Option ℕ) → number p.0 ≡ x → (y : Option ℕ) → number q.0 ≡ y
-      → (if not b then None else entry_named x y (drop 2 q.1)) ≡ Some (first, last, class) → IsEntry line first last class
+      → (if not b then None else entry_with_name x y (drop 2 q.1)) ≡ Some (first, last, class) → IsEntry line first last class
   by_numbers p q e f false s x n y m h = cc
   by_numbers p q e f true s None n y m h = cc
   by_numbers p q e f true s (Some a) n None m h = cc
@@ -89,7 +89,7 @@ module _ (line : List ℕ) (first last : ℕ) (class : Class) where
   takes h = by_dash (cut 45 (without_spaces line)) refl h
 
   -- ---- each line of the grammar is read
-  numbers_are : (x y : Option ℕ) (name : List ℕ) → x ≡ Some first → y ≡ Some last → class ≡ class_of name → entry_named x y name ≡ Some (first, last, class)
+  numbers_are : (x y : Option ℕ) (name : List ℕ) → x ≡ Some first → y ≡ Some last → class ≡ class_of name → entry_with_name x y name ≡ Some (first, last, class)
   numbers_are x y name p q r = rw (p, q, r) refl
 
   gives : IsEntry line first last class → entry_of line ≡ Some (first, last, class)

@@ -9,7 +9,7 @@ use Rattle.kx_laws.proofs.Booleans.{or_false, or_shift}
 use Rattle.kx_pages.specs.Spans.{Run, in_span, in_spans, passing}
 use Rattle.memory_map.specs.declared.row.Row.{Row}
 use Rattle.memory_map.specs.Rows.{row_end, holds_page, meets_page}
-use Rattle.memory_map.specs.Named.{Named, whole_pages, if_some_pages, has_page, is_whole, is_taken, is_ram, ram_pages}
+use Rattle.memory_map.specs.Maps.{MapValue, whole_pages, if_some_pages, has_page, is_whole, is_taken, is_ram, ram_pages}
 
 le_same : (a b c d : ℕ) → (a ≤ b → c ≤ d) → (b < a → d < c) → nat_le a b ≡ nat_le c d
 le_same a b c d f g = elim (cases_lt b a) [ inl h ↦ lt-leb a b h ∙ sym (lt-leb c d (g h)) | inr h ↦ le-leb a b h ∙ sym (le-leb c d (f h)) ]
@@ -75,7 +75,7 @@ unfolding passing
 passing_same f g zero h = refl
 passing_same f g (suc n) h = rw (h n, passing_same f g n h) refl
 
-ram_count_of : (ram : List Run) (m : Named) (n : ℕ) → ((p : ℕ) → in_spans ram p ≡ is_ram m p) → ((k : ℕ) → 2 ^ 34 ≤ k → n ≡ passing (in_spans ram) k) → n ≡ ram_pages m
+ram_count_of : (ram : List Run) (m : MapValue) (n : ℕ) → ((p : ℕ) → in_spans ram p ≡ is_ram m p) → ((k : ℕ) → 2 ^ 34 ≤ k → n ≡ passing (in_spans ram) k) → n ≡ ram_pages m
 ram_count_of ram m n is count = count (2 ^ 34) (omega arith) ∙ passing_same (in_spans ram) (is_ram m) (2 ^ 34) is
 
 pub ram_count : (ram : List Run) (rows areas rs bs : List Row) (n : ℕ) → rs ≡ rows → bs ≡ areas → ((p : ℕ) → in_spans ram p ≡ is_ram (record { rows = rs; areas = bs }) p) → ((k : ℕ) → 2 ^ 34 ≤ k → n ≡ passing (in_spans ram) k) → n ≡ ram_pages (record { rows = rows; areas = areas })
@@ -99,6 +99,6 @@ span_none f e h = if_so (e - f == 0) (record { first = f; count = e - f }) (eq-e
     if_so false s h = cc
 
 -- the difference of the whole pages and the taken ones
-pub ram_is : {E : Type 0} (r : Result (List Run) E) (whole taken : List Run) (m : Named) → ((p : ℕ) → in_spans whole p ≡ is_whole m.rows p) → ((p : ℕ) → in_spans taken p ≡ is_taken m p) → IfOk r (λ s. (p : ℕ) → in_spans s p ≡ (in_spans whole p && not (in_spans taken p))) → IfOk r (λ s. (p : ℕ) → in_spans s p ≡ is_ram m p)
+pub ram_is : {E : Type 0} (r : Result (List Run) E) (whole taken : List Run) (m : MapValue) → ((p : ℕ) → in_spans whole p ≡ is_whole m.rows p) → ((p : ℕ) → in_spans taken p ≡ is_taken m p) → IfOk r (λ s. (p : ℕ) → in_spans s p ≡ (in_spans whole p && not (in_spans taken p))) → IfOk r (λ s. (p : ℕ) → in_spans s p ≡ is_ram m p)
 ram_is (Ok s) whole taken m w t h = λ p. h p ∙ ap (λ b. b && not (in_spans taken p)) (w p) ∙ ap (λ b. is_whole m.rows p && not b) (t p)
 ram_is (Err e) whole taken m w t h = h

@@ -11,7 +11,7 @@ use Rattle.std.specs.List.Sorted.{IsNonDecreasingBy, IsPermutation}
 use Rattle.std.proofs.lemmas.List.Sorted.{list_any-IsPermutation, All-permutation}
 use Rattle.memory_map.specs.declared.row.Row.{Row}
 use Rattle.memory_map.specs.Rows.{row_end, is_inside, covers, AreParts, StartUpTo, IsBelow}
-use Rattle.memory_map.specs.Named.{before_area, behind_area, without_area, outside}
+use Rattle.memory_map.specs.Maps.{before_area, behind_area, without_area, outside}
 use Rattle.memory_map.specs.Walk.{part, walk}
 use Rattle.memory_map.proofs.Sets.{difference}
 

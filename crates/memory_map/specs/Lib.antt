@@ -1,5 +1,5 @@
 pub mod Rows
-pub mod Named
+pub mod Maps
 pub mod Walk
 pub mod Text
 pub mod Index

@@ -2,7 +2,7 @@
 use Rattle.memory_map.specs.declared.reader.Reader.{Reader}
 use Rattle.memory_map.specs.Index.{IsIndex}
 use Rattle.memory_map.specs.Rows.{AreBelow, HaveBytes}
-use Rattle.memory_map.specs.Named.{Named}
+use Rattle.memory_map.specs.Maps.{MapValue}
 
 pub record IsReader (r : Reader) : Type 0 where
   pub rows : AreBelow r.rows.items
@@ -11,5 +11,5 @@ pub record IsReader (r : Reader) : Type 0 where
   pub index : IsIndex r.rows.items r.ram
 
 -- what the lines so far say
-abbrev pub named_of : Reader → Named
-named_of r = record { rows = r.rows.items; areas = r.areas.items }
+abbrev pub map_value_of : Reader → MapValue
+map_value_of r = record { rows = r.rows.items; areas = r.areas.items }

@@ -11,7 +11,7 @@ ghost use Rattle.kx_laws.specs.Results.{Gives};
 ghost use Rattle.kx_pages.specs.Spans.{in_spans};
 ghost use Rattle.memory_map.specs.declared.row.Row.{Row};
 ghost use Rattle.memory_map.specs.Rows.{is_inside, covers, rows_meet, holds_page, meets_page, is_ram_row, AreBelow};
-ghost use Rattle.memory_map.specs.Named.{is_ram, reserved_area, crash_rows, core_ranges};
+ghost use Rattle.memory_map.specs.Maps.{is_ram, reserved_area, crash_rows, core_ranges};
 ghost use Rattle.memory_map.specs.Text.{map_reading, entry_of};
 ghost use Rattle.memory_map.specs.Grammar.{IsEntry};
 ghost use Rattle.memory_map.specs.declared.row.Class.{Class};
@@ -44,9 +44,9 @@ pub struct Map {
 }
 
 impl Model for Map {
-    ghost use Rattle.memory_map.specs.Named.{Named, IsMap};
+    ghost use Rattle.memory_map.specs.Maps.{MapValue, IsMap};
 
-    ghost Value = { Named };
+    ghost Value = { MapValue };
 
     ghost view = { λ m. record { rows = m.rows.items; areas = m.areas.items } };
 

@@ -4,7 +4,7 @@ ghost use Rattle.std.specs.Prelude.{◌≡◌, ℕ, ◌+◌, ◌-◌, ◌&&◌, 
 ghost use Rattle.std.specs.List.{list_any};
 ghost use Rattle.kx_pages.specs.Spans.{in_spans};
 ghost use Rattle.memory_map.specs.Rows.{is_ram_row, holds_page, meets_page, IsBelow, AreBelow};
-ghost use Rattle.memory_map.specs.Named.{is_whole, is_ram, whole_pages, if_some_pages, reserved_in, has_page};
+ghost use Rattle.memory_map.specs.Maps.{is_whole, is_ram, whole_pages, if_some_pages, reserved_in, has_page};
 
 use crate::row::Row;
 use kx_pages::{PAGE_SIZE, PageSet, Span};

@@ -41,11 +41,11 @@ fn index_row(ram: &mut RangeIndex, row: Row) -> Result<(), AllocError>
 }
 
 impl Reader {
-    ghost use Rattle.memory_map.specs.Named.{nothing, with_row};
-    ghost use Rattle.memory_map.specs.Reader.{IsReader, named_of};
+    ghost use Rattle.memory_map.specs.Maps.{nothing, with_row};
+    ghost use Rattle.memory_map.specs.Reader.{IsReader, map_value_of};
 
     fn new(alloc: Global) -> Reader
-        ensures value { named_of result ≡ nothing }
+        ensures value { map_value_of result ≡ nothing }
         ensures valid { IsReader result }
     {
         Reader {
@@ -70,7 +70,7 @@ impl Reader {
         requires some { 0 < row.size }
         requires row { IsBelow row }
         requires apart { is_ram_row row ≡ true → meets_ram row self.old.rows.items ≡ false }
-        ensures value { OnOk result (named_of self.new ≡ with_row row (named_of self.old)) }
+        ensures value { OnOk result (map_value_of self.new ≡ with_row row (map_value_of self.old)) }
         ensures valid { OnOk result (IsReader self.new) }
     {
         index_row(&mut self.ram, row)?;
@@ -82,8 +82,8 @@ impl Reader {
     fn add_row(&mut self, line: u64, row: Row) -> Result<(), MapFault>
         requires reader { IsReader self.old }
         requires row { IsBelow row }
-        ensures exact { Gives faults.Memory (λ _. named_of self.new) result
-            (row_onto line (named_of self.old) row) }
+        ensures exact { Gives faults.Memory (λ _. map_value_of self.new) result
+            (row_onto line (map_value_of self.old) row) }
         ensures valid { OnOk result (IsReader self.new) }
     {
         if row.size == 0 {
@@ -100,8 +100,8 @@ impl Reader {
     #[tactic(auto, unfolding(crate::specs::Text::line_onto))]
     fn add_line(&mut self, line: u64, text: &[u8]) -> Result<(), MapFault>
         requires { IsReader self.old }
-        ensures exact { Gives faults.Memory (λ _. named_of self.new) result
-            (line_onto line (named_of self.old) text.now) }
+        ensures exact { Gives faults.Memory (λ _. map_value_of self.new) result
+            (line_onto line (map_value_of self.old) text.now) }
         ensures valid { OnOk result (IsReader self.new) }
     {
         let (first, last, class) = match checked_entry(line, text) {
@@ -120,7 +120,7 @@ impl Reader {
 
     /// What the lines of a text say, or the first fault of a line.
     pub(crate) fn read(alloc: Global, text: &[u8]) -> Result<Reader, MapFault>
-        ensures exact { Gives faults.Memory (λ r. named_of r) result
+        ensures exact { Gives faults.Memory (λ r. map_value_of r) result
             (lines_onto 1 nothing (lines text.now)) }
         ensures valid { IfOk result (λ r. IsReader r) }
     {

@@ -1,11 +1,12 @@
 -- A memory: a finite map from page numbers to 4,096 bytes each, and a number of sets. This project's own.
-use Rattle.std.specs.Prelude.{ℕ, ◌+◌, ◌-◌, ◌<◌, ◌^◌, ◌/◌, ◌%◌, ◌++◌, List, length, drop, take, unwrap_or, if◌then◌else◌, nat_lt, replicate, IfSome}
+use Rattle.std.specs.Prelude.{ℕ, ◌+◌, ◌-◌, ◌<◌, ◌^◌, ◌/◌, ◌%◌, ◌++◌, List, length, drop, take, unwrap_or, replicate, IfSome}
 use Rattle.std.specs.Ordering.{nat_cmp}
 use Rattle.std.specs.FinMap as finite
 use Rattle.std.specs.Prelude.{refl, IsSome}
 use Rattle.std.specs.Coded.{Coded, code_by, coded×, coded_ℕ, coded_list}
 use Rattle.byteorder.specs.Endian.{little_bytes}
 use Rattle.kx_fields.specs.Fields.{IsBlock}
+use Rattle.kx_laws.specs.Counts.{next_count}
 
 -- what a clause sees of a Memory
 pub record Contents : Type 0 where
@@ -37,10 +38,6 @@ IsHeld m p = IsSome (finite.get m.pages p)
 unfoldable pub page_of : List ℕ → List ℕ
 page_of bytes = take 4096 bytes ++ replicate (4096 - length bytes) 0
 
--- one more, up to the last number of 64 bits
-abbrev pub one_more_set : ℕ → ℕ
-one_more_set n = if nat_lt n 18446744073709551615 then n + 1 else n
-
 -- m with these bytes at page p
 abbrev pub with_page : Contents → ℕ → List ℕ → Contents
 with_page m p bytes = record { pages = finite.insert m.pages p bytes; sets = m.sets }
@@ -55,7 +52,7 @@ swapped m d s w = copied (copied (copied m w s) s d) d w
 
 -- with_page, where the number of sets goes on
 abbrev pub after_set : Contents → ℕ → List ℕ → Contents
-after_set m p bytes = record { pages = finite.insert m.pages p bytes; sets = one_more_set m.sets }
+after_set m p bytes = record { pages = finite.insert m.pages p bytes; sets = next_count m.sets }
 
 -- the page with the word at this place
 unfoldable pub page_with_word : List ℕ → ℕ → ℕ → List ℕ

@@ -1,7 +1,7 @@
 -- A memory map of a machine with 4 GiB of memory, 256 MiB of them reserved for a crash kernel.
 use Rattle.std.specs.Prelude.{ℕ, ◌++◌, List, [], ◌∷◌, codes}
 use Rattle.kx_pages.specs.Spans.{Run}
-use Rattle.memory_map.specs.Named.{Named}
+use Rattle.memory_map.specs.Maps.{MapValue}
 
 abbrev pub map_text : List ℕ
 map_text =
@@ -13,7 +13,7 @@ map_text =
     ++ codes "100000000-13fffffff : System RAM\n"))))
 
 -- what its lines say
-abbrev pub map_named : Named
+abbrev pub map_named : MapValue
 map_named = record {
   rows =
       record { start = 0x1000; size = 0x9f000; kind = 1 }

@@ -2,7 +2,7 @@
 
 ghost use Rattle.std.specs.Prelude.{◌≡◌, ◌∷◌, [], Some, Ok, Err, map, codes};
 ghost use Rattle.kx_pages.specs.Spans.{pages, in_spans};
-ghost use Rattle.memory_map.specs.Named.{is_ram, reserved_area, crash_rows, core_ranges};
+ghost use Rattle.memory_map.specs.Maps.{is_ram, reserved_area, crash_rows, core_ranges};
 ghost use Rattle.memory_map.specs.Text.{map_reading};
 ghost use Rattle.memory_map.specs.declared.fault.MapFault.TheVariants as faults;
 ghost use Rattle.worked_examples.specs.Maps.{map_text, map_named, map_ram, ram_borders};

@@ -1,5 +1,5 @@
 use Rattle.std.proofs.Common.{◌≡◌, length, ap, ◌∙◌, subst}
-use Rattle.memory_map.specs.Named.{core_ranges}
+use Rattle.memory_map.specs.Maps.{core_ranges}
 use Rattle.crash_headers.specs.FileHeader.{core_header, IsHeaderReadBack}
 use Rattle.crash_headers.specs.ProgramHeader.{AreReadBack}
 use Rattle.crash_headers.specs.Headers.{count_of, rows, headers, length_for}

@@ -1,7 +1,7 @@
 use Rattle.std.proofs.Common.{◌≡◌, ◌∙◌, sym, ap, subst, Bool, Ok, Err, Result, [], ◌∷◌, string_bytes}
 use Rattle.std.specs.Result.{IsErrAnd}
 use Rattle.clap.specs.Words.{Text}
-use Rattle.kexec_words.specs.Meaning.{Answers, boot_by, boot_with, files_of, has_same_name, image_where, mapped}
+use Rattle.kexec_words.specs.Meaning.{Answers, boot_by, boot_with, files_of, has_same_name, image_where, map_answer}
 use Rattle.kexec_words.specs.Values.{InputsValue, inputs_value, boot_value}
 use Rattle.kexec_words.specs.declared.numbers.PlanNumbers.{PlanNumbers}
 use Rattle.kx_pages.specs.declared.image.ImageType.{ImageType}
@@ -20,7 +20,7 @@ refused i o n b w r same h g =
 
 taken : (i : InputsValue) (o : Text) (n : PlanNumbers) (b : Bool) (image : ImageType)
     → b ≡ has_same_name (o ∷ []) (files_of i) → Ok image ≡ image_where i b n → boot_with i o n ≡ Ok (boot_by i o n image)
-taken i o n b image same h = ap (mapped (boot_by i o n)) (sym (h ∙ ap (λ x. image_where i x n) same))
+taken i o n b image same h = ap (map_answer (boot_by i o n)) (sym (h ∙ ap (λ x. image_where i x n) same))
 
 pub returns-in_err-image : goal.returns-in_err-image
 returns-in_err-image c = refused (inputs_value c.args.inputs) (string_bytes c.args.out) c.args.numbers c.is_input.result _ c.from_residual.result

@@ -2,7 +2,7 @@ use Rattle.std.proofs.Math.Path.{subst₂}
 use Rattle.std.proofs.Common.{◌≡◌, ◌∙◌, sym, ap, Bool, Ok, Err, Result, [], ◌∷◌, string_bytes}
 use Rattle.std.specs.Result.{IsErrAnd}
 use Rattle.clap.specs.Words.{Text}
-use Rattle.kexec_words.specs.Meaning.{Answers, load_by, load_with, files_of, has_same_name, image_where, mapped}
+use Rattle.kexec_words.specs.Meaning.{Answers, load_by, load_with, files_of, has_same_name, image_where, map_answer}
 use Rattle.kexec_words.specs.Values.{InputsValue, inputs_value, load_value}
 use Rattle.kexec_words.specs.declared.numbers.PlanNumbers.{PlanNumbers}
 use Rattle.kx_pages.specs.declared.image.ImageType.{ImageType}
@@ -21,7 +21,7 @@ refused i o q k n b w r same h g =
 
 taken : (i : InputsValue) (o q : Text) (k : Bool) (n : PlanNumbers) (b : Bool) (image : ImageType)
     → b ≡ has_same_name (o ∷ q ∷ []) (files_of i) → Ok image ≡ image_where i b n → load_with i o q k n ≡ Ok (load_by i o q k image)
-taken i o q k n b image same h = ap (mapped (load_by i o q k)) (sym (h ∙ ap (λ x. image_where i x n) same))
+taken i o q k n b image same h = ap (map_answer (load_by i o q k)) (sym (h ∙ ap (λ x. image_where i x n) same))
 
 pub returns-in_err-image : goal.returns-in_err-image
 returns-in_err-image c = refused (inputs_value c.args.inputs) (string_bytes c.args.out) (string_bytes c.args.load_record) c.args.kept c.args.numbers c.is_repeated.result _ c.from_residual.result

@@ -1,14 +1,14 @@
 use Rattle.std.proofs.Common.{map, string_bytes}
 use Rattle.kexec_words.specs.Apps.{check_app}
-use Rattle.kexec_words.specs.Meaning.{loaded_in}
-use Rattle.kexec_words.specs.Values.{loaded_value}
+use Rattle.kexec_words.specs.Meaning.{load_names_in}
+use Rattle.kexec_words.specs.Values.{load_names_value}
 use Rattle.kexec_words.proofs.Taken.{answers_taken, answers_refused, exits}
 use Rattle.kexec_words.proofs.unplanned.read_check.Goals as goal
 
 pub returns-in_err-matches : goal.returns-in_err-matches
-returns-in_err-matches c = exits loaded_value _ _ _ c.from_residual.ensures.1
-    (answers_refused loaded_value check_app loaded_in (map string_bytes c.args.words.now) _ c.in_err-matches.ensures)
+returns-in_err-matches c = exits load_names_value _ _ _ c.from_residual.ensures.1
+    (answers_refused load_names_value check_app load_names_in (map string_bytes c.args.words.now) _ c.in_err-matches.ensures)
 
 pub returns : goal.returns
-returns c = answers_taken loaded_value check_app loaded_in (map string_bytes c.args.words.now) c.in_ok-matches.matches c.loaded_found.result
+returns c = answers_taken load_names_value check_app load_names_in (map string_bytes c.args.words.now) c.in_ok-matches.matches c.loaded_found.result
     c.in_ok-matches.ensures c.loaded_found.ensures

@@ -4,7 +4,7 @@ use Rattle.kimage_list.specs.Load.{begun, given}
 use Rattle.kimage_list.specs.Drafts.{Renders, first_taken}
 use Rattle.kimage_list.specs.Writers.{Writer, draft_of}
 use Rattle.kimage_list.specs.Calls.{writer_of}
-use Rattle.kimage_list.proofs.Standings.{control_page, swap_page, plain_begun, kept_begun, no_pairs}
+use Rattle.kimage_list.proofs.Beginning.{control_page, swap_page, plain_begun, kept_begun, no_pairs}
 use Rattle.kimage_list.proofs.writer.open.Goals as goal
 use Rattle.kimage_list.proofs.writer.open.Goals.{in-Plain, in-Kept}
 

@@ -5,13 +5,14 @@ use Rattle.segments.specs.Values.{pages_of_segment}
 use Rattle.std.specs.Prelude.{not}
 use Rattle.std.specs.Ordering.{nat_cmp}
 use Rattle.std.specs.BTreeSet.{contains}
-use Rattle.list_checker.proofs.Pages.{segment_of, within, got, found_in_segment, found_past_segment}
+use Rattle.list_checker.proofs.Pages.{within, got, found_in_segment, found_past_segment}
+use Rattle.segments.proofs.Spans.{segment_with_span}
 use Rattle.list_checker.proofs.missing.first_outside.Goals as goal
 
 pub returns-in-Some : goal.returns-in-Some
 returns-in-Some c =
     let S = c.args.segments.now in
-    let w = segment_of S c.loop-i.i c.span.result c.span.ensures in
+    let w = segment_with_span S c.loop-i.i c.span.result c.span.ensures in
     let test : ℕ → Bool = λ p. not (contains nat_cmp c.args.set.now p) in
     let run : find test (pages_of_segment w.0) ≡ Some c.in-Some.page = ap (λ (r : Run). find test (range_with_len r.first r.count)) w.2 ∙ sym c.outside_in_run.ensures ∙ c.in-Some.is in
     sym (found_in_segment test S c.loop-i.i w.0 c.in-Some.page (within S c.loop-i.i w.0 w.1) (got S c.loop-i.i w.0 w.1) run) ∙ c.loop-i.invariant
@@ -19,7 +20,7 @@ returns-in-Some c =
 pub loop-i-preserved : goal.loop-i-preserved
 loop-i-preserved c =
     let S = c.args.segments.now in
-    let w = segment_of S c.loop-i.i c.span.result c.span.ensures in
+    let w = segment_with_span S c.loop-i.i c.span.result c.span.ensures in
     let test : ℕ → Bool = λ p. not (contains nat_cmp c.args.set.now p) in
     let run : find test (pages_of_segment w.0) ≡ None = ap (λ (r : Run). find test (range_with_len r.first r.count)) w.2 ∙ sym c.outside_in_run.ensures ∙ c.in_default.is in
     found_past_segment test S c.loop-i.i w.0 (within S c.loop-i.i w.0 w.1) (got S c.loop-i.i w.0 w.1) run ∙ c.loop-i.invariant

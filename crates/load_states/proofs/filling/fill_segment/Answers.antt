@@ -3,7 +3,7 @@ use Rattle.kx_pages.specs.Lists.{Has}
 use Rattle.kx_pages.specs.Spans.{Run}
 use Rattle.segments.specs.Values.{is_destination, page_count}
 use Rattle.kimage_list.specs.Load.{Move, pages_of}
-use Rattle.list_checker.proofs.Pages.{segment_of}
+use Rattle.segments.proofs.Spans.{segment_with_span}
 use Rattle.load_states.specs.Loads.{entries_of}
 use Rattle.load_states.specs.Fillings.{Fills}
 use Rattle.load_states.proofs.FillSteps.{some_left, started_few, so_far, so_far-goes, so_far-end, is_page, not_yet}
@@ -12,7 +12,7 @@ use Rattle.load_states.proofs.filling.fill_segment.Goals as goal
 
 pub from_number-requires : goal.from_number-requires
 from_number-requires c =
-    let w = segment_of c.args.segments.now c.args.i c.span-run.result c.span-run.ensures in
+    let w = segment_with_span c.args.segments.now c.args.i c.span-run.result c.span-run.ensures in
     let k = placed_at c.args.segments.now c.args.i w.0 c.requires.good.placed w.1 in
     omega (arith, k.below, c.first-first.ensures.value, ap (λ (r : Run). r.first) w.2)
 
@@ -37,7 +37,7 @@ from_number-requires-in-loop-number c = omega (arith, c.count-count.ensures.vali
 
 pub fill_page-requires-clause-wanted : goal.fill_page-requires-clause-wanted
 fill_page-requires-clause-wanted c =
-    let w = segment_of c.args.segments.now c.args.i c.span-run.result c.span-run.ensures in
+    let w = segment_with_span c.args.segments.now c.args.i c.span-run.result c.span-run.ensures in
     let low : w.0.mem / 4096 ≤ c.loop-number.number = omega (arith, c.loop-number.invariant.0, c.first-first.ensures.value, ap (λ (r : Run). r.first) w.2) in
     let high : c.loop-number.number < w.0.mem / 4096 + page_count w.0 = omega (arith, c.loop-number-test.true, c.count-count.ensures.value, c.first-first.ensures.value, ap (λ (r : Run). r.first) w.2, ap (λ (r : Run). r.count) w.2) in
     ap (is_destination c.args.segments.now) c.from_number-in-loop-number.ensures ∙ is_page c.args.segments.now c.args.i w.0 w.1 c.requires.good c.loop-number.number low high
@@ -45,7 +45,7 @@ fill_page-requires-clause-wanted c =
 pub fill_page-requires-clause-ready : goal.fill_page-requires-clause-ready
 fill_page-requires-clause-ready c =
     let ss = c.args.segments.now in
-    let w = segment_of ss c.args.i c.span-run.result c.span-run.ensures in
+    let w = segment_with_span ss c.args.i c.span-run.result c.span-run.ensures in
     let g = c.loop-number.invariant.2 in
     let n = c.loop-number.number in
     let same = c.from_number-in-loop-number.ensures in
@@ -74,7 +74,7 @@ loop-number-preserved c = (
 pub returns-clause-filled : goal.returns-clause-filled
 returns-clause-filled c = λ M pool wish b.
     let ss = c.args.segments.now in
-    let w = segment_of ss c.args.i c.span-run.result c.span-run.ensures in
+    let w = segment_with_span ss c.args.i c.span-run.result c.span-run.ensures in
     let first_is : c.first-first.result ≡ w.0.mem / 4096 = c.first-first.ensures.value ∙ sym (ap (λ (r : Run). r.first) w.2) in
     let all : c.loop-number.number ≡ w.0.mem / 4096 + page_count w.0 =
     omega (arith, c.loop-number.invariant.1, c.loop-number-test.false, c.count-count.ensures.value, c.first-first.ensures.value, ap (λ (r : Run). r.first) w.2, ap (λ (r : Run). r.count) w.2) in

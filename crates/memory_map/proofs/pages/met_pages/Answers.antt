@@ -1,5 +1,5 @@
 use Rattle.std.proofs.Common.{ap, ◌∙◌, arith}
-use Rattle.memory_map.specs.Named.{has_page}
+use Rattle.memory_map.specs.Maps.{has_page}
 use Rattle.memory_map.proofs.PageLemmas.{has_met, has_no_met}
 use Rattle.memory_map.proofs.pages.met_pages.Goals as goal
 

@@ -1,5 +1,5 @@
 use Rattle.std.proofs.Common.{ap, ◌∙◌}
-use Rattle.memory_map.specs.Named.{has_page}
+use Rattle.memory_map.specs.Maps.{has_page}
 use Rattle.memory_map.proofs.PageLemmas.{has_whole}
 use Rattle.memory_map.proofs.pages.whole_pages.Goals as goal
 

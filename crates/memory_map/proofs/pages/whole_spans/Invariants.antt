@@ -1,6 +1,6 @@
 use Rattle.std.proofs.Common.{◌≡◌, ℕ, take}
 use Rattle.kx_pages.specs.Spans.{in_spans}
-use Rattle.memory_map.specs.Named.{is_whole}
+use Rattle.memory_map.specs.Maps.{is_whole}
 use Rattle.memory_map.proofs.pages.whole_spans.Given as goal
 
 abbrev pub invariant-loop-row : goal.invariant-loop-row

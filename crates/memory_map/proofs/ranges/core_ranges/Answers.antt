@@ -1,6 +1,6 @@
 use Rattle.std.proofs.Common.{sym, ap, ◌∙◌}
 use Rattle.memory_map.specs.Rows.{covers}
-use Rattle.memory_map.specs.Named.{outside}
+use Rattle.memory_map.specs.Maps.{outside}
 use Rattle.memory_map.proofs.ranges.core_ranges.Goals as goal
 
 pub returns-clause-items : goal.returns-clause-items

@@ -3,7 +3,7 @@ use Rattle.std.proofs.Common.{◌≡◌, ◌^◌, false, refl, ap, cond, Ok, Err
 use Rattle.std.specs.Prelude.{◌==◌}
 use Rattle.std.proofs.lemmas.Bool.Decides.{nat_tests}
 use Rattle.text_lines.specs.Lines.{lines, cut, number, number_of}
-use Rattle.memory_map.specs.Named.{is_ram, ram_pages, without_area, outside}
+use Rattle.memory_map.specs.Maps.{is_ram, ram_pages, without_area, outside}
 use Rattle.memory_map.specs.Text.{map_reading, lines_onto, line_onto, checked_entry, entry_of, class_of}
 use Rattle.memory_map.specs.declared.fault.MapFault.TheVariants as faults
 use Rattle.worked_examples.specs.Maps.{map_named}

@@ -3,16 +3,16 @@ use Rattle.std.proofs.Common.{◌≡◌, ◌^◌, ℕ, false, true, refl, ap, co
 use Rattle.std.specs.Prelude.{◌==◌, [], ◌∷◌}
 use Rattle.std.proofs.lemmas.Bool.Decides.{nat_tests}
 use Rattle.text_lines.specs.Lines.{lines, cut, number, number_of}
-use Rattle.memory_map.specs.Named.{Named, is_ram, ram_pages}
+use Rattle.memory_map.specs.Maps.{MapValue, is_ram, ram_pages}
 use Rattle.memory_map.specs.Text.{map_reading, lines_onto, line_onto, checked_entry, entry_of, class_of}
 use Rattle.memory_map.specs.declared.fault.MapFault.TheVariants as faults
 use Rattle.worked_examples.proofs.Passing.{none_passes}
 use Rattle.worked_examples.proofs.maps.spoiled_maps.Goals as goal
 
-abbrev half : Named
+abbrev half : MapValue
 half = record { rows = record { start = 0; size = 0x800; kind = 1 } ∷ []; areas = [] }
 
-abbrev nothing : Named
+abbrev nothing : MapValue
 nothing = record { rows = []; areas = [] }
 
 no_page : (p : ℕ) → is_ram half p ≡ false

@@ -1,7 +1,7 @@
 use Rattle.std.proofs.Common.{◌-◌, Some, sym, subst, ap, refl}
 use Rattle.kimage_list.specs.Writers.{StandsAt, with_destination, draft_of}
 use Rattle.kimage_list.specs.Calls.{writer_of}
-use Rattle.kimage_list.proofs.Standings.{start_room, start_added}
+use Rattle.kimage_list.proofs.MakingRoom.{start_room, start_added}
 use Rattle.kimage_list.proofs.writer.ListWriter.add_destination.Goals as goal
 
 pub add_start-requires : goal.add_start-requires

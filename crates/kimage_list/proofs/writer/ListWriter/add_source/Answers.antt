@@ -2,7 +2,8 @@ use Rattle.std.proofs.Common.{◌≡◌, ℕ, ◌∙◌, ◌+◌, Some, sym, sub
 use Rattle.page_memory.specs.Contents.{page_of}
 use Rattle.kimage_list.specs.Writers.{History, Writer, StandsAt, IsAwaited, with_source, draft_of}
 use Rattle.kimage_list.specs.Calls.{writer_of}
-use Rattle.kimage_list.proofs.Standings.{awaited, rebytes, source_ready, source_added, given_bytes, starts_few, is_next}
+use Rattle.kimage_list.proofs.Awaiting.{awaited, rebytes, source_ready, source_added, given_bytes, is_next}
+use Rattle.kimage_list.proofs.Standings.{starts_few}
 use Rattle.kimage_list.proofs.writer.ListWriter.add_source.Goals as goal
 use Rattle.kx_laws.proofs.Options.{some_same}
 

@@ -1,7 +1,7 @@
 use Rattle.std.proofs.Common.{◌∙◌, ap, arith}
 use Rattle.page_memory.specs.Contents.{at}
 use Rattle.kimage_list.specs.Calls.{load_begun}
-use Rattle.kimage_list.proofs.Standings.{prepared}
+use Rattle.kimage_list.proofs.Beginning.{prepared}
 use Rattle.kimage_list.proofs.writer.ListWriter.begin.Goals as goal
 use Rattle.kx_pages.specs.Needs.{need_of}
 

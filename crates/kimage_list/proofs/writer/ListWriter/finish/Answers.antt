@@ -1,7 +1,7 @@
 use Rattle.std.proofs.Common.{sym, subst, ap}
 use Rattle.kimage_list.specs.Writers.{StandsAt, draft_of}
 use Rattle.kimage_list.specs.Calls.{writer_of}
-use Rattle.kimage_list.proofs.Standings.{has_link, list_written, image_with}
+use Rattle.kimage_list.proofs.WrittenLists.{has_link, list_written, image_with}
 use Rattle.kimage_list.proofs.writer.ListWriter.finish.Goals as goal
 
 pub end-ended-requires : goal.end-ended-requires

@@ -6,20 +6,20 @@ use Rattle.memory_map.specs.declared.row.Row.{Row}
 use Rattle.memory_map.specs.Rows.{row_end, holds_page, meets_page, is_ram_row, AreBelow}
 
 -- the rows (kinds 1 to 4) and the crash areas, both in the text's order
-pub record Named : Type 0 where
+pub record MapValue : Type 0 where
   pub rows : List Row
   pub areas : List Row
 
 -- no row and no area
-abbrev pub nothing : Named
+abbrev pub nothing : MapValue
 nothing = record { rows = []; areas = [] }
 
 -- one more row
-abbrev pub with_row : Row → Named → Named
+abbrev pub with_row : Row → MapValue → MapValue
 with_row r m = record { rows = m.rows ++ r ∷ []; areas = m.areas }
 
 -- one more crash area
-abbrev pub with_area : Row → Named → Named
+abbrev pub with_area : Row → MapValue → MapValue
 with_area r m = record { rows = m.rows; areas = m.areas ++ r ∷ [] }
 
 -- page p lies wholly in one System RAM range
@@ -27,15 +27,15 @@ abbrev pub is_whole : List Row → ℕ → Bool
 is_whole rows p = list_any (λ r. is_ram_row r && holds_page p r) rows
 
 -- page p meets a range of kind 2, 3 or 4, or a crash area
-abbrev pub is_taken : Named → ℕ → Bool
+abbrev pub is_taken : MapValue → ℕ → Bool
 is_taken m p = list_any (λ r. not (is_ram_row r) && meets_page p r) m.rows || list_any (meets_page p) m.areas
 
 -- page p is RAM
-abbrev pub is_ram : Named → ℕ → Bool
+abbrev pub is_ram : MapValue → ℕ → Bool
 is_ram m p = is_whole m.rows p && not (is_taken m p)
 
 -- how many pages are RAM
-abbrev pub ram_pages : Named → ℕ
+abbrev pub ram_pages : MapValue → ℕ
 ram_pages m = passing (is_ram m) (2 ^ 34)
 
 -- the pages that lie wholly in a row
@@ -49,7 +49,7 @@ if_some_pages s = if s.count == 0 then None else Some s
 abbrev pub reserved_in : List Row → Option Run
 reserved_in areas = option_and_then (λ r. if_some_pages (whole_pages r)) (slice_get areas (length areas - 1))
 
-abbrev pub reserved_area : Named → Option Run
+abbrev pub reserved_area : MapValue → Option Run
 reserved_area m = reserved_in m.areas
 
 -- page p is one of the span's, if there is a span
@@ -63,7 +63,7 @@ reserved_row None = []
 reserved_row (Some s) = record { start = 4096 * s.first; size = 4096 * s.count; kind = 1 } ∷ []
 
 -- the rows of a crash kernel: the reserved area as RAM, then the rows of kinds 2, 3 and 4
-abbrev pub crash_rows : Named → List Row
+abbrev pub crash_rows : MapValue → List Row
 crash_rows m = reserved_row (reserved_area m) ++ filter (λ r. not (is_ram_row r)) m.rows
 
 -- what of a row stands before an area, and behind it
@@ -83,11 +83,11 @@ outside [] rows = rows
 outside (area ∷ areas) rows = outside areas (flat_map (without_area area) rows)
 
 -- the System RAM outside the crash areas
-abbrev pub core_ranges : Named → List Row
+abbrev pub core_ranges : MapValue → List Row
 core_ranges m = outside m.areas (filter is_ram_row m.rows)
 
 -- what each map keeps beside the rows and the areas: the pages that are RAM, and two more lists of rows
-pub record IsMap (m : Named) (ram : List Run) (crash core : List Row) : Type 0 where
+pub record IsMap (m : MapValue) (ram : List Run) (crash core : List Row) : Type 0 where
   pub rows_below : AreBelow m.rows
   pub areas_below : AreBelow m.areas
   pub crash_below : AreBelow crash
