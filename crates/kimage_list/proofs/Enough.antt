@@ -7,7 +7,7 @@ use Rattle.kimage_list.proofs.Counting.{counted_fit, Full, Waits, taken_none, fu
 use Rattle.kimage_list.proofs.Parts.{served-append}
 use Rattle.kimage_list.proofs.Takes.{sources-append, wished, others}
 use Rattle.kimage_list.specs.Counted.{Counts, Allowed}
-use Rattle.kimage_list.proofs.Claims.{AlwaysTakes, OneMore}
+use Rattle.kimage_list.specs.Laws.{AlwaysTakes, OneMore}
 use Rattle.kimage_list.specs.Drafts.{one, used, Draft}
 use Rattle.kimage_list.specs.Load.{Loading, taken, given, pages_of, served, begun}
 use Rattle.kx_pages.specs.Lists.{Each, Has, sources, count}

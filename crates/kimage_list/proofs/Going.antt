@@ -8,7 +8,7 @@ use Rattle.kimage_list.proofs.Enough.{full_of, always_takes, wished-inside, wish
 use Rattle.kimage_list.proofs.Entering.{pages_of-start, pages_of-move}
 use Rattle.kimage_list.proofs.Takes.{wished, others, taken_took}
 use Rattle.kimage_list.specs.Counted.{Counts, Allowed, UnderWay}
-use Rattle.kimage_list.proofs.Claims.{RoomIsThere, PageIsThere, StartIsThere, AllDrawn, OpensUnderWay}
+use Rattle.kimage_list.specs.Laws.{RoomIsThere, PageIsThere, StartIsThere, AllDrawn, OpensUnderWay}
 use Rattle.kimage_list.specs.Drafts.{initial, first_taken, Draft, CanTake, linked, loaded_from, Room, RoomBy, HasRoom}
 use Rattle.kimage_list.specs.Load.{Loading, Start, Move, taken, given, pages_of}
 use Rattle.kx_pages.specs.Lists.{Each, Has, count}

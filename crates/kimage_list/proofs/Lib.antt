@@ -17,7 +17,6 @@ pub mod Enough
 pub mod Opening
 pub mod Going
 pub mod Spanned
-pub mod Claims
 pub mod Standings
 pub mod MakingRoom
 pub mod Awaiting

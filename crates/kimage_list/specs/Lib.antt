@@ -9,3 +9,4 @@ pub mod Counted
 pub mod Writers
 pub mod Beginning
 pub mod Calls
+pub mod Laws

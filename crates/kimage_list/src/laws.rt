@@ -4,8 +4,8 @@ ghost use Rattle.std.specs.Prelude.{◌≡◌, ◌↔◌, ℕ, true};
 ghost use Rattle.kx_pages.specs.Lists.{Has};
 ghost use Rattle.kimage_list.specs.Load.{pages_of};
 ghost use Rattle.kimage_list.specs.Writers.{IsAwaited, KeepsPages, History, StandsAt, Writer, is_wanted};
-ghost use Rattle.kimage_list.proofs.Claims.{FirstPages};
-ghost use Rattle.kimage_list.proofs.Claims.{AlwaysTakes, OneMore, RoomIsThere, PageIsThere, StartIsThere, AllDrawn, OpensUnderWay};
+ghost use Rattle.kimage_list.specs.Laws.{AlwaysTakes, OneMore, RoomIsThere, PageIsThere, StartIsThere};
+ghost use Rattle.kimage_list.specs.Laws.{AllDrawn, OpensUnderWay, FirstPages};
 
 /// Taking never fails below the need.
 pub fn taking_never_fails()
