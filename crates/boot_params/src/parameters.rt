@@ -68,7 +68,8 @@ pub fn make(
     requires header { length image.now.header ≤ 159 }
     requires place { at + 4096 < 2 ^ 46 }
     // The zero page, the command and a NUL, or the first fault.
-    ensures exact { Gives Memory (λ v. v.items) result (params image.now rows.now command.now at initrd) }
+    ensures exact { Gives Memory (λ v. v.items) result
+        (params image.now rows.now command.now at initrd) }
     // Field by field.
     ensures numbers { IfOk result (λ v. HasNumbers rows.now at initrd v.items) }
     ensures rows { IfOk result (λ v. HasRows rows.now v.items) }

@@ -16,4 +16,6 @@ is_right s = (s.boot_flag == 0xaa55) && (s.header == 0x53726448)
 
 -- the file has both in their places
 unfoldable pub is_bzimage : List ℕ → Bool
-is_bzimage file = if nat_lt (length file) 0x206 then false else is_right (read signature (take 0x206 file))
+is_bzimage file =
+    if nat_lt (length file) 0x206 then false
+    else is_right (read signature (take 0x206 file))

@@ -37,7 +37,16 @@ impl Model for BzImage {
 
     ghost Value = { Kernel };
 
-    ghost view = { λ k. record { header = k.header.items; start = k.start; align = k.align; init_size = k.init_size; pref = k.pref; above4g = k.above4g; command_most = k.command_most; initrd_max = k.initrd_max } };
+    ghost view = { λ k. record {
+      header = k.header.items;
+      start = k.start;
+      align = k.align;
+      init_size = k.init_size;
+      pref = k.pref;
+      above4g = k.above4g;
+      command_most = k.command_most;
+      initrd_max = k.initrd_max;
+    } };
 }
 
 /// What a bzImage says, or the first fault of the file.

@@ -25,7 +25,9 @@ file_header = record {
     shnum = at 0x3c 2;
     shstrndx = at 0x3e 2;
   };
-  numbers = λ h. h.kind ∷ h.machine ∷ h.version ∷ h.entry ∷ h.phoff ∷ h.shoff ∷ h.flags ∷ h.ehsize ∷ h.phentsize ∷ h.phnum ∷ h.shentsize ∷ h.shnum ∷ h.shstrndx ∷ [];
+  numbers =
+      λ h. h.kind ∷ h.machine ∷ h.version ∷ h.entry ∷ h.phoff ∷ h.shoff ∷ h.flags ∷ h.ehsize
+      ∷ h.phentsize ∷ h.phnum ∷ h.shentsize ∷ h.shnum ∷ h.shstrndx ∷ [];
 }
 
 -- the first 64 bytes of a file

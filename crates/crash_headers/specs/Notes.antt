@@ -24,7 +24,8 @@ is_outside ranges n = not (list_any (lies_in n) ranges)
 -- a note has bytes, and all lie below 2^46
 abbrev pub note_from : Option ℕ → Option ℕ → Option Note
 note_from (Some start) (Some size) =
-    if (size == 0) || nat_lt (2 ^ 46) (start + size) then None else Some (record { start = start; size = size })
+    if (size == 0) || nat_lt (2 ^ 46) (start + size) then None
+    else Some (record { start = start; size = size })
 note_from (Some start) None = None
 note_from None size = None
 
@@ -42,7 +43,9 @@ note_onto n notes None = Err (faults.BadLine n)
 
 -- these notes and that of the line number n, of at most 1,024
 unfoldable pub line_onto : ℕ → List Note → List ℕ → Result (List Note) NoteFault
-line_onto n notes line = if nat_lt 1024 n then Err (faults.BadLine n) else note_onto n notes (note_of line)
+line_onto n notes line =
+    if nat_lt 1024 n then Err (faults.BadLine n)
+    else note_onto n notes (note_of line)
 
 -- these notes and those of all lines, the first of which has the number n
 unfoldable pub lines_onto : ℕ → List Note → List (List ℕ) → Result (List Note) NoteFault

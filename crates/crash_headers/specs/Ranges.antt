@@ -22,7 +22,8 @@ HoldSameNotes rows ranges = (n : Note) → list_any (lies_in n) rows ≡ list_an
 
 -- a range ends behind the last of these, if there are any
 abbrev pub IsBehind : List Row → Row → Type 0
-IsBehind rows r = (d : Row) → 0 < length rows → row_end (slice_index_or rows (length rows - 1) d) < row_end r
+IsBehind rows r =
+    (d : Row) → 0 < length rows → row_end (slice_index_or rows (length rows - 1) d) < row_end r
 
 -- there is a last one, and the range does not end behind it
 pub record IsNotBehind (rows : List Row) (r : Row) : Type 0 where

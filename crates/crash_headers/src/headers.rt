@@ -36,7 +36,8 @@ fn put_row(out: &mut Vec<u8>, row: ProgramHeader) -> Result<(), AllocError>
 
 /// Puts a PT_NOTE for each note behind the others.
 fn put_notes(out: &mut Vec<u8>, notes: &[Note]) -> Result<(), AllocError>
-    ensures text { OnOk result (out.new.items ≡ out.old.items ++ table_text (map note_row notes.now)) }
+    ensures text { OnOk result
+        (out.new.items ≡ out.old.items ++ table_text (map note_row notes.now)) }
     ensures back { OnOk result (AreReadBack (map note_row notes.now)) }
 {
     for note in notes {
@@ -48,7 +49,8 @@ fn put_notes(out: &mut Vec<u8>, notes: &[Note]) -> Result<(), AllocError>
 /// Puts a PT_LOAD for each range behind the others.
 fn put_loads(out: &mut Vec<u8>, ranges: &[Row]) -> Result<(), AllocError>
     requires { AreBelow ranges.now }
-    ensures text { OnOk result (out.new.items ≡ out.old.items ++ table_text (map load_row ranges.now)) }
+    ensures text { OnOk result
+        (out.new.items ≡ out.old.items ++ table_text (map load_row ranges.now)) }
     ensures back { OnOk result (AreReadBack (map load_row ranges.now)) }
 {
     for range in ranges {
@@ -79,12 +81,16 @@ fn headers(alloc: Global, notes: &[Note], ranges: &[Row]) -> Result<Vec<u8>, All
 /// TooManyRanges comes exactly where there are more than 1,024 notes and core ranges together; otherwise NotesOutside
 /// exactly where a note does not lie inside one core range, with the first. Memory comes only where memory ran out.
 pub fn make(alloc: Global, map: &Map, notes: &[Note]) -> Result<Vec<u8>, CrashFault>
-    ensures exact { Gives Memory (λ v. v.items) result (headers_or_fault notes.now (core_ranges map.now)) }
-    ensures length { IfOk result (λ v. length v.items ≡ headers_length notes.now (core_ranges map.now)) }
+    ensures exact { Gives Memory (λ v. v.items) result
+        (headers_or_fault notes.now (core_ranges map.now)) }
+    ensures length { IfOk result
+        (λ v. length v.items ≡ headers_length notes.now (core_ranges map.now)) }
     // What its bytes read as.
     ensures identification { IfOk result (λ v. HasIdentification v.items) }
-    ensures file_header { IfOk result (λ v. HasFileHeader (count_of notes.now (core_ranges map.now)) v.items) }
-    ensures program_headers { IfOk result (λ v. HasProgramHeaders (rows notes.now (core_ranges map.now)) v.items) }
+    ensures file_header { IfOk result
+        (λ v. HasFileHeader (count_of notes.now (core_ranges map.now)) v.items) }
+    ensures program_headers { IfOk result
+        (λ v. HasProgramHeaders (rows notes.now (core_ranges map.now)) v.items) }
 {
     let ranges = map.core_ranges();
     if notes.len() > MOST_HEADERS || ranges.len() > MOST_HEADERS - notes.len() {

@@ -19,7 +19,8 @@ magic = 127 ∷ 69 ∷ 76 ∷ 70 ∷ []
 -- a class that is 1 (ELFCLASS32) or 2 (ELFCLASS64), little endian (ELFDATA2LSB), and the version 1 (EV_CURRENT)
 abbrev pub is_known : List ℕ → Bool
 is_known bytes =
-    ((slice_index bytes 4 == 1) || (slice_index bytes 4 == 2)) && ((slice_index bytes 5 == 1) && (slice_index bytes 6 == 1))
+    ((slice_index bytes 4 == 1) || (slice_index bytes 4 == 2))
+    && ((slice_index bytes 5 == 1) && (slice_index bytes 6 == 1))
 
 -- e_ident: whether the file is ELF64, and not ELF32
 unfoldable pub class_read : List ℕ → Result Bool ElfFault
@@ -72,7 +73,11 @@ header_size wide = cond wide 64 52
 abbrev pub header_of : List ℕ → Bool → Result Header ElfFault
 header_of bytes wide =
     if nat_lt (length bytes) (header_size wide) then Err (faults.Truncated parts.Header)
-    else Ok (record { wide = wide; file = read (file_header wide) (bytes_at 0 (header_size wide) bytes) })
+    else Ok
+    (record {
+      wide = wide;
+      file = read (file_header wide) (bytes_at 0 (header_size wide) bytes);
+    })
 
 -- the file header of an ELF file, and that of an ELF64 file
 unfoldable pub header_read : List ℕ → Result Header ElfFault
@@ -106,7 +111,8 @@ exec_fault n h =
     if not (h.file.machine == machine_of h.wide) then Some faults.Machine
     else if not (h.file.kind == et_exec) then Some faults.Kind
     else if h.file.phnum == pn_xnum then Some (faults.BadIndex (cond h.wide 56 44))
-    else if not (h.file.phnum == 0) && not (h.file.phentsize == entry_size h.wide) then Some (faults.BadEntrySize (cond h.wide 54 42))
+    else if not (h.file.phnum == 0) && not (h.file.phentsize == entry_size h.wide)
+    then Some (faults.BadEntrySize (cond h.wide 54 42))
     else if is_table_cut n h then Some (faults.Truncated parts.ProgramTable)
     else None
 
@@ -129,8 +135,10 @@ unfoldable pub object_fault : ℕ → Header → Option ElfFault
 object_fault n h =
     if not (h.file.machine == em_x86_64) then Some faults.Machine
     else if not (h.file.kind == et_rel) then Some faults.Kind
-    else if not (h.file.shnum == 0) && not (h.file.shentsize == 64) then Some (faults.BadEntrySize 58)
-    else if nat_lt n (h.file.shoff + 64 * h.file.shnum) then Some (faults.Truncated parts.SectionTable)
+    else if not (h.file.shnum == 0) && not (h.file.shentsize == 64)
+    then Some (faults.BadEntrySize 58)
+    else if nat_lt n (h.file.shoff + 64 * h.file.shnum)
+    then Some (faults.Truncated parts.SectionTable)
     else None
 
 -- the header of an object, tested

@@ -5,7 +5,8 @@ use Rattle.elf_image.specs.declared.fault.ElfFault.{ElfFault}
 use Rattle.elf_image.specs.declared.fault.ElfFault.TheVariants as faults
 
 -- all that f gives of these, one after another, or the first fault
-unfoldable pub gathered : {A B : Type 0} → (A → Result (List B) ElfFault) → List A → Result (List B) ElfFault
+unfoldable pub gathered : {A B : Type 0} → (A → Result (List B) ElfFault) → List A
+    → Result (List B) ElfFault
 gathered f [] = Ok []
 gathered f (x ∷ xs) = do
   ys ← f x
@@ -25,5 +26,6 @@ abbrev pub onto : {B : Type 0} → List B → Result (List B) ElfFault → Resul
 onto xs r = r >>= λ ys. Ok (xs ++ ys)
 
 -- a call put what reading gives behind the old ones, unless memory ran out
-abbrev pub Adds : {X B : Type 0} → List B → List B → Result X ElfFault → Result (List B) ElfFault → Type 0
+abbrev pub Adds : {X B : Type 0} → List B → List B → Result X ElfFault
+    → Result (List B) ElfFault → Type 0
 Adds old new result r = Gives faults.Memory (λ _. new) result (onto old r)

@@ -21,7 +21,9 @@ is_file ls a = list_any (is_file_of a) ls
 -- the byte at address a: the file's where a load's file part has it, else zero
 abbrev pub byte_at : List ℕ → List Load → ℕ → ℕ
 byte_at file [] a = 0
-byte_at file (l ∷ ls) a = if is_file_of a l then slice_index file (l.offset + (a - l.paddr)) else byte_at file ls a
+byte_at file (l ∷ ls) a =
+    if is_file_of a l then slice_index file (l.offset + (a - l.paddr))
+    else byte_at file ls a
 
 -- a load meets page p: some byte of its memory is one of the page's
 abbrev pub meets_page : ℕ → Load → Bool
@@ -35,7 +37,8 @@ is_met ls p = list_any (meets_page p) ls
 abbrev pub with_number : ℕ → List Run → List Run
 with_number p [] = record { first = p; count = 1 } ∷ []
 with_number p (r ∷ rs) =
-    if r.first == suc p then record { first = p; count = suc r.count } ∷ rs else record { first = p; count = 1 } ∷ r ∷ rs
+    if r.first == suc p then record { first = p; count = suc r.count } ∷ rs
+    else record { first = p; count = 1 } ∷ r ∷ rs
 
 -- the maximal runs of those of the n numbers from p on that pass, in rising order
 unfoldable pub runs : (ℕ → Bool) → ℕ → ℕ → List Run
@@ -49,7 +52,8 @@ up_to_last f (suc n) = if f n then suc n else up_to_last f n
 
 -- the bytes of n addresses from a on, up to the last that is a file's
 abbrev pub bytes_of : List ℕ → List Load → ℕ → ℕ → List ℕ
-bytes_of file ls a n = map (byte_at file ls) (range_with_len a (up_to_last (λ k. is_file ls (a + k)) n))
+bytes_of file ls a n =
+    map (byte_at file ls) (range_with_len a (up_to_last (λ k. is_file ls (a + k)) n))
 
 -- the segment of a run of pages
 abbrev pub segment_of : List ℕ → List Load → Run → SegmentValue
@@ -69,7 +73,9 @@ segments_of file ls = map (segment_of file ls) (runs (is_met ls) 0 (2 ^ 34))
 
 -- the image of the loads of a file, which has no more pages than a load may have
 unfoldable pub image : List ℕ → List Load → Result (List SegmentValue) ElfFault
-image file ls = if nat_lt segment_page_limit (pages_met ls) then Err (faults.TooLarge (pages_met ls)) else Ok (segments_of file ls)
+image file ls =
+    if nat_lt segment_page_limit (pages_met ls) then Err (faults.TooLarge (pages_met ls))
+    else Ok (segments_of file ls)
 
 -- the pages of a segment
 abbrev pub run_of : SegmentValue → Run

@@ -50,7 +50,8 @@ unfoldable pub joined_to : List ℕ → List ℕ → ℕ → ℕ → List Load �
 joined_to file bytes mem stop [] = part bytes mem stop ∷ []
 joined_to file bytes mem stop (l ∷ ls) =
     if nat_le (first_of l) stop then joined_to file (grown file l bytes mem) mem (end_of l) ls
-    else part bytes mem stop ∷ joined_to file (grown file l [] (first_of l)) (first_of l) (end_of l) ls
+    else part bytes mem stop
+    ∷ joined_to file (grown file l [] (first_of l)) (first_of l) (end_of l) ls
 
 unfoldable pub joined : List ℕ → List Load → List SegmentValue
 joined file [] = []

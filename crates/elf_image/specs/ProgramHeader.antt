@@ -12,13 +12,27 @@ use Rattle.elf_image.specs.FileHeader.{entry_size}
 abbrev pub elf64 : Format ProgramHeader
 elf64 = record {
   numbers = λ h. [];
-  layout = λ at. record { kind = at 0 4; offset = at 8 8; paddr = at 24 8; filesz = at 32 8; memsz = at 40 8 };
+  layout =
+      λ at. record {
+        kind = at 0 4;
+        offset = at 8 8;
+        paddr = at 24 8;
+        filesz = at 32 8;
+        memsz = at 40 8;
+      };
 }
 
 abbrev pub elf32 : Format ProgramHeader
 elf32 = record {
   numbers = λ h. [];
-  layout = λ at. record { kind = at 0 4; offset = at 4 4; paddr = at 12 4; filesz = at 16 4; memsz = at 20 4 };
+  layout =
+      λ at. record {
+        kind = at 0 4;
+        offset = at 4 4;
+        paddr = at 12 4;
+        filesz = at 16 4;
+        memsz = at 20 4;
+      };
 }
 
 -- the format of a class
@@ -29,12 +43,15 @@ program_header false = elf32
 -- the load that a program header is: none where its type is another than PT_LOAD
 abbrev pub load_of : ProgramHeader → Option Load
 load_of p =
-    if p.kind == pt_load then Some (record { offset = p.offset; filesz = p.filesz; paddr = p.paddr; memsz = p.memsz }) else None
+    if p.kind == pt_load
+    then Some (record { offset = p.offset; filesz = p.filesz; paddr = p.paddr; memsz = p.memsz })
+    else None
 
 -- the program header number k
 abbrev pub header_at : Header → List ℕ → ℕ → ProgramHeader
 header_at h bytes k =
-    read (program_header h.wide) (bytes_at (h.file.phoff + entry_size h.wide * k) (entry_size h.wide) bytes)
+    read (program_header h.wide)
+    (bytes_at (h.file.phoff + entry_size h.wide * k) (entry_size h.wide) bytes)
 
 abbrev pub load_at : Header → List ℕ → ℕ → Option Load
 load_at h bytes k = load_of (header_at h bytes k)

@@ -38,30 +38,36 @@ reloc_of symbols target i at k r =
     else Err (faults.BadIndex (at + 8))
 
 unfoldable pub reloc_in : List ℕ → ℕ → ℕ → ℕ → ℕ → ℕ → Result Reloc ElfFault
-reloc_in file symbols target i at k = reloc_of symbols target i at k (read rela (bytes_at at 24 file))
+reloc_in file symbols target i at k =
+    reloc_of symbols target i at k (read rela (bytes_at at 24 file))
 
 -- the first fault of a section of relocations, whose header stands at this place: its sh_link is a symbol table
 -- (SHT_SYMTAB), and its sh_info a section
 unfoldable pub rela_fault : Table → ℕ → SectionHeader → Option ElfFault
 rela_fault t place h =
     if not (h.entsize == 24) then Some (faults.BadEntrySize (place + 56))
-    else if not (is_of sht_symtab (slice_get t.headers h.link)) then Some (faults.BadIndex (place + 40))
+    else if not (is_of sht_symtab (slice_get t.headers h.link))
+    then Some (faults.BadIndex (place + 40))
     else if not (nat_lt h.info (length t.headers)) then Some (faults.BadIndex (place + 44))
     else None
 
 -- the whole entries of section i
 abbrev pub relocs_of : List ℕ → ℕ → ℕ → SectionHeader → Result (List Reloc) ElfFault
 relocs_of file symbols i h =
-    each (λ k. reloc_in file symbols h.info i (h.offset + 24 * k) k) (range_with_len 0 (h.size / 24))
+    each (λ k. reloc_in file symbols h.info i (h.offset + 24 * k) k)
+    (range_with_len 0 (h.size / 24))
 
 -- the relocations of section i: none where it has another type than SHT_RELA
 unfoldable pub relocs_in : List ℕ → Table → ℕ → ℕ → SectionHeader → Result (List Reloc) ElfFault
 relocs_in file t symbols i h =
-    if h.kind == sht_rela then (unless (rela_fault t (place_of t i) h) >>= λ _. relocs_of file symbols i h) else Ok []
+    if h.kind == sht_rela
+    then (unless (rela_fault t (place_of t i) h) >>= λ _. relocs_of file symbols i h)
+    else Ok []
 
 abbrev pub relocs_at : List ℕ → Table → ℕ → ℕ → Result (List Reloc) ElfFault
 relocs_at file t symbols i = read_in (relocs_in file t symbols i) (slice_get t.headers i)
 
 -- the relocations of an object that has so many symbols, or the first fault
 unfoldable pub relocs_read : List ℕ → Table → ℕ → Result (List Reloc) ElfFault
-relocs_read file t symbols = gathered (relocs_at file t symbols) (range_with_len 0 (length t.headers))
+relocs_read file t symbols =
+    gathered (relocs_at file t symbols) (range_with_len 0 (length t.headers))

@@ -35,11 +35,20 @@ is_alloc flags = flags / 2 % 2 == 1
 
 -- what is told of a section
 abbrev pub section_of : SectionHeader → Section
-section_of h = record { kind = h.kind; alloc = is_alloc h.flags; offset = h.offset; size = h.size; align = h.align; target = h.info }
+section_of h =
+    record {
+      kind = h.kind;
+      alloc = is_alloc h.flags;
+      offset = h.offset;
+      size = h.size;
+      align = h.align;
+      target = h.info;
+    }
 
 -- it has another type than SHT_NULL and SHT_NOBITS, and its bytes do not lie in a file of n bytes
 abbrev pub is_section_cut : ℕ → SectionHeader → Bool
-is_section_cut n h = not (h.kind == sht_null) && (not (h.kind == sht_nobits) && nat_lt n (h.offset + h.size))
+is_section_cut n h =
+    not (h.kind == sht_null) && (not (h.kind == sht_nobits) && nat_lt n (h.offset + h.size))
 
 -- the bytes of a section of another type than SHT_NULL and SHT_NOBITS lie in the file
 pub record IsInside (file : List ℕ) (s : Section) : Type 0 where
@@ -47,7 +56,8 @@ pub record IsInside (file : List ℕ) (s : Section) : Type 0 where
 
 -- the n section headers from this place of the file on
 abbrev pub headers_of : ℕ → ℕ → List ℕ → List SectionHeader
-headers_of start n file = map (λ i. read section_header (bytes_at (start + 64 * i) 64 file)) (range_with_len 0 n)
+headers_of start n file =
+    map (λ i. read section_header (bytes_at (start + 64 * i) 64 file)) (range_with_len 0 n)
 
 -- the first section of this type from index k on
 abbrev pub first_of : ℕ → ℕ → List SectionHeader → Option ℕ
@@ -59,7 +69,8 @@ is_of kind None = false
 is_of kind (Some h) = h.kind == kind
 
 -- what is read of a section: nothing, if it is not there
-abbrev pub read_in : {B : Type 0} → (SectionHeader → Result (List B) ElfFault) → Option SectionHeader → Result (List B) ElfFault
+abbrev pub read_in : {B : Type 0} → (SectionHeader → Result (List B) ElfFault)
+    → Option SectionHeader → Result (List B) ElfFault
 read_in f None = Ok []
 read_in f (Some h) = f h
 
@@ -77,7 +88,8 @@ tested_table n t = do
 unfoldable pub table_read : List ℕ → Result Table ElfFault
 table_read file = do
   h ← object_header file
-  tested_table (length file) (record { start = h.file.shoff; headers = headers_of h.file.shoff h.file.shnum file })
+  tested_table (length file)
+      (record { start = h.file.shoff; headers = headers_of h.file.shoff h.file.shnum file })
 
 -- the section headers lie in the file, and the bytes of their sections too
 pub record IsTable (file : List ℕ) (t : Table) : Type 0 where

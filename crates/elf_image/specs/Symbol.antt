@@ -36,29 +36,34 @@ is_index sections index = nat_lt index sections || ((index == shn_abs) || (index
 abbrev pub symbol_of : ℕ → ℕ → ℕ → SymbolEntry → Option (List ℕ) → Result Sym ElfFault
 symbol_of sections at k s None = Err (faults.BadString k)
 symbol_of sections at k s (Some name) =
-    if is_index sections s.section then Ok (record { name = name; section = s.section; value = s.value; size = s.size })
+    if is_index sections s.section
+    then Ok (record { name = name; section = s.section; value = s.value; size = s.size })
     else Err (faults.BadIndex (at + 6))
 
 abbrev pub symbol_named : List ℕ → ℕ → ℕ → ℕ → SymbolEntry → Result Sym ElfFault
 symbol_named strings sections at k s = symbol_of sections at k s (name_in strings s.name)
 
 unfoldable pub symbol_in : List ℕ → List ℕ → ℕ → ℕ → ℕ → Result Sym ElfFault
-symbol_in file strings sections at k = symbol_named strings sections at k (read symbol_entry (bytes_at at 24 file))
+symbol_in file strings sections at k =
+    symbol_named strings sections at k (read symbol_entry (bytes_at at 24 file))
 
 -- the whole entries of a symbol table
 abbrev pub entries_in : List ℕ → ℕ → SectionHeader → List ℕ → Result (List Sym) ElfFault
 entries_in file sections h strings =
-    each (λ k. symbol_in file strings sections (h.offset + 24 * k) k) (range_with_len 0 (h.size / 24))
+    each (λ k. symbol_in file strings sections (h.offset + 24 * k) k)
+    (range_with_len 0 (h.size / 24))
 
 -- the bytes of a string table (SHT_STRTAB), which the section header at this place names by its sh_link
 abbrev pub strings_in : List ℕ → ℕ → Option SectionHeader → Result (List ℕ) ElfFault
 strings_in file place None = Err (faults.BadIndex (place + 40))
 strings_in file place (Some h) =
-    if h.kind == sht_strtab then Ok (bytes_at h.offset h.size file) else Err (faults.BadIndex (place + 40))
+    if h.kind == sht_strtab then Ok (bytes_at h.offset h.size file)
+    else Err (faults.BadIndex (place + 40))
 
 unfoldable pub strings_of : List ℕ → Table → ℕ → SectionHeader → Result (List ℕ) ElfFault
 strings_of file t place h =
-    if not (h.entsize == 24) then Err (faults.BadEntrySize (place + 56)) else strings_in file place (slice_get t.headers h.link)
+    if not (h.entsize == 24) then Err (faults.BadEntrySize (place + 56))
+    else strings_in file place (slice_get t.headers h.link)
 
 -- the symbols of a symbol table, whose header stands at this place
 unfoldable pub symbols_in : List ℕ → Table → ℕ → SectionHeader → Result (List Sym) ElfFault
@@ -66,7 +71,8 @@ symbols_in file t place h = strings_of file t place h >>= entries_in file (lengt
 
 -- a symbol table (SHT_SYMTAB) behind that of index i is refused
 abbrev pub second_refused : Table → ℕ → Result (Unit {0}) ElfFault
-second_refused t i = unless_at (λ j. faults.BadIndex (place_of t j + 4)) (first_of sht_symtab (i + 1) t.headers)
+second_refused t i =
+    unless_at (λ j. faults.BadIndex (place_of t j + 4)) (first_of sht_symtab (i + 1) t.headers)
 
 -- the symbols of the symbol table of this index, if there is one, which is the only one
 abbrev pub symbols_at : List ℕ → Table → Option ℕ → Result (List Sym) ElfFault

@@ -180,7 +180,8 @@ fn take_in(
     requires { IsLoad (length file.now) load.now }
     ensures { IfOk result (λ s. (ls : List Load)
         → list.new.items ++ joined_to file.now s.bytes.items s.mem s.stop ls
-        ≡ list.old.items ++ joined_to file.now here.bytes.items here.mem here.stop (load.now ∷ ls)) }
+        ≡ list.old.items
+        ++ joined_to file.now here.bytes.items here.mem here.stop (load.now ∷ ls)) }
 {
     if load.first_page() <= here.stop {
         let more = here.grow(load, file)?;

@@ -28,7 +28,11 @@ impl Model for Object {
 
     ghost Value = { Relocatable };
 
-    ghost view = { λ o. record { sections = o.sections.items; symbols = o.symbols.items; relocs = o.relocs.items } };
+    ghost view = { λ o. record {
+      sections = o.sections.items;
+      symbols = o.symbols.items;
+      relocs = o.relocs.items;
+    } };
 }
 
 /// What a relocatable object says: ELF64 for x86-64, of type ET_REL (ELF gABI, chapter 4, "Sections", "Symbol Table",

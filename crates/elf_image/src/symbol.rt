@@ -34,7 +34,12 @@ impl Model for Symbol {
 
     ghost Value = { Sym };
 
-    ghost view = { λ s. record { name = s.name.items; section = s.section; value = s.value; size = s.size } };
+    ghost view = { λ s. record {
+      name = s.name.items;
+      section = s.section;
+      value = s.value;
+      size = s.size;
+    } };
 }
 
 /// An entry of a symbol table.

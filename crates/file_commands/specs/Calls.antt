@@ -41,12 +41,14 @@ make_answer makes.Memory = memory
 -- files that were not taken
 unfoldable pub TakesNot : {S R X : Type 0} → Shelf S → Take R X → S → TakeFault R → S → Type 0
 TakesNot D t old (takes.Refused why) new = Took D t old (Err (by why)) new
-TakesNot D t old (takes.TooLong name limit) new = Took D t old (Err (too_long (string_bytes name) limit)) new
+TakesNot D t old (takes.TooLong name limit) new =
+    Took D t old (Err (too_long (string_bytes name) limit)) new
 TakesNot D t old (takes.Unread name) new = FailedAt D t old (string_bytes name) new
 TakesNot D t old takes.Memory new = Same D old new
 
 -- a call that takes files, and makes a value of them that is seen so
-abbrev pub Takes : {S R X T : Type 0} → Shelf S → Take R X → (T → X) → S → Result T (TakeFault R) → S → Type 0
+abbrev pub Takes : {S R X T : Type 0} → Shelf S → Take R X → (T → X) → S → Result T (TakeFault R)
+    → S → Type 0
 Takes D t view old (Ok v) new = Took D t old (Ok (view v)) new
 Takes D t view old (Err e) new = TakesNot D t old e new
 
@@ -59,7 +61,8 @@ abbrev pub bytes_of : FileParts → List ℕ
 bytes_of f = f.front.items ++ f.rest.items
 
 abbrev pub goods_of : {F : Type 0} → MadeGoods F → Goods F
-goods_of g = record { outputs = map file_of g.outputs.items; text = string_bytes g.text; fault = g.fault }
+goods_of g =
+    record { outputs = map file_of g.outputs.items; text = string_bytes g.text; fault = g.fault }
 
 -- why nothing was made: a refusal for a reason of which this holds, or want of memory
 abbrev pub RefusedBy : {R : Type 0} → (R → Type 0) → MakeFault R → Type 0
@@ -72,5 +75,7 @@ MakesOr P Q (Ok v) = P v
 MakesOr P Q (Err f) = RefusedBy Q f
 
 -- a call that makes goods of what was taken
-abbrev pub Makes : {X F R : Type 0} → (X → Result (Goods F) (Refusal R) → Type 0) → X → Result (MadeGoods F) (MakeFault R) → Type 0
-Makes made x result = MakesOr (λ goods. made x (Ok (goods_of goods))) (λ why. made x (Err (by why))) result
+abbrev pub Makes : {X F R : Type 0} → (X → Result (Goods F) (Refusal R) → Type 0) → X
+    → Result (MadeGoods F) (MakeFault R) → Type 0
+Makes made x result =
+    MakesOr (λ goods. made x (Ok (goods_of goods))) (λ why. made x (Err (by why))) result

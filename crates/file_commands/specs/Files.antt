@@ -4,7 +4,9 @@ use Rattle.file_commands.specs.Taking.{File, Take, ok, refuse, file, too_long, b
 
 -- bytes that are at most so many
 abbrev pub check_length : {R : Type 0} → ℕ → List ℕ → List ℕ → Take R (List ℕ)
-check_length limit name bytes = if nat_lt limit (length bytes) then refuse (too_long name limit) else ok bytes
+check_length limit name bytes =
+    if nat_lt limit (length bytes) then refuse (too_long name limit)
+    else ok bytes
 
 -- A file's bytes, which are at most so many: one byte more is asked for, so that a longer file shows.
 abbrev pub whole_file : {R : Type 0} → ℕ → List ℕ → Take R (List ℕ)
@@ -16,7 +18,8 @@ from_reader reason (Ok x) = ok x
 from_reader reason (Err fault) = refuse (by (reason fault))
 
 -- a file that may be named
-abbrev pub optional_file : {R X : Type 0} → (List ℕ → Take R X) → Option (List ℕ) → Take R (Option X)
+abbrev pub optional_file : {R X : Type 0} → (List ℕ → Take R X) → Option (List ℕ)
+    → Take R (Option X)
 optional_file take None = ok None
 optional_file take (Some name) = do
   x ← take name

@@ -47,7 +47,8 @@ pub record Same {S : Type 0} (D : Shelf S) (old new : S) : Type 0 where
   pub faults : D.faults new ≡ D.faults old
 
 -- a take of this name, of at most so many bytes, gave these, which are the file's where files are told
-pub record GivesFile {S : Type 0} (D : Shelf S) (old : S) (name : List ℕ) (most : ℕ) (bytes : List ℕ) (new : S) : Type 0 where
+pub record GivesFile {S : Type 0} (D : Shelf S) (old : S) (name : List ℕ) (most : ℕ)
+    (bytes : List ℕ) (new : S) : Type 0 where
   pub took : D.gives old name most bytes new
   pub same : Same D old new
   pub told : IfSome (D.files old) (λ held. bytes ≡ read_of held name most)
@@ -62,11 +63,15 @@ pub record FailsFile {S : Type 0} (D : Shelf S) (old : S) (name : List ℕ) (new
 unfoldable pub Took : {S R X : Type 0} → Shelf S → Take R X → S → Result X (Refusal R) → S → Type 0
 Took D (ok x) old r new = (r ≡ Ok x) × (new ≡ old)
 Took D (refuse a) old r new = (r ≡ Err a) × (new ≡ old)
-Took {S} D (file name most next) old r new = (bytes : List ℕ) × (mid : S) × GivesFile D old name most bytes mid × Took D (next bytes) mid r new
+Took {S} D (file name most next) old r new =
+    (bytes : List ℕ) × (mid : S) × GivesFile D old name most bytes mid
+    × Took D (next bytes) mid r new
 
 -- the takes were made in their order up to one of this name, which failed
 unfoldable pub FailedAt : {S R X : Type 0} → Shelf S → Take R X → S → List ℕ → S → Type 0
 FailedAt D (ok x) old which new = ⊥
 FailedAt D (refuse a) old which new = ⊥
 FailedAt {S} D (file name most next) old which new =
-    ((which ≡ name) × FailsFile D old name new) ⊎ ((bytes : List ℕ) × (mid : S) × GivesFile D old name most bytes mid × FailedAt D (next bytes) mid which new)
+    ((which ≡ name) × FailsFile D old name new)
+    ⊎ ((bytes : List ℕ) × (mid : S) × GivesFile D old name most bytes mid
+    × FailedAt D (next bytes) mid which new)

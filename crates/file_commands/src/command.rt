@@ -55,7 +55,8 @@ fn answered<C: Command, S: Shelf, O: Sink>(
     shelf: &mut S,
     out: &mut O,
 ) -> Result<(), Stop<C::Fault, C::Reason>>
-    ensures { Meets S.Shelf O.Sink (command_of (C.takes command) C.makes) shelf.old out.old (call_answer result) shelf.new out.new }
+    ensures { Meets S.Shelf O.Sink (command_of (C.takes command) C.makes) shelf.old out.old
+        (call_answer result) shelf.new out.new }
 {
     let taken = command.take(alloc, shelf)?;
     let goods = C::make(alloc, taken)?;
@@ -70,13 +71,17 @@ pub fn run<C: Command, S: Shelf, O: Sink>(
     out: &mut O,
 ) -> Result<(), Stop<C::Fault, C::Reason>>
     // Each answer has its cause, and says what stands after it.
-    ensures meets { Meets S.Shelf O.Sink (command_of (C.takes command) C.makes) shelf.old out.old (call_answer result) shelf.new out.new }
+    ensures meets { Meets S.Shelf O.Sink (command_of (C.takes command) C.makes) shelf.old out.old
+        (call_answer result) shelf.new out.new }
 
     // Over files that are told it is so by what is read of them.
-    ensures told { IfSome (S.files shelf.old) (λ held. MeetsTold S.Shelf O.Sink (command_of (C.takes command) C.makes) held shelf.old out.old (call_answer result) shelf.new out.new) }
+    ensures told { IfSome (S.files shelf.old)
+        (λ held. MeetsTold S.Shelf O.Sink (command_of (C.takes command) C.makes) held shelf.old
+        out.old (call_answer result) shelf.new out.new) }
 
     // What is in order is done where no device fails, or memory is wanted.
-    ensures completes { Completes S.Shelf O.Sink (command_of (C.takes command) C.makes) shelf.old out.old (call_answer result) shelf.new out.new }
+    ensures completes { Completes S.Shelf O.Sink (command_of (C.takes command) C.makes) shelf.old
+        out.old (call_answer result) shelf.new out.new }
 {
     answered(alloc, command, shelf, out)
 }

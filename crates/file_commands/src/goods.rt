@@ -25,7 +25,9 @@ pub struct Goods<F> {
 // Puts the outputs in their order, up to the first that fails, whose name is answered.
 fn put_all<S: Shelf>(outputs: Vec<File>, shelf: &mut S) -> Result<(), String>
     ensures whole { OnOk result (PutAll S.Shelf (map file_of outputs.items) shelf.old shelf.new) }
-    ensures cut { IfErr result (λ name. PutUpTo S.Shelf (map file_of outputs.items) shelf.old (string_bytes name) shelf.new) }
+    ensures cut { IfErr result
+        (λ name. PutUpTo S.Shelf (map file_of outputs.items) shelf.old (string_bytes name)
+        shelf.new) }
 {
     for file in outputs {
         if let Err(PutFailed) = shelf.put(&file.name, &file.bytes) {
@@ -41,7 +43,8 @@ pub fn deliver<S: Shelf, O: Sink, F: Drop, R>(
     shelf: &mut S,
     out: &mut O,
 ) -> Result<(), Stop<F, R>>
-    ensures { Delivers S.Shelf O.Sink (goods_of goods) shelf.old out.old (call_answer result) shelf.new out.new }
+    ensures { Delivers S.Shelf O.Sink (goods_of goods) shelf.old out.old (call_answer result)
+        shelf.new out.new }
 {
     let Goods {
         outputs,

@@ -30,7 +30,8 @@ pub fn take_apart<S: Shelf, R>(
     shelf: &mut S,
 ) -> Result<FileParts, TakeFault<R>>
     requires { limit < 2 ^ 63 }
-    ensures takes { Takes S.Shelf (whole_file limit (string_bytes name)) bytes_of shelf.old result shelf.new }
+    ensures takes { Takes S.Shelf (whole_file limit (string_bytes name)) bytes_of shelf.old
+        result shelf.new }
     ensures named { IfOk result (λ f. f.name ≡ name) }
     ensures apart { IfOk result (λ f. IsCutAt at f.front.items f.rest.items) }
     ensures within { IfOk result (λ f. length f.front.items + length f.rest.items ≤ limit) }
@@ -56,7 +57,8 @@ fn take_named<S: Shelf, R>(
     shelf: &mut S,
 ) -> Result<File, TakeFault<R>>
     requires { limit < 2 ^ 63 }
-    ensures takes { Takes S.Shelf (whole_file limit (string_bytes name)) (λ f. f.bytes.items) shelf.old result shelf.new }
+    ensures takes { Takes S.Shelf (whole_file limit (string_bytes name)) (λ f. f.bytes.items)
+        shelf.old result shelf.new }
     ensures named { IfOk result (λ f. f.name ≡ name) }
     ensures within { IfOk result (λ f. length f.bytes.items ≤ limit) }
 {
@@ -72,8 +74,11 @@ pub fn take_file<S: Shelf, R>(
     shelf: &mut S,
 ) -> Result<Vec<u8>, TakeFault<R>>
     requires { limit < 2 ^ 63 }
-    ensures takes { Takes S.Shelf (whole_file limit (string_bytes name)) (λ bytes. bytes.items) shelf.old result shelf.new }
-    ensures whole { IfOk result (λ bytes. IfSome (S.files shelf.old) (λ held. bytes.items ≡ file_at held (string_bytes name))) }
+    ensures takes { Takes S.Shelf (whole_file limit (string_bytes name)) (λ bytes. bytes.items)
+        shelf.old result shelf.new }
+    ensures whole { IfOk result
+        (λ bytes. IfSome (S.files shelf.old)
+        (λ held. bytes.items ≡ file_at held (string_bytes name))) }
     ensures within { IfOk result (λ bytes. length bytes.items ≤ limit) }
 {
     let file = take_named(alloc, name, limit, shelf)?;
@@ -89,7 +94,8 @@ pub fn take_optional<S: Shelf, R>(
     shelf: &mut S,
 ) -> Result<Option<Vec<u8>>, TakeFault<R>>
     requires { limit < 2 ^ 63 }
-    ensures takes { Takes S.Shelf (optional_file (whole_file limit) (option_map string_bytes name)) (option_map (λ bytes. bytes.items)) shelf.old result shelf.new }
+    ensures takes { Takes S.Shelf (optional_file (whole_file limit) (option_map string_bytes name))
+        (option_map (λ bytes. bytes.items)) shelf.old result shelf.new }
     ensures named { IfOk result (λ r. is_some r ≡ is_some name) }
 {
     match name {
@@ -106,7 +112,8 @@ pub fn take_all<S: Shelf, R>(
     shelf: &mut S,
 ) -> Result<Vec<File>, TakeFault<R>>
     requires { budget < 2 ^ 63 }
-    ensures { Takes S.Shelf (all_files budget (map string_bytes names.items)) (λ files. map file_of files.items) shelf.old result shelf.new }
+    ensures { Takes S.Shelf (all_files budget (map string_bytes names.items))
+        (λ files. map file_of files.items) shelf.old result shelf.new }
 {
     let mut left = budget;
     let mut files = Vec::new(alloc);

@@ -42,7 +42,8 @@ impl Command for Join {
 
     ghost inputs = { λ t. (option_map (λ b. b.items) t.head, map file_of t.parts.items) };
 
-    ghost takes = { λ j. optional_file (whole_file 9) (option_map string_bytes j.head) >>= λ head. all_files 9 (map string_bytes j.parts.items) >>= λ parts. ok (head, parts) };
+    ghost takes = { λ j. optional_file (whole_file 9) (option_map string_bytes j.head)
+        >>= λ head. all_files 9 (map string_bytes j.parts.items) >>= λ parts. ok (head, parts) };
 
     ghost makes = { λ _ _. Unit {0} };
 

@@ -23,5 +23,6 @@ ComesFirst Greatest a x = x ≤ a
 
 -- the hole: the least or the greatest address that fits, or none where nothing fits
 abbrev pub IsHole : End → (ℕ → Bool) → (ℕ → Bool) → Wanted → Option ℕ → Type 0
-IsHole end ram taken w (Some a) = Fits ram taken w a × ((x : ℕ) → Fits ram taken w x → ComesFirst end a x)
+IsHole end ram taken w (Some a) =
+    Fits ram taken w a × ((x : ℕ) → Fits ram taken w x → ComesFirst end a x)
 IsHole end ram taken w None = (x : ℕ) → Fits ram taken w x → ⊥

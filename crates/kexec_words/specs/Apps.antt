@@ -25,24 +25,34 @@ flag id = record (new_rule id) { long = Some id; action = Some SetTrue }
 
 -- a command of this name, which reads the words after its name
 abbrev pub app_with : Text → List Rule → App
-app_with name rules = record { top = record (new_shape name) { no_binary_name = true; rules = rules }; subs = [] }
+app_with name rules =
+    record { top = record (new_shape name) { no_binary_name = true; rules = rules }; subs = [] }
 
 -- the options of `boot` and `load`
 abbrev pub plan_options : List Rule
-plan_options = option (codes "map") ∷ option (codes "type") ∷ option (codes "at") ∷ option (codes "entry")
+plan_options =
+    option (codes "map") ∷ option (codes "type") ∷ option (codes "at") ∷ option (codes "entry")
     ∷ option (codes "command") ∷ option (codes "initrd") ∷ option (codes "purgatory") ∷ []
 
 abbrev pub boot_app : App
-boot_app = app_with (codes "boot") (word (codes "MEMORY") ∷ word (codes "POOL") ∷ word (codes "OUT") ∷ word (codes "KERNEL")
+boot_app =
+    app_with (codes "boot")
+    (word (codes "MEMORY") ∷ word (codes "POOL") ∷ word (codes "OUT") ∷ word (codes "KERNEL")
     ∷ words (codes "MODULES") ∷ option (codes "kept") ∷ plan_options)
 
 abbrev pub load_app : App
-load_app = app_with (codes "load") (word (codes "MEMORY") ∷ word (codes "POOL") ∷ word (codes "OUT") ∷ word (codes "RECORD") ∷ word (codes "KERNEL")
+load_app =
+    app_with (codes "load")
+    (word (codes "MEMORY") ∷ word (codes "POOL") ∷ word (codes "OUT") ∷ word (codes "RECORD")
+    ∷ word (codes "KERNEL")
     ∷ words (codes "MODULES") ∷ flag (codes "kept") ∷ plan_options)
 
 abbrev pub load_panic_app : App
-load_panic_app = app_with (codes "load-panic") (word (codes "MEMORY") ∷ word (codes "OUT") ∷ word (codes "RECORD") ∷ word (codes "KERNEL")
-    ∷ option (codes "map") ∷ option (codes "command") ∷ option (codes "initrd") ∷ option (codes "purgatory") ∷ option (codes "notes") ∷ [])
+load_panic_app =
+    app_with (codes "load-panic")
+    (word (codes "MEMORY") ∷ word (codes "OUT") ∷ word (codes "RECORD") ∷ word (codes "KERNEL")
+    ∷ option (codes "map") ∷ option (codes "command") ∷ option (codes "initrd")
+    ∷ option (codes "purgatory") ∷ option (codes "notes") ∷ [])
 
 abbrev pub load_names_rules : List Rule
 load_names_rules = word (codes "MEMORY") ∷ word (codes "RECORD") ∷ []
@@ -54,10 +64,15 @@ abbrev pub dump_app : App
 dump_app = app_with (codes "dump") load_names_rules
 
 abbrev pub exec_app : App
-exec_app = app_with (codes "exec") (word (codes "MEMORY") ∷ word (codes "RECORD") ∷ word (codes "OUT") ∷ flag (codes "twice") ∷ [])
+exec_app =
+    app_with (codes "exec")
+    (word (codes "MEMORY") ∷ word (codes "RECORD") ∷ word (codes "OUT")
+    ∷ flag (codes "twice") ∷ [])
 
 abbrev pub trace_app : App
-trace_app = app_with (codes "trace") (word (codes "MEMORY") ∷ word (codes "OUT") ∷ word (codes "HEAD") ∷ word (codes "LIMIT")
+trace_app =
+    app_with (codes "trace")
+    (word (codes "MEMORY") ∷ word (codes "OUT") ∷ word (codes "HEAD") ∷ word (codes "LIMIT")
     ∷ option (codes "swap") ∷ [])
 
 abbrev pub sample_app : App

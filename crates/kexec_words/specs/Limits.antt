@@ -28,7 +28,8 @@ IsWithinLimits (sample n) = n < 10 ^ 18
 abbrev pub HasOutputsApart : CommandValue → Type 0
 HasOutputsApart (boot b) = has_same_name (b.out ∷ []) (files_of b.inputs) ≡ false
 HasOutputsApart (load l) = has_same_name (l.out ∷ l.load_record ∷ []) (files_of l.inputs) ≡ false
-HasOutputsApart (load_panic l) = has_same_name (l.out ∷ l.load_record ∷ []) (crash_files_of l.inputs (Some l.map)) ≡ false
+HasOutputsApart (load_panic l) =
+    has_same_name (l.out ∷ l.load_record ∷ []) (crash_files_of l.inputs (Some l.map)) ≡ false
 HasOutputsApart (check l) = Unit {0}
 HasOutputsApart (dump l) = Unit {0}
 HasOutputsApart (exec e) = has_same_name (e.out ∷ []) (e.memory ∷ e.load_record ∷ []) ≡ false

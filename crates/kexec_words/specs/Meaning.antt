@@ -40,15 +40,20 @@ with_name (Some t) names = t ∷ names
 
 -- the files that are read, in the order in which they are taken
 abbrev pub files_of : InputsValue → List Text
-files_of i = i.memory ∷ i.pool ∷ with_name i.map (i.kernel ∷ with_name i.initrd (with_name i.purgatory i.modules))
+files_of i =
+    i.memory ∷ i.pool
+    ∷ with_name i.map (i.kernel ∷ with_name i.initrd (with_name i.purgatory i.modules))
 
 abbrev pub crash_files_of : CrashInputsValue → Option Text → List Text
-crash_files_of i map = i.memory ∷ with_name map (with_name i.notes (i.kernel ∷ with_name i.initrd (with_name i.purgatory [])))
+crash_files_of i map =
+    i.memory ∷ with_name map
+    (with_name i.notes (i.kernel ∷ with_name i.initrd (with_name i.purgatory [])))
 
 -- ---- answers
 
 -- what the words say, where their numbers have their forms
-abbrev pub with_numbers : {A B : Type 0} → Result A Which → (A → Result B UsageWhy) → Result B UsageWhy
+abbrev pub with_numbers : {A B : Type 0} → Result A Which → (A → Result B UsageWhy)
+    → Result B UsageWhy
 with_numbers (Ok n) go = go n
 with_numbers (Err which) go = Err (why.Number which)
 
@@ -74,7 +79,9 @@ needs_map other i = true
 
 abbrev pub image_or_refusal : InputsValue → Option ImageType → Result ImageType UsageWhy
 image_or_refusal i None = Err why.NeedsAt
-image_or_refusal i (Some image) = if needs_map image i && not (is_some i.map) then Err why.NeedsMap else Ok image
+image_or_refusal i (Some image) =
+    if needs_map image i && not (is_some i.map) then Err why.NeedsMap
+    else Ok image
 
 -- the image's type, or the first reason after the numbers' forms: too many modules, a name used twice, no --at, no --map
 abbrev pub image_where : InputsValue → Bool → PlanNumbers → Result ImageType UsageWhy
@@ -84,7 +91,8 @@ image_where i is_same n = if nat_lt 12 (length i.modules) then Err why.TooManyMo
 -- the type and the addresses, --kept RUNS among them where the command has it
 abbrev pub plan_numbers_by : Option Text → List Row → Result PlanNumbers Which
 plan_numbers_by kept rows =
-    plan_numbers_of (first_of (codes "type") rows) kept (first_of (codes "at") rows) (first_of (codes "entry") rows)
+    plan_numbers_of (first_of (codes "type") rows) kept (first_of (codes "at") rows)
+    (first_of (codes "entry") rows)
 
 abbrev pub inputs_of : List Row → InputsValue
 inputs_of rows = record {
@@ -102,21 +110,26 @@ abbrev pub boot_by : InputsValue → Text → PlanNumbers → ImageType → Boot
 boot_by i out n image = record { inputs = i; out = out; kept = n.kept; image = image }
 
 abbrev pub boot_with : InputsValue → Text → PlanNumbers → Result BootValue UsageWhy
-boot_with i out n = map_answer (boot_by i out n) (image_where i (has_same_name (out ∷ []) (files_of i)) n)
+boot_with i out n =
+    map_answer (boot_by i out n) (image_where i (has_same_name (out ∷ []) (files_of i)) n)
 
 abbrev pub boot_in : List Row → Result BootValue UsageWhy
 boot_in rows = with_numbers (plan_numbers_by (first_of (codes "kept") rows) rows)
     (boot_with (inputs_of rows) (word_of (codes "OUT") rows))
 
 abbrev pub load_by : InputsValue → Text → Text → Bool → ImageType → LoadValue
-load_by i out load_record kept image = record { inputs = i; out = out; load_record = load_record; kept = kept; image = image }
+load_by i out load_record kept image =
+    record { inputs = i; out = out; load_record = load_record; kept = kept; image = image }
 
 abbrev pub load_with : InputsValue → Text → Text → Bool → PlanNumbers → Result LoadValue UsageWhy
-load_with i out load_record kept n = map_answer (load_by i out load_record kept) (image_where i (has_same_name (out ∷ load_record ∷ []) (files_of i)) n)
+load_with i out load_record kept n =
+    map_answer (load_by i out load_record kept)
+    (image_where i (has_same_name (out ∷ load_record ∷ []) (files_of i)) n)
 
 abbrev pub load_in : List Row → Result LoadValue UsageWhy
 load_in rows = with_numbers (plan_numbers_by None rows)
-    (load_with (inputs_of rows) (word_of (codes "OUT") rows) (word_of (codes "RECORD") rows) (flag_of (codes "kept") rows))
+    (load_with (inputs_of rows) (word_of (codes "OUT") rows) (word_of (codes "RECORD") rows)
+    (flag_of (codes "kept") rows))
 
 -- ---- load-panic
 
@@ -132,19 +145,25 @@ crash_inputs_of rows = record {
 
 abbrev pub with_map : CrashInputsValue → Text → Text → Option Text → Result LoadPanicValue UsageWhy
 with_map i out load_record None = Err why.NeedsMap
-with_map i out load_record (Some map) = Ok (record { inputs = i; map = map; out = out; load_record = load_record })
+with_map i out load_record (Some map) =
+    Ok (record { inputs = i; map = map; out = out; load_record = load_record })
 
-abbrev pub load_panic_with : CrashInputsValue → Option Text → Text → Text → Result LoadPanicValue UsageWhy
-load_panic_with i map out load_record = if has_same_name (out ∷ load_record ∷ []) (crash_files_of i map) then Err why.SameName
+abbrev pub load_panic_with : CrashInputsValue → Option Text → Text → Text
+    → Result LoadPanicValue UsageWhy
+load_panic_with i map out load_record =
+    if has_same_name (out ∷ load_record ∷ []) (crash_files_of i map) then Err why.SameName
     else with_map i out load_record map
 
 abbrev pub load_panic_in : List Row → Result LoadPanicValue UsageWhy
-load_panic_in rows = load_panic_with (crash_inputs_of rows) (first_of (codes "map") rows) (word_of (codes "OUT") rows) (word_of (codes "RECORD") rows)
+load_panic_in rows =
+    load_panic_with (crash_inputs_of rows) (first_of (codes "map") rows)
+    (word_of (codes "OUT") rows) (word_of (codes "RECORD") rows)
 
 -- ---- check, dump, exec, trace, sample
 
 abbrev pub load_names_of : List Row → LoadNamesValue
-load_names_of rows = record { memory = word_of (codes "MEMORY") rows; load_record = word_of (codes "RECORD") rows }
+load_names_of rows =
+    record { memory = word_of (codes "MEMORY") rows; load_record = word_of (codes "RECORD") rows }
 
 abbrev pub load_names_in : List Row → Result LoadNamesValue UsageWhy
 load_names_in rows = Ok (load_names_of rows)
@@ -158,7 +177,9 @@ exec_of rows = record {
 }
 
 abbrev pub exec_with : ExecValue → Result ExecValue UsageWhy
-exec_with e = if has_same_name (e.out ∷ []) (e.memory ∷ e.load_record ∷ []) then Err why.SameName else Ok e
+exec_with e =
+    if has_same_name (e.out ∷ []) (e.memory ∷ e.load_record ∷ []) then Err why.SameName
+    else Ok e
 
 abbrev pub exec_in : List Row → Result ExecValue UsageWhy
 exec_in rows = exec_with (exec_of rows)
@@ -168,10 +189,14 @@ trace_with memory out n = if has_same_name (out ∷ []) (memory ∷ []) then Err
     else Ok (record { memory = memory; out = out; head = n.head; limit = n.limit; swap = n.swap })
 
 abbrev pub trace_numbers_by : List Row → Result TraceNumbers Which
-trace_numbers_by rows = trace_numbers_of (first_of (codes "swap") rows) (word_of (codes "HEAD") rows) (word_of (codes "LIMIT") rows)
+trace_numbers_by rows =
+    trace_numbers_of (first_of (codes "swap") rows) (word_of (codes "HEAD") rows)
+    (word_of (codes "LIMIT") rows)
 
 abbrev pub trace_in : List Row → Result TraceValue UsageWhy
-trace_in rows = with_numbers (trace_numbers_by rows) (trace_with (word_of (codes "MEMORY") rows) (word_of (codes "OUT") rows))
+trace_in rows =
+    with_numbers (trace_numbers_by rows)
+    (trace_with (word_of (codes "MEMORY") rows) (word_of (codes "OUT") rows))
 
 abbrev pub sample_by : List Row → Result ℕ Which
 sample_by rows = sample_of (word_of (codes "NUMBER") rows)
@@ -186,7 +211,8 @@ answer_where [] answer = answer
 answer_where (k ∷ ks) answer = Err why.Parse
 
 -- the words have to be taken by the command; then they say what their values say
-abbrev pub answer_by : {A : Type 0} → App → (List Row → Result A UsageWhy) → List Text → Result A UsageWhy
+abbrev pub answer_by : {A : Type 0} → App → (List Row → Result A UsageWhy) → List Text
+    → Result A UsageWhy
 answer_by app read words = answer_where (fault_of app words) (read (matches_of app words))
 
 -- the command of this name
@@ -204,7 +230,8 @@ abbrev pub command_by_name : Option Name → List Text → Result CommandValue U
 command_by_name None words = Err why.Command
 command_by_name (Some name.Boot) words = map_answer boot (answer_by boot_app boot_in words)
 command_by_name (Some name.Load) words = map_answer load (answer_by load_app load_in words)
-command_by_name (Some name.LoadPanic) words = map_answer load_panic (answer_by load_panic_app load_panic_in words)
+command_by_name (Some name.LoadPanic) words =
+    map_answer load_panic (answer_by load_panic_app load_panic_in words)
 command_by_name (Some name.Check) words = map_answer check (answer_by check_app load_names_in words)
 command_by_name (Some name.Dump) words = map_answer dump (answer_by dump_app load_names_in words)
 command_by_name (Some name.Exec) words = map_answer exec (answer_by exec_app exec_in words)

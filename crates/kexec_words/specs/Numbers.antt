@@ -17,7 +17,8 @@ use Rattle.kexec_words.specs.declared.numbers.TraceNumbers.{TraceNumbers}
 
 -- 1 to `most` digits in a base; those above 9 are letters, of either case
 abbrev pub is_number : ℕ → ℕ → Text → Bool
-is_number base most t = nat_lt 0 (length t) && (nat_le (length t) most && list_all (λ d. nat_lt (digit_value d) base) t)
+is_number base most t =
+    nat_lt 0 (length t) && (nat_le (length t) most && list_all (λ d. nat_lt (digit_value d) base) t)
 
 abbrev pub number_of : ℕ → ℕ → Text → Option ℕ
 number_of base most t = if is_number base most t then Some (digits_value base t) else None
@@ -59,7 +60,8 @@ some_in_form w (Some a) = Ok (Some a)
 some_in_form w None = Err w
 
 -- an option that is not given, or is given in its form
-abbrev pub option_in_form : {A : Type 0} → Which → (Text → Option A) → Option Text → Result (Option A) Which
+abbrev pub option_in_form : {A : Type 0} → Which → (Text → Option A) → Option Text
+    → Result (Option A) Which
 option_in_form w read None = Ok None
 option_in_form w read (Some t) = some_in_form w (read t)
 
@@ -91,18 +93,24 @@ abbrev pub sample_of : Text → Result ℕ Which
 sample_of t = in_form which.Number (number_of 10 18 t)
 
 -- all four, or the first that has not its form
-abbrev pub plan_numbers_from : Result TypeWord Which → Result (Option Runs) Which → Result (Option ℕ) Which → Result (Option ℕ) Which
+abbrev pub plan_numbers_from : Result TypeWord Which → Result (Option Runs) Which
+    → Result (Option ℕ) Which → Result (Option ℕ) Which
     → Result PlanNumbers Which
 plan_numbers_from (Err w) r a e = Err w
 plan_numbers_from (Ok k) (Err w) a e = Err w
 plan_numbers_from (Ok k) (Ok r) (Err w) e = Err w
 plan_numbers_from (Ok k) (Ok r) (Ok a) (Err w) = Err w
-plan_numbers_from (Ok k) (Ok r) (Ok a) (Ok e) = Ok (record { kind = k; kept = r; at = a; entry = e })
+plan_numbers_from (Ok k) (Ok r) (Ok a) (Ok e) =
+    Ok (record { kind = k; kept = r; at = a; entry = e })
 
-abbrev pub plan_numbers_of : Option Text → Option Text → Option Text → Option Text → Result PlanNumbers Which
-plan_numbers_of kind kept at entry = plan_numbers_from (type_of kind) (kept_of kept) (address_of which.At at) (address_of which.Entry entry)
+abbrev pub plan_numbers_of : Option Text → Option Text → Option Text → Option Text
+    → Result PlanNumbers Which
+plan_numbers_of kind kept at entry =
+    plan_numbers_from (type_of kind) (kept_of kept) (address_of which.At at)
+    (address_of which.Entry entry)
 
-abbrev pub trace_numbers_from : Result (Option ℕ) Which → Result ℕ Which → Result ℕ Which → Result TraceNumbers Which
+abbrev pub trace_numbers_from : Result (Option ℕ) Which → Result ℕ Which → Result ℕ Which
+    → Result TraceNumbers Which
 trace_numbers_from (Err w) h l = Err w
 trace_numbers_from (Ok s) (Err w) l = Err w
 trace_numbers_from (Ok s) (Ok h) (Err w) = Err w

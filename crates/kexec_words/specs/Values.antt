@@ -95,7 +95,13 @@ inputs_value i = record {
 }
 
 abbrev pub boot_value : Boot → BootValue
-boot_value b = record { inputs = inputs_value b.inputs; out = string_bytes b.out; kept = b.kept; image = b.image }
+boot_value b =
+    record {
+      inputs = inputs_value b.inputs;
+      out = string_bytes b.out;
+      kept = b.kept;
+      image = b.image;
+    }
 
 abbrev pub load_value : Load → LoadValue
 load_value l = record {
@@ -125,7 +131,8 @@ load_panic_value l = record {
 }
 
 abbrev pub load_names_value : LoadNames → LoadNamesValue
-load_names_value l = record { memory = string_bytes l.memory; load_record = string_bytes l.load_record }
+load_names_value l =
+    record { memory = string_bytes l.memory; load_record = string_bytes l.load_record }
 
 abbrev pub exec_value : Exec → ExecValue
 exec_value e = record {

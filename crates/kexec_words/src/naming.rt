@@ -79,14 +79,17 @@ pub(crate) fn is_input(inputs: &Inputs, out: &str) -> bool
 
 // Whether one of two outputs has the name of an input or of the other one.
 pub(crate) fn is_repeated(inputs: &Inputs, out: &str, load_record: &str) -> bool
-    ensures { result ≡ has_same_name (out.now ∷ load_record.now ∷ []) (files_of (inputs_value inputs.now)) }
+    ensures { result
+        ≡ has_same_name (out.now ∷ load_record.now ∷ []) (files_of (inputs_value inputs.now)) }
 {
     load_record == out || is_read(inputs, out) || is_read(inputs, load_record)
 }
 
 // Whether `load-panic` reads a file of this name.
 fn is_read_for_crash(inputs: &CrashInputs, map: &Option<String>, text: &str) -> bool
-    ensures { result ≡ is_among text.now (crash_files_of (crash_inputs_value inputs.now) (option_map string_bytes map.now)) }
+    ensures { result
+        ≡ is_among text.now
+        (crash_files_of (crash_inputs_value inputs.now) (option_map string_bytes map.now)) }
 {
     inputs.memory.as_str() == text
         || is_given(map, text)
@@ -103,7 +106,9 @@ pub(crate) fn is_repeated_for_crash(
     out: &str,
     load_record: &str,
 ) -> bool
-    ensures { result ≡ has_same_name (out.now ∷ load_record.now ∷ []) (crash_files_of (crash_inputs_value inputs.now) (option_map string_bytes map.now)) }
+    ensures { result
+        ≡ has_same_name (out.now ∷ load_record.now ∷ [])
+        (crash_files_of (crash_inputs_value inputs.now) (option_map string_bytes map.now)) }
 {
     load_record == out
         || is_read_for_crash(inputs, map, out)

@@ -166,7 +166,9 @@ pub(crate) fn plan_numbers(
     at: Option<&str>,
     entry: Option<&str>,
 ) -> Result<PlanNumbers, Which>
-    ensures { result ≡ plan_numbers_of (text_in kind.entry) (text_in kept.entry) (text_in at.entry) (text_in entry.entry) }
+    ensures { result
+        ≡ plan_numbers_of (text_in kind.entry) (text_in kept.entry) (text_in at.entry)
+        (text_in entry.entry) }
 {
     let kind = type_in(kind)?;
     let kept = kept_in(kept)?;

@@ -46,7 +46,8 @@ pub(crate) fn matches_for<'a>(
     words: &'a [String],
 ) -> Result<ArgMatches<'a>, WordsFault>
     requires simple { is_simple_and_free (app_with name.now (rules_of arguments.now)) ≡ true }
-    ensures { Parses (app_with name.entry.now (rules_of arguments.now)) (map string_bytes words.entry.now) result }
+    ensures { Parses (app_with name.entry.now (rules_of arguments.now))
+        (map string_bytes words.entry.now) result }
 {
     let command = command_with(alloc, name, arguments)?;
     match command.try_get_matches_from(words) {

@@ -90,7 +90,8 @@ fn numbers_in(matches: &ArgMatches<'_>, kept: Option<&str>) -> Result<PlanNumber
 }
 
 fn boot_from(inputs: Inputs, out: String, numbers: PlanNumbers) -> Result<Boot, WordsFault>
-    ensures { Answers boot_value (boot_with (inputs_value inputs) (string_bytes out) numbers) result }
+    ensures { Answers boot_value
+        (boot_with (inputs_value inputs) (string_bytes out) numbers) result }
 {
     let image = image_for(&inputs, is_input(&inputs, &out), numbers)?;
     Ok(Boot {
@@ -125,7 +126,9 @@ fn load_from(
     kept: bool,
     numbers: PlanNumbers,
 ) -> Result<Load, WordsFault>
-    ensures { Answers load_value (load_with (inputs_value inputs) (string_bytes out) (string_bytes load_record) kept numbers) result }
+    ensures { Answers load_value
+        (load_with (inputs_value inputs) (string_bytes out) (string_bytes load_record) kept numbers)
+        result }
 {
     let image = image_for(&inputs, is_repeated(&inputs, &out, &load_record), numbers)?;
     Ok(Load {

@@ -15,7 +15,8 @@ use crate::unplanned::{
 use std::alloc::Global;
 
 fn read_named(alloc: Global, name: Name, words: &[String]) -> Result<Command, WordsFault>
-    ensures { Answers command_value (command_by_name (Some name) (map string_bytes words.now)) result }
+    ensures { Answers command_value
+        (command_by_name (Some name) (map string_bytes words.now)) result }
 {
     Ok(match name {
         Name::Boot => Command::Boot(read_boot(alloc, words)?),

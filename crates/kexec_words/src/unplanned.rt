@@ -7,7 +7,7 @@ ghost use Rattle.kexec_words.specs.Meaning.{Answers, answer_by, crash_inputs_of,
 ghost use Rattle.kexec_words.specs.Values.{crash_inputs_value, load_panic_value, load_names_value, exec_value, trace_value, number_value};
 
 use crate::arguments::{EXEC, LOAD_PANIC, LOADED, SAMPLE, TRACE};
-use crate::commands::{CrashInputs, Exec, LoadPanic, LoadNames, Trace};
+use crate::commands::{CrashInputs, Exec, LoadNames, LoadPanic, Trace};
 use crate::faults::{UsageWhy, Which, WordsFault};
 use crate::naming::is_repeated_for_crash;
 use crate::numbers::{TraceNumbers, sample_number, trace_numbers};
@@ -35,7 +35,9 @@ fn load_panic_from(
     out: String,
     load_record: String,
 ) -> Result<LoadPanic, WordsFault>
-    ensures { Answers load_panic_value (load_panic_with (crash_inputs_value inputs) (option_map string_bytes map) (string_bytes out) (string_bytes load_record)) result }
+    ensures { Answers load_panic_value
+        (load_panic_with (crash_inputs_value inputs) (option_map string_bytes map)
+        (string_bytes out) (string_bytes load_record)) result }
 {
     if is_repeated_for_crash(&inputs, &map, &out, &load_record) {
         return Err(WordsFault::Usage {
@@ -67,14 +69,16 @@ fn load_panic_found(alloc: Global, matches: &ArgMatches<'_>) -> Result<LoadPanic
 
 // The words after `load-panic`.
 pub(crate) fn read_load_panic(alloc: Global, words: &[String]) -> Result<LoadPanic, WordsFault>
-    ensures { Answers load_panic_value (answer_by load_panic_app load_panic_in (map string_bytes words.now)) result }
+    ensures { Answers load_panic_value
+        (answer_by load_panic_app load_panic_in (map string_bytes words.now)) result }
 {
     let matches = matches_for(alloc, "load-panic", &LOAD_PANIC, words)?;
     load_panic_found(alloc, &matches)
 }
 
 fn loaded_names(alloc: Global, matches: &ArgMatches<'_>) -> Result<LoadNames, AllocError>
-    ensures { IfOk result (λ l. load_names_value l ≡ load_names_of (rows_of (found_of matches.now))) }
+    ensures { IfOk result
+        (λ l. load_names_value l ≡ load_names_of (rows_of (found_of matches.now))) }
 {
     Ok(LoadNames {
         memory: name_in(alloc, matches, "MEMORY")?,
@@ -90,7 +94,8 @@ fn loaded_found(alloc: Global, matches: &ArgMatches<'_>) -> Result<LoadNames, Wo
 
 // The words after `check`.
 pub(crate) fn read_check(alloc: Global, words: &[String]) -> Result<LoadNames, WordsFault>
-    ensures { Answers load_names_value (answer_by check_app load_names_in (map string_bytes words.now)) result }
+    ensures { Answers load_names_value
+        (answer_by check_app load_names_in (map string_bytes words.now)) result }
 {
     let matches = matches_for(alloc, "check", &LOADED, words)?;
     loaded_found(alloc, &matches)
@@ -98,7 +103,8 @@ pub(crate) fn read_check(alloc: Global, words: &[String]) -> Result<LoadNames, W
 
 // The words after `dump`.
 pub(crate) fn read_dump(alloc: Global, words: &[String]) -> Result<LoadNames, WordsFault>
-    ensures { Answers load_names_value (answer_by dump_app load_names_in (map string_bytes words.now)) result }
+    ensures { Answers load_names_value
+        (answer_by dump_app load_names_in (map string_bytes words.now)) result }
 {
     let matches = matches_for(alloc, "dump", &LOADED, words)?;
     loaded_found(alloc, &matches)
@@ -152,7 +158,8 @@ fn trace_numbers_in(matches: &ArgMatches<'_>) -> Result<TraceNumbers, Which>
 }
 
 fn trace_from(memory: String, out: String, numbers: TraceNumbers) -> Result<Trace, WordsFault>
-    ensures { Answers trace_value (trace_with (string_bytes memory) (string_bytes out) numbers) result }
+    ensures { Answers trace_value
+        (trace_with (string_bytes memory) (string_bytes out) numbers) result }
 {
     if memory == out {
         return Err(WordsFault::Usage {
@@ -179,7 +186,8 @@ fn trace_found(alloc: Global, matches: &ArgMatches<'_>) -> Result<Trace, WordsFa
 
 // The words after `trace`.
 pub(crate) fn read_trace(alloc: Global, words: &[String]) -> Result<Trace, WordsFault>
-    ensures { Answers trace_value (answer_by trace_app trace_in (map string_bytes words.now)) result }
+    ensures { Answers trace_value
+        (answer_by trace_app trace_in (map string_bytes words.now)) result }
 {
     let matches = matches_for(alloc, "trace", &TRACE, words)?;
     trace_found(alloc, &matches)
@@ -199,7 +207,8 @@ fn sample_found(matches: &ArgMatches<'_>) -> Result<u64, WordsFault>
 
 // The words after `sample`.
 pub(crate) fn read_sample(alloc: Global, words: &[String]) -> Result<u64, WordsFault>
-    ensures { Answers number_value (answer_by sample_app sample_in (map string_bytes words.now)) result }
+    ensures { Answers number_value
+        (answer_by sample_app sample_in (map string_bytes words.now)) result }
 {
     let matches = matches_for(alloc, "sample", &SAMPLE, words)?;
     sample_found(&matches)

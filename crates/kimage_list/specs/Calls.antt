@@ -19,7 +19,16 @@ use Rattle.kimage_list.specs.Writers.{History, Writer, is_wanted, need, pages_in
 
 -- a load that is asked for these pages, and has no entry yet
 abbrev pub load_begun : Mem → List ℕ → List Run → ℕ → Wish → History
-load_begun M pool wanted segments wish = record { before = M; pool = pool; wanted = wanted; segments = segments; wish = wish; entries = []; bytes = λ p. None }
+load_begun M pool wanted segments wish =
+    record {
+      before = M;
+      pool = pool;
+      wanted = wanted;
+      segments = segments;
+      wish = wish;
+      entries = [];
+      bytes = λ p. None;
+    }
 
 -- why a list is not begun: too few pages exactly where the pool has fewer than the load takes
 abbrev pub Refuses : BeginFault → ℕ → ℕ → Type 0
@@ -28,14 +37,27 @@ Refuses Memory left need = need ≤ left
 
 -- a writer's fields as its value
 abbrev pub writer_of : Inside → Writer
-writer_of s = record { memory = s.list.memory; pool = s.list.pool; table = s.list.table; next = s.list.next; entries = s.list.entries; head = s.list.head; mode = s.mode; control = s.control; segments_left = s.segments_left; destination = s.destination }
+writer_of s =
+    record {
+      memory = s.list.memory;
+      pool = s.list.pool;
+      table = s.list.table;
+      next = s.list.next;
+      entries = s.list.entries;
+      head = s.list.head;
+      mode = s.mode;
+      control = s.control;
+      segments_left = s.segments_left;
+      destination = s.destination;
+    }
 
 -- a load for which all memory is taken, and no page
 pub record IsPrepared (h : History) (list : OpenList) (n : ℕ) (asked : Wish) : Type 0 where
   pub nothing : h.entries ≡ []
   pub segments : n ≡ h.segments
   pub wish : asked ≡ h.wish
-  pub writes : Renders (draft_of h (begun h.pool) [] []) [] list.memory list.pool list.table list.next list.entries
+  pub writes : Renders (draft_of h (begun h.pool) [] []) [] list.memory list.pool list.table
+      list.next list.entries
   pub under_way : UnderWay h.pool (pages_in h.wanted) (need h) (draft_of h (begun h.pool) [] [])
   pub apart : AreApart 0 h.wanted
   pub some : 1 ≤ h.segments
@@ -50,7 +72,8 @@ pub record IsWritten (h : History) (w : Written) : Type 0 where
   pub memory : (p : ℕ) → at w.memory p ≡ laid h.before h.bytes h.wish h.entries loading p
   -- the pool has left what follows its first pages, as many as the load takes, and these are the pages in use
   pub drawn : w.pool.left ≡ drop (need h) h.pool
-  pub in_use : (x : ℕ) → count x loading.spare + count x (sources loading.pairs) ≡ count x (take (need h) h.pool)
+  pub in_use : (x : ℕ)
+      → count x loading.spare + count x (sources loading.pairs) ≡ count x (take (need h) h.pool)
   pub unfiled : (p : ℕ) → is_filed w.pool p ≡ false
   -- the pool's pages differ, and those in use have numbers below 2 ^ 34
   pub once : (x : ℕ) → count x h.pool ≤ 1

@@ -10,8 +10,10 @@ pub record Counts (pool all : List ℕ) (d : Draft) : Type 0 where
   pub conserved : (x : ℕ) → amount x d.loading ≡ count x pool
   pub homes : Each (IsHome d.wanted) d.loading.pairs
   pub order : destinations d.loading.pairs ≡ pages_of d.entries
-  pub files : Each (λ p. (d.wanted p ≡ true) × (Has p (destinations d.loading.pairs) → ⊥)) d.loading.filed
-  pub sizes : length d.loading.left + length d.loading.filed + length d.loading.spare + length d.loading.pairs ≡ length pool
+  pub files : Each (λ p. (d.wanted p ≡ true) × (Has p (destinations d.loading.pairs) → ⊥))
+      d.loading.filed
+  pub sizes : length d.loading.left + length d.loading.filed + length d.loading.spare
+      + length d.loading.pairs ≡ length pool
   pub front : List ℕ
   pub ends : pool ≡ front ++ d.loading.left
   pub free : Each (λ p. d.wanted p ≡ false) d.loading.spare

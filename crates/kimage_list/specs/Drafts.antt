@@ -40,7 +40,8 @@ pub record Draft : Type 0 where
 
 -- Memory, pool, table, the next place and the number of entries render a draft: the pages in hand are taken, and not yet
 -- written.
-pub record Renders (d : Draft) (hand : List ℕ) (memory : Contents) (pool : Pages) (table : Slots) (next entries : ℕ) : Type 0 where
+pub record Renders (d : Draft) (hand : List ℕ) (memory : Contents) (pool : Pages) (table : Slots)
+    (next entries : ℕ) : Type 0 where
   pub tracks : Tracks d.wanted d.loading pool table
   pub order : destinations d.loading.pairs ≡ pages_of d.entries
   pub spare : d.loading.spare ≡ d.first ++ d.links
@@ -52,8 +53,10 @@ pub record Renders (d : Draft) (hand : List ℕ) (memory : Contents) (pool : Pag
   pub below : (x : ℕ) → 1 ≤ count x d.room → x < 2 ^ 34
   pub list : Holds (at memory) (open_pages d.links (items d.entries d.loading.pairs))
   pub loaded : Holds (at memory) (source_pages d.bytes d.loading.pairs)
-  pub others : (x : ℕ) → count x d.links + count x (sources d.loading.pairs) + count x hand ≡ 0 → at memory x ≡ d.before x
-  pub places : (x a : ℕ) → place_in (slot table x) ≡ Some a → a ≡ entry_place d.links (number x d.entries)
+  pub others : (x : ℕ) → count x d.links + count x (sources d.loading.pairs) + count x hand ≡ 0
+      → at memory x ≡ d.before x
+  pub places : (x a : ℕ) → place_in (slot table x) ≡ Some a
+      → a ≡ entry_place d.links (number x d.entries)
   pub place : next ≡ next_place d.links (length d.entries)
   pub many : entries ≡ length d.entries
 
@@ -65,7 +68,8 @@ pub record CanTake (d : Draft) (r : Request) (t : ℕ × Loading) : Type 0 where
 -- an exchange can be made in this memory
 abbrev pub CanMove : Option MovedPage → Contents → Type 0
 CanMove None m = Unit {0}
-CanMove (Some v) m = (v.place < 2 ^ 46) × (v.place % 8 ≡ 0) × IsHeld m v.page × IsHeld m (v.place / 4096)
+CanMove (Some v) m =
+    (v.place < 2 ^ 46) × (v.place % 8 ≡ 0) × IsHeld m v.page × IsHeld m (v.place / 4096)
 
 -- memory after the exchange that freed page s
 abbrev pub moved : Mem → Option MovedPage → ℕ → Mem
@@ -115,7 +119,10 @@ HasLink d = 1 ≤ length d.links
 
 -- the memory that this draft lays
 abbrev pub laid_by : Draft → Mem
-laid_by d = put_all d.before (link_pages d.links (items d.entries d.loading.pairs) ++ source_pages d.bytes d.loading.pairs)
+laid_by d =
+    put_all d.before
+    (link_pages d.links (items d.entries d.loading.pairs)
+    ++ source_pages d.bytes d.loading.pairs)
 
 -- the head is the first link page's address and flag
 abbrev pub HeadIs : List ℕ → ℕ → Type 0
@@ -128,4 +135,14 @@ first_taken d t = record d { loading = given None t; first = d.first ++ t.0 ∷ 
 
 -- nothing is written yet
 abbrev pub initial : Mem → (ℕ → Bool) → Wants → ℕ → List ℕ → Draft
-initial M D W need pool = record { before = M; wanted = D; bytes = W; room = take need pool; first = []; links = []; entries = []; loading = begun pool }
+initial M D W need pool =
+    record {
+      before = M;
+      wanted = D;
+      bytes = W;
+      room = take need pool;
+      first = [];
+      links = [];
+      entries = [];
+      loading = begun pool;
+    }

@@ -12,49 +12,64 @@ use Rattle.kx_pages.specs.Needs.{first_count}
 -- Taking never fails below the need, and draws no page past it.
 abbrev pub AlwaysTakes : Type 0
 AlwaysTakes =
-    (pool all : List ℕ) (need : ℕ) (d : Draft) (r : Request) → Counts pool all d → need ≤ length pool → d.room ≡ take need pool →
-    Allowed r all (pages_of d.entries) (length d.loading.spare) need → (t : ℕ × Loading) × CanTake d r t
+    (pool all : List ℕ) (need : ℕ) (d : Draft) (r : Request) → Counts pool all d
+    → need ≤ length pool → d.room ≡ take need pool
+    → Allowed r all (pages_of d.entries) (length d.loading.spare) need
+    → (t : ℕ × Loading) × CanTake d r t
 
 -- A request that is taken and given is one more request served.
 abbrev pub OneMore : Type 0
 OneMore =
-    (D : ℕ → Bool) (rs : List Request) (pool : List ℕ) (r : Request) (l : Loading) (t : ℕ × Loading) →
-    served D rs (begun pool) ≡ Some l → taken D r l ≡ Some t → served D (rs ++ r ∷ []) (begun pool) ≡ Some (given r t)
+    (D : ℕ → Bool) (rs : List Request) (pool : List ℕ) (r : Request) (l : Loading) (t : ℕ × Loading)
+    → served D rs (begun pool) ≡ Some l → taken D r l ≡ Some t
+    → served D (rs ++ r ∷ []) (begun pool) ≡ Some (given r t)
 
 -- Before each entry there is room, or a link page can be taken: the load has this many segments, and first pages.
 abbrev pub RoomIsThere : Type 0
 RoomIsThere =
     (pool all : List ℕ) (segments : ℕ) (d : Draft) →
-    UnderWay pool all (length all + (segments + length all + 510) / 511 + length d.first) d → IsSteady d → length d.entries < segments + length all →
-    (e : Draft) × Room d e × UnderWay pool all (length all + (segments + length all + 510) / 511 + length d.first) e × HasRoom e × (e.entries ≡ d.entries) × (e.first ≡ d.first)
+    UnderWay pool all (length all + (segments + length all + 510) / 511 + length d.first) d
+    → IsSteady d → length d.entries < segments + length all
+    → (e : Draft) × Room d e
+    × UnderWay pool all (length all + (segments + length all + 510) / 511 + length d.first) e
+    × HasRoom e × (e.entries ≡ d.entries) × (e.first ≡ d.first)
 
 -- With room, each wanted page that is not loaded can be.
 abbrev pub PageIsThere : Type 0
 PageIsThere =
-    (pool all : List ℕ) (need p : ℕ) (e : Draft) → UnderWay pool all need e → HasRoom e → Has p all → count p (pages_of e.entries) ≡ 0 → length e.loading.spare + length all ≤ need →
-    (t : ℕ × Loading) × CanTake e (Some p) t × UnderWay pool all need (loaded_from e p t)
+    (pool all : List ℕ) (need p : ℕ) (e : Draft) → UnderWay pool all need e → HasRoom e → Has p all
+    → count p (pages_of e.entries) ≡ 0 → length e.loading.spare + length all ≤ need
+    → (t : ℕ × Loading) × CanTake e (Some p) t × UnderWay pool all need (loaded_from e p t)
 
 -- With room, a segment's start keeps the draft under way.
 abbrev pub StartIsThere : Type 0
-StartIsThere = (pool all : List ℕ) (need p : ℕ) (e : Draft) → UnderWay pool all need e → HasRoom e → UnderWay pool all need (started e p)
+StartIsThere =
+    (pool all : List ℕ) (need p : ℕ) (e : Draft) → UnderWay pool all need e → HasRoom e
+    → UnderWay pool all need (started e p)
 
 -- When all wanted pages are loaded, exactly the need is drawn and none is filed.
 abbrev pub AllDrawn : Type 0
 AllDrawn =
-    (pool all : List ℕ) (need : ℕ) (d : Draft) → UnderWay pool all need d → ((p : ℕ) → d.wanted p ≡ true → Has p (pages_of d.entries)) → length d.loading.spare + length d.loading.pairs ≡ need →
-    (d.loading.filed ≡ []) × (d.loading.left ≡ drop need pool)
+    (pool all : List ℕ) (need : ℕ) (d : Draft) → UnderWay pool all need d
+    → ((p : ℕ) → d.wanted p ≡ true → Has p (pages_of d.entries))
+    → length d.loading.spare + length d.loading.pairs ≡ need
+    → (d.loading.filed ≡ []) × (d.loading.left ≡ drop need pool)
 
 -- A list that is begun is under way, and the pages before the link pages can be taken.
 abbrev pub OpensUnderWay : Type 0
 OpensUnderWay =
-    ((M : Mem) (D : ℕ → Bool) (W : Wants) (need : ℕ) (pool all : List ℕ) → ((x : ℕ) → count x pool ≤ 1) → ((p : ℕ) → D p ≡ true → Has p all) → need ≤ length pool →
-    UnderWay pool all need (initial M D W need pool) × IsSteady (initial M D W need pool))
-    × ((pool all : List ℕ) (need : ℕ) (d : Draft) → UnderWay pool all need d → d.links ≡ [] → length d.loading.spare + 1 + length all ≤ need →
-    (t : ℕ × Loading) × CanTake d None t × UnderWay pool all need (first_taken d t))
+    ((M : Mem) (D : ℕ → Bool) (W : Wants) (need : ℕ) (pool all : List ℕ)
+    → ((x : ℕ) → count x pool ≤ 1) → ((p : ℕ) → D p ≡ true → Has p all) → need ≤ length pool
+    → UnderWay pool all need (initial M D W need pool) × IsSteady (initial M D W need pool))
+    × ((pool all : List ℕ) (need : ℕ) (d : Draft) → UnderWay pool all need d → d.links ≡ []
+    → length d.loading.spare + 1 + length all ≤ need
+    → (t : ℕ × Loading) × CanTake d None t × UnderWay pool all need (first_taken d t))
 
 -- The pages taken first, the control page, the swap page and the first link page, are the first pages of the pool that
 -- are no destinations. D tells the destinations.
 abbrev pub FirstPages : Type 0
 FirstPages =
-    (D : ℕ → Bool) (wish : Wish) (e : Entry) (es : List Entry) (pool : List ℕ) (l : Loading) → loaded D wish (e ∷ es) pool ≡ Some l →
-    take (first_count wish + 1) l.spare ≡ take (first_count wish + 1) (filter (λ p. not (D p)) pool)
+    (D : ℕ → Bool) (wish : Wish) (e : Entry) (es : List Entry) (pool : List ℕ) (l : Loading)
+    → loaded D wish (e ∷ es) pool ≡ Some l
+    → take (first_count wish + 1) l.spare
+    ≡ take (first_count wish + 1) (filter (λ p. not (D p)) pool)

@@ -46,7 +46,8 @@ in_bytes (w ∷ ws) = little_bytes 8 w ++ in_bytes ws
 abbrev pub link_pages : List ℕ → List Item → List (ℕ × List ℕ)
 link_pages [] is = []
 link_pages (l ∷ ls) is =
-    (l, page_of (in_bytes (map code (take 511 is ++ take 1 (chained ls (drop 511 is)))))) ∷ link_pages ls (drop 511 is)
+    (l, page_of (in_bytes (map code (take 511 is ++ take 1 (chained ls (drop 511 is))))))
+    ∷ link_pages ls (drop 511 is)
 
 -- each source page with the bytes of its destination
 abbrev pub source_pages : Wants → List (ℕ × ℕ) → List (ℕ × List ℕ)
@@ -63,7 +64,8 @@ Holds M xs = Each (λ x. M x.0 ≡ x.1) xs
 
 -- the memory of a load: M, but for the link pages and the sources
 abbrev pub laid : Mem → Wants → Wish → List Entry → Loading → Mem
-laid M W wish es l = put_all M (link_pages (links_of wish l) (items es l.pairs) ++ source_pages W l.pairs)
+laid M W wish es l =
+    put_all M (link_pages (links_of wish l) (items es l.pairs) ++ source_pages W l.pairs)
 
 -- its list, with the link that the head word is
 abbrev pub list_of : Wish → List Entry → Loading → List Item

@@ -44,7 +44,8 @@ own_request (Move p) = Some p ∷ []
 -- the requests of these entries, of which the first is number n: a link page for each 511 entries, and the pages
 abbrev pub requests_from : ℕ → List Entry → List Request
 requests_from n [] = []
-requests_from n (e ∷ es) = cond (eqb (n % 511) 0) (None ∷ []) [] ++ (own_request e ++ requests_from (suc n) es)
+requests_from n (e ∷ es) =
+    cond (eqb (n % 511) 0) (None ∷ []) [] ++ (own_request e ++ requests_from (suc n) es)
 
 -- the requests of a load, in order
 abbrev pub requests : Wish → List Entry → List Request
@@ -78,13 +79,15 @@ at_home p (q ∷ qs) = cond (eqb q.0 p) ((p, p) ∷ qs) (q ∷ at_home p qs)
 -- Draws pages until one serves. D tells the destination pages. A page that was asked for, or that is no destination,
 -- is given. Where a destination page is loaded already, its source is given, and it becomes its own source. Any other
 -- destination page is filed.
-abbrev pub draw : (ℕ → Bool) → Request → List (ℕ × ℕ) → List ℕ → List ℕ → List ℕ → Option (ℕ × Loading)
+abbrev pub draw : (ℕ → Bool) → Request → List (ℕ × ℕ) → List ℕ → List ℕ → List ℕ
+    → Option (ℕ × Loading)
 draw D r pairs spare filed [] = None
 draw D r pairs spare filed (q ∷ left) =
     elim (is_for r q || not (D q)) [
       | true ↦ Some (q, record { left = left; filed = filed; pairs = pairs; spare = spare })
       | false ↦ elim (source_of q pairs) [
-        | Some s ↦ Some (s, record { left = left; filed = filed; pairs = at_home q pairs; spare = spare })
+        | Some s ↦
+            Some (s, record { left = left; filed = filed; pairs = at_home q pairs; spare = spare })
         | None ↦ draw D r pairs spare (q ∷ filed) left
       ]
     ]

@@ -16,11 +16,13 @@ onward (l ∷ ls) = code (Link l) ∷ []
 -- each link page with its bytes so far
 abbrev pub open_pages : List ℕ → List Item → List (ℕ × List ℕ)
 open_pages [] is = []
-open_pages (l ∷ ls) is = (l, page_of (in_bytes (map code (take 511 is) ++ onward ls))) ∷ open_pages ls (drop 511 is)
+open_pages (l ∷ ls) is =
+    (l, page_of (in_bytes (map code (take 511 is) ++ onward ls))) ∷ open_pages ls (drop 511 is)
 
 -- the memory of a load so far: M, but for these link pages and the sources
 abbrev pub laid_so_far : Mem → Wants → List ℕ → List Entry → List (ℕ × ℕ) → Mem
-laid_so_far M W links es pairs = put_all M (open_pages links (items es pairs) ++ source_pages W pairs)
+laid_so_far M W links es pairs =
+    put_all M (open_pages links (items es pairs) ++ source_pages W pairs)
 
 -- where entry number n stands
 abbrev pub entry_place : List ℕ → ℕ → ℕ
@@ -40,7 +42,9 @@ Tight ls n = (511 * length ls ≤ n + 511) × (n ≤ 511 * length ls)
 abbrev pub ended_pages : List ℕ → List Item → List ℕ → List (ℕ × List ℕ)
 ended_pages [] is ws = []
 ended_pages (l ∷ []) is ws = (l, page_of (in_bytes (map code (take 511 is) ++ ws))) ∷ []
-ended_pages (l ∷ (k ∷ ks)) is ws = (l, page_of (in_bytes (map code (take 511 is) ++ code (Link k) ∷ []))) ∷ ended_pages (k ∷ ks) (drop 511 is) ws
+ended_pages (l ∷ (k ∷ ks)) is ws =
+    (l, page_of (in_bytes (map code (take 511 is) ++ code (Link k) ∷ [])))
+    ∷ ended_pages (k ∷ ks) (drop 511 is) ws
 
 -- the number of page p's entry
 abbrev pub number : ℕ → List Entry → ℕ

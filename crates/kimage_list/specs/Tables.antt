@@ -14,7 +14,9 @@ abbrev pub slots_of : tree.BTreeMap ℕ (Option PageSource) → Slots
 slots_of m = finite.from_entries m.entries
 
 abbrev pub loaded_code : Coded PageSource
-loaded_code = code_by (ℕ × ℕ) (coded× coded_ℕ coded_ℕ) (λ x. (x.source, x.place)) (λ p. record { source = p.0; place = p.1 }) (λ _. refl)
+loaded_code =
+    code_by (ℕ × ℕ) (coded× coded_ℕ coded_ℕ) (λ x. (x.source, x.place))
+    (λ p. record { source = p.0; place = p.1 }) (λ _. refl)
 
 abbrev pub slots_code : Coded Slots
 slots_code = finite.code coded_ℕ (coded_option loaded_code)

@@ -21,17 +21,21 @@ pub record Tracks (D : ℕ → Bool) (l : Loading) (pool : Pages) (table : Slots
 -- the pair that was exchanged on the way from pairs to pairs', which freed page s
 abbrev pub Exchanged : Option MovedPage → List (ℕ × ℕ) → List (ℕ × ℕ) → ℕ → Slots → Type 0
 Exchanged None pairs pairs' s table = pairs' ≡ pairs
-Exchanged (Some m) pairs pairs' s table = (source_of m.page pairs ≡ Some s) × (pairs' ≡ at_home m.page pairs) × (place_in (slot table m.page) ≡ Some m.place)
+Exchanged (Some m) pairs pairs' s table =
+    (source_of m.page pairs ≡ Some s) × (pairs' ≡ at_home m.page pairs)
+    × (place_in (slot table m.page) ≡ Some m.place)
 
 -- x is the page that taking gave, and t tells it with the loading after it
-pub record Took (D : ℕ → Bool) (l : Loading) (t : ℕ × Loading) (x : TakenPage) (pool : Pages) (table table' : Slots) : Type 0 where
+pub record Took (D : ℕ → Bool) (l : Loading) (t : ℕ × Loading) (x : TakenPage) (pool : Pages)
+    (table table' : Slots) : Type 0 where
   pub page : x.page ≡ t.0
   pub tracks : Tracks D t.1 pool table'
   pub exchanged : Exchanged x.moved l.pairs t.1.pairs t.0 table
   pub places : (p : ℕ) → place_in (slot table' p) ≡ place_in (slot table p)
 
 -- a call gave what taking gives
-abbrev pub Gives : (ℕ → Bool) → Loading → Option (ℕ × Loading) → Option TakenPage → Pages → Slots → Slots → Type 0
+abbrev pub Gives : (ℕ → Bool) → Loading → Option (ℕ × Loading) → Option TakenPage → Pages → Slots
+    → Slots → Type 0
 Gives D l (Some t) (Some x) pool table table' = Took D l t x pool table table'
 Gives D l None None pool table table' = Unit {0}
 Gives D l None (Some x) pool table table' = ⊥
@@ -45,10 +49,12 @@ fate_of false (Some None) = fate.Filed
 fate_of false (Some (Some x)) = fate.Exchanged x
 
 -- drawing from this pool and table on gives what drawing from l gives
-pub record Reaches (D : ℕ → Bool) (r : Option ℕ) (l : Loading) (pool : Pages) (table : Slots) : Type 0 where
+pub record Reaches (D : ℕ → Bool) (r : Option ℕ) (l : Loading) (pool : Pages) (table : Slots)
+    : Type 0 where
   pub now : Loading
   pub tracks : Tracks D now pool table
-  pub same : draw D r now.pairs now.spare now.filed now.left ≡ draw D r l.pairs l.spare l.filed l.left
+  pub same : draw D r now.pairs now.spare now.filed now.left
+      ≡ draw D r l.pairs l.spare l.filed l.left
   pub pairs : now.pairs ≡ l.pairs
 
 -- all pages of a pool: those drawn, then those left
@@ -56,7 +62,8 @@ abbrev pub whole_pool : Pages → List ℕ
 whole_pool pool = pool.drawn ++ pool.left
 
 -- the loop that draws
-pub record Draws (r : Option ℕ) (pool : Pages) (table : Slots) (pool' : Pages) (table' : Slots) : Type 0 where
+pub record Draws (r : Option ℕ) (pool : Pages) (table : Slots) (pool' : Pages) (table' : Slots)
+    : Type 0 where
   pub reaches : (D : ℕ → Bool) (l : Loading) → Tracks D l pool table → Reaches D r l pool' table'
   pub same : table' ≡ table
   pub pages : whole_pool pool' ≡ whole_pool pool

@@ -45,7 +45,8 @@ with_bytes W d bytes p = cond (eqb p d) (Some bytes) (W p)
 
 -- the load with the source entry of destination page d, for which these bytes were given
 abbrev pub with_source : History → ℕ → List ℕ → History
-with_source h d bytes = record h { entries = h.entries ++ Move d ∷ []; bytes = with_bytes h.bytes d bytes }
+with_source h d bytes =
+    record h { entries = h.entries ++ Move d ∷ []; bytes = with_bytes h.bytes d bytes }
 
 -- where the next source goes: to the page behind the last destination
 abbrev pub destination_after : Option ℕ → List Entry → Option ℕ
@@ -57,7 +58,8 @@ destination_after o (Move p ∷ es) = destination_after (Some (suc p)) es
 pub record Writer : Type 0 where
   pub memory : Contents
   pub pool : Pages
-  pub table : Slots  -- of each destination page, its source and the place of its word, once it is loaded
+  -- of each destination page, its source and the place of its word, once it is loaded
+  pub table : Slots
   pub next : ℕ  -- the place of the next word
   pub entries : ℕ  -- how many are written
   pub head : ℕ
@@ -73,9 +75,38 @@ mode_code = code_by (Option ℕ) (coded_option coded_ℕ) swap_page mode_of mode
 abbrev pub writer_code : Coded Writer
 writer_code =
     code_by (Contents × (Pages × (Slots × (ℕ × (ℕ × (ℕ × (Mode × (ℕ × (ℕ × Option ℕ)))))))))
-    (coded× contents_code (coded× pages_code (coded× slots_code (coded× coded_ℕ (coded× coded_ℕ (coded× coded_ℕ (coded× mode_code (coded× coded_ℕ (coded× coded_ℕ (coded_option coded_ℕ))))))))))
-    (λ w. (w.memory, (w.pool, (w.table, (w.next, (w.entries, (w.head, (w.mode, (w.control, (w.segments_left, w.destination))))))))))
-    (λ p. record { memory = p.0; pool = p.1.0; table = p.1.1.0; next = p.1.1.1.0; entries = p.1.1.1.1.0; head = p.1.1.1.1.1.0; mode = p.1.1.1.1.1.1.0; control = p.1.1.1.1.1.1.1.0; segments_left = p.1.1.1.1.1.1.1.1.0; destination = p.1.1.1.1.1.1.1.1.1 })
+    (coded× contents_code
+    (coded× pages_code
+    (coded× slots_code
+    (coded× coded_ℕ
+    (coded× coded_ℕ
+    (coded× coded_ℕ
+    (coded× mode_code (coded× coded_ℕ (coded× coded_ℕ (coded_option coded_ℕ))))))))))
+    (λ w. (
+      w.memory,
+      (
+        w.pool,
+        (
+          w.table,
+          (
+            w.next,
+            (w.entries, (w.head, (w.mode, (w.control, (w.segments_left, w.destination))))),
+          ),
+        ),
+      ),
+    ))
+    (λ p. record {
+      memory = p.0;
+      pool = p.1.0;
+      table = p.1.1.0;
+      next = p.1.1.1.0;
+      entries = p.1.1.1.1.0;
+      head = p.1.1.1.1.1.0;
+      mode = p.1.1.1.1.1.1.0;
+      control = p.1.1.1.1.1.1.1.0;
+      segments_left = p.1.1.1.1.1.1.1.1.0;
+      destination = p.1.1.1.1.1.1.1.1.1;
+    })
     (λ _. refl)
 
 -- destination page d is wanted and not loaded yet
@@ -84,7 +115,17 @@ IsAwaited w d = slot w.table d ≡ Some None
 
 -- how far the load is, as the writer's steps see it
 abbrev pub draft_of : History → Loading → List ℕ → List ℕ → Draft
-draft_of h l first links = record { before = h.before; wanted = is_wanted h; bytes = h.bytes; room = take (need h) h.pool; first = first; links = links; entries = h.entries; loading = l }
+draft_of h l first links =
+    record {
+      before = h.before;
+      wanted = is_wanted h;
+      bytes = h.bytes;
+      room = take (need h) h.pool;
+      first = first;
+      links = links;
+      entries = h.entries;
+      loading = l;
+    }
 
 -- the destination pages of spans, one by one
 abbrev pub pages_from : ℕ → ℕ → List ℕ
@@ -117,7 +158,9 @@ pub record StandsAt (h : History) (w : Writer) : Type 0 where
   pub left : w.pool.left ≡ loading.left
   pub filed : (p : ℕ) → is_filed w.pool p ≡ has p loading.filed
   -- memory is as it was, but for the list and the sources so far
-  pub memory : (p : ℕ) → at w.memory p ≡ laid_so_far h.before h.bytes (links_of h.wish loading) h.entries loading.pairs p
+  pub memory : (p : ℕ)
+      → at w.memory p
+      ≡ laid_so_far h.before h.bytes (links_of h.wish loading) h.entries loading.pairs p
   pub control : w.control ≡ control_of loading
   pub mode : w.mode ≡ load_mode h.wish loading
   pub segments_left : w.segments_left + starts h.entries ≡ h.segments
@@ -129,6 +172,7 @@ pub record StandsAt (h : History) (w : Writer) : Type 0 where
 pub record KeepsPages (h : History) (l : Loading) : Type 0 where
   pub drawn : List ℕ
   pub ends : h.pool ≡ drawn ++ l.left
-  pub in_use : (x : ℕ) → count x drawn ≡ count x l.filed + count x l.spare + count x (sources l.pairs)
+  pub in_use : (x : ℕ)
+      → count x drawn ≡ count x l.filed + count x l.spare + count x (sources l.pairs)
   pub filed : Each (λ p. (is_wanted h p ≡ true) × (Has p (pages_of h.entries) → ⊥)) l.filed
   pub sources : Each (λ q. (q.1 ≡ q.0) ⊎ (is_wanted h q.1 ≡ false)) l.pairs

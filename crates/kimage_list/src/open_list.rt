@@ -40,7 +40,15 @@ pub(crate) struct EndedList {
 impl OpenList {
     // Nothing is written yet.
     pub(crate) fn new(memory: Memory, pool: Pool, table: Table) -> OpenList
-        ensures { result ≡ record { memory = memory; pool = pool; table = table; next = 0; entries = 0; head = 0 } }
+        ensures { result
+            ≡ record {
+              memory = memory;
+              pool = pool;
+              table = table;
+              next = 0;
+              entries = 0;
+              head = 0;
+            } }
     {
         OpenList {
             memory,
@@ -56,8 +64,9 @@ impl OpenList {
     pub(crate) fn take_first(&mut self) -> Page
         requires { (d : Draft) × (t : ℕ × Loading) × IsRendered self.old d × CanTake d None t ×
             (d.links ≡ []) × (d.loading.pairs ≡ []) }
-        ensures given { (d : Draft) (t : ℕ × Loading) → IsRendered self.old d → CanTake d None t → d.links ≡ [] →
-            d.loading.pairs ≡ [] → (result ≡ t.0) × IsRendered self.new (first_taken d t) }
+        ensures given { (d : Draft) (t : ℕ × Loading) → IsRendered self.old d → CanTake d None t
+            → d.links ≡ []
+            → d.loading.pairs ≡ [] → (result ≡ t.0) × IsRendered self.new (first_taken d t) }
         ensures pages { whole_pool self.new.pool ≡ whole_pool self.old.pool }
     {
         self.take(&None)
@@ -67,9 +76,11 @@ impl OpenList {
     fn take(&mut self, wanted: &Option<Page>) -> Page
         requires { (d : Draft) × (t : ℕ × Loading) × IsRendered self.old d ×
             CanTake d wanted.now t }
-        ensures given { (d : Draft) (t : ℕ × Loading) → IsRendered self.old d → CanTake d wanted.now t → (result ≡ t.0) ×
-            IsRenderedBut (t.0 ∷ []) self.new (record d { loading = t.1 }) × (self.new.next ≡ self.old.next) ×
-            (self.new.entries ≡ self.old.entries) × (self.new.head ≡ self.old.head) ×
+        ensures given { (d : Draft) (t : ℕ × Loading) → IsRendered self.old d
+            → CanTake d wanted.now t → (result ≡ t.0)
+            × IsRenderedBut (t.0 ∷ []) self.new (record d { loading = t.1 })
+            × (self.new.next ≡ self.old.next)
+            × (self.new.entries ≡ self.old.entries) × (self.new.head ≡ self.old.head) ×
             (d.loading.pairs ≡ [] → at self.new.memory ≡ at self.old.memory) }
         ensures pages { whole_pool self.new.pool ≡ whole_pool self.old.pool }
     {
@@ -86,10 +97,12 @@ impl OpenList {
     fn take_link(&mut self)
         requires { (d : Draft) × (t : ℕ × Loading) × IsRendered self.old d × CanTake d None t ×
             IsFull d }
-        ensures written { (d : Draft) (t : ℕ × Loading) → IsRendered self.old d → CanTake d None t → IsFull d →
-            IsRendered self.new (linked d t) }
-        ensures head { (d : Draft) (t : ℕ × Loading) → IsRendered self.old d → CanTake d None t → IsFull d →
-            HeadIs d.links self.old.head → HeadIs (linked d t).links self.new.head }
+        ensures written { (d : Draft) (t : ℕ × Loading) → IsRendered self.old d
+            → CanTake d None t → IsFull d
+            → IsRendered self.new (linked d t) }
+        ensures head { (d : Draft) (t : ℕ × Loading) → IsRendered self.old d
+            → CanTake d None t → IsFull d
+            → HeadIs d.links self.old.head → HeadIs (linked d t).links self.new.head }
         ensures pages { whole_pool self.new.pool ≡ whole_pool self.old.pool }
     {
         let link = self.take(&None);
@@ -147,13 +160,15 @@ impl OpenList {
     // Page p is loaded with these bytes, then zeros.
     pub(crate) fn load_page(&mut self, p: Page, bytes: &[u8])
         requires fits { length bytes.now ≤ 4096 }
-        requires ready { (d : Draft) × (e : Draft) × (t : ℕ × Loading) × IsRendered self.old d × Room d e ×
-            CanTake e (Some p) t × IsNext e p bytes.now }
-        ensures written { (d : Draft) (e : Draft) (t : ℕ × Loading) → IsRendered self.old d → Room d e →
-            CanTake e (Some p) t → IsNext e p bytes.now →
+        requires ready { (d : Draft) × (e : Draft) × (t : ℕ × Loading)
+            × IsRendered self.old d × Room d e
+            × CanTake e (Some p) t × IsNext e p bytes.now }
+        ensures written { (d : Draft) (e : Draft) (t : ℕ × Loading)
+            → IsRendered self.old d → Room d e
+            → CanTake e (Some p) t → IsNext e p bytes.now →
             IsRendered self.new (loaded_from e p t) × IsSteady (loaded_from e p t) }
-        ensures head { (d : Draft) (e : Draft) (t : ℕ × Loading) → IsRendered self.old d → Room d e →
-            CanTake e (Some p) t → HeadIs d.links self.old.head → HeadIs e.links self.new.head }
+        ensures head { (d : Draft) (e : Draft) (t : ℕ × Loading) → IsRendered self.old d → Room d e
+            → CanTake e (Some p) t → HeadIs d.links self.old.head → HeadIs e.links self.new.head }
         ensures pages { whole_pool self.new.pool ≡ whole_pool self.old.pool }
     {
         self.make_room();

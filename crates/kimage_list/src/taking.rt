@@ -56,7 +56,8 @@ fn is_wanted(wanted: &Option<Page>, q: Page) -> bool
 // Draws pages until one serves.
 fn draw_page(pool: &mut Pool, table: &mut Table, wanted: &Option<Page>) -> Option<TakenPage>
     ensures gives { (D : ℕ → Bool) (l : Loading) → Tracks D l pool.old table.old →
-        Gives D l (draw D wanted.now l.pairs l.spare l.filed l.left) result pool.new table.old table.new }
+        Gives D l (draw D wanted.now l.pairs l.spare l.filed l.left) result pool.new
+        table.old table.new }
     ensures pages { whole_pool pool.new ≡ whole_pool pool.old }
 {
     while let Some(q) = pool.draw() {

@@ -113,8 +113,8 @@ impl ListWriter {
     pub fn add_source(&mut self, bytes: &[u8])
         requires destination { (d : ℕ) × (self.old.destination ≡ Some d) × IsAwaited self.old d }
         requires fits { length bytes.now ≤ 4096 }
-        ensures stands { (h : History) (d : ℕ) → self.old.destination ≡ Some d → StandsAt h self.old →
-            StandsAt (with_source h d (page_of bytes.now)) self.new }
+        ensures stands { (h : History) (d : ℕ) → self.old.destination ≡ Some d → StandsAt h self.old
+            → StandsAt (with_source h d (page_of bytes.now)) self.new }
         ensures pages { whole_pool self.new.pool ≡ whole_pool self.old.pool }
     {
         match self.destination {

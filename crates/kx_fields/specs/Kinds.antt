@@ -15,5 +15,7 @@ kinds = record {
     two_of_four = at 24 2;
     four_of_eight = at 28 4;
   };
-  numbers = λ k. k.one ∷ k.two ∷ k.four ∷ k.eight ∷ unsigned k.signed ∷ k.two_of_four ∷ k.four_of_eight ∷ [];
+  numbers =
+      λ k. k.one ∷ k.two ∷ k.four ∷ k.eight ∷ unsigned k.signed ∷ k.two_of_four
+      ∷ k.four_of_eight ∷ [];
 }

@@ -39,16 +39,20 @@ pub record Shows (swap : Option ℕ) (c : Sets) (s : Earlier) : Type 0 where
   pub next : c.next ≡ s.next
 
 -- why the item at this place is refused, if it is
-abbrev pub why_refused : Contents → List SegmentValue → Image → Option ℕ → Earlier → Option Item → Option Why
-why_refused m S im place s i = reason (at m) (want S) (pages S) im.control (swap_page im.mode) place s i
+abbrev pub why_refused : Contents → List SegmentValue → Image → Option ℕ → Earlier → Option Item
+    → Option Why
+why_refused m S im place s i =
+    reason (at m) (want S) (pages S) im.control (swap_page im.mode) place s i
 
 -- a place is an address of a word
 abbrev pub IsPlace : ℕ → Type 0
 IsPlace a = (a % 8 ≡ 0) × (a < 2 ^ 46)
 
 -- the reasons of a source word whose pair's destination is page t
-abbrev pub reasons_of_pair : Contents → List SegmentValue → Image → Earlier → ℕ → ℕ → List (Bool × Why)
-reasons_of_pair m S im s t p = pair_reasons (at m) (want S) (pages S) im.control (swap_page im.mode) (Some t) s p
+abbrev pub reasons_of_pair : Contents → List SegmentValue → Image → Earlier → ℕ → ℕ
+    → List (Bool × Why)
+reasons_of_pair m S im s t p =
+    pair_reasons (at m) (want S) (pages S) im.control (swap_page im.mode) (Some t) s p
 
 -- the reasons of a link to page p that is below the limit
 abbrev pub reasons_of_link : Image → Option ℕ → Earlier → ℕ → List (Bool × Why)
@@ -61,12 +65,16 @@ reasons_of_place place = (is_head place, HeadKind) ∷ (in_last_slot place, Runs
 abbrev pub reasons_of_done : List SegmentValue → Image → Option ℕ → Earlier → List (Bool × Why)
 reasons_of_done S im place s = done_reasons (pages S) im.control (swap_page im.mode) place s
 
-abbrev pub reasons_of_source : Contents → List SegmentValue → Image → Earlier → ℕ → List (Bool × Why)
-reasons_of_source m S im s p = pair_reasons (at m) (want S) (pages S) im.control (swap_page im.mode) s.next s p
+abbrev pub reasons_of_source : Contents → List SegmentValue → Image → Earlier → ℕ
+    → List (Bool × Why)
+reasons_of_source m S im s p =
+    pair_reasons (at m) (want S) (pages S) im.control (swap_page im.mode) s.next s p
 
 -- what a word was found to be
-abbrev pub IsJudged : Contents → List SegmentValue → Image → Option ℕ → Earlier → ℕ → Result Item Why → Type 0
-IsJudged m S im place s w (Ok i) = (decode w ≡ Some i) × (why_refused m S im place s (Some i) ≡ None)
+abbrev pub IsJudged : Contents → List SegmentValue → Image → Option ℕ → Earlier → ℕ
+    → Result Item Why → Type 0
+IsJudged m S im place s w (Ok i) =
+    (decode w ≡ Some i) × (why_refused m S im place s (Some i) ≡ None)
 IsJudged m S im place s w (Err why) = why_refused m S im place s (decode w) ≡ Some why
 
 -- what a word without a reason is to what came before
@@ -90,7 +98,8 @@ IsAccept m S im a =
 -- the first fault, of a list that is not accepted
 abbrev pub IsFirstFault : Contents → List SegmentValue → Image → ℕ → Why → Type 0
 IsFirstFault m S im n why =
-    Faulty (at m) (want S) (pages S) im.control (swap_page im.mode) None nothing_earlier im.head n why
+    Faulty (at m) (want S) (pages S) im.control (swap_page im.mode) None nothing_earlier
+    im.head n why
     × ((is : List Item) → IsAccepted (at m) (want S) im.head im.control (swap_page im.mode) is → ⊥)
 
 abbrev pub IsCheckFault : Contents → List SegmentValue → Image → CheckFault → Type 0

@@ -31,7 +31,8 @@ nothing_earlier = record { links = []; pairs = []; next = None }
 
 abbrev pub with_pair : Option ℕ → Earlier → ℕ → Earlier
 with_pair None s p = s
-with_pair (Some t) s p = record { links = s.links; pairs = s.pairs ++ (t, p) ∷ []; next = Some (suc t) }
+with_pair (Some t) s p =
+    record { links = s.links; pairs = s.pairs ++ (t, p) ∷ []; next = Some (suc t) }
 
 abbrev pub with_item : Earlier → Item → Earlier
 with_item s (Link p) = record s { links = s.links ++ p ∷ [] }
@@ -94,18 +95,25 @@ module _ (M : Mem) (R : Reasons) where
   -- from this place on, where word w stands, the first word with a reason is n places on, and this is the reason
   abbrev pub FaultyBy : Option ℕ → Earlier → ℕ → ℕ → Why → Type 0
   FaultyBy place s w zero why = why_by R place s (decode w) ≡ Some why
-  FaultyBy place s w (suc n) why = (i : Item) × (decode w ≡ Some i) × (why_by R place s (Some i) ≡ None) × ((p : ℕ) → i ≢ Done p) × FaultyBy (Some (following place i)) (with_item s i) (word M (following place i)) n why
+  FaultyBy place s w (suc n) why =
+      (i : Item) × (decode w ≡ Some i) × (why_by R place s (Some i) ≡ None) × ((p : ℕ) → i ≢ Done p)
+      × FaultyBy (Some (following place i)) (with_item s i) (word M (following place i)) n why
 
   -- no word has a reason, and before the done word, n places on, this came
   abbrev pub FaultlessBy : Option ℕ → Earlier → ℕ → ℕ → Earlier → Type 0
-  FaultlessBy place s w zero last = (p : ℕ) × (decode w ≡ Some (Done p)) × (why_by R place s (Some (Done p)) ≡ None) × (s ≡ last)
-  FaultlessBy place s w (suc n) last = (i : Item) × (decode w ≡ Some i) × (why_by R place s (Some i) ≡ None) × ((p : ℕ) → i ≢ Done p) × FaultlessBy (Some (following place i)) (with_item s i) (word M (following place i)) n last
+  FaultlessBy place s w zero last =
+      (p : ℕ) × (decode w ≡ Some (Done p)) × (why_by R place s (Some (Done p)) ≡ None) × (s ≡ last)
+  FaultlessBy place s w (suc n) last =
+      (i : Item) × (decode w ≡ Some i) × (why_by R place s (Some i) ≡ None) × ((p : ℕ) → i ≢ Done p)
+      × FaultlessBy (Some (following place i)) (with_item s i) (word M (following place i)) n last
 
 -- why a word cannot be followed, whatever the list is for
 abbrev pub walk_reasons : Reasons
 walk_reasons place s (Link p) = (leb (2 ^ 34) p, PastLimit) ∷ (has p s.links, LinkAgain) ∷ []
-walk_reasons place s (Destination p) = (leb (2 ^ 34) p, PastLimit) ∷ (is_head place, HeadKind) ∷ (in_last_slot place, RunsOff) ∷ []
-walk_reasons place s (Source p) = (leb (2 ^ 34) p, PastLimit) ∷ (is_head place, HeadKind) ∷ (in_last_slot place, RunsOff) ∷ []
+walk_reasons place s (Destination p) =
+    (leb (2 ^ 34) p, PastLimit) ∷ (is_head place, HeadKind) ∷ (in_last_slot place, RunsOff) ∷ []
+walk_reasons place s (Source p) =
+    (leb (2 ^ 34) p, PastLimit) ∷ (is_head place, HeadKind) ∷ (in_last_slot place, RunsOff) ∷ []
 walk_reasons place s (Done p) = []
 
 -- the reasons of a link to page p, once it is below the limit
@@ -118,7 +126,9 @@ link_reasons control swap place s p =
 
 -- the reasons of the done word, where all is the list of the wanted pages in their order
 abbrev pub done_reasons : List ℕ → ℕ → Option ℕ → Option ℕ → Earlier → List (Bool × Why)
-done_reasons all control swap place s = (swap_meets_control control swap place, SwapTouched) ∷ map (λ d. (not (has d (destinations s.pairs)), Missing d)) all
+done_reasons all control swap place s =
+    (swap_meets_control control swap place, SwapTouched)
+    ∷ map (λ d. (not (has d (destinations s.pairs)), Missing d)) all
 
 module _ (M : Mem) (W : Wants) (all : List ℕ) (control : ℕ) (swap : Option ℕ) where
   -- the reasons of a source word with page p whose pair's destination is page t
@@ -137,8 +147,11 @@ module _ (M : Mem) (W : Wants) (all : List ℕ) (control : ℕ) (swap : Option �
   -- the reasons that an item may have, in their order
   abbrev pub reasons : Option ℕ → Earlier → Item → List (Bool × Why)
   reasons place s (Link p) = (leb (2 ^ 34) p, PastLimit) ∷ link_reasons control swap place s p
-  reasons place s (Destination p) = (leb (2 ^ 34) p, PastLimit) ∷ (is_head place, HeadKind) ∷ (in_last_slot place, RunsOff) ∷ []
-  reasons place s (Source p) = (leb (2 ^ 34) p, PastLimit) ∷ (is_head place, HeadKind) ∷ (in_last_slot place, RunsOff) ∷ pair_reasons s.next s p
+  reasons place s (Destination p) =
+      (leb (2 ^ 34) p, PastLimit) ∷ (is_head place, HeadKind) ∷ (in_last_slot place, RunsOff) ∷ []
+  reasons place s (Source p) =
+      (leb (2 ^ 34) p, PastLimit) ∷ (is_head place, HeadKind) ∷ (in_last_slot place, RunsOff)
+      ∷ pair_reasons s.next s p
   reasons place s (Done p) = done_reasons all control swap place s
 
   abbrev pub reason : Option ℕ → Earlier → Option Item → Option Why

@@ -15,23 +15,29 @@ pub record ListsWanted (W : Wants) (all : List ℕ) : Type 0 where
 -- an accepted list with so many words, in which these link pages and pairs came
 abbrev pub AcceptedWith : Mem → Wants → ℕ → ℕ → Option ℕ → ℕ → List ℕ → List (ℕ × ℕ) → Type 0
 AcceptedWith M W head control swap n ls qs =
-    (is : List Item) × IsAccepted M W head control swap is × (length is ≡ n) × (links is ≡ ls) × (pairs is ≡ qs)
+    (is : List Item) × IsAccepted M W head control swap is × (length is ≡ n) × (links is ≡ ls)
+    × (pairs is ≡ qs)
 
 -- no word has a fault exactly where the list is accepted
 abbrev pub CheckExact : Type 0
 CheckExact =
     (M : Mem) (W : Wants) (all : List ℕ) (head control : ℕ) (swap : Option ℕ) → ListsWanted W all →
-    ((n : ℕ) (last : Earlier) → Faultless M W all control swap None nothing_earlier head n last → AcceptedWith M W head control swap (suc n) last.links last.pairs)
-    × ((is : List Item) → IsAccepted M W head control swap is → (n : ℕ) × (last : Earlier) × (length is ≡ suc n) × Faultless M W all control swap None nothing_earlier head n last)
+    ((n : ℕ) (last : Earlier) → Faultless M W all control swap None nothing_earlier head n last
+    → AcceptedWith M W head control swap (suc n) last.links last.pairs)
+    × ((is : List Item) → IsAccepted M W head control swap is
+    → (n : ℕ) × (last : Earlier) × (length is ≡ suc n)
+    × Faultless M W all control swap None nothing_earlier head n last)
 
 -- each memory and head has an accepted walk or one first fault, and not both
 abbrev pub CheckEnds : Type 0
 CheckEnds =
     (M : Mem) (W : Wants) (all : List ℕ) (head control : ℕ) (swap : Option ℕ) → ListsWanted W all →
-    (((is : List Item) × IsAccepted M W head control swap is) ⊎ ((n : ℕ) × (why : Why) × Faulty M W all control swap None nothing_earlier head n why))
+    (((is : List Item) × IsAccepted M W head control swap is)
+    ⊎ ((n : ℕ) × (why : Why) × Faulty M W all control swap None nothing_earlier head n why))
     × ((n : ℕ) (why : Why) → Faulty M W all control swap None nothing_earlier head n why →
     ((is : List Item) → IsAccepted M W head control swap is → ⊥)
-    × ((m : ℕ) (also : Why) → Faulty M W all control swap None nothing_earlier head m also → (n ≡ m) × (why ≡ also)))
+    × ((m : ℕ) (also : Why) → Faulty M W all control swap None nothing_earlier head m also
+    → (n ≡ m) × (why ≡ also)))
 
 -- a head has at most one walk in a memory
 abbrev pub OneWalk : Type 0

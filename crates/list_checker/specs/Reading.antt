@@ -15,13 +15,18 @@ use Rattle.list_checker.specs.Faults.{Earlier, nothing_earlier, following, why_b
 -- the word here and the n words after it
 abbrev pub words_from : Mem → Option ℕ → ℕ → ℕ → List ℕ
 words_from M place w zero = w ∷ []
-words_from M place w (suc n) = w ∷ elim (decode w) [ None ↦ [] | Some i ↦ words_from M (Some (following place i)) (word M (following place i)) n ]
+words_from M place w (suc n) =
+    w ∷ elim (decode w) [
+      | None ↦ []
+      | Some i ↦ words_from M (Some (following place i)) (word M (following place i)) n
+    ]
 
 -- these words are the walk, or they end with the first that cannot be followed
 abbrev pub IsWalk : Mem → ℕ → List ℕ → Option ListFault → Type 0
 IsWalk M head ws None = (is : List Item) × Walk M head is × Distinct (links is) × (map code is ≡ ws)
 IsWalk M head ws (Some f) =
-    FaultyBy M walk_reasons None nothing_earlier head f.word f.why × (ws ≡ words_from M None head f.word)
+    FaultyBy M walk_reasons None nothing_earlier head f.word f.why
+    × (ws ≡ words_from M None head f.word)
     × ((is : List Item) → Walk M head is → Distinct (links is) → ⊥)
 
 -- the set has the links that came earlier

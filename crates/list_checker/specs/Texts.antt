@@ -38,8 +38,10 @@ cause_text TwiceWritten = codes "its destination was written by an earlier word"
 cause_text SourceSpoiled = codes "its source was written by an earlier word"
 cause_text LinkSpoiled = codes "a link page of the list is written by the list"
 cause_text ControlTouched = codes "it names the control page or moves a page there"
-cause_text PairsMeet = codes "one of its pages is the source of an earlier word, which context preserved forbids"
-cause_text SwapTouched = codes "it names the swap page or moves a page there, or the swap page is the control page"
+cause_text PairsMeet =
+    codes "one of its pages is the source of an earlier word, which context preserved forbids"
+cause_text SwapTouched =
+    codes "it names the swap page or moves a page there, or the swap page is the control page"
 cause_text WrongBytes = codes "its source does not hold what its destination is to have"
 cause_text (Missing page) = codes "the list ends before this page of the segments was written"
 cause_text PastLimit = codes "its address is not below 0x400000000000"

@@ -13,8 +13,10 @@ abbrev pub Reads : Mem → ℕ → List Item → Type 0
 Reads M a [] = ⊥
 Reads M a (Done p ∷ is) = (word M a ≡ code (Done p)) × (is ≡ [])
 Reads M a (Link p ∷ is) = (word M a ≡ code (Link p)) × (p < 2 ^ 34) × Reads M (4096 * p) is
-Reads M a (Destination p ∷ is) = (word M a ≡ code (Destination p)) × (p < 2 ^ 34) × (a % 4096 < 4088) × Reads M (a + 8) is
-Reads M a (Source p ∷ is) = (word M a ≡ code (Source p)) × (p < 2 ^ 34) × (a % 4096 < 4088) × Reads M (a + 8) is
+Reads M a (Destination p ∷ is) =
+    (word M a ≡ code (Destination p)) × (p < 2 ^ 34) × (a % 4096 < 4088) × Reads M (a + 8) is
+Reads M a (Source p ∷ is) =
+    (word M a ≡ code (Source p)) × (p < 2 ^ 34) × (a % 4096 < 4088) × Reads M (a + 8) is
 
 -- the walk of the list with this head is these items: the head is a link or done word and stands nowhere, and the words
 -- after it are read from its page on
@@ -62,7 +64,8 @@ InOrder (q ∷ qs) = Each (λ r. (q.0 ≢ r.0) × (q.0 ≢ r.1)) qs × InOrder q
 -- no page stands in two pairs
 abbrev pub PairsApart : List (ℕ × ℕ) → Type 0
 PairsApart [] = Unit {0}
-PairsApart (q ∷ qs) = Each (λ r. (q.0 ≢ r.0) × (q.0 ≢ r.1) × (q.1 ≢ r.0) × (q.1 ≢ r.1)) qs × PairsApart qs
+PairsApart (q ∷ qs) =
+    Each (λ r. (q.0 ≢ r.0) × (q.0 ≢ r.1) × (q.1 ≢ r.0) × (q.1 ≢ r.1)) qs × PairsApart qs
 
 -- These items are a plain list that is accepted for what W wants: it is a walk, no two link words name one page, each
 -- source word has a destination word before it, the destinations are exactly the wanted pages, each source holds what its
@@ -75,15 +78,18 @@ pub record Accepted (M : Mem) (W : Wants) (head control : ℕ) (is : List Item) 
   pub whole : (p : ℕ) (bytes : List ℕ) → W p ≡ Some bytes → Has p (destinations (pairs is))
   pub right_bytes : Each (λ q. W q.0 ≡ Some (M q.1)) (pairs is)
   pub links_unwritten : Each (λ q. Each (λ l. q.0 ≢ l) (links is)) (pairs is)
-  pub control_apart : Each (λ l. l ≢ control) (links is) × Each (λ q. (q.0 ≢ control) × (q.1 ≢ control)) (pairs is)
+  pub control_apart : Each (λ l. l ≢ control) (links is)
+      × Each (λ q. (q.0 ≢ control) × (q.1 ≢ control)) (pairs is)
 
 -- The same with context preserved. Besides, no page stands in two pairs, no link page is a source, and the swap page is
 -- not the control page, a link page, a destination or a source.
-pub record AcceptedKept (M : Mem) (W : Wants) (head control swap : ℕ) (is : List Item) : Type 0 where
+pub record AcceptedKept (M : Mem) (W : Wants) (head control swap : ℕ) (is : List Item)
+    : Type 0 where
   pub plain : Accepted M W head control is
   pub apart : PairsApart (pairs is)
   pub links_no_sources : Each (λ q. Each (λ l. q.1 ≢ l) (links is)) (pairs is)
-  pub swap_apart : (swap ≢ control) × Each (λ l. l ≢ swap) (links is) × Each (λ q. (q.0 ≢ swap) × (q.1 ≢ swap)) (pairs is)
+  pub swap_apart : (swap ≢ control) × Each (λ l. l ≢ swap) (links is)
+      × Each (λ q. (q.0 ≢ swap) × (q.1 ≢ swap)) (pairs is)
 
 abbrev pub IsAccepted : Mem → Wants → ℕ → ℕ → Option ℕ → List Item → Type 0
 IsAccepted M W head control None is = Accepted M W head control is

@@ -11,8 +11,10 @@ use Rattle.kx_pages.specs.Modes.{swap_page}
 -- the state of the list's mode: the list is accepted, this is told of it, and nothing has changed but for which pages
 -- are held
 abbrev pub IsAcceptedAs : Load → Accepted → Type 0
-IsAcceptedAs s (variants.Plain c) = (s.image.mode ≡ Plain) × Told s c.words c.links c.pairs × IsLeftAs s c.load
-IsAcceptedAs s (variants.Kept c) = IsSome (swap_page s.image.mode) × Told s c.words c.links c.pairs × IsLeftAs s c.load
+IsAcceptedAs s (variants.Plain c) =
+    (s.image.mode ≡ Plain) × Told s c.words c.links c.pairs × IsLeftAs s c.load
+IsAcceptedAs s (variants.Kept c) =
+    IsSome (swap_page s.image.mode) × Told s c.words c.links c.pairs × IsLeftAs s c.load
 
 -- the state of an accepted list's mode, with nothing changed
 abbrev pub IsMadeOf : Load → Accept → Accepted → Type 0

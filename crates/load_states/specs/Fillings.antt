@@ -26,7 +26,11 @@ pub record Fill : Type 0 where
   pub written : ℕ  -- how many of them are written
 
 abbrev pub fill_code : Coded Fill
-fill_code = code_by (Writer × (List SegmentValue × ℕ)) (coded× writer_code (coded× (coded_list part_code) coded_ℕ)) (λ f. (f.writer, (f.segments, f.written))) (λ p. record { writer = p.0; segments = p.1.0; written = p.1.1 }) (λ _. refl)
+fill_code =
+    code_by (Writer × (List SegmentValue × ℕ))
+    (coded× writer_code (coded× (coded_list part_code) coded_ℕ))
+    (λ f. (f.writer, (f.segments, f.written)))
+    (λ p. record { writer = p.0; segments = p.1.0; written = p.1.1 }) (λ _. refl)
 
 -- how many segments are not yet written
 abbrev pub left : Fill → ℕ
@@ -34,7 +38,8 @@ left f = length f.segments - f.written
 
 -- The writer stands behind these entries of a load of the segments, which began with memory M and a pool of these pages,
 -- and each destination so far was given what it is to have.
-pub record Fills (M : Mem) (pool : List ℕ) (wish : Wish) (ss : List SegmentValue) (es : List Entry) (w : Writer) : Type 0 where
+pub record Fills (M : Mem) (pool : List ℕ) (wish : Wish) (ss : List SegmentValue) (es : List Entry)
+    (w : Writer) : Type 0 where
   pub load : writers.History
   pub stands : StandsAt load w
   pub from_memory : load.before ≡ M
@@ -52,7 +57,8 @@ pub record FillsFrom (M : Mem) (pool : List ℕ) (wish : Wish) (f : Fill) : Type
   pub fills : Fills M pool wish f.segments (entries_of (take f.written f.segments)) f.writer
 
 -- What a load of the segments is that is written whole.
-pub record IsSealed (M : Mem) (pool : List ℕ) (wish : Wish) (ss : List SegmentValue) (r : Load) : Type 0 where
+pub record IsSealed (M : Mem) (pool : List ℕ) (wish : Wish) (ss : List SegmentValue) (r : Load)
+    : Type 0 where
   pub loading : Loading
   pub requests : loading_of wish ss pool ≡ Some loading
   pub once : (x : ℕ) → count x pool ≤ 1
@@ -61,11 +67,14 @@ pub record IsSealed (M : Mem) (pool : List ℕ) (wish : Wish) (ss : List Segment
   pub segments : r.segments ≡ ss
   -- the pool has left what follows its first pages, as many as the load takes: these are the pages in use
   pub left : r.pool.left ≡ drop (need wish ss) pool
-  pub in_use : (x : ℕ) → count x loading.spare + count x (sources loading.pairs) ≡ count x (take (need wish ss) pool)
+  pub in_use : (x : ℕ)
+      → count x loading.spare + count x (sources loading.pairs) ≡ count x (take (need wish ss) pool)
   pub unfiled : (p : ℕ) → is_filed r.pool p ≡ false
   -- the pages drawn are those drawn before the load, and then its first pages
-  pub drawn : (before : List ℕ) → whole_pool r.pool ≡ before ++ pool → r.pool.drawn ≡ before ++ take (need wish ss) pool
+  pub drawn : (before : List ℕ) → whole_pool r.pool ≡ before ++ pool
+      → r.pool.drawn ≡ before ++ take (need wish ss) pool
   -- memory agrees with what it was at every other page
   pub others : (p : ℕ) → count p (take (need wish ss) pool) ≡ 0 → at r.memory p ≡ M p
   -- the list is accepted for the segments
-  pub accepted : IsAccepted (at r.memory) (want ss) r.image.head r.image.control (swap_page r.image.mode) (list_of wish (entries_of ss) loading)
+  pub accepted : IsAccepted (at r.memory) (want ss) r.image.head r.image.control
+      (swap_page r.image.mode) (list_of wish (entries_of ss) loading)

@@ -13,7 +13,8 @@ use Rattle.kx_pages.specs.Modes.{swap_page}
 -- the entries of segments: of each its destination entry, and a source entry for each of its pages
 abbrev pub entries_of : List SegmentValue → List Entry
 entries_of [] = []
-entries_of (s ∷ ss) = Start (s.mem / 4096) ∷ page_entries (s.mem / 4096) (page_count s) ++ entries_of ss
+entries_of (s ∷ ss) =
+    Start (s.mem / 4096) ∷ page_entries (s.mem / 4096) (page_count s) ++ entries_of ss
 
 -- where a load of segments stands that has written all entries, over a pool of these pages
 abbrev pub loading_of : Wish → List SegmentValue → List ℕ → Option Loading
@@ -31,6 +32,9 @@ memory_of M wish ss l = laid M (want ss) wish (entries_of ss) l
 -- 2 ^ 34.
 abbrev pub LoadIsAccepted : Type 0
 LoadIsAccepted =
-    (M : Mem) (wish : Wish) (ss : List SegmentValue) (pool : List ℕ) (l : Loading) → AreSegments ss → ((x : ℕ) → count x pool ≤ 1) →
-    ((x : ℕ) → 1 ≤ count x l.spare + count x (sources l.pairs) → x < 2 ^ 34) → loading_of wish ss pool ≡ Some l →
-    IsAccepted (memory_of M wish ss l) (want ss) (head_of wish l) (control_of l) (swap_page (load_mode wish l)) (list_of wish (entries_of ss) l)
+    (M : Mem) (wish : Wish) (ss : List SegmentValue) (pool : List ℕ) (l : Loading) → AreSegments ss
+    → ((x : ℕ) → count x pool ≤ 1)
+    → ((x : ℕ) → 1 ≤ count x l.spare + count x (sources l.pairs) → x < 2 ^ 34)
+    → loading_of wish ss pool ≡ Some l
+    → IsAccepted (memory_of M wish ss l) (want ss) (head_of wish l) (control_of l)
+    (swap_page (load_mode wish l)) (list_of wish (entries_of ss) l)

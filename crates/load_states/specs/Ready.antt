@@ -16,7 +16,8 @@ use Rattle.kx_pages.specs.Modes.{swap_page}
 -- pages and these pairs
 pub record Told (s : Load) (words link_count : ℕ) (qs : List (ℕ × ℕ)) : Type 0 where
   pub items : List Item
-  pub accepted : IsAccepted (at s.memory) (want s.segments) s.image.head s.image.control (swap_page s.image.mode) items
+  pub accepted : IsAccepted (at s.memory) (want s.segments) s.image.head s.image.control
+      (swap_page s.image.mode) items
   pub count : length items ≡ words
   pub link_pages : length (links items) ≡ link_count
   pub same_pairs : pairs items ≡ qs
@@ -41,7 +42,8 @@ pub record IsReadyPlain (c : Checked) : Type 0 where
 -- the state owns, and each page that their run writes is held.
 pub record IsKept (M : Mem) (c : Checked) (swap : ℕ) (items : List Item) : Type 0 where
   pub mode : c.load.image.mode ≡ Kept swap
-  pub accepted : AcceptedKept M (want c.load.segments) c.load.image.head c.load.image.control swap items
+  pub accepted : AcceptedKept M (want c.load.segments) c.load.image.head
+      c.load.image.control swap items
   pub count : length items ≡ c.words
   pub link_pages : length (links items) ≡ c.links
   pub same_pairs : pairs items ≡ c.pairs

@@ -31,18 +31,22 @@ EndsAfter s steps = (run_of s.memory s.image.head s.image.mode steps).1 ≡ outc
 
 -- and it leaves this memory
 abbrev pub RunsTo : Load → ℕ → Contents → Type 0
-RunsTo s steps m = EndsAfter s steps × (m ≡ (run_of s.memory s.image.head s.image.mode steps).0.memory)
+RunsTo s steps m =
+    EndsAfter s steps × (m ≡ (run_of s.memory s.image.head s.image.mode steps).0.memory)
 
 -- since the first run, from memory M, at most pages of the segments were written
 abbrev pub IsTouched : Mem → Checked → Type 0
-IsTouched M c = (q : ℕ) → want c.load.segments q ≡ None → at c.load.memory q ≡ exchange M c.pairs (swap_of c.load) q
+IsTouched M c =
+    (q : ℕ) → want c.load.segments q ≡ None
+    → at c.load.memory q ≡ exchange M c.pairs (swap_of c.load) q
 
 -- A list of this project's loader that was run, and of which at most pages of the segments were written since: the second
 -- run leaves every page but the first ones of the pool, as many as the load took, as it was before the load.
 abbrev pub RestoresOthers : Checked → Returned → Type 0
 RestoresOthers c r =
-    (M : Mem) (pool : List ℕ) (wish : Wish) (s : Load) → IsSealed M pool wish s.segments s → Told s c.words c.links c.pairs →
-    c.load ≡ with_memory s c.load.memory → IsTouched (at s.memory) c →
+    (M : Mem) (pool : List ℕ) (wish : Wish) (s : Load) → IsSealed M pool wish s.segments s
+    → Told s c.words c.links c.pairs
+    → c.load ≡ with_memory s c.load.memory → IsTouched (at s.memory) c →
     (p : ℕ) → count p (take (need wish s.segments) pool) ≡ 0 → at r.load.memory p ≡ M p
 
 -- the memories read alike, and image and segments are the same
@@ -63,7 +67,8 @@ pub record IsSameCheck (c d : Checked) : Type 0 where
 -- Of each load that reads alike, with the same image and segments, the same is told, and its runs leave the same: so a
 -- load that was written to files and read back runs as the load itself does.
 abbrev pub TellsAlike : Checked → Type 0
-TellsAlike c = (d : Checked) → IsSameLoad c.load d.load → Told d.load d.words d.links d.pairs → IsSameCheck c d
+TellsAlike c =
+    (d : Checked) → IsSameLoad c.load d.load → Told d.load d.words d.links d.pairs → IsSameCheck c d
 
 -- an accepted list as a load with what is told of it
 abbrev pub checked_in : Accepted → Checked

@@ -45,30 +45,48 @@ pub record CrashLoad : Type 0 where
 abbrev pub image_code : Coded Image
 image_code =
     code_by (ℕ × (Option ℕ × ℕ)) (coded× coded_ℕ (coded× (coded_option coded_ℕ) coded_ℕ))
-    (λ i. (i.head, (swap_page i.mode, i.control))) (λ p. record { head = p.0; mode = mode_of p.1.0; control = p.1.1 })
-    (λ i. ap (λ mode. record { head = i.head; mode = mode; control = i.control }) (mode_of-swap_page i.mode))
+    (λ i. (i.head, (swap_page i.mode, i.control)))
+    (λ p. record { head = p.0; mode = mode_of p.1.0; control = p.1.1 })
+    (λ i. ap (λ mode. record { head = i.head; mode = mode; control = i.control })
+    (mode_of-swap_page i.mode))
 
 abbrev pub part_code : Coded SegmentValue
-part_code = code_by (List ℕ × (ℕ × ℕ)) (coded× (coded_list coded_ℕ) (coded× coded_ℕ coded_ℕ)) (λ s. (s.bytes, (s.mem, s.memsz))) (λ p. record { bytes = p.0; mem = p.1.0; memsz = p.1.1 }) (λ _. refl)
+part_code =
+    code_by (List ℕ × (ℕ × ℕ)) (coded× (coded_list coded_ℕ) (coded× coded_ℕ coded_ℕ))
+    (λ s. (s.bytes, (s.mem, s.memsz)))
+    (λ p. record { bytes = p.0; mem = p.1.0; memsz = p.1.1 }) (λ _. refl)
 
 abbrev pub load_code : Coded Load
 load_code =
-    code_by (Contents × (Pages × (Image × List SegmentValue))) (coded× contents_code (coded× pages_code (coded× image_code (coded_list part_code))))
-    (λ s. (s.memory, (s.pool, (s.image, s.segments)))) (λ p. record { memory = p.0; pool = p.1.0; image = p.1.1.0; segments = p.1.1.1 }) (λ _. refl)
+    code_by (Contents × (Pages × (Image × List SegmentValue)))
+    (coded× contents_code (coded× pages_code (coded× image_code (coded_list part_code))))
+    (λ s. (s.memory, (s.pool, (s.image, s.segments))))
+    (λ p. record { memory = p.0; pool = p.1.0; image = p.1.1.0; segments = p.1.1.1 })
+    (λ _. refl)
 
 abbrev pub checked_code : Coded Checked
 checked_code =
-    code_by (Load × (ℕ × (ℕ × List (ℕ × ℕ)))) (coded× load_code (coded× coded_ℕ (coded× coded_ℕ (coded_list (coded× coded_ℕ coded_ℕ)))))
-    (λ s. (s.load, (s.words, (s.links, s.pairs)))) (λ p. record { load = p.0; words = p.1.0; links = p.1.1.0; pairs = p.1.1.1 }) (λ _. refl)
+    code_by (Load × (ℕ × (ℕ × List (ℕ × ℕ))))
+    (coded× load_code (coded× coded_ℕ (coded× coded_ℕ (coded_list (coded× coded_ℕ coded_ℕ)))))
+    (λ s. (s.load, (s.words, (s.links, s.pairs))))
+    (λ p. record { load = p.0; words = p.1.0; links = p.1.1.0; pairs = p.1.1.1 }) (λ _. refl)
 
 abbrev pub ran_code : Coded Ran
-ran_code = code_by (Contents × ℕ) (coded× contents_code coded_ℕ) (λ s. (s.memory, s.steps)) (λ p. record { memory = p.0; steps = p.1 }) (λ _. refl)
+ran_code =
+    code_by (Contents × ℕ) (coded× contents_code coded_ℕ) (λ s. (s.memory, s.steps))
+    (λ p. record { memory = p.0; steps = p.1 }) (λ _. refl)
 
 abbrev pub crash_code : Coded CrashLoad
-crash_code = code_by (Contents × (ℕ × List SegmentValue)) (coded× contents_code (coded× coded_ℕ (coded_list part_code))) (λ s. (s.memory, (s.head, s.segments))) (λ p. record { memory = p.0; head = p.1.0; segments = p.1.1 }) (λ _. refl)
+crash_code =
+    code_by (Contents × (ℕ × List SegmentValue))
+    (coded× contents_code (coded× coded_ℕ (coded_list part_code)))
+    (λ s. (s.memory, (s.head, s.segments)))
+    (λ p. record { memory = p.0; head = p.1.0; segments = p.1.1 }) (λ _. refl)
 
 abbrev pub returned_code : Coded Returned
-returned_code = code_by (Load × ℕ) (coded× load_code coded_ℕ) (λ s. (s.load, s.steps)) (λ p. record { load = p.0; steps = p.1 }) (λ _. refl)
+returned_code =
+    code_by (Load × ℕ) (coded× load_code coded_ℕ) (λ s. (s.load, s.steps))
+    (λ p. record { load = p.0; steps = p.1 }) (λ _. refl)
 
 -- the swap page of a list with context preserved
 abbrev pub swap_of : Load → ℕ
@@ -76,7 +94,8 @@ swap_of s = unwrap_or (swap_page s.image.mode) 0
 
 -- a load and what the checker told of its list
 abbrev pub checked_of : Load → Accept → Checked
-checked_of s a = record { load = s; words = a.words; links = a.links; pairs = map as_pair a.pairs.items }
+checked_of s a =
+    record { load = s; words = a.words; links = a.links; pairs = map as_pair a.pairs.items }
 
 -- the load with another memory
 abbrev pub with_memory : Load → Contents → Load

@@ -54,7 +54,8 @@ impl Model for AcceptedCrash {
 
     ghost view = { λ s. s.loaded };
 
-    ghost invariant = { λ s. IsAcceptedCrash (at s.loaded.memory) (want s.loaded.segments) s.loaded.head };
+    ghost invariant = { λ s. IsAcceptedCrash (at s.loaded.memory) (want s.loaded.segments)
+        s.loaded.head };
 }
 
 impl CrashLoaded {

@@ -59,7 +59,9 @@ impl Model for Filling {
 
     ghost view = { λ s. record { writer = s.writer; segments = s.segments; written = s.written } };
 
-    ghost invariant = { λ s. (M : Mem) × (pool : List ℕ) × (wish : Wish) × FillsFrom M pool wish (record { writer = s.writer; segments = s.segments; written = s.written }) };
+    ghost invariant = { λ s. (M : Mem) × (pool : List ℕ) × (wish : Wish)
+        × FillsFrom M pool wish
+        (record { writer = s.writer; segments = s.segments; written = s.written }) };
 }
 
 impl Filling {

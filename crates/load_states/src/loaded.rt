@@ -37,7 +37,12 @@ impl Model for Loaded {
 
     ghost coded = { load_code };
 
-    ghost view = { λ s. record { memory = s.memory; pool = s.pool; image = s.image; segments = s.segments } };
+    ghost view = { λ s. record {
+      memory = s.memory;
+      pool = s.pool;
+      image = s.image;
+      segments = s.segments;
+    } };
 }
 
 /// The load, as it was, and why its list was not found to be accepted.

@@ -18,4 +18,5 @@ pub record IsMapLine (line : List ℕ) (first last : ℕ) (name : List ℕ) : Ty
 
 -- it is such a line, whose name says this of the range
 abbrev pub IsEntry : List ℕ → ℕ → ℕ → Class → Type 0
-IsEntry line first last class = (name : List ℕ) × IsMapLine line first last name × (class ≡ class_of name)
+IsEntry line first last class =
+    (name : List ℕ) × IsMapLine line first last name × (class ≡ class_of name)

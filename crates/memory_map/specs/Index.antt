@@ -11,4 +11,6 @@ range_of r = (r.start, row_end r)
 
 -- the index has the ranges of the System RAM rows, and no more
 abbrev pub IsIndex : List Row → List Range → Type 0
-IsIndex rows index = (test : Range → Bool) → list_any test index ≡ list_any (λ r. is_ram_row r && test (range_of r)) rows
+IsIndex rows index =
+    (test : Range → Bool)
+    → list_any test index ≡ list_any (λ r. is_ram_row r && test (range_of r)) rows

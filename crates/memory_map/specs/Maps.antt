@@ -28,7 +28,8 @@ is_whole rows p = list_any (λ r. is_ram_row r && holds_page p r) rows
 
 -- page p meets a range of kind 2, 3 or 4, or a crash area
 abbrev pub is_taken : MapValue → ℕ → Bool
-is_taken m p = list_any (λ r. not (is_ram_row r) && meets_page p r) m.rows || list_any (meets_page p) m.areas
+is_taken m p =
+    list_any (λ r. not (is_ram_row r) && meets_page p r) m.rows || list_any (meets_page p) m.areas
 
 -- page p is RAM
 abbrev pub is_ram : MapValue → ℕ → Bool
@@ -40,14 +41,16 @@ ram_pages m = passing (is_ram m) (2 ^ 34)
 
 -- the pages that lie wholly in a row
 abbrev pub whole_pages : Row → Run
-whole_pages r = record { first = (r.start + 4095) / 4096; count = row_end r / 4096 - (r.start + 4095) / 4096 }
+whole_pages r =
+    record { first = (r.start + 4095) / 4096; count = row_end r / 4096 - (r.start + 4095) / 4096 }
 
 abbrev pub if_some_pages : Run → Option Run
 if_some_pages s = if s.count == 0 then None else Some s
 
 -- the whole pages inside the last of these areas, if there are any
 abbrev pub reserved_in : List Row → Option Run
-reserved_in areas = option_and_then (λ r. if_some_pages (whole_pages r)) (slice_get areas (length areas - 1))
+reserved_in areas =
+    option_and_then (λ r. if_some_pages (whole_pages r)) (slice_get areas (length areas - 1))
 
 abbrev pub reserved_area : MapValue → Option Run
 reserved_area m = reserved_in m.areas
@@ -68,14 +71,30 @@ crash_rows m = reserved_row (reserved_area m) ++ filter (λ r. not (is_ram_row r
 
 -- what of a row stands before an area, and behind it
 abbrev pub before_area : Row → Row → List Row
-before_area area row = if nat_lt row.start area.start then record { start = row.start; size = min (row_end row) area.start - row.start; kind = row.kind } ∷ [] else []
+before_area area row =
+    if nat_lt row.start area.start
+    then record {
+      start = row.start;
+      size = min (row_end row) area.start - row.start;
+      kind = row.kind;
+    } ∷ []
+    else []
 
 abbrev pub behind_area : Row → Row → List Row
-behind_area area row = if nat_lt (row_end area) (row_end row) then record { start = max row.start (row_end area); size = row_end row - max row.start (row_end area); kind = row.kind } ∷ [] else []
+behind_area area row =
+    if nat_lt (row_end area) (row_end row)
+    then record {
+      start = max row.start (row_end area);
+      size = row_end row - max row.start (row_end area);
+      kind = row.kind;
+    } ∷ []
+    else []
 
 -- the ranges of a row that are outside an area
 unfoldable pub without_area : Row → Row → List Row
-without_area area row = if area.size == 0 then row ∷ [] else before_area area row ++ behind_area area row
+without_area area row =
+    if area.size == 0 then row ∷ []
+    else before_area area row ++ behind_area area row
 
 -- the ranges of the rows that are outside all areas, row after row
 unfoldable pub outside : List Row → List Row → List Row

@@ -48,7 +48,9 @@ HaveBytes rows = AllByRecursion HasBytes rows
 -- rows of kind k that rise from byte b on: none is empty, no two meet or touch, and all lie below 2^46
 abbrev pub AreParts : ℕ → ℕ → List Row → Type 0
 AreParts k b [] = Unit {0}
-AreParts k b (r ∷ rs) = (b ≤ r.start) × (0 < r.size) × (row_end r ≤ 2 ^ 46) × (r.kind ≡ k) × AreParts k (row_end r + 1) rs
+AreParts k b (r ∷ rs) =
+    (b ≤ r.start) × (0 < r.size) × (row_end r ≤ 2 ^ 46) × (r.kind ≡ k)
+    × AreParts k (row_end r + 1) rs
 
 -- each row starts at byte n or before it
 abbrev pub StartUpTo : ℕ → List Row → Type 0

@@ -35,7 +35,9 @@ entry_with_name None last name = None
 
 abbrev pub entry_to : Option ℕ → Option (List ℕ × List ℕ) → Option (ℕ × ℕ × Class)
 entry_to first None = None
-entry_to first (Some p) = if not (starts_with nat_eq p.1 (codes ": ")) then None else entry_with_name first (number p.0) (drop 2 p.1)
+entry_to first (Some p) =
+    if not (starts_with nat_eq p.1 (codes ": ")) then None
+    else entry_with_name first (number p.0) (drop 2 p.1)
 
 abbrev pub entry_from : Option (List ℕ × List ℕ) → Option (ℕ × ℕ × Class)
 entry_from None = None
@@ -55,7 +57,12 @@ checked_entry n line = check_entry n (entry_of line)
 
 -- the bytes from the first to the last that lie below 2^46
 abbrev pub below_limit : ℕ → ℕ → ℕ → Row
-below_limit first last kind = record { start = min first (2 ^ 46); size = min (last + 1) (2 ^ 46) - min first (2 ^ 46); kind = kind }
+below_limit first last kind =
+    record {
+      start = min first (2 ^ 46);
+      size = min (last + 1) (2 ^ 46) - min first (2 ^ 46);
+      kind = kind;
+    }
 
 -- whether a row has a byte of a System RAM row
 abbrev pub meets_ram : Row → List Row → Bool

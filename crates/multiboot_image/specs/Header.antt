@@ -37,10 +37,13 @@ head_at bytes at = read head (bytes_at at 12 bytes)
 
 -- a header begins at this place: a multiple of 4, with 12 bytes
 abbrev pub is_header_at : List ℕ → ℕ → Bool
-is_header_at bytes at = (at % 4 == 0) && (nat_le (at + 12) (length bytes) && is_head (head_at bytes at))
+is_header_at bytes at =
+    (at % 4 == 0) && (nat_le (at + 12) (length bytes) && is_head (head_at bytes at))
 
 abbrev pub head_in : List ℕ → ℕ → Option Head
-head_in bytes at = if nat_le (at + 12) (length bytes) && is_head (head_at bytes at) then Some (head_at bytes at) else None
+head_in bytes at =
+    if nat_le (at + 12) (length bytes) && is_head (head_at bytes at) then Some (head_at bytes at)
+    else None
 
 -- the least place of a header in these bytes
 unfoldable pub header_place : List ℕ → Option ℕ
@@ -56,7 +59,9 @@ unknown_bit flags = find (has_bit flags) (range_with_len 2 14)
 
 -- the addresses of the header at this place, where its 32 bytes are there
 abbrev pub kludge_in : List ℕ → ℕ → Option Kludge
-kludge_in bytes at = if nat_le (at + 32) (length bytes) then Some (read kludge (bytes_at at 32 bytes)) else None
+kludge_in bytes at =
+    if nat_le (at + 32) (length bytes) then Some (read kludge (bytes_at at 32 bytes))
+    else None
 
 abbrev pub with_kludge : ℕ → ℕ → Option Kludge → Result Header MbFault
 with_kludge at flags (Some k) = Ok (record { at = at; flags = flags; kludge = Some k })

@@ -23,7 +23,9 @@ info_format = record {
     mmap_addr = at 48 4;
     boot_loader_name = at 64 4;
   };
-  numbers = λ i. i.flags ∷ i.mem_lower ∷ i.mem_upper ∷ i.cmdline ∷ i.mods_count ∷ i.mods_addr ∷ i.mmap_length ∷ i.mmap_addr ∷ i.boot_loader_name ∷ [];
+  numbers =
+      λ i. i.flags ∷ i.mem_lower ∷ i.mem_upper ∷ i.cmdline ∷ i.mods_count ∷ i.mods_addr
+      ∷ i.mmap_length ∷ i.mmap_addr ∷ i.boot_loader_name ∷ [];
 }
 
 unfoldable pub info_text : Info → List ℕ
@@ -66,7 +68,9 @@ info_of p rows modules = record {
 -- the information
 unfoldable pub info : ℕ → List Row → List ℕ → List PlacedModule → List ℕ
 info at rows command modules =
-    info_text (info_of (places_of at (length rows) (length modules) (length command)) rows (length modules))
+    info_text
+    (info_of (places_of at (length rows) (length modules) (length command)) rows
+    (length modules))
     ++ (map_text rows
     ++ (module_table (places_of at (length rows) (length modules) (length command)).texts modules
     ++ (nul_ended command
@@ -74,7 +78,8 @@ info at rows command modules =
     ++ texts modules))))
 
 -- all addresses that are written are below 2^32
-pub record IsInReach (at : ℕ) (rows : List Row) (command : List ℕ) (modules : List PlacedModule) : Type 0 where
+pub record IsInReach (at : ℕ) (rows : List Row) (command : List ℕ) (modules : List PlacedModule)
+    : Type 0 where
   pub name : name_place at (length rows) (length modules) (length command) < 2 ^ 32
   pub table : AreBelow (name_place at (length rows) (length modules) (length command) + 6) modules
 

@@ -14,7 +14,8 @@ pub record PlacedModule : Type 0 where
 
 abbrev pub module_row : Format ModuleRow
 module_row = record {
-  layout = λ at. record { mod_start = at 0 4; mod_end = at 4 4; string = at 8 4; reserved = at 12 4 };
+  layout =
+      λ at. record { mod_start = at 0 4; mod_end = at 4 4; string = at 8 4; reserved = at 12 4 };
   numbers = λ m. m.mod_start ∷ m.mod_end ∷ m.string ∷ m.reserved ∷ [];
 }
 
@@ -23,7 +24,8 @@ module_text m = written module_row m (zeros 16)
 
 -- the row of a module whose text is at this address
 abbrev pub module_row_of : ℕ → PlacedModule → ModuleRow
-module_row_of text m = record { mod_start = m.start; mod_end = m.start + m.size; string = text; reserved = 0 }
+module_row_of text m =
+    record { mod_start = m.start; mod_end = m.start + m.size; string = text; reserved = 0 }
 
 abbrev pub module_bytes : ℕ → PlacedModule → List ℕ
 module_bytes text m = module_text (module_row_of text m)
@@ -43,7 +45,8 @@ texts modules = flat_map (λ m. nul_ended m.text) modules
 -- the addresses in the module table are below 2^32, where the texts begin at this address
 abbrev pub AreBelow : ℕ → List PlacedModule → Type 0
 AreBelow text [] = Unit {0}
-AreBelow text (m ∷ ms) = (m.start + m.size < 2 ^ 32) × (text < 2 ^ 32) × AreBelow (text + length m.text + 1) ms
+AreBelow text (m ∷ ms) =
+    (m.start + m.size < 2 ^ 32) × (text < 2 ^ 32) × AreBelow (text + length m.text + 1) ms
 
 abbrev pub texts_size : List PlacedModule → ℕ
 texts_size modules = length (texts modules)

@@ -24,7 +24,9 @@ place s = s.at + s.kludge.load_addr - s.kludge.header_addr
 
 -- how many bytes are loaded: up to load_end_addr, or to the end of the file
 abbrev pub loaded : Site → ℕ
-loaded s = if s.kludge.load_end_addr == 0 then s.total - place s else s.kludge.load_end_addr - s.kludge.load_addr
+loaded s =
+    if s.kludge.load_end_addr == 0 then s.total - place s
+    else s.kludge.load_end_addr - s.kludge.load_addr
 
 -- the address behind the loaded bytes
 abbrev pub load_stop : Site → ℕ
@@ -83,7 +85,9 @@ image_parts entry (Ok list) = Ok (record { list = list; entry = entry })
 image_parts entry (Err e) = Err (of_elf e)
 
 abbrev pub exec_parts : List ℕ → Result Executable ElfFault → Result Loaded MbFault
-exec_parts file (Ok x) = if x.wide then Err (faults.Elf elf.Class) else image_parts x.entry (image file x.loads)
+exec_parts file (Ok x) =
+    if x.wide then Err (faults.Elf elf.Class)
+    else image_parts x.entry (image file x.loads)
 exec_parts file (Err e) = Err (of_elf e)
 
 -- as an ELF32 executable
@@ -103,4 +107,5 @@ parts h file = parts_by file h.at h.kludge
 
 -- with addresses in the header the pages are those that some byte of the memory from load_addr on is in
 abbrev pub HasPagesMet : List ℕ → Header → Loaded → Type 0
-HasPagesMet file h r = IfSome h.kludge (λ k. (p : ℕ) → is_destination r.list p ≡ meets_page p (site file h.at k))
+HasPagesMet file h r =
+    IfSome h.kludge (λ k. (p : ℕ) → is_destination r.list p ≡ meets_page p (site file h.at k))

@@ -134,7 +134,8 @@ pub fn info_bytes(
 ) -> Result<Vec<u8>, AllocError>
     requires { IsInReach at rows.now command.now modules.now }
     ensures exact { IfOk result (λ v. v.items ≡ info at rows.now command.now modules.now) }
-    ensures length { IfOk result (λ v. length v.items ≡ info_length_of rows.now command.now modules.now) }
+    ensures length { IfOk result
+        (λ v. length v.items ≡ info_length_of rows.now command.now modules.now) }
 {
     let place = Places::new(at, rows.len(), modules.len(), command.len());
     let room = info_length(rows.len(), command.len(), modules);

@@ -16,7 +16,8 @@ pub record Contents : Type 0 where
 -- stored as the pair of its fields
 abbrev pub contents_code : Coded Contents
 contents_code =
-    code_by (finite.FinMap nat_cmp (List ℕ) × ℕ) (coded× (finite.code coded_ℕ (coded_list coded_ℕ)) coded_ℕ)
+    code_by (finite.FinMap nat_cmp (List ℕ) × ℕ)
+    (coded× (finite.code coded_ℕ (coded_list coded_ℕ)) coded_ℕ)
     (λ m. (m.pages, m.sets)) (λ p. record { pages = p.0; sets = p.1 }) (λ _. refl)
 
 -- a page of zeros

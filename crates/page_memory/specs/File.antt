@@ -54,8 +54,11 @@ entry_at total place low bytes =
     else Ok (field 0 8 bytes, take 4096 (drop 8 bytes), drop 4096 (drop 8 bytes))
 
 -- n pages from this place on, added to those before, and then nothing
-unfoldable pub pages_onto : ℕ → ℕ → ℕ → finite.FinMap nat_cmp (List ℕ) → ℕ → List ℕ → Result (finite.FinMap nat_cmp (List ℕ)) MemFault
-pages_onto total place low m zero bytes = if length bytes == 0 then Ok m else Err (faults.Trailing place)
+unfoldable pub pages_onto : ℕ → ℕ → ℕ → finite.FinMap nat_cmp (List ℕ) → ℕ → List ℕ
+    → Result (finite.FinMap nat_cmp (List ℕ)) MemFault
+pages_onto total place low m zero bytes =
+    if length bytes == 0 then Ok m
+    else Err (faults.Trailing place)
 pages_onto total place low m (suc n) bytes = do
   e ← entry_at total place low bytes
   pages_onto total (place + 4104) (e.0 + 1) (finite.insert m e.0 e.1) n e.2

@@ -33,8 +33,10 @@ pages_in frames table = pages_by (frame_in frames) table.entries
 -- behind a head of 16 bytes the buffer is a row of slots, one for each page of the table. A slot is 4,104 bytes: 8, in which
 -- a memory file has the page's number, and the page's frame. So the frames of two pages have no byte in common.
 pub record IsTable (frames : List ℕ) (table : tree.BTreeMap ℕ ℕ) : Type 0 where
-  pub inside : (q : ℕ) → IfSome (tree.get nat_cmp table q) (λ i. (q < 2 ^ 34) × (i + 4096 ≤ length frames))
-  pub apart : (p q i : ℕ) → tree.get nat_cmp table p ≡ Some i → tree.get nat_cmp table q ≡ Some i → p ≡ q
+  pub inside : (q : ℕ)
+      → IfSome (tree.get nat_cmp table q) (λ i. (q < 2 ^ 34) × (i + 4096 ≤ length frames))
+  pub apart : (p q i : ℕ) → tree.get nat_cmp table p ≡ Some i
+      → tree.get nat_cmp table q ≡ Some i → p ≡ q
   pub slots : (q i : ℕ) → tree.get nat_cmp table q ≡ Some i → i % 4104 ≡ 24
   pub full : length frames - 16 ≡ 4104 * length table.entries
   pub bytes : AreBytes frames
@@ -45,7 +47,8 @@ IsSet old new table p bytes = pages_in new table ≡ finite.insert (pages_in old
 
 -- the number v was written at a place of page p
 abbrev pub IsWordSet : List ℕ → List ℕ → tree.BTreeMap ℕ ℕ → ℕ → ℕ → ℕ → Type 0
-IsWordSet old new table p place v = IsSet old new table p (page_with_word (frame_at (pages_in old table) p) place v)
+IsWordSet old new table p place v =
+    IsSet old new table p (page_with_word (frame_at (pages_in old table) p) place v)
 
 -- page d became what page s reads as
 abbrev pub IsCopied : List ℕ → List ℕ → tree.BTreeMap ℕ ℕ → ℕ → ℕ → Type 0
@@ -53,7 +56,8 @@ IsCopied old new table d s = IsSet old new table d (frame_at (pages_in old table
 
 -- page p came in, with these bytes
 abbrev pub IsAdded : List ℕ → tree.BTreeMap ℕ ℕ → List ℕ → tree.BTreeMap ℕ ℕ → ℕ → List ℕ → Type 0
-IsAdded old old_table new new_table p bytes = pages_in new new_table ≡ finite.insert (pages_in old old_table) p bytes
+IsAdded old old_table new new_table p bytes =
+    pages_in new new_table ≡ finite.insert (pages_in old old_table) p bytes
 
 abbrev pub HaveSamePages : List ℕ → tree.BTreeMap ℕ ℕ → List ℕ → tree.BTreeMap ℕ ℕ → Type 0
 HaveSamePages old old_table new new_table = pages_in new new_table ≡ pages_in old old_table
@@ -61,11 +65,15 @@ HaveSamePages old old_table new new_table = pages_in new new_table ≡ pages_in 
 -- over each buffer, the frames of two pages changed places
 abbrev pub AreExchanged : tree.BTreeMap ℕ ℕ → tree.BTreeMap ℕ ℕ → ℕ → ℕ → Type 0
 AreExchanged old new d s =
-    (xs : List ℕ) → pages_in xs new ≡ finite.insert (finite.insert (pages_in xs old) s (frame_at (pages_in xs old) d)) d (frame_at (pages_in xs old) s)
+    (xs : List ℕ)
+    → pages_in xs new
+    ≡ finite.insert (finite.insert (pages_in xs old) s (frame_at (pages_in xs old) d)) d
+    (frame_at (pages_in xs old) s)
 
 -- n has v at k, and at each other key what m has
 abbrev pub Differs : {X : Type 0} → tree.BTreeMap ℕ X → tree.BTreeMap ℕ X → ℕ → X → Type 0
-Differs m n k v = (q : ℕ) → tree.get nat_cmp n q ≡ cond (is_at (nat_cmp k) q) (Some v) (tree.get nat_cmp m q)
+Differs m n k v =
+    (q : ℕ) → tree.get nat_cmp n q ≡ cond (is_at (nat_cmp k) q) (Some v) (tree.get nat_cmp m q)
 
 -- the entries with the bytes of their frames
 abbrev pub frame_entries : List ℕ → List (ℕ × ℕ) → List (ℕ × List ℕ)

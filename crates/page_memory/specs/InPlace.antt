@@ -27,19 +27,26 @@ pub record AreOwned (slots owners : List ℕ) (k : ℕ) : Type 0 where
 
 -- in each slot that one of the first n pages owns lies the frame of this page
 abbrev pub Holds : (ℕ → List ℕ) → List ℕ → List ℕ → ℕ → Type 0
-Holds frame_of frames owners n = (i : ℕ) → i < length owners → slice_index owners i < n → frame_in frames (place i) ≡ frame_of (slice_index owners i)
+Holds frame_of frames owners n =
+    (i : ℕ) → i < length owners → slice_index owners i < n
+    → frame_in frames (place i) ≡ frame_of (slice_index owners i)
 
 -- Where frames stand as `Holds` says, they do so afterwards.
 abbrev pub StillHold : List ℕ → List ℕ → List ℕ → List ℕ → ℕ → Type 0
-StillHold old old_owners new new_owners n = (frame_of : ℕ → List ℕ) → Holds frame_of old old_owners n → Holds frame_of new new_owners n
+StillHold old old_owners new new_owners n =
+    (frame_of : ℕ → List ℕ) → Holds frame_of old old_owners n → Holds frame_of new new_owners n
 
 -- Where frames stand as `Holds` says, that of each page comes to lie in the slot that the page has in the file.
 abbrev pub AreArranged : List ℕ → List ℕ → List ℕ → ℕ → Type 0
-AreArranged old owners new n = (frame_of : ℕ → List ℕ) → Holds frame_of old owners n → (j : ℕ) → j < n → frame_in new (place j) ≡ frame_of j
+AreArranged old owners new n =
+    (frame_of : ℕ → List ℕ) → Holds frame_of old owners n → (j : ℕ) → j < n
+    → frame_in new (place j) ≡ frame_of j
 
 -- each slot that a page owns is the one that the page has
 abbrev pub AreSlotsOf : List ℕ → List ℕ → Type 0
-AreSlotsOf slots owners = (i : ℕ) → i < length owners → slice_index owners i < length slots → slice_index slots (slice_index owners i) ≡ i
+AreSlotsOf slots owners =
+    (i : ℕ) → i < length owners → slice_index owners i < length slots
+    → slice_index slots (slice_index owners i) ≡ i
 
 -- the pages with the frames of the slots from k on
 abbrev pub slot_entries : List ℕ → ℕ → List (ℕ × ℕ) → List (ℕ × List ℕ)
@@ -52,4 +59,6 @@ slot_texts frames es = flat_map page_text (slot_entries frames 0 es)
 
 -- the frame of each of these pages lies in the slot that the page has in the file
 abbrev pub AreGathered : List ℕ → List ℕ → List (ℕ × ℕ) → Type 0
-AreGathered old new es = (j : ℕ) → j < length es → frame_in new (place j) ≡ frame_in old (place (slice_index (slots_of es) j))
+AreGathered old new es =
+    (j : ℕ) → j < length es
+    → frame_in new (place j) ≡ frame_in old (place (slice_index (slots_of es) j))

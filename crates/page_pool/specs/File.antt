@@ -45,7 +45,8 @@ count_of r = r.1 + 1 - r.0
 unfoldable pub line_onto : ℕ → List ℕ → List ℕ → Result (List ℕ) PoolFault
 line_onto n pages line = do
   r ← checked_range n line
-  if nat_lt 262144 (length pages + count_of r) then Err (faults.TooMany n) else Ok (pages ++ range_with_len r.0 (count_of r))
+  if nat_lt 262144 (length pages + count_of r) then Err (faults.TooMany n)
+      else Ok (pages ++ range_with_len r.0 (count_of r))
 
 -- these pages and those of all lines, the first of which has the number n
 unfoldable pub pages_onto : ℕ → List ℕ → List (List ℕ) → Result (List ℕ) PoolFault
@@ -73,7 +74,8 @@ pool_reading text = do
 abbrev pub MarksOrRepeat : Result (tree.BTreeMap ℕ Bool) PoolFault → List ℕ → Type 0
 MarksOrRepeat (Ok m) pages = AreMarks pages m × (first_repeat [] pages ≡ None)
 MarksOrRepeat (Err faults.Memory) pages = Unit {0}
-MarksOrRepeat (Err (faults.Repeats p)) pages = (first_repeat [] pages ≡ Some p) × IsFirstRepeat pages p
+MarksOrRepeat (Err (faults.Repeats p)) pages =
+    (first_repeat [] pages ≡ Some p) × IsFirstRepeat pages p
 MarksOrRepeat (Err e) pages = ⊥
 
 -- where a page is named as one that repeats, it is the first that stands earlier too

@@ -6,7 +6,9 @@ use Rattle.kx_pages.specs.Lists.{Distinct, count}
 -- the first of these numbers that stands earlier too, among those seen before included
 abbrev pub first_repeat : List ℕ → List ℕ → Option ℕ
 first_repeat seen [] = None
-first_repeat seen (x ∷ xs) = if list_any (nat_eq x) seen then Some x else first_repeat (seen ++ x ∷ []) xs
+first_repeat seen (x ∷ xs) =
+    if list_any (nat_eq x) seen then Some x
+    else first_repeat (seen ++ x ∷ []) xs
 
 -- x stands in the list at a place before which it stands too, and before which no number stands twice
 pub record IsFirstRepeat (xs : List ℕ) (x : ℕ) : Type 0 where

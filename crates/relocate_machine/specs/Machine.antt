@@ -54,13 +54,22 @@ after_move (Kept w) m d s = swapped m d s w
 
 -- handling a word: s is the state, r the registers once the word was fetched, a the word's address
 abbrev pub after_word : State → Registers → WordKind → ℕ → State × Step
-after_word s r kinds.Destination a = (record { machine = record r { destination = a }; memory = s.memory }, steps.Went)
-after_word s r kinds.Link a = (record { machine = record r { cursor = a }; memory = s.memory }, steps.Went)
-after_word s r kinds.Done a = (record { machine = record r { ended = true }; memory = s.memory }, steps.Ended)
+after_word s r kinds.Destination a =
+    (record { machine = record r { destination = a }; memory = s.memory }, steps.Went)
+after_word s r kinds.Link a =
+    (record { machine = record r { cursor = a }; memory = s.memory }, steps.Went)
+after_word s r kinds.Done a =
+    (record { machine = record r { ended = true }; memory = s.memory }, steps.Ended)
 after_word s r kinds.Source a =
     if nat_le (2 ^ 46) a then (s, steps.Off a)
     else if nat_le (2 ^ 46) s.machine.destination then (s, steps.Off s.machine.destination)
-    else (record { machine = record r { destination = s.machine.destination + 4096 }; memory = after_move s.machine.mode s.memory (s.machine.destination / 4096) (a / 4096) }, steps.Went)
+    else (
+      record {
+        machine = record r { destination = s.machine.destination + 4096 };
+        memory = after_move s.machine.mode s.memory (s.machine.destination / 4096) (a / 4096);
+      },
+      steps.Went,
+    )
 after_word s r kinds.Nothing a = (record { machine = r; memory = s.memory }, steps.Went)
 
 abbrev pub step_by : State → Result ℕ ℕ → State × Step
@@ -73,7 +82,8 @@ step_of s = step_by s (next_word s.machine.first s.machine.cursor s.memory)
 
 -- the registers before the first step
 abbrev pub start_of : ℕ → Mode → Registers
-start_of head mode = record { first = Some head; cursor = 0; destination = 0; ended = false; mode = mode }
+start_of head mode =
+    record { first = Some head; cursor = 0; destination = 0; ended = false; mode = mode }
 
 -- the machine before its first step, over this memory
 abbrev pub start_at : Contents → ℕ → Mode → State

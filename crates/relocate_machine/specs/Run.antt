@@ -42,7 +42,8 @@ WritesAfter rest (s, steps.Off a) = ⊥
 -- one of at most n more steps writes page q
 unfoldable pub WritesWithin : ℕ → State → ℕ → Type 0
 WritesWithin zero s q = ⊥
-WritesWithin (suc n) s q = IsWritten (writes_of s) q ⊎ WritesAfter (λ t. WritesWithin n t q) (step_of s)
+WritesWithin (suc n) s q =
+    IsWritten (writes_of s) q ⊎ WritesAfter (λ t. WritesWithin n t q) (step_of s)
 
 -- a page is held after the run exactly where it was held before it, or one of its steps wrote it
 abbrev pub HoldsWritten : ℕ → State → Contents → Type 0
@@ -52,4 +53,5 @@ HoldsWritten limit s m = (q : ℕ) → IsHeld m q ↔ (IsHeld s.memory q ⊎ Wri
 -- writes may be held besides.
 abbrev pub IsCutShort : ℕ → State → Contents → Type 0
 IsCutShort limit s m =
-    (k : ℕ) × (t : State) × (k < limit) × (run_from k 0 s ≡ (t, outcomes.Running k)) × IsHeldFor (IsWritten (writes_of t)) t.memory m
+    (k : ℕ) × (t : State) × (k < limit) × (run_from k 0 s ≡ (t, outcomes.Running k))
+    × IsHeldFor (IsWritten (writes_of t)) t.memory m

@@ -43,7 +43,9 @@ IsWritten w q = (w.destination ≡ Some q) ⊎ (w.source ≡ Some q) ⊎ (w.swap
 
 -- these pages are held
 abbrev pub AreHeld : Contents → Writes → Type 0
-AreHeld m w = IfSome w.destination (λ p. IsHeld m p) × IfSome w.source (λ p. IsHeld m p) × IfSome w.swap (λ p. IsHeld m p)
+AreHeld m w =
+    IfSome w.destination (λ p. IsHeld m p) × IfSome w.source (λ p. IsHeld m p)
+    × IfSome w.swap (λ p. IsHeld m p)
 
 -- the pages that the next step writes are held
 abbrev pub HoldsWrites : State → Type 0

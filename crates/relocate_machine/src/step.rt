@@ -69,7 +69,13 @@ impl Model for Machine {
 
     ghost Value = { Registers };
 
-    ghost view = { λ m. record { first = m.first; cursor = m.cursor; destination = m.destination; ended = m.ended; mode = m.mode } };
+    ghost view = { λ m. record {
+      first = m.first;
+      cursor = m.cursor;
+      destination = m.destination;
+      ended = m.ended;
+      mode = m.mode;
+    } };
 
     ghost invariant = { λ m. (m.cursor % 8 ≡ 0) × (m.destination % 4096 ≡ 0) };
 }

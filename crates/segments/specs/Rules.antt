@@ -51,7 +51,8 @@ overlap_each_other s r = nat_lt r.mem (stop s) && nat_lt s.mem (stop r)
 abbrev pub overlap_after : List SegmentValue → List SegmentValue → Option SegFault
 overlap_after earlier [] = None
 overlap_after earlier (s ∷ ss) =
-    option_or (at_first (overlap_each_other s) (faults.Overlap (length earlier)) earlier) (overlap_after (earlier ++ s ∷ []) ss)
+    option_or (at_first (overlap_each_other s) (faults.Overlap (length earlier)) earlier)
+    (overlap_after (earlier ++ s ∷ []) ss)
 
 abbrev pub overlap : List SegmentValue → Option SegFault
 overlap ss = overlap_after [] ss
@@ -66,7 +67,9 @@ too_full ss = at_first is_too_full faults.TooFull ss
 -- a segment, or all together, takes more than half of the pages of memory
 abbrev pub half_of_memory : List Run → List SegmentValue → Option SegFault
 half_of_memory ram ss =
-    where_true (list_any (λ s. nat_lt (spans.pages ram / 2) (page_count s)) ss || nat_lt (spans.pages ram / 2) (length (pages ss))) faults.HalfOfMemory
+    where_true
+    (list_any (λ s. nat_lt (spans.pages ram / 2) (page_count s)) ss
+    || nat_lt (spans.pages ram / 2) (length (pages ss))) faults.HalfOfMemory
 
 -- a segment of a crash kernel leaves the reserved area
 abbrev pub leaves : Run → SegmentValue → Bool
@@ -113,7 +116,8 @@ abbrev pub Refuses : SegFault → Option SegFault → Type 0
 Refuses fault first = (first ≡ Some fault) ⊎ ((fault ≡ faults.Memory) × (first ≡ None))
 
 -- the segments are the list, which no rule refuses; or this is the first refusal
-abbrev pub Answers : List SegmentValue → Option SegFault → Result (List SegmentValue) SegFault → Type 0
+abbrev pub Answers : List SegmentValue → Option SegFault
+    → Result (List SegmentValue) SegFault → Type 0
 Answers ss first (Ok made) = (made ≡ ss) × (first ≡ None)
 Answers ss first (Err fault) = Refuses fault first
 

@@ -39,7 +39,9 @@ want (s ∷ ss) p = if is_page_of_segment s p then Some (page_of (bytes_from s p
 -- the bytes of that page before the zeros
 abbrev pub wanted : List SegmentValue → Wants
 wanted [] p = None
-wanted (s ∷ ss) p = if is_page_of_segment s p then Some (take 4096 (bytes_from s p)) else wanted ss p
+wanted (s ∷ ss) p =
+    if is_page_of_segment s p then Some (take 4096 (bytes_from s p))
+    else wanted ss p
 
 -- how many pages a segment has
 abbrev pub page_count : SegmentValue → ℕ
@@ -71,4 +73,6 @@ IsAsLong ss i bytes = (s : SegmentValue) → slice_get ss i ≡ Some s → lengt
 
 -- the bytes of segment i became these, and all else is as before
 abbrev pub IsReplaced : List SegmentValue → List SegmentValue → ℕ → List ℕ → Type 0
-IsReplaced old new i bytes = (s : SegmentValue) → slice_get old i ≡ Some s → new ≡ slice_set old i (record s { bytes = bytes })
+IsReplaced old new i bytes =
+    (s : SegmentValue) → slice_get old i ≡ Some s
+    → new ≡ slice_set old i (record s { bytes = bytes })

@@ -8,7 +8,9 @@ three_bytes = record { bytes = codes "abc"; mem = 0x2000; memsz = 0x1000 } ∷ [
 
 -- two pages from page p on, of which the first begins with `b` and the second with `c`
 abbrev pub two_pages : ℕ → List SegmentValue
-two_pages p = record { bytes = codes "b" ++ replicate 4095 0 ++ codes "c"; mem = 4096 * p; memsz = 0x2000 } ∷ []
+two_pages p =
+    record { bytes = codes "b" ++ replicate 4095 0 ++ codes "c"; mem = 4096 * p; memsz = 0x2000 }
+    ∷ []
 
 -- a segment without memory at page 2
 abbrev pub no_bytes : List SegmentValue

@@ -15,11 +15,13 @@ HasWords M a (w ∷ ws) = (word M a ≡ w) × HasWords M (a + 8) ws
 
 -- of the list with this head, word n is the first that has a reason, and this is its first one
 abbrev pub FirstFault : Mem → List SegmentValue → ℕ → ℕ → Option ℕ → ℕ → Why → Type 0
-FirstFault M ss head control swap n why = Faulty M (want ss) (pages ss) control swap None nothing_earlier head n why
+FirstFault M ss head control swap n why =
+    Faulty M (want ss) (pages ss) control swap None nothing_earlier head n why
 
 -- no list with this head is accepted
 abbrev pub NoneAccepted : Mem → List SegmentValue → ℕ → ℕ → Option ℕ → Type 0
-NoneAccepted M ss head control swap = (is : List Item) → IsAccepted M (want ss) head control swap is → ⊥
+NoneAccepted M ss head control swap =
+    (is : List Item) → IsAccepted M (want ss) head control swap is → ⊥
 
 -- page 2 comes from page 12
 abbrev pub one_move : List Item
@@ -38,8 +40,10 @@ abbrev pub first_page_first : List Item
 first_page_first = Link 0x20 ∷ Destination 3 ∷ Source 2 ∷ Source 3 ∷ Done 0 ∷ []
 
 -- why an item at this place is refused, after words that were so
-abbrev pub why_refused : Mem → List SegmentValue → ℕ → Option ℕ → Option ℕ → Earlier → Item → Option Why
-why_refused M ss control swap place earlier i = reason M (want ss) (pages ss) control swap place earlier (Some i)
+abbrev pub why_refused : Mem → List SegmentValue → ℕ → Option ℕ → Option ℕ → Earlier → Item
+    → Option Why
+why_refused M ss control swap place earlier i =
+    reason M (want ss) (pages ss) control swap place earlier (Some i)
 
 -- page 2 is its own source, and page 3 comes from page 12
 abbrev pub one_exchanged : List Item

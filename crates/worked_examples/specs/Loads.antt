@@ -12,12 +12,14 @@ use Rattle.load_states.specs.Loads.{entries_of, loading_of, memory_of}
 
 -- where a load of `abc` to page 2 stands that took pages 10, 11 and 12
 abbrev pub three_bytes_loaded : Loading
-three_bytes_loaded = record { left = []; filed = []; pairs = (2, 0x12) ∷ []; spare = 0x10 ∷ 0x11 ∷ [] }
+three_bytes_loaded =
+    record { left = []; filed = []; pairs = (2, 0x12) ∷ []; spare = 0x10 ∷ 0x11 ∷ [] }
 
 -- of a load of segments from a pool of these pages the words of its list, the head word first: None where the pool runs
 -- out
 abbrev pub words_of : Wish → List SegmentValue → List ℕ → Option (List ℕ)
-words_of wish ss pool = option_map (λ l. map code (list_of wish (entries_of ss) l)) (loading_of wish ss pool)
+words_of wish ss pool =
+    option_map (λ l. map code (list_of wish (entries_of ss) l)) (loading_of wish ss pool)
 
 -- its image
 abbrev pub image_laid : Wish → List SegmentValue → List ℕ → Option Image

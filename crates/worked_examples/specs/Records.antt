@@ -18,9 +18,12 @@ three_bytes_record = record {
 -- memory, its number of bytes, and these
 abbrev pub three_bytes_file : List ℕ
 three_bytes_file =
-    codes "KXREC001" ++ (replicate 8 0 ++ (2 ∷ 0x10 ∷ 1 ∷ replicate 5 0 ++ (0 ∷ 0 ∷ 1 ∷ replicate 5 0 ++ (replicate 8 0
+    codes "KXREC001"
+    ++ (replicate 8 0
+    ++ (2 ∷ 0x10 ∷ 1 ∷ replicate 5 0 ++ (0 ∷ 0 ∷ 1 ∷ replicate 5 0 ++ (replicate 8 0
     ++ (0 ∷ 0x20 ∷ replicate 6 0 ++ (replicate 40 0 ++ (1 ∷ replicate 7 0
-    ++ (0 ∷ 0x20 ∷ replicate 6 0 ++ (0 ∷ 0x10 ∷ replicate 6 0 ++ (3 ∷ replicate 7 0 ++ codes "abc"))))))))))
+    ++ (0 ∷ 0x20 ∷ replicate 6 0
+    ++ (0 ∷ 0x10 ∷ replicate 6 0 ++ (3 ∷ replicate 7 0 ++ codes "abc"))))))))))
 
 -- the record of a load with context preserved
 abbrev pub kept_record : Record

@@ -7,7 +7,8 @@ use Rattle.relocate_machine.specs.declared.step.Outcome.{Outcome}
 use Rattle.relocate_machine.specs.Run.{run_of}
 
 -- the run of this list comes out so, and leaves this memory
-pub record ComesOut (m : Contents) (head : ℕ) (mode : Mode) (limit : ℕ) (how : Outcome) (left : Mem) : Type 0 where
+pub record ComesOut (m : Contents) (head : ℕ) (mode : Mode) (limit : ℕ) (how : Outcome) (left : Mem)
+    : Type 0 where
   pub outcome : (run_of m head mode limit).1 ≡ how
   pub memory : at (run_of m head mode limit).0.memory ≡ left
 

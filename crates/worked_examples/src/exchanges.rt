@@ -18,19 +18,27 @@ pub fn exchanged_once()
 
 /// The second exchange gives each page but the swap page what it had at first.
 pub fn exchanged_twice()
-    ensures restored { (M : Mem) (p : ℕ) → p ≢ 0x11 → exchange (exchange M one_pair_at_home 0x11) one_pair_at_home 0x11 p ≡ M p }
-    ensures swap_page { (M : Mem) → exchange (exchange M one_pair_at_home 0x11) one_pair_at_home 0x11 0x11 ≡ M 3 }
+    ensures restored { (M : Mem) (p : ℕ) → p ≢ 0x11
+        → exchange (exchange M one_pair_at_home 0x11) one_pair_at_home 0x11 p ≡ M p }
+    ensures swap_page { (M : Mem)
+        → exchange (exchange M one_pair_at_home 0x11) one_pair_at_home 0x11 0x11 ≡ M 3 }
 {}
 
 /// Between the two, page 2 is written: it keeps the write, and the other pair goes back.
 pub fn own_source_keeps_a_write()
-    ensures own_source { (M : Mem) (z : List ℕ) → exchange (put (exchange M one_pair_at_home 0x11) 2 z) one_pair_at_home 0x11 2 ≡ z }
-    ensures destination { (M : Mem) (z : List ℕ) → exchange (put (exchange M one_pair_at_home 0x11) 2 z) one_pair_at_home 0x11 3 ≡ M 3 }
-    ensures source { (M : Mem) (z : List ℕ) → exchange (put (exchange M one_pair_at_home 0x11) 2 z) one_pair_at_home 0x11 0x13 ≡ M 0x13 }
+    ensures own_source { (M : Mem) (z : List ℕ)
+        → exchange (put (exchange M one_pair_at_home 0x11) 2 z) one_pair_at_home 0x11 2 ≡ z }
+    ensures destination { (M : Mem) (z : List ℕ)
+        → exchange (put (exchange M one_pair_at_home 0x11) 2 z) one_pair_at_home 0x11 3 ≡ M 3 }
+    ensures source { (M : Mem) (z : List ℕ)
+        → exchange (put (exchange M one_pair_at_home 0x11) 2 z) one_pair_at_home 0x11 0x13
+        ≡ M 0x13 }
 {}
 
 /// Between the two, page 3 is written: it is as before the first, and its source gets the write.
 pub fn source_gets_a_write()
-    ensures destination { (M : Mem) (z : List ℕ) → exchange (put (exchange M one_pair_at_home 0x11) 3 z) one_pair_at_home 0x11 3 ≡ M 3 }
-    ensures source { (M : Mem) (z : List ℕ) → exchange (put (exchange M one_pair_at_home 0x11) 3 z) one_pair_at_home 0x11 0x13 ≡ z }
+    ensures destination { (M : Mem) (z : List ℕ)
+        → exchange (put (exchange M one_pair_at_home 0x11) 3 z) one_pair_at_home 0x11 3 ≡ M 3 }
+    ensures source { (M : Mem) (z : List ℕ)
+        → exchange (put (exchange M one_pair_at_home 0x11) 3 z) one_pair_at_home 0x11 0x13 ≡ z }
 {}

@@ -42,22 +42,27 @@ pub fn pages_needed()
 /// but not one that it begins with.
 pub fn segments_that_overlap()
     ensures touching { bare_refusal (pages_at 0x100 2 ∷ pages_at 0x102 2 ∷ []) ≡ None }
-    ensures shared { bare_refusal (pages_at 0x100 3 ∷ pages_at 0x102 2 ∷ []) ≡ Some (faults.Overlap 1 0) }
-    ensures empty_inside { bare_refusal (pages_at 0x100 4 ∷ pages_at 0x102 0 ∷ []) ≡ Some (faults.Overlap 1 0) }
+    ensures shared { bare_refusal (pages_at 0x100 3 ∷ pages_at 0x102 2 ∷ [])
+        ≡ Some (faults.Overlap 1 0) }
+    ensures empty_inside { bare_refusal (pages_at 0x100 4 ∷ pages_at 0x102 0 ∷ [])
+        ≡ Some (faults.Overlap 1 0) }
     ensures empty_at_the_start { bare_refusal (pages_at 0x100 0 ∷ pages_at 0x100 4 ∷ []) ≡ None }
-    ensures empty_at_the_start_behind { bare_refusal (pages_at 0x100 4 ∷ pages_at 0x100 0 ∷ []) ≡ None }
+    ensures empty_at_the_start_behind { bare_refusal (pages_at 0x100 4 ∷ pages_at 0x100 0 ∷ [])
+        ≡ None }
 {}
 
 /// An address that is no page's, and a list without segments.
 pub fn bad_addresses()
-    ensures inside_a_page { bare_refusal (record { bytes = []; mem = 0x800; memsz = 0x1000 } ∷ []) ≡ Some (faults.BadAddress 0) }
+    ensures inside_a_page { bare_refusal (record { bytes = []; mem = 0x800; memsz = 0x1000 } ∷ [])
+        ≡ Some (faults.BadAddress 0) }
     ensures errno { errno (faults.BadAddress 0) ≡ 99 }
     ensures none { bare_refusal [] ≡ Some faults.NoSegments }
 {}
 
 /// More bytes than memory, more segments than sixteen, and more pages than 65,536.
 pub fn too_much()
-    ensures bytes { bare_refusal (record { bytes = 1 ∷ []; mem = 0x2000; memsz = 0 } ∷ []) ≡ Some (faults.TooFull 0) }
+    ensures bytes { bare_refusal (record { bytes = 1 ∷ []; mem = 0x2000; memsz = 0 } ∷ [])
+        ≡ Some (faults.TooFull 0) }
     ensures sixteen { bare_refusal (replicate 16 (pages_at 0x100 0)) ≡ None }
     ensures seventeen { bare_refusal (replicate 17 (pages_at 0x100 0)) ≡ Some faults.TooMany }
     ensures pages { bare_refusal (pages_at 0x100 65537 ∷ []) ≡ Some (faults.TooLarge 65537) }
@@ -65,16 +70,24 @@ pub fn too_much()
 
 /// Pages that are no memory, and a crash kernel that leaves its area.
 pub fn misplaced_segments()
-    ensures no_memory { refusal (record { first = 0; count = 2 } ∷ []) kinds.Normal three_bytes ≡ Some (faults.NotRam 0) }
-    ensures inside { refusal (record { first = 0; count = 0x200 } ∷ []) (kinds.Crash (record { first = 0x100; count = 0x10 })) (pages_at 0x10c 4 ∷ []) ≡ None }
-    ensures behind { refusal (record { first = 0; count = 0x200 } ∷ []) (kinds.Crash (record { first = 0x100; count = 0x10 })) (pages_at 0x10d 4 ∷ []) ≡ Some (faults.OutsideReserved 0) }
-    ensures before { refusal (record { first = 0; count = 0x200 } ∷ []) (kinds.Crash (record { first = 0x100; count = 0x10 })) (pages_at 0xff 4 ∷ []) ≡ Some (faults.OutsideReserved 0) }
+    ensures no_memory { refusal (record { first = 0; count = 2 } ∷ []) kinds.Normal three_bytes
+        ≡ Some (faults.NotRam 0) }
+    ensures inside { refusal (record { first = 0; count = 0x200 } ∷ [])
+        (kinds.Crash (record { first = 0x100; count = 0x10 })) (pages_at 0x10c 4 ∷ []) ≡ None }
+    ensures behind { refusal (record { first = 0; count = 0x200 } ∷ [])
+        (kinds.Crash (record { first = 0x100; count = 0x10 })) (pages_at 0x10d 4 ∷ [])
+        ≡ Some (faults.OutsideReserved 0) }
+    ensures before { refusal (record { first = 0; count = 0x200 } ∷ [])
+        (kinds.Crash (record { first = 0x100; count = 0x10 })) (pages_at 0xff 4 ∷ [])
+        ≡ Some (faults.OutsideReserved 0) }
     ensures errno { errno (faults.OutsideReserved 0) ≡ 99 }
 {}
 
 /// Memory of eight pages: a segment of four passes, and one of five takes more than half of memory.
 pub fn half_of_memory()
-    ensures four { refusal (record { first = 0x100; count = 8 } ∷ []) kinds.Normal (pages_at 0x100 4 ∷ []) ≡ None }
-    ensures five { refusal (record { first = 0x100; count = 8 } ∷ []) kinds.Normal (pages_at 0x100 5 ∷ []) ≡ Some faults.HalfOfMemory }
+    ensures four { refusal (record { first = 0x100; count = 8 } ∷ []) kinds.Normal
+        (pages_at 0x100 4 ∷ []) ≡ None }
+    ensures five { refusal (record { first = 0x100; count = 8 } ∷ []) kinds.Normal
+        (pages_at 0x100 5 ∷ []) ≡ Some faults.HalfOfMemory }
     ensures errno { errno faults.HalfOfMemory ≡ 22 }
 {}

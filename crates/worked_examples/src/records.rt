@@ -21,12 +21,27 @@ pub fn spoiled_records()
     ensures shorter { record_reading (take 122 three_bytes_file) ≡ Err (faults.Truncated 122) }
     ensures short_head { record_reading (take 95 three_bytes_file) ≡ Err (faults.Truncated 95) }
     ensures longer { record_reading (three_bytes_file ++ 0 ∷ []) ≡ Err (faults.Trailing 123) }
-    ensures magic { record_reading (codes "KXREC009" ++ drop 8 three_bytes_file) ≡ Err faults.BadMagic }
-    ensures kind { record_reading (take 8 three_bytes_file ++ (little_bytes 4 2 ++ drop 12 three_bytes_file)) ≡ Err (faults.BadKind 2) }
-    ensures mode { record_reading (take 12 three_bytes_file ++ (little_bytes 4 2 ++ drop 16 three_bytes_file)) ≡ Err (faults.BadMode 2) }
-    ensures crash_kept { record_reading (take 8 three_bytes_file ++ (little_bytes 4 1 ++ (little_bytes 4 1 ++ drop 16 three_bytes_file))) ≡ Err (faults.BadMode 1) }
-    ensures crash_control_page { record_reading (take 8 three_bytes_file ++ (little_bytes 4 1 ++ drop 12 three_bytes_file)) ≡ Err faults.BadPage }
-    ensures swap_page_without_need { record_reading (take 32 three_bytes_file ++ (little_bytes 8 0x11000 ++ drop 40 three_bytes_file)) ≡ Err faults.BadPage }
-    ensures no_segments { record_reading (take 88 three_bytes_file ++ little_bytes 8 0) ≡ Err (faults.Segments segment_faults.NoSegments) }
-    ensures bad_address { record_reading (take 96 three_bytes_file ++ (little_bytes 8 0x2001 ++ drop 104 three_bytes_file)) ≡ Err (faults.Segments (segment_faults.BadAddress 0)) }
+    ensures magic { record_reading (codes "KXREC009" ++ drop 8 three_bytes_file)
+        ≡ Err faults.BadMagic }
+    ensures kind { record_reading
+        (take 8 three_bytes_file ++ (little_bytes 4 2 ++ drop 12 three_bytes_file))
+        ≡ Err (faults.BadKind 2) }
+    ensures mode { record_reading
+        (take 12 three_bytes_file ++ (little_bytes 4 2 ++ drop 16 three_bytes_file))
+        ≡ Err (faults.BadMode 2) }
+    ensures crash_kept { record_reading
+        (take 8 three_bytes_file
+        ++ (little_bytes 4 1 ++ (little_bytes 4 1 ++ drop 16 three_bytes_file)))
+        ≡ Err (faults.BadMode 1) }
+    ensures crash_control_page { record_reading
+        (take 8 three_bytes_file ++ (little_bytes 4 1 ++ drop 12 three_bytes_file))
+        ≡ Err faults.BadPage }
+    ensures swap_page_without_need { record_reading
+        (take 32 three_bytes_file ++ (little_bytes 8 0x11000 ++ drop 40 three_bytes_file))
+        ≡ Err faults.BadPage }
+    ensures no_segments { record_reading (take 88 three_bytes_file ++ little_bytes 8 0)
+        ≡ Err (faults.Segments segment_faults.NoSegments) }
+    ensures bad_address { record_reading
+        (take 96 three_bytes_file ++ (little_bytes 8 0x2001 ++ drop 104 three_bytes_file))
+        ≡ Err (faults.Segments (segment_faults.BadAddress 0)) }
 {}

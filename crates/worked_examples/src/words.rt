@@ -46,8 +46,14 @@ pub fn words_in_memory()
     ensures second { word (λ p. page_of (in_bytes (0x2001 ∷ 0x12008 ∷ 4 ∷ []))) 0x11008 ≡ 0x12008 }
     ensures third { word (λ p. page_of (in_bytes (0x2001 ∷ 0x12008 ∷ 4 ∷ []))) 0x11010 ≡ 4 }
     ensures rest { word (λ p. page_of (in_bytes (0x2001 ∷ 0x12008 ∷ 4 ∷ []))) 0x11018 ≡ 0 }
-    ensures lowest_byte_first { word (λ p. page_of (1 ∷ 2 ∷ 3 ∷ 4 ∷ 5 ∷ 6 ∷ 7 ∷ 8 ∷ [])) 0x11000 ≡ 0x0807_0605_0403_0201 }
-    ensures last_slot { word (λ p. replicate 4088 0 ++ little_bytes 8 0x1200002) 0x11ff8 ≡ 0x1200002 }
-    ensures changed { word (set_word (λ p. page_of (in_bytes (0x2001 ∷ 0x12008 ∷ 4 ∷ []))) 0x11008 0x2008) 0x11008 ≡ 0x2008 }
-    ensures unchanged { word (set_word (λ p. page_of (in_bytes (0x2001 ∷ 0x12008 ∷ 4 ∷ []))) 0x11008 0x2008) 0x11010 ≡ 4 }
+    ensures lowest_byte_first { word (λ p. page_of (1 ∷ 2 ∷ 3 ∷ 4 ∷ 5 ∷ 6 ∷ 7 ∷ 8 ∷ [])) 0x11000
+        ≡ 0x0807_0605_0403_0201 }
+    ensures last_slot { word (λ p. replicate 4088 0 ++ little_bytes 8 0x1200002) 0x11ff8
+        ≡ 0x1200002 }
+    ensures changed { word
+        (set_word (λ p. page_of (in_bytes (0x2001 ∷ 0x12008 ∷ 4 ∷ []))) 0x11008 0x2008) 0x11008
+        ≡ 0x2008 }
+    ensures unchanged { word
+        (set_word (λ p. page_of (in_bytes (0x2001 ∷ 0x12008 ∷ 4 ∷ []))) 0x11008 0x2008) 0x11010
+        ≡ 4 }
 {}
