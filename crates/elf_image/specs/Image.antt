@@ -1,5 +1,5 @@
--- The image of an executable: which bytes stand at which addresses, and the segments that hold them. A page has 4,096
--- bytes.
+-- The image of an executable: which bytes stand at which addresses (ELF gABI, chapter 5, Program Loading), and the
+-- segments that hold them, one for each run of pages (this project's own). A page has 4,096 bytes.
 use Rattle.std.specs.Prelude.{◌≡◌, ℕ, zero, suc, ◌+◌, ◌-◌, ◌*◌, ◌/◌, ◌^◌, ◌==◌, ◌&&◌, Bool, List, [], ◌∷◌, map, nat_lt, nat_le, min, max, slice_index, if◌then◌else◌, Result, Ok, Err}
 use Rattle.std.specs.List.{list_any, range_with_len}
 use Rattle.kx_pages.specs.Limits.{segment_page_limit}

@@ -1,4 +1,4 @@
--- What the words of a command are taken to be, by what clap states of simple commands.
+-- What the words of a command are taken to be (this project's own), by what clap states of simple commands.
 use Rattle.std.specs.Prelude.{◌≡◌, [], Bool, false, Option, Some, None, Result, Ok, Err, option_map, map, List, unwrap_or, codes}
 use Rattle.std.specs.Borrow.{Bor}
 use Rattle.std.specs.Str.{bytes_eq}

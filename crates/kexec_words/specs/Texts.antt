@@ -1,4 +1,4 @@
--- How options and words are named in texts, and which help belongs to which words.
+-- How options and words are named in texts, and which help belongs to which words (this project's own).
 use Rattle.std.specs.Prelude.{ℕ, List, [], ◌∷◌, codes, Option, Some, None}
 use Rattle.kexec_words.specs.declared.faults.Which.{Which}
 use Rattle.kexec_words.specs.declared.faults.Which.TheVariants as which

@@ -1,4 +1,4 @@
--- What is made before a list is written.
+-- What is made before a list is written (this project's own).
 use Rattle.std.specs.Prelude.{◌≡◌, ℕ, ◌<◌, ◌^◌, List, slice_index}
 use Rattle.page_memory.specs.Contents.{Contents, IsHeld}
 use Rattle.kx_pages.specs.Spans.{Run, in_spans}

@@ -1,4 +1,4 @@
--- What the writer's calls begin with, and what they leave.
+-- What the writer's calls begin with, and what they leave (this project's own).
 use Rattle.std.specs.Prelude.{◌≡◌, ℕ, ◌+◌, ◌≤◌, ◌<◌, ◌^◌, List, [], take, drop, false, None, Some}
 use Rattle.page_memory.specs.Contents.{at}
 use Rattle.page_memory.specs.Memory.{Mem}

@@ -1,4 +1,4 @@
--- A list under way: what was asked for so far, and what stands in memory, pool and table.
+-- A list under way: what was asked for so far, and what stands in memory, pool and table (this project's own).
 use Rattle.std.specs.Prelude.{◌≡◌, ℕ, ◌+◌, ◌*◌, ◌/◌, ◌%◌, ◌<◌, ◌≤◌, ◌^◌, ◌⊎◌, List, [], ◌∷◌, ◌++◌, length, take, Bool, true, false, cond, eqb, Option, Some, None}
 use Rattle.page_memory.specs.Contents.{Contents, at, IsHeld, page_of}
 use Rattle.page_memory.specs.Memory.{Mem, Wants, put, set_word}

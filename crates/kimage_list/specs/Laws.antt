@@ -1,5 +1,5 @@
--- What is claimed of loads, in the clauses of laws.rt (this project's own): taking never fails, each call can be made, and all
--- is drawn in the end.
+-- What is claimed of loads, in the clauses of laws.rt (this project's own): taking never fails, each call can be made,
+-- and all is drawn in the end.
 use Rattle.std.specs.Prelude.{◌≡◌, ℕ, ◌+◌, ◌<◌, ◌≤◌, ◌/◌, List, [], ◌∷◌, ◌++◌, length, take, drop, Bool, true, Some, None, not, filter}
 use Rattle.page_memory.specs.Memory.{Mem, Wants}
 use Rattle.kx_pages.specs.Lists.{Has, count, destinations}

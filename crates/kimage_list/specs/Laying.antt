@@ -1,4 +1,5 @@
--- What a load lays in memory: the words of its list over the link pages, and the destinations' bytes at the sources.
+-- What a load lays in memory: the words of its list over the link pages, as the kernel's kexec core has them
+-- (kimage_entry_t), and the destinations' bytes at the sources. Which page is which is this project's own.
 use Rattle.std.specs.Prelude.{◌≡◌, ℕ, List, [], ◌∷◌, ◌++◌, map, take, drop, unwrap_or, slice_index}
 use Rattle.byteorder.specs.Endian.{little_bytes}
 use Rattle.page_memory.specs.Memory.{Mem, Wants, put}

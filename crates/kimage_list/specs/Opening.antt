@@ -1,4 +1,4 @@
--- The list while it is written: no done word yet, and the last link page has room or is full.
+-- The list while it is written: no done word yet, and the last link page has room or is full (this project's own).
 use Rattle.std.specs.Prelude.{ℕ, suc, cond, eqb, ◌≤◌, ◌-◌, ◌+◌, ◌*◌, ◌/◌, ◌%◌, List, [], ◌∷◌, ◌++◌, map, length, take, drop, slice_index}
 use Rattle.page_memory.specs.Memory.{Mem, Wants}
 use Rattle.page_memory.specs.Contents.{page_of}

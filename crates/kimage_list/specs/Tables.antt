@@ -1,4 +1,5 @@
--- The table of the wanted pages: of each its source and the place of its word, once it is loaded.
+-- The table of the wanted pages: of each its source and the place of its word, once it is loaded (this project's
+-- own).
 use Rattle.std.specs.Prelude.{ℕ, Bool, true, false, Option, Some, None, refl}
 use Rattle.std.specs.Ordering.{nat_cmp}
 use Rattle.std.specs.FinMap as finite

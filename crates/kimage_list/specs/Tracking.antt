@@ -1,4 +1,4 @@
--- Where a pool and a table stand while a list is written.
+-- Where a pool and a table stand while a list is written (this project's own).
 use Rattle.std.specs.Prelude.{◌≡◌, ℕ, ◌+◌, ◌≤◌, List, ◌++◌, Bool, true, false, Option, Some, None, is_some}
 use Rattle.page_pool.specs.Pages.{Pages, is_filed}
 use Rattle.kx_pages.specs.Lists.{has, count}

@@ -1,4 +1,5 @@
--- The words of a list of page copies: a page's address with one flag (the kernel's kimage_entry_t).
+-- The words of a list of page copies: a page's address with one flag (the kernel's kimage_entry_t; the items'
+-- names are this project's own).
 use Rattle.std.specs.Prelude.{ℕ, ◌+◌, ◌*◌, ◌/◌, ◌%◌, cond, eqb, Option, Some, None}
 use Rattle.kx_pages.specs.declared.item.Item.{Item}
 use Rattle.kx_pages.specs.declared.item.Item.TheVariants.{Link, Destination, Source, Done}

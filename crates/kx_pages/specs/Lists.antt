@@ -1,4 +1,5 @@
--- Membership and counting on lists of numbers and pairs, as the definitions of lists, loads and segments use them.
+-- Membership and counting on lists of numbers and pairs, as the definitions of lists, loads and segments use them (this
+-- project's own).
 use Rattle.std.specs.Prelude.{◌≡◌, ◌≢◌, ℕ, ◌+◌, ◌⊎◌, ◌||◌, Bool, false, List, [], ◌∷◌, map, cond, eqb}
 
 -- every element of xs

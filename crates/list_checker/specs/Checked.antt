@@ -1,4 +1,4 @@
--- What the calls answer, by the memory, the segments and the image handed in.
+-- What the calls answer, by the memory, the segments and the image handed in (this project's own).
 use Rattle.std.specs.Prelude.{◌≡◌, ℕ, ◌%◌, ◌^◌, ◌<◌, ◌&&◌, Bool, false, List, [], ◌∷◌, length, map, Option, Some, None, is_some, Result, Ok, Err}
 use Rattle.std.specs.Ordering.{nat_cmp}
 use Rattle.std.specs.BTreeSet.{BTreeSet, contains, btree_set_len}

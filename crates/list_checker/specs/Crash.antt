@@ -1,4 +1,4 @@
--- Which crash lists are accepted, and their first fault, which is at the head.
+-- Which crash lists are accepted, and their first fault, which is at the head (this project's own).
 use Rattle.std.specs.Prelude.{◌≡◌, ℕ, ◌%◌, ◌^◌, true, Bool, not, leb, List, [], ◌∷◌, map, Option, Some, None}
 use Rattle.kx_pages.specs.declared.item.Item.{Item}
 use Rattle.kx_pages.specs.declared.item.Item.TheVariants.{Link, Destination, Source, Done}

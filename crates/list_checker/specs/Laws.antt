@@ -1,4 +1,4 @@
--- What is claimed of accepted lists and first faults.
+-- What is claimed of accepted lists and first faults (this project's own).
 use Rattle.std.specs.Prelude.{◌≡◌, ◌⊎◌, ℕ, suc, List, length, Option, Some, None}
 use Rattle.kx_pages.specs.declared.item.Item.{Item}
 use Rattle.list_checker.specs.declared.fault.Why.{Why}

@@ -1,4 +1,4 @@
--- The printed text of reasons and faults.
+-- The printed text of reasons and faults (this project's own).
 use Rattle.std.specs.Prelude.{ℕ, ◌*◌, ◌++◌, false, List, codes}
 use Rattle.std.specs.Fmt.{digits, decimal}
 use Rattle.list_checker.specs.declared.fault.Why.{Why}

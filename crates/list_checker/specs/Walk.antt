@@ -1,5 +1,6 @@
--- The walk of a list of page copies, its pairs, and which lists are accepted. A word of a list is a page's address with one
--- flag, as in the kernel's kexec core: destination, link (indirection), done, source. A link page holds 512 words.
+-- The walk of a list of page copies, its pairs, and which lists are accepted (this project's own). A word of a list is
+-- a page's address with one flag, as in the kernel's kexec core (kimage_entry_t): destination, link (indirection),
+-- done, source. A link page holds 512 words.
 use Rattle.std.specs.Prelude.{◌≡◌, ◌≢◌, ℕ, suc, ◌+◌, ◌*◌, ◌%◌, ◌^◌, ◌<◌, List, [], ◌∷◌, Option, Some, None}
 use Rattle.kx_pages.specs.declared.item.Item.{Item}
 use Rattle.kx_pages.specs.declared.item.Item.TheVariants.{Link, Destination, Source, Done}

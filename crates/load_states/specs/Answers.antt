@@ -1,4 +1,4 @@
--- What accept answers.
+-- What accept answers (this project's own).
 use Rattle.std.specs.Prelude.{◌≡◌, IsSome}
 use Rattle.kx_pages.specs.declared.image.Mode.TheVariants.{Plain}
 use Rattle.load_states.specs.declared.accepted.Accepted.{Accepted}

@@ -1,4 +1,5 @@
--- What a run with context preserved does to memory: each pair's two pages exchange their bytes.
+-- What a run with context preserved does to memory: each pair's two pages exchange their bytes (as the kernel's
+-- relocate_kernel does; the words are this project's own).
 use Rattle.std.specs.Prelude.{ℕ, cond, eqb, List, [], ◌∷◌}
 use Rattle.page_memory.specs.Memory.{Mem}
 

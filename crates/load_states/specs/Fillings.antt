@@ -1,4 +1,4 @@
--- A load of segments while they are written.
+-- A load of segments while they are written (this project's own).
 use Rattle.std.specs.Prelude.{◌≡◌, ℕ, ◌+◌, ◌-◌, ◌≤◌, List, ◌++◌, length, take, drop, cond, false, Some, None, refl}
 use Rattle.std.specs.Coded.{Coded, code_by, coded×, coded_ℕ, coded_list}
 use Rattle.kx_pages.specs.Lists.{has, count, sources}

@@ -1,4 +1,4 @@
--- Putting pages in their place.
+-- Putting pages in their place (this project's own).
 use Rattle.std.specs.Prelude.{◌≡◌, ◌⊎◌, ℕ, List, Some}
 use Rattle.page_memory.specs.Memory.{Mem}
 use Rattle.segments.specs.Values.{SegmentValue, want}

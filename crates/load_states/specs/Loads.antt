@@ -1,4 +1,4 @@
--- What a load of segments lays.
+-- What a load of segments lays (this project's own).
 use Rattle.std.specs.Prelude.{◌≡◌, ℕ, ◌+◌, ◌/◌, ◌<◌, ◌≤◌, ◌^◌, List, [], ◌∷◌, ◌++◌, length, Option, Some, IsSome, ◌↔◌}
 use Rattle.kx_pages.specs.Lists.{count, sources}
 use Rattle.kx_pages.specs.declared.image.Wish.{Wish}

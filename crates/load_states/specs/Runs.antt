@@ -1,4 +1,4 @@
--- What the runs of a load's list leave, and what is the same of loads that read alike.
+-- What the runs of a load's list leave, and what is the same of loads that read alike (this project's own).
 use Rattle.std.specs.Prelude.{◌≡◌, ℕ, List, None, take}
 use Rattle.kx_pages.specs.Lists.{count}
 use Rattle.kx_pages.specs.declared.image.Wish.{Wish}

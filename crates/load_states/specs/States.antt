@@ -1,4 +1,4 @@
--- What clauses see of the states from a load to its run.
+-- What clauses see of the states from a load to its run (this project's own).
 use Rattle.std.specs.Prelude.{◌≡◌, ℕ, List, Option, unwrap_or, map, refl}
 use Rattle.std.proofs.Common.{ap}
 use Rattle.std.specs.Coded.{Coded, code_by, coded×, coded_ℕ, coded_list, coded_option}

@@ -1,4 +1,4 @@
--- The index of the System RAM rows.
+-- The index of the System RAM rows (this project's own).
 use Rattle.std.specs.Prelude.{◌≡◌, ◌&&◌, Bool, List}
 use Rattle.std.specs.List.{list_any}
 use Rattle.range_index.specs.Ranges.{Range}

@@ -1,4 +1,5 @@
--- What the named lines of a memory map say.
+-- What the named lines of a memory map say: rows (with the E820 types of the Linux/x86 boot protocol), crash areas, and
+-- the RAM outside of them (this project's own).
 use Rattle.std.specs.Prelude.{◌≡◌, ℕ, ◌+◌, ◌-◌, ◌*◌, ◌/◌, ◌^◌, ◌++◌, ◌==◌, ◌&&◌, ◌||◌, not, Bool, false, List, [], ◌∷◌, length, nat_lt, min, max, filter, if◌then◌else◌, Option, Some, None, option_and_then}
 use Rattle.std.specs.List.{list_any, flat_map, slice_get}
 use Rattle.kx_pages.specs.Spans.{Run, in_span, in_spans, passing}

@@ -1,4 +1,4 @@
--- The rows and areas so far, with the System RAM rows in order.
+-- The rows and areas so far, with the System RAM rows in order (this project's own).
 use Rattle.memory_map.specs.declared.reader.Reader.{Reader}
 use Rattle.memory_map.specs.Index.{IsIndex}
 use Rattle.memory_map.specs.Rows.{AreBelow, HaveBytes}

@@ -1,4 +1,4 @@
--- Ranges of bytes, and what they say of single bytes and pages. A page has 4,096 bytes.
+-- Ranges of bytes, and what they say of single bytes and pages (this project's own). A page has 4,096 bytes.
 use Rattle.std.specs.Prelude.{◌≡◌, ℕ, ◌<◌, ◌+◌, ◌*◌, ◌≤◌, ◌^◌, ◌==◌, ◌&&◌, Bool, List, [], ◌∷◌, nat_lt, nat_le, min, max}
 use Rattle.std.specs.List.{list_any, AllByRecursion}
 use Rattle.memory_map.specs.declared.row.Row.{Row}

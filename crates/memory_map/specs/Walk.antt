@@ -1,4 +1,4 @@
--- A walk along areas that rise.
+-- A walk along areas that rise (this project's own).
 use Rattle.std.specs.Prelude.{ℕ, ◌-◌, ◌++◌, List, [], ◌∷◌, nat_lt, min, max, if◌then◌else◌}
 use Rattle.memory_map.specs.declared.row.Row.{Row}
 use Rattle.memory_map.specs.Rows.{row_end}

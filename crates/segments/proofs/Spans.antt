@@ -1,7 +1,7 @@
 -- The segment whose pages a run is.
-use Rattle.std.specs.Prelude.{◌≡◌, ℕ, List, Option, Some, None, refl, sym, slice_get}
+use Rattle.std.specs.Prelude.{◌≡◌, ℕ, List, Option, Some, None, refl, slice_get}
 use Rattle.std.specs.Option.{option_map}
-use Rattle.std.proofs.Common.{ap, ◌∙◌}
+use Rattle.std.proofs.Common.{ap, sym, ◌∙◌}
 use Rattle.kx_laws.proofs.Options.{none_some, some_same}
 use Rattle.kx_pages.specs.Spans.{Run}
 use Rattle.segments.specs.Values.{SegmentValue, span_of}

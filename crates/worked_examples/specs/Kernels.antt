@@ -1,4 +1,4 @@
--- The kernels of the examples, as segments.
+-- The kernels of the examples, as segments (this project's own).
 use Rattle.std.specs.Prelude.{ℕ, ◌*◌, ◌++◌, List, [], ◌∷◌, codes, replicate}
 use Rattle.segments.specs.Values.{SegmentValue}
 

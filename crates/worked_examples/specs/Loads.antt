@@ -1,4 +1,4 @@
--- What loads come to.
+-- What the loads of the examples come to (this project's own).
 use Rattle.std.specs.Prelude.{ℕ, List, [], ◌∷◌, map, Option}
 use Rattle.std.specs.Option.{option_map}
 use Rattle.kx_pages.specs.Items.{code}

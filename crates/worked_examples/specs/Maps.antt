@@ -1,4 +1,4 @@
--- A memory map of a machine with 4 GiB of memory, 256 MiB of them reserved for a crash kernel.
+-- A memory map of a machine with 4 GiB of memory, 256 MiB of them reserved for a crash kernel (this project's own).
 use Rattle.std.specs.Prelude.{ℕ, ◌++◌, List, [], ◌∷◌, codes}
 use Rattle.kx_pages.specs.Spans.{Run}
 use Rattle.memory_map.specs.Maps.{MapValue}

@@ -1,4 +1,5 @@
--- The record of a load of `abc` to page 2 that took pages 10, 11 and 12, and its file byte for byte.
+-- The record of a load of `abc` to page 2 that took pages 10, 11 and 12, and its file byte for byte (this project's
+-- own).
 use Rattle.std.specs.Prelude.{ℕ, ◌++◌, List, ◌∷◌, codes, replicate, false}
 use Rattle.kx_pages.specs.declared.image.Mode.TheVariants.{Plain, Kept}
 use Rattle.load_record.specs.File.{Record}

@@ -1,4 +1,4 @@
--- How runs come out, and what they leave.
+-- How runs come out, and what they leave, in the examples (this project's own).
 use Rattle.std.specs.Prelude.{◌≡◌, ℕ, List, [], ◌∷◌}
 use Rattle.kx_pages.specs.declared.image.Mode.{Mode}
 use Rattle.page_memory.specs.Contents.{Contents, at}
