@@ -7,7 +7,7 @@ use Rattle.std.proofs.lemmas.Option.{none-some}
 use Rattle.page_memory.specs.Contents.{at, page_of}
 use Rattle.page_memory.specs.Memory.{Wants}
 use Rattle.kimage_list.specs.declared.table.PageSource.{PageSource}
-use Rattle.kx_pages.specs.Lists.{Has, has, count, destinations}
+use Rattle.kx_pages.specs.Lists.{Has, count, destinations}
 use Rattle.kimage_list.specs.Load.{Loading, Move, pages_of, starts, requests, given, served, loaded, source_of}
 use Rattle.kimage_list.specs.Laying.{Holds, source_pages}
 use Rattle.kimage_list.specs.Tables.{slot, source_in}

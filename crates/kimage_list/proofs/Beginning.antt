@@ -7,7 +7,7 @@ use Rattle.kx_pages.specs.Lists.{Distinct, count, destinations}
 use Rattle.kx_pages.specs.Spans.{Run, AreApart, pages, in_spans}
 use Rattle.kx_pages.specs.declared.image.Wish.{Wish}
 use Rattle.kx_pages.specs.declared.image.Wish.TheVariants.{Plain, Kept}
-use Rattle.kimage_list.specs.Load.{Loading, Entry, pages_of, starts, begun, taken, given, loaded}
+use Rattle.kimage_list.specs.Load.{Loading, Entry, pages_of, starts, begun, given, loaded}
 use Rattle.kimage_list.specs.Laying.{mode_with}
 use Rattle.kimage_list.specs.Tables.{Slots}
 use Rattle.kimage_list.specs.Drafts.{Renders, CanTake, first_taken}

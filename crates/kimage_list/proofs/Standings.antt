@@ -9,7 +9,7 @@ use Rattle.kx_pages.specs.declared.item.Item.{Item}
 use Rattle.kx_pages.specs.declared.image.Wish.{Wish}
 use Rattle.kx_pages.specs.declared.image.Wish.TheVariants.{Plain, Kept}
 use Rattle.kimage_list.specs.Load.{Loading, Request, Entry, Start, Move, pages_of, starts, own_request, requests_from, requests, begun, taken, given, served, loaded}
-use Rattle.kimage_list.specs.Laying.{items, source_pages, laid, links_of, mode_with}
+use Rattle.kimage_list.specs.Laying.{items, source_pages, links_of, mode_with}
 use Rattle.kimage_list.specs.Opening.{open_pages, laid_so_far}
 use Rattle.kimage_list.specs.Tables.{Slots}
 use Rattle.kimage_list.specs.Drafts.{Draft, Renders}

@@ -8,7 +8,6 @@ use Rattle.kimage_list.specs.declared.table.PageSource.{PageSource}
 use Rattle.kx_pages.specs.declared.image.Mode.{Mode}
 use Rattle.kx_pages.specs.declared.image.Image.{Image}
 use Rattle.kx_pages.specs.Lists.{Has, has, count, sources}
-use Rattle.kx_pages.specs.Spans.{pages}
 use Rattle.kx_pages.specs.Items.{code}
 use Rattle.kx_pages.specs.declared.item.Item.TheVariants.{Link}
 use Rattle.kimage_list.specs.Load.{pages_of, requests, loaded}

@@ -1,5 +1,5 @@
 -- A load under way: what it was asked for so far, and where the writer stands then (this project's own).
-use Rattle.std.specs.Prelude.{◌≡◌, ℕ, zero, suc, ◌+◌, ◌≤◌, List, [], ◌∷◌, ◌++◌, ◌⊎◌, not, length, take, slice_index, Bool, true, false, cond, eqb, Option, Some, None, refl}
+use Rattle.std.specs.Prelude.{◌≡◌, ℕ, zero, suc, ◌+◌, ◌≤◌, List, [], ◌∷◌, ◌++◌, ◌⊎◌, length, take, slice_index, Bool, true, false, cond, eqb, Option, Some, None, refl}
 use Rattle.std.specs.Coded.{Coded, code_by, coded×, coded_ℕ, coded_option}
 use Rattle.page_memory.specs.Contents.{Contents, contents_code, at}
 use Rattle.page_memory.specs.Memory.{Mem, Wants}

@@ -1,15 +1,13 @@
 -- Runs of pages, and the first page that passes a test.
-use Rattle.std.proofs.Common.{◌≡◌, ℕ, suc, ◌+◌, ◌-◌, ◌<◌, ◌++◌, List, ◌∷◌, Option, Some, None, Bool, true, false, refl, sym, ap, ◌∙◌, arith, length, drop}
+use Rattle.std.proofs.Common.{◌≡◌, ℕ, suc, ◌+◌, ◌-◌, ◌<◌, ◌++◌, List, ◌∷◌, Some, None, Bool, true, false, refl, sym, ap, ◌∙◌, arith, length, drop}
 use Rattle.std.specs.List.{find, range_with_len}
 use Rattle.std.specs.Prelude.{slice_get}
-use Rattle.std.specs.Option.{option_map, option_or}
+use Rattle.std.specs.Option.{option_or}
 use Rattle.std.proofs.lemmas.List.Folds.{find-append}
 use Rattle.std.proofs.lemmas.Option.{get_or_from_slice_get, slice_get_within}
 use Rattle.std.proofs.Common.{get_or, drop-cons}
 use Rattle.std.proofs.lemmas.Grind.{common_steps}
-use Rattle.kx_laws.proofs.Options.{none_some, some_same}
-use Rattle.kx_pages.specs.Spans.{Run}
-use Rattle.segments.specs.Values.{SegmentValue, pages_of_segment, pages, span_of}
+use Rattle.segments.specs.Values.{SegmentValue, pages_of_segment, pages}
 
 pub run_more : (n e : ℕ) → n < e → range_with_len n (e - n) ≡ n ∷ range_with_len (n + 1) (e - (n + 1))
 run_more n e l =
