@@ -1,12 +1,26 @@
 //! `kexec`: loads a new kernel into a memory image, checks the list of page copies, and runs it, over files.
 #![tactic(auto)]
 
+mod causes;
+mod files;
+mod given;
+mod help;
+mod mistake;
+mod old_words;
+mod report;
+mod usage;
+
+use causes::cause_of;
+use given::{Answer, read_given};
 use kexec_main::{Status, kexec};
 use kexec_words::help_of;
 use kx_edge::{HostShelf, StdSink};
+use report::Report;
 use std::env::Env;
 use std::process::ExitCode;
+use std::rt::Files;
 use std::{env, io};
+use usage::{asks_for_help, print_help};
 
 /// The exit status where the system does not give the words; no status of a command has it.
 const NO_WORDS: u8 = 65;
@@ -16,21 +30,47 @@ fn read_words(rt: &(impl Env + AllocGlobal)) -> io::Result<Vec<String>> {
     Ok(env::args(rt)?.skip(1).collect(rt.alloc())?)
 }
 
+// Says on standard error why a command was refused.
+fn explain(rt: &(impl AllocGlobal + Eprint + Files), words: &[String], status: &Status) {
+    let is_usage = matches!(status, Status::Usage { .. });
+    if is_usage && asks_for_help(words) {
+        let _ = rt.eprintln(help_of(words));
+        return;
+    }
+    let help = help_of(words);
+    let rest = words.split_first().map_or(words, |(_, rest)| rest);
+    let answer = match read_given(rt.alloc(), help, rest) {
+        Ok(answer) => answer,
+        Err(_) => Answer::Given {
+            given: Vec::new(rt.alloc()),
+        },
+    };
+    let cause = cause_of(rt, status);
+    let _ = rt.eprintln(Report {
+        status,
+        words,
+        help,
+        answer: &answer,
+        cause: &cause,
+    });
+    if is_usage {
+        print_help(rt, words);
+    }
+}
+
 fn main(rt: HostRuntime) -> ExitCode {
     let Ok(words) = read_words(&rt) else {
-        let _ = rt.eprintln("no words");
+        let _ = rt.eprintln(
+            "kexec: an argument is no text in UTF-8, or there is not enough memory for the arguments",
+        );
         return ExitCode::from(NO_WORDS);
     };
     let mut shelf = HostShelf::new(&rt);
     let mut sink = StdSink::new(&rt);
     let status = kexec(rt.alloc(), &words, &mut shelf, &mut sink);
     let code = status.code();
-    let is_usage = matches!(&status, Status::Usage { .. });
     if code != 0 {
-        let _ = rt.eprintln(status);
-    }
-    if is_usage {
-        let _ = rt.eprintln(help_of(&words));
+        explain(&rt, &words, &status);
     }
     ExitCode::from(code)
 }

@@ -1,0 +1,94 @@
+//! The sentence about a command that was refused.
+
+use crate::files::file_of;
+use crate::given::{Answer, Given, text_of};
+use crate::usage::Refusal;
+use kexec_main::Status;
+use kexec_plan::PlanFault;
+use segments::SegFault;
+use std::fmt::{self, Display, Formatter, Write};
+use std::io;
+
+/// One sentence: what was wrong, in which file, option or word, and what is wanted.
+#[derive(Drop)]
+pub(crate) struct Report<'a> {
+    pub(crate) status: &'a Status,
+    pub(crate) words: &'a [String],
+    pub(crate) help: &'static str,
+    /// The words as the command takes them.
+    pub(crate) answer: &'a Answer<'a>,
+    /// What the system says of a file that could not be read or written.
+    pub(crate) cause: &'a Option<io::Error>,
+}
+
+// The address of a raw kernel, as it is given: such a kernel is the first segment.
+fn raw_address<'a>(given: &[Given<'a>]) -> Option<&'a str> {
+    match text_of(given, "--type") {
+        Some("raw") => text_of(given, "--at"),
+        _ => None,
+    }
+}
+
+impl Report<'_> {
+    fn given(&self) -> &[Given<'_>] {
+        match self.answer {
+            Answer::Given { given } => given,
+            Answer::Refused { .. } => &[],
+        }
+    }
+
+    // A fault of a raw kernel's segment, told by the options that place it.
+    fn write_raw<W: Write>(&self, fault: &SegFault, at: &str, f: &mut Formatter<W>) -> fmt::Result {
+        match fault {
+            SegFault::BadAddress { i: 0 } => write!(
+                f,
+                "--at {at}: a raw kernel has to begin at a multiple of 1000 and to end below 400000000000, both in hexadecimal"
+            ),
+            SegFault::NotRam { i: 0 } => write!(
+                f,
+                "--at {at}: the kernel has a page there that is no System RAM of the memory map {:?}",
+                text_of(self.given(), "--map").unwrap_or("")
+            ),
+            fault => write!(f, "the kernel at --at {at} cannot be placed: {fault}"),
+        }
+    }
+
+    fn write_status<W: Write>(&self, f: &mut Formatter<W>) -> fmt::Result {
+        let status = self.status;
+        match (status, self.cause) {
+            (Status::Unread { name }, Some(cause)) => write!(f, "{name:?} cannot be read: {cause}"),
+            (Status::Unwritten { name }, Some(cause)) => {
+                write!(f, "{name:?} cannot be written: {cause}")
+            }
+            (
+                Status::Plan {
+                    fault: PlanFault::Segments { fault },
+                },
+                _,
+            ) => match raw_address(self.given()) {
+                Some(at) => self.write_raw(fault, at, f),
+                None => write!(f, "{status}"),
+            },
+            _ => write!(f, "{status}"),
+        }
+    }
+}
+
+impl Display for Report<'_> {
+    fn fmt<W: Write>(&self, f: &mut Formatter<W>) -> fmt::Result {
+        f.write_str("kexec: ")?;
+        if let Status::Usage { why } = self.status {
+            let refusal = Refusal {
+                why,
+                first: self.words.first().map(|word| word.as_str()),
+                help: self.help,
+                answer: self.answer,
+            };
+            return write!(f, "{refusal}");
+        }
+        if let Some(name) = file_of(self.status, self.given()) {
+            write!(f, "{name:?}: ")?;
+        }
+        self.write_status(f)
+    }
+}
