@@ -53,7 +53,8 @@ unfoldable pub taking : (ℕ → Bool) → Site → ℕ → Bool
 taking taken s q = taken q || in_span (pages_at s) q
 
 -- the same for a part that may be left out
-unfoldable pub placed_some : (ℕ → Bool) → (ℕ → Bool) → Option PlaceRule → Result (Option Site) PlanFault
+unfoldable pub placed_some : (ℕ → Bool) → (ℕ → Bool) → Option PlaceRule
+    → Result (Option Site) PlanFault
 placed_some ram taken None = Ok None
 placed_some ram taken (Some r) = do
   s ← placed ram taken r

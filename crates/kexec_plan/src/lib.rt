@@ -19,6 +19,7 @@ mod multiboot_plan;
 mod parts;
 mod places;
 mod planning;
+mod promise;
 mod purgatory;
 mod request;
 mod rules;
@@ -27,4 +28,5 @@ mod table;
 
 pub use fault::{Part, PlanFault};
 pub use planning::plan;
+pub use promise::planned_regions_are_same;
 pub use request::{Module, Planned, Request};
