@@ -1,6 +1,6 @@
 -- A planned load passes the test of its own purgatory.
-use Rattle.std.proofs.Common.{◌≡◌, ℕ, ◌+◌, ◌-◌, ◌++◌, List, [], ◌∷◌, Bool, false, Option, Some, None, Result, Ok, Err, refl, subst, ⊎_elim, arith, map}
-use Rattle.std.specs.Prelude.{◌⊎◌, not, option_map}
+use Rattle.std.proofs.Common.{◌≡◌, ℕ, ◌++◌, List, [], ◌∷◌, Bool, false, Option, Some, None, Result, Ok, Err, refl, subst, ⊎_elim, arith, map}
+use Rattle.std.specs.Prelude.{option_map}
 use Rattle.kx_laws.specs.Results.{◌>>=◌, unless}
 use Rattle.kx_laws.proofs.Results.{bind_ok, ok_same}
 use Rattle.kx_pages.specs.declared.image.Start.{Start}
@@ -12,7 +12,6 @@ use Rattle.segments.proofs.Laws.{IsBare-from_refusal}
 use Rattle.memory_map.specs.Named.{Named}
 use Rattle.bzimage.specs.Kernel.{Kernel, kernel_reading}
 use Rattle.purgatory_link.specs.declared.region_test.RegionTest.TheVariants as answers
-use Rattle.purgatory_link.specs.Regions.{digest}
 use Rattle.purgatory_link.specs.RegionTest.{test}
 use Rattle.purgatory_link.specs.Tie.{HasWanted}
 use Rattle.kexec_plan.specs.declared.fault.PlanFault.{PlanFault}

@@ -1,5 +1,5 @@
 -- Where the parts of a plan are placed (this project's own).
-use Rattle.std.specs.Prelude.{◌≡◌, ℕ, ◌+◌, ◌*◌, ◌/◌, ◌%◌, ◌^◌, ◌≤◌, ◌||◌, Bool, false, ◌&&◌, max, min, nat_lt, nat_le, if◌then◌else◌, List, [], ◌∷◌, Option, Some, None, Result, Ok, Err}
+use Rattle.std.specs.Prelude.{◌≡◌, ℕ, ◌+◌, ◌*◌, ◌/◌, ◌%◌, ◌^◌, ◌≤◌, ◌||◌, Bool, false, ◌&&◌, max, min, nat_lt, nat_le, if◌then◌else◌, List, Option, Some, None, Result, Ok, Err}
 use Rattle.std.specs.List.{list_any}
 use Rattle.kx_laws.specs.Results.{◌>>=◌}
 use Rattle.segments.specs.Values.{SegmentValue, stop}
@@ -7,7 +7,6 @@ use Rattle.kx_pages.specs.Spans.{Run, in_span}
 use Rattle.memory_map.specs.Named.{Named, is_ram}
 use Rattle.segments.specs.declared.fault.Kind.{Kind}
 use Rattle.segments.specs.declared.fault.Kind.TheVariants.{Normal, Crash}
-use Rattle.kexec_plan.specs.declared.fault.Part.{Part}
 use Rattle.kexec_plan.specs.declared.fault.PlanFault.{PlanFault}
 use Rattle.kexec_plan.specs.declared.fault.PlanFault.TheVariants as faults
 use Rattle.kexec_plan.specs.declared.places.Site.{Site}

@@ -1,12 +1,10 @@
 -- The plan of a request, or its first refusal, in the order of the steps (this project's own).
-use Rattle.std.specs.Prelude.{◌≡◌, ℕ, Bool, false, true, is_some, None, List, [], ◌∷◌, Option, option_map, Result, Ok, Err}
+use Rattle.std.specs.Prelude.{ℕ, Bool, false, List, [], ◌∷◌, Option, option_map, Result}
 use Rattle.kx_laws.specs.Results.{◌>>=◌, unless}
 use Rattle.kx_pages.specs.declared.image.Start.{Start}
 use Rattle.segments.specs.Values.{SegmentValue}
 use Rattle.segments.specs.declared.fault.Kind.{Kind}
 use Rattle.memory_map.specs.Named.{Named}
-use Rattle.kx_pages.specs.declared.image.ImageType.{ImageType}
-use Rattle.kx_pages.specs.declared.image.ImageType.TheVariants as types
 use Rattle.kexec_plan.specs.declared.fault.PlanFault.{PlanFault}
 use Rattle.kexec_plan.specs.declared.fault.PlanFault.TheVariants as faults
 use Rattle.kexec_plan.specs.declared.format.Format.{Format}

@@ -21,10 +21,16 @@ mod places;
 mod planning;
 mod promise;
 mod purgatory;
+#[cfg(test)]
+mod refusal_tests;
 mod request;
 mod rules;
 mod symbols;
 mod table;
+#[cfg(test)]
+mod test_files;
+#[cfg(test)]
+mod tests;
 
 pub use fault::{Part, PlanFault};
 pub use planning::plan;
