@@ -5,3 +5,6 @@ pub mod Last
 pub mod Armed
 pub mod Laying
 pub mod Reach
+pub mod Puts
+pub mod Linkages
+pub mod Regions
