@@ -28,11 +28,22 @@ use Rattle.kexec_main.specs.Load.{LoadCommand, load_command_files, load_wish, lo
 use Rattle.kexec_main.specs.Loading.{IsLoaded}
 use Rattle.kexec_main.specs.Outputs.{Made}
 use Rattle.kexec_main.specs.Runs.{checked_with}
+use Rattle.load_states.proofs.Ready.{list_ends}
+use Rattle.kexec_main.proofs.Ending.{again_of, ends_again, loaded_bare}
 use Rattle.kexec_main.proofs.Executes.{runs_fit}
 use Rattle.kexec_main.proofs.Leaving.{leaves_by, leaves_of}
+use Rattle.kexec_main.proofs.Proving.{proves_itself}
+use Rattle.kexec_main.proofs.Reread.{exec_bare}
 
 normal : (wish : Wish) (i : LoadInputs) (p : Plan) (c : Checked) → IsLoaded wish i p c.load → Told c.load c.words c.links c.pairs → NormalLoad wish i p c
-normal wish i p c l told = record { planned = l.planned; enough = l.enough; laid = l.laid; only_pool_pages = l.laid.others; accepted = told }
+normal wish i p c l told = record {
+  planned = l.planned;
+  enough = l.enough;
+  laid = l.laid;
+  only_pool_pages = l.laid.others;
+  accepted = told;
+  ends = list_ends c.load c.words c.links c.pairs (loaded_bare wish i p c.load l) told;
+}
 
 -- what was taken has the words' own runs and names
 boot_asked : (b : BootValue) (held : Files) (x : BootInputs) → reads (boot_files b) held ≡ Ok x → (i : LoadInputs) × (x ≡ record { load = i; runs = b.kept; out = b.out })
@@ -59,7 +70,9 @@ module _ {S O : Type 0} (D : Shelf S) (E : Sink O) (held : Files) (s : S) (o : O
         planned = n.0;
         checked = n.1;
         load = normal _ y.load n.0 n.1 n.2.0 n.2.1;
+        ends_again = again_of b.kept y.load n.0 n.1 n.2.0 n.2.1;
         leaves = leaves_of b.kept y.load n.0 n.1 n.2.0 n.2.1;
+        proves_itself = proves_itself b.kept y.load n.0 n.1 n.2.0 n.2.1;
         output = n.5.0;
         is_memory = n.5.2;
         put = put_as goods.outputs ((b.out, n.5.0) ∷ []) n.5.1 out.put;
@@ -79,6 +92,7 @@ module _ {S O : Type 0} (D : Shelf S) (E : Sink O) (held : Files) (s : S) (o : O
         load = normal _ y.load n.0 n.1 n.2.0 n.2.1;
         output = n.5;
         is_memory = n.6;
+        read_back = n.8;
         put = put_as goods.outputs ((l.out, n.5) ∷ (l.load_record, record_file (record_of_load n.1.load n.0)) ∷ []) n.7 out.put;
         said = said_as goods.text _ n.3 out.said;
       }
@@ -97,6 +111,7 @@ module _ {S O : Type 0} (D : Shelf S) (E : Sink O) (held : Files) (s : S) (o : O
       let n = subst (λ f. executes_as x goods f) fault m.1 in
       let r = n.1 in
       let c = checked_with (load_of x.files n.0) r.0 r.1 r.2 in
+      let bare = exec_bare e held x read in
       record {
         inputs = x;
         read = read;
@@ -104,6 +119,8 @@ module _ {S O : Type 0} (D : Shelf S) (E : Sink O) (held : Files) (s : S) (o : O
         checked = c;
         of_files = λ i. load_of x.files n.0;
         accepted = r.3;
+        ends = list_ends c.load c.words c.links c.pairs bare r.3;
+        ends_again = ends_again (runs_asked x) c x.files.load_record.image.mode (λ i. x.files.load_record.image.mode) (runs_fit x.twice x.files.load_record.image.mode) bare r.3;
         leaves = leaves_by (runs_asked x) c x.files.load_record.image.mode (λ i. x.files.load_record.image.mode) (runs_fit x.twice x.files.load_record.image.mode) r.3;
         output = r.6.0;
         is_memory = r.6.2;

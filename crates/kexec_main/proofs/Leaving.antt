@@ -22,7 +22,7 @@ leaves_by (Some runs) c Plain m h t = absurd h
 leaves_by (Some Once) c (Kept swap) m h t = once_arrives c swap m t
 leaves_by (Some Twice) c (Kept swap) m h t = twice_returns c swap m t
 
-has_mode : (runs : Option Runs) (swap : ℕ) → HasMode runs (mode_with (wish_of runs) swap)
+pub has_mode : (runs : Option Runs) (swap : ℕ) → HasMode runs (mode_with (wish_of runs) swap)
 has_mode None swap = tt
 has_mode (Some runs) swap = tt
 

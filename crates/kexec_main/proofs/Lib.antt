@@ -10,3 +10,7 @@ pub mod Rising
 pub mod Mapped
 pub mod Pages
 pub mod Again
+pub mod Ending
+pub mod Reread
+pub mod Together
+pub mod Proving

@@ -18,11 +18,15 @@ use Rattle.load_record.specs.File.{record_file}
 use Rattle.load_states.specs.States.{Checked}
 use Rattle.load_states.specs.Ready.{Told}
 use Rattle.load_states.specs.Fillings.{IsSealed}
+use Rattle.load_states.specs.Runs.{EndsAfter}
 use Rattle.relocate_machine.specs.Run.{run_of}
 use Rattle.file_commands.specs.Taking.{reads}
 use Rattle.file_commands.specs.Answers.{FilesPut}
 use Rattle.kexec_words.specs.Values.{CommandValue, BootValue, ExecValue, LoadValue, LoadNamesValue, TraceValue}
 use Rattle.kexec_words.specs.Values as words
+use Rattle.purgatory_link.specs.declared.region_test.RegionTest.TheVariants.{Same}
+use Rattle.purgatory_link.specs.RegionTest.{test}
+use Rattle.kexec_plan.specs.Finish.{HasTableApart}
 use Rattle.kexec_plan.specs.Requests.{Plan}
 use Rattle.kexec_plan.specs.Plan.{plan}
 use Rattle.kexec_main.specs.declared.files.LoadFiles.{LoadFiles}
@@ -30,9 +34,9 @@ use Rattle.kexec_main.specs.Inputs.{LoadInputs}
 use Rattle.kexec_main.specs.Loading.{IsLoaded}
 use Rattle.kexec_main.specs.Outputs.{IsFileOf, IsTooHeavy}
 use Rattle.kexec_main.specs.Texts.{accepted_line}
-use Rattle.kexec_main.specs.Runs.{Leaves, after_runs, list_text, run_text, wish_of}
+use Rattle.kexec_main.specs.Runs.{EndsAgain, IsOnce, Leaves, after_runs, list_text, run_text, wish_of}
 use Rattle.kexec_main.specs.Boot.{BootInputs, boot_files}
-use Rattle.kexec_main.specs.Load.{LoadCommand, load_command_files, load_wish, record_of_load}
+use Rattle.kexec_main.specs.Load.{IsReadBack, LoadCommand, load_command_files, load_wish, record_of_load}
 use Rattle.kexec_main.specs.Check.{IsAcceptedIn}
 use Rattle.kexec_main.specs.Dump.{segment_line, walk_text}
 use Rattle.kexec_main.specs.Exec.{ExecInputs, exec_files, lacks_swap_page, load_of, runs_asked}
@@ -51,6 +55,8 @@ pub record NormalLoad (wish : Wish) (i : LoadInputs) (p : Plan) (c : Checked) : 
   pub only_pool_pages : (q : ℕ) → count q (take (need wish p.segments) i.pool) ≡ 0 → at c.load.memory q ≡ at i.memory q
   -- the list is accepted for the segments, by a walk of so many words with so many link pages and these pairs
   pub accepted : Told c.load c.words c.links c.pairs
+  -- and its run ends within its entries: the machine is done after as many steps as the walk has words
+  pub ends : EndsAfter c.load c.words
 
 module _ {S O : Type 0} (D : Shelf S) (E : Sink O) (held : Files) (s : S) (o : O) (s' : S) (o' : O) where
   -- After `boot`: all that the words name was read, and the kernel loaded. The runs left what they are to leave, each after
@@ -62,14 +68,18 @@ module _ {S O : Type 0} (D : Shelf S) (E : Sink O) (held : Files) (s : S) (o : O
     pub planned : Plan
     pub checked : Checked
     pub load : NormalLoad (wish_of b.kept) inputs.load planned checked
+    pub ends_again : EndsAgain b.kept checked
     pub leaves : Leaves b.kept checked (after_runs b.kept checked)
+    -- A purgatory whose table of regions lies apart from its digest finds after one run that the regions are as planned.
+    pub proves_itself : HasTableApart planned → IsOnce b.kept
+        → test (after_runs b.kept checked) planned.regions planned.digest ≡ Same
     pub output : List ℕ
     pub is_memory : IsFileOf (after_runs b.kept checked) output
     pub put : FilesPut (D.files s) ((b.out, output) ∷ []) (D.files s')
     pub said : Said (E.said o) (run_text b.kept checked planned.start planned.regions planned.digest) (E.said o')
 
-  -- After `load`: the kernel was loaded. OUT is the file of the memory after the load, RECORD tells its list, start and
-  -- segments, every other file is as it was, and the text tells the list.
+  -- After `load`: the kernel was loaded. OUT is the file of the memory after the load. RECORD tells its list, start and
+  -- segments, and reads back as it was written. Every other file is as it was, and the text tells the list.
   pub record HasLoaded (l : LoadValue) : Type 0 where
     pub inputs : LoadCommand
     pub read : reads (load_command_files l) held ≡ Ok inputs
@@ -78,6 +88,7 @@ module _ {S O : Type 0} (D : Shelf S) (E : Sink O) (held : Files) (s : S) (o : O
     pub load : NormalLoad (load_wish l) inputs.load planned checked
     pub output : List ℕ
     pub is_memory : IsFileOf (at checked.load.memory) output
+    pub read_back : IsReadBack (record_of_load checked.load planned)
     pub put : FilesPut (D.files s) ((l.out, output) ∷ (l.load_record, record_file (record_of_load checked.load planned)) ∷ []) (D.files s')
     pub said : Said (E.said o) (list_text checked planned.start) (E.said o')
 
@@ -110,6 +121,8 @@ module _ {S O : Type 0} (D : Shelf S) (E : Sink O) (held : Files) (s : S) (o : O
     pub checked : Checked
     pub of_files : checked.load ≡ load_of inputs.files pool
     pub accepted : Told checked.load checked.words checked.links checked.pairs
+    pub ends : EndsAfter checked.load checked.words
+    pub ends_again : EndsAgain (runs_asked inputs) checked
     pub leaves : Leaves (runs_asked inputs) checked (after_runs (runs_asked inputs) checked)
     pub output : List ℕ
     pub is_memory : IsFileOf (after_runs (runs_asked inputs) checked) output

@@ -13,3 +13,4 @@ pub mod Exec
 pub mod Trace
 pub mod Commands
 pub mod Call
+pub mod Together

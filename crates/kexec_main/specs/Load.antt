@@ -7,7 +7,7 @@ use Rattle.page_memory.specs.Contents.{at}
 use Rattle.file_commands.specs.Taking.{Refusal, Take, ok, too_long, by, ◌>>=◌}
 use Rattle.load_states.specs.States.{Checked, Load}
 use Rattle.load_states.specs.Ready.{Told}
-use Rattle.load_record.specs.File.{Record, record_file}
+use Rattle.load_record.specs.File.{Record, record_file, record_reading}
 use Rattle.kexec_words.specs.Values.{LoadValue}
 use Rattle.kexec_plan.specs.Requests.{Plan}
 use Rattle.kexec_main.specs.declared.load.LoadCommand.{LoadCommand as Taken}
@@ -50,13 +50,18 @@ IsToldText load start text =
 abbrev pub record_of_load : Load → Plan → Record
 record_of_load load p = record { crash = false; image = load.image; start = p.start; regions = p.regions; digest = p.digest; segments = load.segments }
 
--- The kernel is loaded: the file of the memory after the load and its record are the outputs, and the text tells the list.
--- Or the plan or the load refuses, or that memory has no file.
+-- the file of a record reads as the record itself
+abbrev pub IsReadBack : Record → Type 0
+IsReadBack r = record_reading (record_file r) ≡ Ok r
+
+-- The kernel is loaded: the file of the memory after the load and its record, which reads back, are the outputs, and the
+-- text tells the list. Or the plan or the load refuses, or that memory has no file.
 abbrev pub loads : LoadCommand → Result Made (Refusal Reason) → Type 0
 loads x (Ok goods) =
     (p : Plan) × (c : Checked) × Loads x p c × (goods.text ≡ list_text c p.start) × (goods.fault ≡ None)
     × (bytes : List ℕ) × IsFileOf (at c.load.memory) bytes
     × (goods.outputs ≡ (x.out, bytes) ∷ (x.load_record, record_file (record_of_load c.load p)) ∷ [])
+    × IsReadBack (record_of_load c.load p)
 loads x (Err (by why)) =
     RefusesLoad x.wish x.load why ⊎ ((p : Plan) × (c : Checked) × Loads x p c × HasNoFile (at c.load.memory) why)
 loads x (Err (too_long name limit)) = ⊥

@@ -8,10 +8,11 @@ use Rattle.kx_pages.specs.declared.image.Wish.TheVariants.{Plain, Kept}
 use Rattle.kexec_words.specs.declared.commands.Runs.{Runs}
 use Rattle.kexec_words.specs.declared.commands.Runs.TheVariants.{Once, Twice}
 use Rattle.page_memory.specs.Memory.{Mem, Agree}
-use Rattle.page_memory.specs.Contents.{at}
+use Rattle.page_memory.specs.Contents.{Contents, at}
 use Rattle.segments.specs.Values.{overlay, want}
-use Rattle.load_states.specs.States.{Checked, Load, swap_of}
+use Rattle.load_states.specs.States.{Checked, Load, swap_of, with_memory}
 use Rattle.load_states.specs.Ready.{Told}
+use Rattle.load_states.specs.Runs.{EndsAfter}
 use Rattle.load_states.specs.Exchange.{exchange}
 use Rattle.kexec_main.specs.declared.running.Ran.{Ran}
 use Rattle.kexec_main.specs.Texts.{load_lines, purgatory_line, ran_line}
@@ -70,6 +71,20 @@ abbrev pub Leaves : Option Runs → Checked → Mem → Type 0
 Leaves None c N = Arrives c N × ((p : ℕ) → want c.load.segments p ≡ None → N p ≡ at c.load.memory p)
 Leaves (Some Once) c N = Arrives c N
 Leaves (Some Twice) c N = (p : ℕ) → p ≢ swap_of c.load → N p ≡ at c.load.memory p
+
+-- the list runs once
+abbrev pub IsOnce : Option Runs → Type 0
+IsOnce None = Unit {0}
+IsOnce (Some Once) = Unit {0}
+IsOnce (Some Twice) = ⊥
+
+-- The machine's second run of the list is done after as many steps as its walk has words too, from any memory that reads
+-- as the first run left it.
+abbrev pub EndsAgain : Option Runs → Checked → Type 0
+EndsAgain None c = Unit {0}
+EndsAgain (Some Once) c = Unit {0}
+EndsAgain (Some Twice) c =
+    (m : Contents) → Agree (at m) (after_runs (Some Once) c) → EndsAfter (with_memory c.load m) c.words
 
 -- what is said of the list, and then of each run, which takes as many steps as the walk has words
 abbrev pub list_text : Checked → Start → List ℕ

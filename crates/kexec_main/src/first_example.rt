@@ -20,6 +20,15 @@ pub(crate) const LOAD_TEXT: &[u8] =
 pub(crate) const BOOT_TEXT: &[u8] =
     b"accepted words 4 links 1 pairs 1\nhead 11002 control 10000\nstart entry 2000 rax 0 rbx 0 rsi 0\nran 4\n";
 
+/// The words of a line.
+pub(crate) fn split<'a>(alloc: Global, line: &'a str) -> Result<Vec<&'a str>, AllocError> {
+    let mut words = Vec::new(alloc);
+    for word in line.split_whitespace() {
+        words.push(word)?;
+    }
+    Ok(words)
+}
+
 // Words, made of these texts.
 fn words(alloc: Global, texts: &[&str]) -> Result<Vec<String>, AllocError> {
     texts

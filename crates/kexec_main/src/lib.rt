@@ -8,12 +8,15 @@
 //! | `files`, `inputs` | the files of the commands, their limits and readers; the request that a kernel's files make |
 //! | `loading`, `running`, `output`, `text` | the work in memory: a plan, its load, a run, the file of a memory, the text |
 //! | `boot`, `load`, `check`, `dump`, `exec`, `trace` | a command each |
+//! | `laws` | what commands do together |
 //! | `status` | how a command ended, and why it may be refused |
 //! | `run` | the top call |
 #![tactic(auto)]
 
 mod boot;
 mod check;
+#[cfg(test)]
+mod device_tests;
 mod dump;
 #[cfg(test)]
 mod each_command_tests;
@@ -22,6 +25,9 @@ mod files;
 #[cfg(test)]
 mod first_example;
 mod inputs;
+pub mod laws;
+#[cfg(test)]
+mod limit_tests;
 mod load;
 mod load_inputs;
 mod loading;
@@ -37,6 +43,8 @@ mod status_tests;
 mod tests;
 mod text;
 mod trace;
+#[cfg(test)]
+mod wild_list_tests;
 mod words;
 
 pub use run::kexec;

@@ -10,7 +10,7 @@ ghost use Rattle.list_checker.specs.Walk.{IsAccepted};
 ghost use Rattle.load_record.specs.File.{record_file};
 ghost use Rattle.file_commands.specs.Calls.{Makes, Takes, file_of};
 ghost use Rattle.kexec_words.specs.Values.{load_value};
-ghost use Rattle.kexec_main.specs.Load.{IsToldText, LoadCommand as Inputs, load_command, load_command_files, loads, record_of_load};
+ghost use Rattle.kexec_main.specs.Load.{IsReadBack, IsToldText, LoadCommand as Inputs, load_command, load_command_files, loads, record_of_load};
 ghost use Rattle.kexec_main.specs.Loading.{plan_of};
 
 use crate::inputs::take_inputs;
@@ -93,7 +93,9 @@ fn loaded_text(alloc: Global, loaded: &Loaded, start: &Start) -> Result<String, 
 // The record of a load, as a file of this name, and the memory that it was of.
 fn record_output(kernel: LoadedKernel, name: String) -> Result<(Memory, File), AllocError>
     ensures memory { IfOk result (λ r. r.0 ≡ kernel.loaded.memory) }
-    ensures record { IfOk result (λ r. file_of r.1 ≡ (string_bytes name, record_file (record_of_load kernel.loaded (plan_of kernel)))) }
+    ensures record { IfOk result (λ r. file_of r.1
+        ≡ (string_bytes name, record_file (record_of_load kernel.loaded (plan_of kernel)))) }
+    ensures read_back { IfOk result (λ r. IsReadBack (record_of_load kernel.loaded (plan_of kernel))) }
 {
     let (memory, _, image, segments) = kernel.loaded.parts();
     let record = LoadRecord {

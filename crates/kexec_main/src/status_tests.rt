@@ -1,7 +1,7 @@
 //! Each status comes where it has to: contracts leave want of memory free, so tables show that no other cause is told as
 //! it.
 
-use crate::first_example::{memory_start, numbers, push_page, run};
+use crate::first_example::{memory_start, numbers, push_page, run, split};
 use kx_edge::{MemoryShelf, Shelf, ShelfFault};
 use std::alloc::{AllocError, Global};
 use std::test::Fail;
@@ -118,7 +118,7 @@ const REFUSALS: [(&str, u8, &str); 31] = [
 ];
 
 /// The list of the record, the name of the record and the fault that is told of it.
-const FAULTS: [(&[u64], &str, &str, &str); 14] = [
+const FAULTS: [(&[u64], &str, &str, &str); 15] = [
     (
         &[0x2003],
         "plain",
@@ -136,6 +136,12 @@ const FAULTS: [(&[u64], &str, &str, &str); 14] = [
         "plain",
         "ListFault { word: 1, why: LinkAgain }",
         "word 1: LinkAgain\n",
+    ),
+    (
+        &[0x2001; 512],
+        "plain",
+        "ListFault { word: 512, why: RunsOff }",
+        "word 512: RunsOff\n",
     ),
     (
         &[0x12008],
@@ -255,21 +261,12 @@ fn shelf(alloc: Global) -> Result<MemoryShelf, AllocError> {
     Ok(shelf)
 }
 
-// The words of a line.
-fn words<'a>(alloc: Global, line: &'a str) -> Result<Vec<&'a str>, AllocError> {
-    let mut words = Vec::new(alloc);
-    for word in line.split_whitespace() {
-        words.push(word)?;
-    }
-    Ok(words)
-}
-
 #[test]
 fn each_refusal_is_told_and_leaves_nothing(rt: HostRuntime) -> Result<(), Fail> {
     let alloc = rt.alloc();
     for (line, code, wanted) in REFUSALS {
         let mut shelf = shelf(alloc)?;
-        let (status, sink) = run(alloc, &words(alloc, line)?, &mut shelf, &[])?;
+        let (status, sink) = run(alloc, &split(alloc, line)?, &mut shelf, &[])?;
         assert_eq!(rt; status.code(), code, "{line}");
         let told = format!(in alloc; "{status:?}")?;
         assert!(rt; told.as_str() == wanted, "{line}: {told}");

@@ -86,21 +86,6 @@ fn a_load_and_then_its_exec_do_what_the_boot_does(rt: HostRuntime) -> Result<(),
     Ok(())
 }
 
-#[test]
-fn a_file_that_cannot_be_taken_ends_the_load(rt: HostRuntime) -> Result<(), Fail> {
-    let alloc = rt.alloc();
-    for (failing, wanted) in [(0u64, "m"), (1, "p"), (2, "k")] {
-        let mut shelf = shelf(alloc, "10-12\n", b"abc", &[failing])?;
-        let (status, sink) = run(alloc, &LOAD, &mut shelf, &[])?;
-        assert_eq!(rt; status.code(), 3, "call {failing}");
-        assert!(rt; matches!(&status, Status::Unread { name } if name.as_str() == wanted));
-        assert_eq!(rt; sink.said().len(), 0);
-        assert!(rt; lacks(alloc, &mut shelf, "o"));
-        assert!(rt; lacks(alloc, &mut shelf, "r"));
-    }
-    Ok(())
-}
-
 // A put that fails leaves half of the output, 4,112 of 8,224 bytes and 61 of 123, and no later one is made.
 #[test]
 fn an_output_that_cannot_be_put_ends_the_load(rt: HostRuntime) -> Result<(), Fail> {
@@ -121,22 +106,6 @@ fn an_output_that_cannot_be_put_ends_the_load(rt: HostRuntime) -> Result<(), Fai
             assert_eq!(rt; load_record.len(), 61);
             assert!(rt; first_record(alloc)?.starts_with(&load_record));
         }
-    }
-    Ok(())
-}
-
-// The load makes five calls of the shelf: the sixth, which fails, is the test's own.
-#[test]
-fn a_sink_that_fails_leaves_whole_outputs(rt: HostRuntime) -> Result<(), Fail> {
-    let alloc = rt.alloc();
-    for (failing, code) in [([0u64].as_slice(), 5u8), ([].as_slice(), 0)] {
-        let mut shelf = shelf(alloc, "10-12\n", b"abc", &[5])?;
-        let (status, sink) = run(alloc, &LOAD, &mut shelf, failing)?;
-        assert_eq!(rt; status.code(), code);
-        assert_eq!(rt; sink.said().is_empty(), code == 5);
-        assert!(rt; lacks(alloc, &mut shelf, "o"));
-        assert!(rt; shelf.take(alloc, "o", 20000)? == first_memory(alloc, false)?);
-        assert!(rt; shelf.take(alloc, "r", 20000)? == first_record(alloc)?);
     }
     Ok(())
 }

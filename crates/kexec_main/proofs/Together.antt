@@ -1,0 +1,170 @@
+-- `load` and then `exec` on its two files do what `boot` does.
+use Rattle.std.proofs.Common.{◌≡◌, ◌∙◌, ℕ, Bool, List, length, Option, Some, None, Result, Ok, Err, ap, sym, subst, refl}
+use Rattle.kx_laws.specs.Results.{◌>>=◌}
+use Rattle.kx_laws.proofs.Options.{some_same}
+use Rattle.kx_laws.proofs.Results.{ok_same}
+use Rattle.kx_edge.specs.Edge.{Files}
+use Rattle.kx_edge.specs.declared.edge.Shelf.{Ghosts as Shelf}
+use Rattle.kx_edge.specs.declared.edge.Sink.{Ghosts as Sink}
+use Rattle.kx_pages.specs.declared.image.Start.{Start}
+use Rattle.kx_pages.specs.declared.image.Mode.{Mode}
+use Rattle.kx_pages.specs.declared.image.Wish.{Wish}
+use Rattle.page_memory.specs.Contents.{Contents, at}
+use Rattle.page_memory.specs.File.{file, reading}
+use Rattle.page_memory.specs.Memory.{Agree, Mem}
+use Rattle.page_memory.specs.declared.fault.MemFault.{MemFault}
+use Rattle.page_memory.proofs.OneFile.{file-agree}
+use Rattle.page_memory.proofs.RoundTrip.{file_read}
+use Rattle.segments.specs.Values.{SegmentValue}
+use Rattle.kimage_list.specs.Laying.{image_of, mode_with, swap_of}
+use Rattle.load_record.specs.File.{Record, record_file, record_reading}
+use Rattle.load_record.specs.declared.fault.RecFault.{RecFault}
+use Rattle.load_states.specs.Fillings.{IsSealed}
+use Rattle.load_states.specs.Loads.{memory_of}
+use Rattle.load_states.specs.Runs.{IsSameCheck, IsSameLoad}
+use Rattle.load_states.specs.States.{Checked, Load}
+use Rattle.load_states.proofs.Alike.{tells_alike}
+use Rattle.file_commands.specs.Taking.{Refusal, file_at, ok, reads}
+use Rattle.file_commands.proofs.Steps.{reads_cases}
+use Rattle.kexec_words.specs.declared.commands.Runs.{Runs}
+use Rattle.kexec_words.specs.declared.commands.Runs.TheVariants.{Once, Twice}
+use Rattle.kexec_words.specs.Values.{BootValue, ExecValue, LoadValue, InputsValue}
+use Rattle.kexec_plan.specs.Requests.{Plan}
+use Rattle.kexec_plan.specs.Plan.{plan}
+use Rattle.kexec_plan.specs.declared.fault.PlanFault.{PlanFault}
+use Rattle.kexec_main.specs.declared.status.Reason.{Reason}
+use Rattle.kexec_main.specs.Boot.{BootInputs, boot_files}
+use Rattle.kexec_main.specs.Call.{HasBooted, HasExecuted, HasLoaded, NormalLoad}
+use Rattle.kexec_main.specs.Exec.{ExecInputs, exec_files, runs_asked, runs_of}
+use Rattle.kexec_main.specs.Files.{load_record_file, memory_file}
+use Rattle.kexec_main.specs.Inputs.{LoadInputs, load_inputs}
+use Rattle.kexec_main.specs.Load.{LoadCommand, load_command_files, load_wish, record_of_load}
+use Rattle.kexec_main.specs.Outputs.{IsFileOf}
+use Rattle.kexec_main.specs.Runs.{after_runs, run_text, wish_of}
+use Rattle.kexec_main.specs.Together.{AskTogether, LoadThenExecIsBoot, booted_text, executed_text, is_twice}
+use Rattle.kexec_main.proofs.Reread.{exec_read, memory_found, record_found}
+
+-- a load of segments over a pool is one
+sealed_alike : (M : Mem) (pool : List ℕ) (wish : Wish) (ss : List SegmentValue) (r s : Load) → IsSealed M pool wish ss r → IsSealed M pool wish ss s → IsSameLoad r s
+sealed_alike M pool wish ss r s a b =
+    let loading : b.loading ≡ a.loading = some_same b.loading a.loading (sym b.requests ∙ a.requests) in
+    record {
+      reads = λ p. b.memory p ∙ ap (λ l. memory_of M wish ss l p) loading ∙ sym (a.memory p);
+      image = b.image ∙ ap (image_of wish) loading ∙ sym a.image;
+      segments = b.segments ∙ sym a.segments;
+    }
+
+same_then : (r s t : Load) → IsSameLoad r s → IsSameLoad s t → IsSameLoad r t
+same_then r s t a b = record { reads = λ p. b.reads p ∙ a.reads p; image = b.image ∙ a.image; segments = b.segments ∙ a.segments }
+
+-- so are loads by one plan of inputs that are the same
+loads_alike : (wish v : Wish) (i j : LoadInputs) (p q : Plan) (c d : Checked) → v ≡ wish → j ≡ i → NormalLoad wish i p c → NormalLoad v j q d → (q ≡ p) × IsSameLoad c.load d.load
+loads_alike wish v i j p q c d w same a b =
+    let asked : plan i.request i.map ≡ Ok q = ap (λ (i : LoadInputs). plan i.request i.map) (sym same) ∙ b.planned in
+    let one : q ≡ p = ok_same {F = PlanFault} q p (sym asked ∙ a.planned) in
+    let laid : IsSealed (at i.memory) i.pool wish p.segments d.load =
+    subst (λ (p : Plan). IsSealed (at i.memory) i.pool wish p.segments d.load) one
+    (subst (λ (i : LoadInputs). IsSealed (at i.memory) i.pool wish q.segments d.load) same
+    (subst (λ wish. IsSealed (at j.memory) j.pool wish q.segments d.load) w b.laid)) in
+    (one, sealed_alike (at i.memory) i.pool wish p.segments c.load d.load a.laid laid)
+
+-- a memory has one file
+one_file : (N : Mem) (a b : List ℕ) → IsFileOf N a → IsFileOf N b → a ≡ b
+one_file N a b f g = f.4 ∙ file-agree f.0 g.0 (λ p. f.2 p ∙ sym (g.2 p)) ∙ sym g.4
+
+-- the file of a memory reads as a memory that agrees with it
+file_agrees : (N : Mem) (bytes : List ℕ) (m : Contents) → IsFileOf N bytes → reading bytes ≡ Ok m → Agree (at m) N
+file_agrees N bytes m f h =
+    let k = file_read f.0 f.1 f.3 in
+    let again : reading bytes ≡ Ok (record { pages = k.0; sets = 0 }) =
+    ap reading f.4 ∙ ap (λ r. r >>= (λ pages. Ok (record { pages = pages; sets = 0 }))) k.1 in
+    let same : record { pages = k.0; sets = 0 } ≡ m = ok_same {F = MemFault} (record { pages = k.0; sets = 0 }) m (sym again ∙ h) in
+    λ p. ap (λ m. at m p) (sym same) ∙ k.2 p ∙ f.2 p
+
+-- the runs that `exec` asks of the load are those of the boot
+same_runs : (runs : Option Runs) (swap : ℕ) (twice : Bool) (mode : Mode) → twice ≡ is_twice runs → mode ≡ mode_with (wish_of runs) swap → runs_of twice mode ≡ runs
+same_runs None swap twice mode e m = ap (runs_of twice) m
+same_runs (Some Once) swap twice mode e m = ap (runs_of twice) m ∙ ap (λ t. runs_of t (mode_with (wish_of (Some Once)) swap)) e
+same_runs (Some Twice) swap twice mode e m = ap (runs_of twice) m ∙ ap (λ t. runs_of t (mode_with (wish_of (Some Twice)) swap)) e
+
+same_after : (runs : Option Runs) (c d : Checked) → IsSameCheck c d → after_runs runs d ≡ after_runs runs c
+same_after None c d s = s.plain
+same_after (Some Once) c d s = s.once
+same_after (Some Twice) c d s = s.twice
+
+same_text : (runs : Option Runs) (c d : Checked) (start : Start) (table digest : ℕ) → IsSameCheck c d → d.load.image ≡ c.load.image → run_text runs d start table digest ≡ run_text runs c start table digest
+same_text None c d start table digest s image = rw (s.words, s.links, s.pairs, image, s.plain) refl
+same_text (Some Once) c d start table digest s image = rw (s.words, s.links, s.pairs, image, s.once) refl
+same_text (Some Twice) c d start table digest s image = rw (s.words, s.links, s.pairs, image) refl
+
+module _ {S O : Type 0} (D : Shelf S) (E : Sink O) (held after : Files) (s t u s' t' u' : S) (o p q o' p' q' : O) (b : BootValue) (l : LoadValue) (e : ExecValue)
+    (ask : AskTogether b l e) (boot : HasBooted D E held s o s' o' b) (load : HasLoaded D E held t p t' p' l) (exec : HasExecuted D E after u q u' q' e)
+    (memory_put : file_at after l.out ≡ load.output) (record_put : file_at after l.load_record ≡ record_file (record_of_load load.checked.load load.planned)) where
+  -- both loads are of the same inputs
+  same_inputs : load.inputs.load ≡ boot.inputs.load
+  same_inputs =
+      let i = reads_cases (load_inputs b.image b.inputs) (λ i. ok (record { load = i; runs = b.kept; out = b.out })) held boot.inputs boot.read in
+      let j = reads_cases (load_inputs l.image l.inputs) (λ i. ok (record { load = i; wish = load_wish l; out = l.out; load_record = l.load_record })) held load.inputs load.read in
+      let read : reads (load_inputs l.image l.inputs) held ≡ reads (load_inputs b.image b.inputs) held =
+      ap (λ image. reads (load_inputs image l.inputs) held) ask.image ∙ ap (λ i. reads (load_inputs b.image i) held) ask.inputs in
+      let one : j.0 ≡ i.0 = ok_same {F = Refusal Reason} j.0 i.0 (sym j.1 ∙ read ∙ i.1) in
+      ap (λ (x : LoadCommand). x.load) (sym (ok_same {F = Refusal Reason} _ load.inputs j.2)) ∙ one ∙ ap (λ (x : BootInputs). x.load) (ok_same {F = Refusal Reason} _ boot.inputs i.2)
+
+  alike : (load.planned ≡ boot.planned) × IsSameLoad boot.checked.load load.checked.load
+  alike = loads_alike (wish_of b.kept) (load_wish l) boot.inputs.load load.inputs.load boot.planned load.planned boot.checked load.checked ask.wish same_inputs boot.load load.load
+
+  -- the record and the memory that `exec` read are those that `load` put
+  files : (m : Contents) × (r : Record) × (reads (memory_file e.memory) after ≡ Ok m) × (reads (load_record_file e.load_record) after ≡ Ok r)
+      × (exec.inputs ≡ record { files = record { memory = m; load_record = r }; twice = e.twice; out = e.out })
+  files = exec_read e after exec.inputs exec.read
+
+  record_is : exec.inputs.files.load_record ≡ record_of_load load.checked.load load.planned
+  record_is =
+      let R = record_of_load load.checked.load load.planned in
+      let read : record_reading (file_at after e.load_record) ≡ Ok files.1 = record_found e.load_record after files.1 files.3 in
+      ap (λ (x : ExecInputs). x.files.load_record) files.4
+      ∙ ok_same {F = RecFault} files.1 R (sym read ∙ ap record_reading (ap (file_at after) ask.load_record ∙ record_put) ∙ load.read_back)
+
+  memory_is : Agree (at exec.inputs.files.memory) (at load.checked.load.memory)
+  memory_is = λ page.
+      ap (λ (x : ExecInputs). at x.files.memory page) files.4
+      ∙ file_agrees (at load.checked.load.memory) load.output files.0 load.is_memory
+      (subst (λ bytes. reading bytes ≡ Ok files.0) (ap (file_at after) ask.memory ∙ memory_put) (memory_found e.memory after files.0 files.2)) page
+
+  read_alike : IsSameLoad load.checked.load exec.checked.load
+  read_alike = record {
+    reads = λ page. ap (λ (s : Load). at s.memory page) exec.of_files ∙ memory_is page;
+    image = ap (λ (s : Load). s.image) exec.of_files ∙ ap (λ (r : Record). r.image) record_is;
+    segments = ap (λ (s : Load). s.segments) exec.of_files ∙ ap (λ (r : Record). r.segments) record_is;
+  }
+
+  whole : IsSameLoad boot.checked.load exec.checked.load
+  whole = same_then boot.checked.load load.checked.load exec.checked.load alike.1 read_alike
+
+  check : IsSameCheck boot.checked exec.checked
+  check = tells_alike boot.checked boot.load.accepted exec.checked whole exec.accepted
+
+  runs : runs_asked exec.inputs ≡ b.kept
+  runs =
+      let laid = boot.load.laid in
+      same_runs b.kept (swap_of laid.loading) exec.inputs.twice exec.inputs.files.load_record.image.mode
+      (ap (λ (x : ExecInputs). x.twice) files.4 ∙ ask.twice)
+      (ap (λ (s : Load). s.image.mode) (sym exec.of_files) ∙ ap (λ i. i.mode) whole.image ∙ ap (λ i. i.mode) laid.image)
+
+  same_output : exec.output ≡ boot.output
+  same_output =
+      one_file (after_runs b.kept boot.checked) exec.output boot.output
+      (subst (λ N. IsFileOf N exec.output) (ap (λ r. after_runs r exec.checked) runs ∙ same_after b.kept boot.checked exec.checked check) exec.is_memory) boot.is_memory
+
+  said_same : executed_text exec.inputs exec.checked ≡ booted_text b.kept boot.checked boot.planned
+  said_same =
+      ap (λ (r : Record). run_text (runs_asked exec.inputs) exec.checked r.start r.regions r.digest) record_is
+      ∙ ap (λ r. run_text r exec.checked load.planned.start load.planned.regions load.planned.digest) runs
+      ∙ same_text b.kept boot.checked exec.checked load.planned.start load.planned.regions load.planned.digest check whole.image
+      ∙ ap (λ (p : Plan). booted_text b.kept boot.checked p) alike.0
+
+pub load_then_exec : {S O : Type 0} (D : Shelf S) (E : Sink O) → LoadThenExecIsBoot D E
+load_then_exec D E held after s t u s' t' u' o p q o' p' q' b l e ask boot load exec memory_put record_put = (
+  same_output D E held after s t u s' t' u' o p q o' p' q' b l e ask boot load exec memory_put record_put,
+  said_same D E held after s t u s' t' u' o p q o' p' q' b l e ask boot load exec memory_put record_put,
+)

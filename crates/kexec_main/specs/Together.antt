@@ -1,0 +1,52 @@
+-- `load` and then `exec` on its two files do what `boot` does (this project's own).
+use Rattle.std.specs.Prelude.{◌≡◌, ℕ, Bool, true, false, List, Option, Some, None}
+use Rattle.kx_edge.specs.Edge.{Files}
+use Rattle.kx_edge.specs.declared.edge.Shelf.{Ghosts as Shelf}
+use Rattle.kx_edge.specs.declared.edge.Sink.{Ghosts as Sink}
+use Rattle.kx_pages.specs.declared.image.Start.{Start}
+use Rattle.load_record.specs.File.{Record, record_file}
+use Rattle.load_states.specs.States.{Checked}
+use Rattle.file_commands.specs.Taking.{file_at}
+use Rattle.kexec_words.specs.declared.commands.Runs.{Runs}
+use Rattle.kexec_words.specs.declared.commands.Runs.TheVariants.{Once, Twice}
+use Rattle.kexec_words.specs.Values.{BootValue, ExecValue, LoadValue}
+use Rattle.kexec_plan.specs.Requests.{Plan}
+use Rattle.kexec_main.specs.Call.{HasBooted, HasExecuted, HasLoaded}
+use Rattle.kexec_main.specs.Exec.{ExecInputs, runs_asked}
+use Rattle.kexec_main.specs.Load.{load_wish, record_of_load}
+use Rattle.kexec_main.specs.Runs.{run_text, wish_of}
+
+-- whether these runs are two
+abbrev pub is_twice : Option Runs → Bool
+is_twice None = false
+is_twice (Some Once) = false
+is_twice (Some Twice) = true
+
+-- the words of a load and of an exec on its two files, which ask together for what the words of a boot ask
+pub record AskTogether (b : BootValue) (l : LoadValue) (e : ExecValue) : Type 0 where
+  pub inputs : l.inputs ≡ b.inputs
+  pub image : l.image ≡ b.image
+  pub wish : load_wish l ≡ wish_of b.kept
+  pub twice : e.twice ≡ is_twice b.kept
+  pub memory : e.memory ≡ l.out
+  pub load_record : e.load_record ≡ l.load_record
+
+-- what a boot and an exec said
+abbrev pub booted_text : Option Runs → Checked → Plan → List ℕ
+booted_text runs c p = run_text runs c p.start p.regions p.digest
+
+abbrev pub executed_text : ExecInputs → Checked → List ℕ
+executed_text x c =
+    let r = x.files.load_record in
+    run_text (runs_asked x) c r.start r.regions r.digest
+
+-- Where `boot` was done over some files, `load` over the same ones, and `exec` over files that have what `load` put: OUT of
+-- `exec` is that of `boot`, and both said the same.
+abbrev pub LoadThenExecIsBoot : {S O : Type 0} → Shelf S → Sink O → Type 0
+LoadThenExecIsBoot {S} {O} D E =
+    (held after : Files) (s t u s' t' u' : S) (o p q o' p' q' : O) (b : BootValue) (l : LoadValue) (e : ExecValue) → AskTogether b l e
+    → (boot : HasBooted D E held s o s' o' b) (load : HasLoaded D E held t p t' p' l) (exec : HasExecuted D E after u q u' q' e)
+    → file_at after l.out ≡ load.output
+    → file_at after l.load_record ≡ record_file (record_of_load load.checked.load load.planned)
+    → (exec.output ≡ boot.output)
+    × (executed_text exec.inputs exec.checked ≡ booted_text b.kept boot.checked boot.planned)
