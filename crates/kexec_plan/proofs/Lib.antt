@@ -7,4 +7,6 @@ pub mod Laying
 pub mod Reach
 pub mod Puts
 pub mod Linkages
+pub mod Ways
+pub mod Bare
 pub mod Regions

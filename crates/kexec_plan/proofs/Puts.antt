@@ -61,7 +61,7 @@ spans_have (s ∷ ss) q k =
     let later = spans_have ss q k.1 in
     rw (here, later) refl
 
-bare_set : (ss : List SegmentValue) (g : ℕ) (s : SegmentValue) (bytes : List ℕ) → IsBare ss → slice_get ss g ≡ Some s → length bytes ≡ length s.bytes → IsBare (set ss g (record s { bytes = bytes }))
+pub bare_set : (ss : List SegmentValue) (g : ℕ) (s : SegmentValue) (bytes : List ℕ) → IsBare ss → slice_get ss g ≡ Some s → length bytes ≡ length s.bytes → IsBare (set ss g (record s { bytes = bytes }))
 bare_set ss g s bytes bare e l =
     let placed = (AreSegments-from_IsBare ss bare).placed in
     (has_pages_set ss (map span_of ss) g (record s { bytes = bytes })
@@ -88,20 +88,20 @@ few_at : (a n : ℕ) (xs ys : List ℕ) → bytes_at a n xs ≡ ys → length ys
 few_at a n xs ys e = omega (arith, length-take n (drop a xs), ap length e)
 
 -- the linked bytes with the registers
-abbrev with_registers : Linkage → Start → List ℕ
+abbrev pub with_registers : Linkage → Start → List ℕ
 with_registers l start = with_bytes (l.symbols.regs - l.base) (registers_text start) l.bytes
 
-length-put : (base at n : ℕ) (these xs : List ℕ) → length these ≤ n → base ≤ at → at + n ≤ base + length xs → length (with_bytes (at - base) these xs) ≡ length xs
+pub length-put : (base at n : ℕ) (these xs : List ℕ) → length these ≤ n → base ≤ at → at + n ≤ base + length xs → length (with_bytes (at - base) these xs) ≡ length xs
 length-put base at n these xs long from to = length-with_bytes (at - base) these xs (omega (arith, long, from, to))
 
-length-with_registers : (l : Linkage) (start : Start) → HasSymbols l.base (length l.bytes) l.symbols → length (with_registers l start) ≡ length l.bytes
+pub length-with_registers : (l : Linkage) (start : Start) → HasSymbols l.base (length l.bytes) l.symbols → length (with_registers l start) ≡ length l.bytes
 length-with_registers l start h = length-put l.base l.symbols.regs 136 (registers_text start) l.bytes (omega (arith, length-registers start)) h.regs_from h.regs_to
 
 -- ---- the purgatory's segment, the last one, gets its table and its digest
-set_last : (ss : List SegmentValue) (x y : SegmentValue) → set (ss ++ x ∷ []) (length ss) y ≡ ss ++ y ∷ []
+pub set_last : (ss : List SegmentValue) (x y : SegmentValue) → set (ss ++ x ∷ []) (length ss) y ≡ ss ++ y ∷ []
 set_last ss x y = last_set ss x y (length ss) refl
 
-get_last : (ss : List SegmentValue) (x : SegmentValue) → slice_get (ss ++ x ∷ []) (length ss) ≡ Some x
+pub get_last : (ss : List SegmentValue) (x : SegmentValue) → slice_get (ss ++ x ∷ []) (length ss) ≡ Some x
 get_last ss x = last_get ss x (length ss) refl
 
 places_in : (l : Linkage) (start : Start) (s : Site) → l.base ≡ s.at → HasSymbols l.base (length l.bytes) l.symbols → (l.symbols.regions + 256 ≤ l.symbols.digest) ⊎ (l.symbols.digest + 32 ≤ l.symbols.regions) → HasPlaces (segment_at s (with_registers l start)) l.symbols.regions l.symbols.digest
