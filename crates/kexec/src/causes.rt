@@ -28,7 +28,10 @@ fn write_cause<R: Files>(rt: &R, name: &str) -> Option<io::Error> {
     let mut options = File::options();
     match options.append(true).open(rt, name) {
         Ok(_) => None,
-        Err(cause) if cause.kind() == ErrorKind::NotFound => fs::metadata(rt, folder_of(name)).err(),
+        Err(cause) if cause.kind() == ErrorKind::NotFound => fs::metadata(
+            rt,
+            folder_of(name),
+        ).err(),
         Err(cause) => Some(cause),
     }
 }

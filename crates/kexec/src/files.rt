@@ -30,7 +30,9 @@ fn elf_word(given: &[Given<'_>]) -> Option<&'static str> {
 
 fn plan_word(fault: &PlanFault, given: &[Given<'_>]) -> Option<&'static str> {
     match fault {
-        PlanFault::UnknownImage | PlanFault::Bzimage { .. } | PlanFault::Multiboot { .. } => Some("KERNEL"),
+        PlanFault::UnknownImage | PlanFault::Bzimage { .. } | PlanFault::Multiboot { .. } => Some(
+            "KERNEL",
+        ),
         PlanFault::Link { .. } => Some("--purgatory"),
         PlanFault::Elf { .. } => elf_word(given),
         PlanFault::NoReserved => Some("--map"),

@@ -26,11 +26,11 @@ struct Reading<'a> {
     is_behind_hyphens: bool,
 }
 
-/// The answer to words: what is given, or why they are not those of the command.
+/// What is given up to the first word that the command does not take, and why it does not take that one.
 #[derive(Drop)]
-pub(crate) enum Answer<'a> {
-    Given { given: Vec<Given<'a>> },
-    Refused { why: Mistake<'a> },
+pub(crate) struct Answer<'a> {
+    pub(crate) given: Vec<Given<'a>>,
+    pub(crate) mistake: Option<Mistake<'a>>,
 }
 
 // Whether a word is read as an option: `-` alone is a positional word.
@@ -112,7 +112,10 @@ impl<'a> Reading<'a> {
             return Some(Mistake::NoValue { option, value });
         }
         if self.count < needed(&self.names) {
-            return self.names.get(self.count).map(|name| Mistake::Missing { name: *name });
+            return self
+                .names
+                .get(self.count)
+                .map(|name| Mistake::Missing { name: *name });
         }
         None
     }
@@ -133,17 +136,25 @@ pub(crate) fn read_given<'a>(
         is_behind_hyphens: false,
     };
     for word in words {
-        if let Some(why) = reading.read_word(word)? {
-            return Ok(Answer::Refused { why });
+        let mistake = reading.read_word(word)?;
+        if mistake.is_some() {
+            return Ok(Answer {
+                given: reading.given,
+                mistake,
+            });
         }
     }
-    if let Some(why) = reading.want() {
-        return Ok(Answer::Refused { why });
-    }
-    Ok(Answer::Given { given: reading.given })
+    let mistake = reading.want();
+    Ok(Answer {
+        given: reading.given,
+        mistake,
+    })
 }
 
 /// The text that is given under this name of the help.
 pub(crate) fn text_of<'a>(given: &[Given<'a>], name: &str) -> Option<&'a str> {
-    given.iter().find(|one| one.name == name).map(|one| one.text)
+    given
+        .iter()
+        .find(|one| one.name == name)
+        .map(|one| one.text)
 }

@@ -59,12 +59,17 @@ fn word_entry(line: &'static str) -> Option<(&'static str, &'static str)> {
 
 /// The names of the positional words, in their order.
 pub(crate) fn words_in(alloc: Global, help: &'static str) -> Result<Vec<&'static str>, AllocError> {
-    help.lines().filter_map(word_entry).map(|entry| entry.0).collect(alloc)
+    help.lines()
+        .filter_map(word_entry)
+        .map(|entry| entry.0)
+        .collect(alloc)
 }
 
 /// Whether the positional word of this name is a file that the command writes.
 pub(crate) fn is_written(help: &'static str, name: &str) -> bool {
-    help.lines().filter_map(word_entry).any(|(word, rest)| word == name && rest.contains("to write"))
+    help.lines()
+        .filter_map(word_entry)
+        .any(|(word, rest)| word == name && rest.contains("to write"))
 }
 
 /// How many of these words have to be given.

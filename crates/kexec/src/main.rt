@@ -7,6 +7,7 @@ mod given;
 mod help;
 mod mistake;
 mod old_words;
+mod remedies;
 mod report;
 mod usage;
 
@@ -16,6 +17,7 @@ use kexec_main::{Status, kexec};
 use kexec_words::help_of;
 use kx_edge::{HostShelf, StdSink};
 use report::Report;
+use std::alloc::Global;
 use std::env::Env;
 use std::process::ExitCode;
 use std::rt::Files;
@@ -30,28 +32,35 @@ fn read_words(rt: &(impl Env + AllocGlobal)) -> io::Result<Vec<String>> {
     Ok(env::args(rt)?.skip(1).collect(rt.alloc())?)
 }
 
+// The words behind the command, each with its name in the command's help; none where memory is wanted.
+fn read_answer<'a>(alloc: Global, help: &'static str, words: &'a [String]) -> Answer<'a> {
+    let rest = match words.split_first() {
+        Some((_, rest)) => rest,
+        None => words,
+    };
+    match read_given(alloc, help, rest) {
+        Ok(answer) => answer,
+        Err(_) => Answer {
+            given: Vec::new(alloc),
+            mistake: None,
+        },
+    }
+}
+
 // Says on standard error why a command was refused.
-fn explain(rt: &(impl AllocGlobal + Eprint + Files), words: &[String], status: &Status) {
+fn explain<'a>(rt: &(impl AllocGlobal + Eprint + Files), words: &'a [String], status: &'a Status) {
     let is_usage = matches!(status, Status::Usage { .. });
+    let help = help_of(words);
     if is_usage && asks_for_help(words) {
-        let _ = rt.eprintln(help_of(words));
+        let _ = rt.eprintln(help);
         return;
     }
-    let help = help_of(words);
-    let rest = words.split_first().map_or(words, |(_, rest)| rest);
-    let answer = match read_given(rt.alloc(), help, rest) {
-        Ok(answer) => answer,
-        Err(_) => Answer::Given {
-            given: Vec::new(rt.alloc()),
-        },
-    };
-    let cause = cause_of(rt, status);
     let _ = rt.eprintln(Report {
         status,
         words,
         help,
-        answer: &answer,
-        cause: &cause,
+        answer: read_answer(rt.alloc(), help, words),
+        cause: cause_of(rt, status),
     });
     if is_usage {
         print_help(rt, words);

@@ -7,27 +7,46 @@ use std::fmt::{self, Display, Formatter, Write};
 #[derive(Clone, Copy, Debug, PartialEq, Eq)]
 pub(crate) enum Mistake<'a> {
     /// The command has no such option.
-    Unknown { option: &'a str },
+    Unknown {
+        option: &'a str,
+    },
     /// The option is given a second time.
-    Again { option: &'a str },
+    Again {
+        option: &'a str,
+    },
     /// The option has to have a value, of this name.
-    NoValue { option: &'a str, value: &'static str },
+    NoValue {
+        option: &'a str,
+        value: &'static str,
+    },
     /// The option takes no value.
-    HasValue { option: &'a str },
+    HasValue {
+        option: &'a str,
+    },
     /// A positional word is one too many.
-    Surplus { word: &'a str },
+    Surplus {
+        word: &'a str,
+    },
     /// The positional word of this name is missing.
-    Missing { name: &'static str },
+    Missing {
+        name: &'static str,
+    },
 }
 
 impl Display for Mistake<'_> {
     fn fmt<W: Write>(&self, f: &mut Formatter<W>) -> fmt::Result {
         match self {
             Mistake::Unknown { option } => match option_for(option) {
-                Some(other) => write!(f, "{option} is no option of this command; {other} stands for it"),
+                Some(other) => write!(
+                    f,
+                    "{option} is no option of this command; {other} stands for it"
+                ),
                 None => write!(f, "{option:?} is no option of this command"),
             },
-            Mistake::Again { option } => write!(f, "{option} is given twice, and has to be given once"),
+            Mistake::Again { option } => write!(
+                f,
+                "{option} is given twice, and has to be given once"
+            ),
             Mistake::NoValue { option, value } => {
                 write!(f, "{option} has to have a value: {option} {value}")
             }

@@ -2,7 +2,8 @@
 
 use crate::files::file_of;
 use crate::given::{Answer, Given, text_of};
-use crate::usage::Refusal;
+use crate::remedies::remedy_of;
+use crate::usage::write_refusal;
 use kexec_main::Status;
 use kexec_plan::PlanFault;
 use segments::SegFault;
@@ -16,9 +17,9 @@ pub(crate) struct Report<'a> {
     pub(crate) words: &'a [String],
     pub(crate) help: &'static str,
     /// The words as the command takes them.
-    pub(crate) answer: &'a Answer<'a>,
+    pub(crate) answer: Answer<'a>,
     /// What the system says of a file that could not be read or written.
-    pub(crate) cause: &'a Option<io::Error>,
+    pub(crate) cause: Option<io::Error>,
 }
 
 // The address of a raw kernel, as it is given: such a kernel is the first segment.
@@ -29,48 +30,50 @@ fn raw_address<'a>(given: &[Given<'a>]) -> Option<&'a str> {
     }
 }
 
-impl Report<'_> {
-    fn given(&self) -> &[Given<'_>] {
-        match self.answer {
-            Answer::Given { given } => given,
-            Answer::Refused { .. } => &[],
-        }
-    }
-
-    // A fault of a raw kernel's segment, told by the options that place it.
-    fn write_raw<W: Write>(&self, fault: &SegFault, at: &str, f: &mut Formatter<W>) -> fmt::Result {
-        match fault {
-            SegFault::BadAddress { i: 0 } => write!(
+// A fault of the segments where the kernel is raw, told by the options that place it.
+fn write_raw<W: Write>(
+    fault: &SegFault,
+    at: &str,
+    given: &[Given<'_>],
+    f: &mut Formatter<W>,
+) -> fmt::Result {
+    match fault {
+        SegFault::BadAddress { i: 0 } => write!(
+            f,
+            "--at {at}: a raw kernel has to begin at a multiple of 1000 and to end below 400000000000, both in hexadecimal"
+        ),
+        SegFault::NotRam { i: 0 } => {
+            let map = text_of(given, "--map").unwrap_or("");
+            write!(
                 f,
-                "--at {at}: a raw kernel has to begin at a multiple of 1000 and to end below 400000000000, both in hexadecimal"
-            ),
-            SegFault::NotRam { i: 0 } => write!(
-                f,
-                "--at {at}: the kernel has a page there that is no System RAM of the memory map {:?}",
-                text_of(self.given(), "--map").unwrap_or("")
-            ),
-            fault => write!(f, "the kernel at --at {at} cannot be placed: {fault}"),
+                "--at {at}: the kernel has a page there that is no System RAM of the memory map {map:?}"
+            )
         }
+        fault => write!(f, "the kernel at --at {at} cannot be placed: {fault}"),
     }
+}
 
-    fn write_status<W: Write>(&self, f: &mut Formatter<W>) -> fmt::Result {
-        let status = self.status;
-        match (status, self.cause) {
-            (Status::Unread { name }, Some(cause)) => write!(f, "{name:?} cannot be read: {cause}"),
-            (Status::Unwritten { name }, Some(cause)) => {
-                write!(f, "{name:?} cannot be written: {cause}")
-            }
-            (
-                Status::Plan {
-                    fault: PlanFault::Segments { fault },
-                },
-                _,
-            ) => match raw_address(self.given()) {
-                Some(at) => self.write_raw(fault, at, f),
-                None => write!(f, "{status}"),
+fn write_status<W: Write>(
+    status: &Status,
+    given: &[Given<'_>],
+    cause: &Option<io::Error>,
+    f: &mut Formatter<W>,
+) -> fmt::Result {
+    match (status, cause) {
+        (Status::Unread { name }, Some(cause)) => write!(f, "{name:?} cannot be read: {cause}"),
+        (Status::Unwritten { name }, Some(cause)) => {
+            write!(f, "{name:?} cannot be written: {cause}")
+        }
+        (
+            Status::Plan {
+                fault: PlanFault::Segments { fault },
             },
-            _ => write!(f, "{status}"),
-        }
+            _,
+        ) => match raw_address(given) {
+            Some(at) => write_raw(fault, at, given, f),
+            None => write!(f, "{status}"),
+        },
+        _ => write!(f, "{status}"),
     }
 }
 
@@ -78,17 +81,17 @@ impl Display for Report<'_> {
     fn fmt<W: Write>(&self, f: &mut Formatter<W>) -> fmt::Result {
         f.write_str("kexec: ")?;
         if let Status::Usage { why } = self.status {
-            let refusal = Refusal {
-                why,
-                first: self.words.first().map(|word| word.as_str()),
-                help: self.help,
-                answer: self.answer,
-            };
-            return write!(f, "{refusal}");
+            let first = self.words.first().map(|word| word.as_str());
+            return write_refusal(why, first, self.help, &self.answer, f);
         }
-        if let Some(name) = file_of(self.status, self.given()) {
+        let given = &self.answer.given;
+        if let Some(name) = file_of(self.status, given) {
             write!(f, "{name:?}: ")?;
         }
-        self.write_status(f)
+        write_status(self.status, given, &self.cause, f)?;
+        match remedy_of(self.status) {
+            Some(remedy) => write!(f, "; {remedy}"),
+            None => Ok(()),
+        }
     }
 }

@@ -4,17 +4,7 @@ use crate::given::{Answer, Given, text_of};
 use crate::help::{MODULES, is_written};
 use crate::old_words::command_for;
 use kexec_words::{UsageWhy, Which, help_of};
-use std::fmt::{self, Display, Formatter, Write};
-
-/// Why words are refused, with the word that stood there.
-#[derive(Drop)]
-pub(crate) struct Refusal<'a> {
-    pub(crate) why: &'a UsageWhy,
-    /// The first word, which is to name a command.
-    pub(crate) first: Option<&'a str>,
-    pub(crate) help: &'static str,
-    pub(crate) answer: &'a Answer<'a>,
-}
+use std::fmt::{self, Formatter, Write};
 
 // The word or option in the help.
 fn name_of(which: Which) -> &'static str {
@@ -30,80 +20,106 @@ fn name_of(which: Which) -> &'static str {
     }
 }
 
-// The other file of the same name; a command line is no file.
-fn same_as<'a>(given: &'a [Given<'a>], file: &Given<'a>) -> Option<&'a Given<'a>> {
-    given
-        .iter()
-        .find(|one| one.name != file.name && one.name != "--command" && one.text == file.text)
+// The name of another file with this text; a command line is no file.
+fn other_with<'a>(given: &[Given<'a>], name: &str, text: &str) -> Option<&'a str> {
+    for one in given {
+        if one.name != name && one.name != "--command" && one.text == text {
+            return Some(one.name);
+        }
+    }
+    None
 }
 
-impl Refusal<'_> {
-    fn write_command<W: Write>(&self, f: &mut Formatter<W>) -> fmt::Result {
-        let why = self.why;
-        let Some(word) = self.first else {
-            return write!(f, "{why}");
-        };
-        match command_for(word) {
-            Some(command) => write!(
+// The first file that is written and has the name of another one, and that one.
+fn shared<'a>(help: &'static str, given: &[Given<'a>]) -> Option<(Given<'a>, &'a str)> {
+    for file in given {
+        if is_written(help, file.name) {
+            if let Some(other) = other_with(given, file.name, file.text) {
+                return Some((*file, other));
+            }
+        }
+    }
+    None
+}
+
+fn write_command<W: Write>(
+    why: &UsageWhy,
+    first: Option<&str>,
+    f: &mut Formatter<W>,
+) -> fmt::Result {
+    let Some(word) = first else {
+        return write!(f, "{why}");
+    };
+    match command_for(word) {
+        Some(command) => write!(
+            f,
+            "{word} is an option of kexec(8), which is another program: the command here is {command}"
+        ),
+        None => write!(f, "{word:?} is no command; {why}"),
+    }
+}
+
+fn write_number<W: Write>(why: &UsageWhy, text: &str, f: &mut Formatter<W>) -> fmt::Result {
+    write!(f, "{why}: {text:?} is given")?;
+    if text.starts_with("0x") || text.starts_with("0X") {
+        f.write_str("; leave out 0x")?;
+    }
+    Ok(())
+}
+
+fn write_same_name<W: Write>(
+    help: &'static str,
+    given: &[Given<'_>],
+    f: &mut Formatter<W>,
+) -> fmt::Result {
+    let Some((file, other)) = shared(help, given) else {
+        return write!(f, "{}", UsageWhy::SameName);
+    };
+    let name = file.name;
+    let text = file.text;
+    write!(
+        f,
+        "{name} and {other} are both {text:?}: a file that is written has to have a name of its own"
+    )
+}
+
+/// Writes why words are refused, with the word that stood there. `first` is to name the command of this help.
+pub(crate) fn write_refusal<W: Write>(
+    why: &UsageWhy,
+    first: Option<&str>,
+    help: &'static str,
+    answer: &Answer<'_>,
+    f: &mut Formatter<W>,
+) -> fmt::Result {
+    match why {
+        UsageWhy::Command => write_command(why, first, f),
+        UsageWhy::Parse => match &answer.mistake {
+            Some(mistake) => write!(f, "{mistake}"),
+            None => write!(f, "{why}"),
+        },
+        UsageWhy::Number { which } => {
+            write_number(
+                why,
+                text_of(&answer.given, name_of(*which)).unwrap_or(""),
                 f,
-                "{word} is an option of kexec(8), which is another program: the command here is {command}"
-            ),
-            None => write!(f, "{word:?} is no command; {why}"),
+            )
         }
-    }
-
-    fn write_number<W: Write>(&self, text: &str, f: &mut Formatter<W>) -> fmt::Result {
-        let why = self.why;
-        write!(f, "{why}: {text:?} is given")?;
-        if text.starts_with("0x") || text.starts_with("0X") {
-            f.write_str("; leave out 0x")?;
+        UsageWhy::SameName => write_same_name(help, &answer.given, f),
+        UsageWhy::TooManyModules => {
+            let count = answer
+                .given
+                .iter()
+                .filter(|one| one.name == MODULES)
+                .count();
+            write!(f, "{count} modules are given, and a kernel gets at most 12")
         }
-        Ok(())
-    }
-
-    fn write_same_name<W: Write>(&self, given: &[Given<'_>], f: &mut Formatter<W>) -> fmt::Result {
-        for file in given {
-            if is_written(self.help, file.name) {
-                if let Some(other) = same_as(given, file) {
-                    return write!(
-                        f,
-                        "{} and {} are both {:?}: a file that is written has to have a name of its own",
-                        file.name,
-                        other.name,
-                        file.text
-                    );
-                }
-            }
+        UsageWhy::NeedsMap => {
+            write!(
+                f,
+                "{why}; `cat /proc/iomem`, as root, prints the map of this machine"
+            )
         }
-        write!(f, "{}", self.why)
-    }
-
-    fn write_given<W: Write>(&self, given: &[Given<'_>], f: &mut Formatter<W>) -> fmt::Result {
-        match self.why {
-            UsageWhy::Number { which } => {
-                self.write_number(text_of(given, name_of(*which)).unwrap_or(""), f)
-            }
-            UsageWhy::SameName => self.write_same_name(given, f),
-            UsageWhy::TooManyModules => {
-                let count = given.iter().filter(|one| one.name == MODULES).count();
-                write!(f, "{count} modules are given, and a kernel gets at most 12")
-            }
-            UsageWhy::NeedsMap => {
-                write!(f, "{}; `cat /proc/iomem`, as root, prints the map of this machine", self.why)
-            }
-            why => write!(f, "{why}"),
-        }
-    }
-}
-
-impl Display for Refusal<'_> {
-    fn fmt<W: Write>(&self, f: &mut Formatter<W>) -> fmt::Result {
-        match (self.why, self.answer) {
-            (UsageWhy::Command, _) => self.write_command(f),
-            (UsageWhy::Parse, Answer::Refused { why }) => write!(f, "{why}"),
-            (_, Answer::Given { given }) => self.write_given(given, f),
-            (why, _) => write!(f, "{why}"),
-        }
+        UsageWhy::NeedsAt => write!(f, "{why}"),
     }
 }
 

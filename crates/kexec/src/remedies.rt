@@ -1,0 +1,59 @@
+//! What helps where a kernel or a purgatory was refused.
+
+use boot_params::ParamsFault;
+use bzimage::BzFault;
+use elf_image::ElfFault;
+use kexec_main::Status;
+use kexec_plan::PlanFault;
+use purgatory_link::LinkFault;
+
+fn elf_remedy(fault: &ElfFault) -> Option<&'static str> {
+    match fault {
+        ElfFault::Class | ElfFault::Machine | ElfFault::Kind => Some(
+            "a kernel has to be an executable (ET_EXEC) and a purgatory an object (ET_REL), both ELF64 for x86-64",
+        ),
+        _ => None,
+    }
+}
+
+fn bzimage_remedy(fault: &BzFault) -> Option<&'static str> {
+    match fault {
+        BzFault::OldVersion { .. } | BzFault::No64Entry | BzFault::NotRelocatable => {
+            Some("take a kernel for x86-64, Linux 3.8 or later, with CONFIG_RELOCATABLE")
+        }
+        _ => None,
+    }
+}
+
+fn link_remedy(fault: &LinkFault) -> Option<&'static str> {
+    match fault {
+        LinkFault::NoSymbol => Some(
+            "it has to define entry64_regs, purgatory_sha_regions, purgatory_sha256_digest and purgatory_start",
+        ),
+        LinkFault::WrongSize { .. } => Some(
+            "entry64_regs has to have 136 bytes, purgatory_sha_regions 256 and purgatory_sha256_digest 32",
+        ),
+        LinkFault::UnknownReloc { .. } | LinkFault::DoesNotFit { .. } => {
+            Some("compile it with -fno-pic -mcmodel=large")
+        }
+        LinkFault::Undefined { .. } => Some("link all its objects into one by ld -r"),
+        LinkFault::Common { .. } => Some("compile it with -fno-common"),
+        _ => None,
+    }
+}
+
+/// What the user can do about a refusal, where its sentence does not say so yet.
+pub(crate) fn remedy_of(status: &Status) -> Option<&'static str> {
+    let Status::Plan { fault } = status else {
+        return None;
+    };
+    match fault {
+        PlanFault::Elf { fault } => elf_remedy(fault),
+        PlanFault::Bzimage { fault } => bzimage_remedy(fault),
+        PlanFault::Link { fault } => link_remedy(fault),
+        PlanFault::Params {
+            fault: ParamsFault::TooManyRanges { .. },
+        } => Some("leave small ranges out of the map"),
+        _ => None,
+    }
+}
