@@ -1,0 +1,18 @@
+//! What a plan promises: the new kernel's purgatory finds the regions as they were digested.
+
+ghost use Rattle.std.specs.Prelude.{◌≡◌, ℕ, List, Option, Ok};
+ghost use Rattle.memory_map.specs.Named.{Named};
+ghost use Rattle.purgatory_link.specs.declared.region_test.RegionTest.TheVariants.{Same};
+ghost use Rattle.purgatory_link.specs.RegionTest.{test};
+ghost use Rattle.purgatory_link.specs.Tie.{HasWanted};
+ghost use Rattle.kexec_plan.specs.Requests.{Asked, Plan};
+ghost use Rattle.kexec_plan.specs.Finish.{HasTableApart};
+ghost use Rattle.kexec_plan.specs.Plan.{plan};
+
+/// A planned load passes the test of its own purgatory: a memory that has what is wanted of each page of the plan's
+/// segments has the regions whose digest the purgatory finds. The one premise is that the table of regions and the
+/// digest have no byte in common, since the symbols of a purgatory may overlap.
+pub fn planned_regions_are_same()
+    ensures { (r : Asked) (map : Option Named) (p : Plan) (M : ℕ → List ℕ)
+        → plan r map ≡ Ok p → HasTableApart p → HasWanted M p.segments → test M p.regions p.digest ≡ Same }
+{}
