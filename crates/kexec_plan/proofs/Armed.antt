@@ -1,5 +1,5 @@
 -- The plan of a purgatory that got what it is to find.
-use Rattle.std.proofs.Common.{◌≡◌, ℕ, ◌++◌, List, [], ◌∷◌, length, Option, Ok, refl, sym, ap, ◌∙◌}
+use Rattle.std.proofs.Common.{◌≡◌, ℕ, ◌++◌, List, [], ◌∷◌, length, Option, Ok, refl, ap, ◌∙◌}
 use Rattle.std.specs.List.{slice_set}
 use Rattle.kx_pages.specs.declared.image.Start.{Start}
 use Rattle.segments.specs.Values.{SegmentValue}

@@ -1,6 +1,5 @@
 -- Modules that are placed one after another.
-use Rattle.std.proofs.Common.{◌≡◌, ℕ, ◌++◌, Bool, List, [], ◌∷◌, Ok, Err, refl, ap}
-use Rattle.kx_laws.specs.Results.{◌>>=◌}
+use Rattle.std.proofs.Common.{◌≡◌, ℕ, Bool, List, [], ◌∷◌, Ok, Err, refl}
 use Rattle.kexec_plan.specs.declared.fault.PlanFault.{PlanFault}
 use Rattle.kexec_plan.specs.Modules.{AskedModule}
 use Rattle.kexec_plan.specs.Multiboot.{Laid, module_onto, modules_onto}

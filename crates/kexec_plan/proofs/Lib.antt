@@ -5,3 +5,8 @@ pub mod Last
 pub mod Armed
 pub mod Laying
 pub mod Reach
+pub mod Puts
+pub mod Linkages
+pub mod Ways
+pub mod Bare
+pub mod Regions

@@ -1,5 +1,5 @@
 -- A linked purgatory: it lies where it is linked at, and the symbols that are set lie in its bytes.
-use Rattle.std.proofs.Common.{◌≡◌, ℕ, ◌+◌, ◌-◌, ◌≤◌, List, false, cond, Option, Some, None, Result, Ok, Err, sym, ap, subst, arith, length}
+use Rattle.std.proofs.Common.{◌≡◌, ℕ, ◌+◌, ◌≤◌, List, false, cond, Option, Some, None, Result, Ok, Err, sym, ap, subst, arith, length}
 use Rattle.std.specs.Prelude.{◌==◌, ◌&&◌, not, codes, nat_le}
 use Rattle.std.proofs.lemmas.Bool.Decides.{nat_tests}
 use Rattle.kx_laws.specs.Results.{◌>>=◌, unless_at}

@@ -17,7 +17,6 @@ use Rattle.segments.specs.Rules.{IsBare}
 use Rattle.segments.proofs.Laws.{IsPlaced, AreSegments-from_IsBare}
 use Rattle.segments.proofs.Alike.{Alike, has_pages_set}
 use Rattle.purgatory_link.specs.declared.region_test.RegionTest.TheVariants as answers
-use Rattle.purgatory_link.specs.Link.{linked}
 use Rattle.purgatory_link.specs.Regions.{others, region_table, digest}
 use Rattle.purgatory_link.specs.RegionTest.{test}
 use Rattle.purgatory_link.specs.Tie.{HasWanted, HasPlaces, with_regions}
@@ -27,7 +26,6 @@ use Rattle.purgatory_link.proofs.Placing.{regions_put}
 use Rattle.kexec_plan.specs.declared.places.Site.{Site}
 use Rattle.kexec_plan.specs.Parts.{segment_at}
 use Rattle.kexec_plan.specs.Purgatory.{Linkage, registers, registers_text, armed, HasSymbols}
-use Rattle.kexec_plan.specs.Plan.{plan}
 use Rattle.kexec_plan.specs.Finish.{armed_segment}
 use Rattle.kexec_plan.proofs.Last.{last_get, last_set}
 

@@ -1,5 +1,5 @@
 -- The information of a Multiboot kernel lies below 4 GiB, with all addresses that it tells.
-use Rattle.std.proofs.Common.{◌≡◌, ℕ, ◌+◌, ◌-◌, ◌*◌, ◌^◌, ◌<◌, ◌≤◌, ◌++◌, List, [], ◌∷◌, length, arith, length-append}
+use Rattle.std.proofs.Common.{◌≡◌, ℕ, ◌+◌, ◌-◌, ◌^◌, ◌≤◌, List, [], ◌∷◌, length, arith, length-append}
 use Rattle.std.specs.Prelude.{min}
 use Rattle.memory_map.specs.declared.row.Row.{Row}
 use Rattle.multiboot_image.specs.Modules.{PlacedModule, AreBelow, nul_ended, texts, texts_size}

@@ -1,6 +1,7 @@
 -- The end of every plan: the purgatory is linked, the segments are tested, and the purgatory gets what it is to find (this
 -- project's own).
-use Rattle.std.specs.Prelude.{ℕ, ◌++◌, List, [], ◌∷◌, length, Option, Some, None, Result, Ok, Err}
+use Rattle.std.specs.Prelude.{◌≡◌, ℕ, ◌+◌, ◌≤◌, ◌⊎◌, ◌++◌, List, [], ◌∷◌, length, Option, Some, None, Result, Ok}
+use Rattle.std.specs.List.{slice_get}
 use Rattle.kx_laws.specs.Results.{◌>>=◌}
 use Rattle.kx_pages.specs.declared.image.Start.{Start}
 use Rattle.segments.specs.Values.{SegmentValue}
@@ -9,6 +10,7 @@ use Rattle.memory_map.specs.Named.{Named}
 use Rattle.purgatory_link.specs.Regions.{others, digest, region_table}
 use Rattle.kexec_plan.specs.declared.fault.PlanFault.{PlanFault}
 use Rattle.kexec_plan.specs.declared.places.Site.{Site}
+use Rattle.kexec_plan.specs.declared.symbols.Symbols.{Symbols}
 use Rattle.kexec_plan.specs.Requests.{Plan}
 use Rattle.kexec_plan.specs.Parts.{segment_at, start_at}
 use Rattle.kexec_plan.specs.Rules.{tested}
@@ -20,16 +22,27 @@ plain_plan map kind ss start = do
   segments ← tested map kind ss
   Ok (record { segments = segments; start = start; regions = 0; digest = 0 })
 
--- the purgatory's segment, the last one, with the registers for this start, with the table of the regions of all others
--- and with their digest
+-- segment number g of these has this property
+abbrev pub OfSegment : List SegmentValue → ℕ → (SegmentValue → Type 0) → Type 0
+OfSegment ss g P = (s : SegmentValue) → slice_get ss g ≡ Some s → P s
+
+-- the bytes of the purgatory, segment number g of these, with the registers for this start, with the table of the
+-- regions of all others and with their digest
+abbrev pub armed_among : List SegmentValue → ℕ → Linkage → Start → List ℕ
+armed_among ss g l start = armed l start (region_table (others ss g)) (digest ss g)
+
+abbrev pub armed_of : List SegmentValue → ℕ → ℕ → Symbols → Start → SegmentValue → List ℕ
+armed_of ss g base symbols start s =
+    armed_among ss g (record { base = base; bytes = s.bytes; symbols = symbols }) start
+
+-- the purgatory's segment behind these, with what it is to find
 abbrev pub armed_segment : Linkage → Start → List SegmentValue → Site → SegmentValue
 armed_segment l start ss s =
-    segment_at s (armed l start
-    (region_table (others (ss ++ segment_at s l.bytes ∷ []) (length ss)))
-    (digest (ss ++ segment_at s l.bytes ∷ []) (length ss)))
+    segment_at s (armed_among (ss ++ segment_at s l.bytes ∷ []) (length ss) l start)
 
 -- the plan of these segments and of a linked purgatory behind them, which starts first
-unfoldable pub armed_plan : Option Named → Kind → List SegmentValue → Start → Linkage → Site → Result Plan PlanFault
+unfoldable pub armed_plan : Option Named → Kind → List SegmentValue → Start → Linkage → Site
+    → Result Plan PlanFault
 armed_plan map kind ss start l s = do
   _ ← tested map kind (ss ++ segment_at s l.bytes ∷ [])
   Ok (record {
@@ -39,13 +52,20 @@ armed_plan map kind ss start l s = do
     digest = l.symbols.digest;
   })
 
-unfoldable pub linked_plan : Option Named → Kind → List SegmentValue → Start → PurgatoryValue → Site → Result Plan PlanFault
+unfoldable pub linked_plan : Option Named → Kind → List SegmentValue → Start → PurgatoryValue → Site
+    → Result Plan PlanFault
 linked_plan map kind ss start p s = do
   l ← linked_at p s
   armed_plan map kind ss start l s
 
 -- the plan of these segments, and of the purgatory at its place
-abbrev pub finished : Option Named → Kind → List SegmentValue → Start → Option PurgatoryValue → Option Site → Result Plan PlanFault
+abbrev pub finished : Option Named → Kind → List SegmentValue → Start → Option PurgatoryValue
+    → Option Site → Result Plan PlanFault
 finished map kind ss start (Some p) (Some s) = linked_plan map kind ss start p s
 finished map kind ss start (Some p) None = plain_plan map kind ss start
 finished map kind ss start None s = plain_plan map kind ss start
+
+-- The table of regions and the digest have no byte in common. The symbols of a purgatory may overlap, and one of the two
+-- is then written over the other. Without a purgatory both addresses are 0.
+abbrev pub HasTableApart : Plan → Type 0
+HasTableApart p = (p.regions + 256 ≤ p.digest) ⊎ (p.digest + 32 ≤ p.regions)

@@ -69,7 +69,8 @@ abbrev pub unused_part : Asked → Format → Option Part
 unused_part r format =
     if is_some r.initrd && not (is_bzimage format) then Some parts.Initrd
     else if has_some r.modules && not (is_multiboot format) then Some parts.Module
-    else if is_some r.command && (not (is_bzimage format) && not (is_multiboot format)) then Some parts.Command
+    else if is_some r.command && (not (is_bzimage format) && not (is_multiboot format))
+    then Some parts.Command
     else None
 
 -- a crash kernel is a bzImage, in the reserved area of the memory map

@@ -12,13 +12,16 @@ is_free ram taken q = ram q && not (taken q)
 
 -- each page from address a to a + size - 1 is free
 abbrev pub are_free : (ℕ → Bool) → (ℕ → Bool) → ℕ → ℕ → Bool
-are_free ram taken a size = list_all (is_free ram taken) (range_with_len (a / 4096) ((a + size - 1) / 4096 + 1 - a / 4096))
+are_free ram taken a size =
+    list_all (is_free ram taken) (range_with_len (a / 4096) ((a + size - 1) / 4096 + 1 - a / 4096))
 
 -- a part fits at address a by its rule
 unfoldable pub fits : (ℕ → Bool) → (ℕ → Bool) → PlaceRule → ℕ → Bool
 fits ram taken r a =
     (a % r.align == 0)
-    && (nat_le r.min a && (nat_le (a + part_size r.length - 1) r.most && are_free ram taken a (part_size r.length)))
+    && (nat_le r.min a
+    && (nat_le (a + part_size r.length - 1) r.most
+    && are_free ram taken a (part_size r.length)))
 
 -- the greatest number below n that passes
 unfoldable pub greatest : (ℕ → Bool) → ℕ → Option ℕ

@@ -1,5 +1,5 @@
 -- Kernels whose files say where they lie (this project's own).
-use Rattle.std.specs.Prelude.{ℕ, List, Option, Some, None, if◌then◌else◌, Result, Ok, Err}
+use Rattle.std.specs.Prelude.{ℕ, List, Some, None, if◌then◌else◌, Result, Ok}
 use Rattle.kx_laws.specs.Results.{◌>>=◌, unless}
 use Rattle.segments.specs.Values.{SegmentValue}
 use Rattle.elf_image.specs.declared.fault.ElfFault.TheVariants as elf

@@ -38,7 +38,8 @@ pub record LinuxPlaces : Type 0 where
   pub later : LaterPlaces
 
 -- where the kernel lies, then the initrd, apart from what is taken
-unfoldable pub front_sites : (ℕ → Bool) → (ℕ → Bool) → Kernel → LinuxAsked → Result FrontSites PlanFault
+unfoldable pub front_sites : (ℕ → Bool) → (ℕ → Bool) → Kernel → LinuxAsked
+    → Result FrontSites PlanFault
 front_sites ram taken k r = do
   kernel ← placed ram taken (kernel_rule k (length r.kernel))
   initrd ← placed_some ram (taking taken kernel) (option_map (initrd_rule k) r.initrd)
@@ -48,7 +49,8 @@ abbrev pub with_front : (ℕ → Bool) → FrontSites → ℕ → Bool
 with_front taken s = taking_some (taking taken s.kernel) s.initrd
 
 -- where the boot parameters lie, then the purgatory
-unfoldable pub back_sites : (ℕ → Bool) → (ℕ → Bool) → PlaceRule → Option PlaceRule → Result BackSites PlanFault
+unfoldable pub back_sites : (ℕ → Bool) → (ℕ → Bool) → PlaceRule → Option PlaceRule
+    → Result BackSites PlanFault
 back_sites ram taken rule purgatory_rule = do
   parameters ← placed ram taken rule
   purgatory ← placed_some ram (taking taken parameters) purgatory_rule
@@ -69,17 +71,21 @@ told_command command None = command
 told_command command (Some s) = separated command ++ headers_word s.at
 
 -- where the crash headers lie, then the boot parameters and the purgatory, and the command that tells it
-unfoldable pub later_sites : (ℕ → Bool) → (ℕ → Bool) → Kernel → List ℕ → Option PlaceRule → Option PlaceRule → Result LaterPlaces PlanFault
+unfoldable pub later_sites : (ℕ → Bool) → (ℕ → Bool) → Kernel → List ℕ → Option PlaceRule
+    → Option PlaceRule → Result LaterPlaces PlanFault
 later_sites ram taken k command headers_rule purgatory_rule = do
   headers ← placed_some ram taken headers_rule
-  back ← back_sites ram (taking_some taken headers) (parameters_rule k (told_command command headers)) purgatory_rule
+  back ← back_sites ram (taking_some taken headers)
+      (parameters_rule k (told_command command headers)) purgatory_rule
   Ok (record { headers = headers; command = told_command command headers; back = back })
 
 -- where the parts lie
-unfoldable pub linux_sites : (ℕ → Bool) → Kernel → LinuxAsked → Option PlaceRule → Option PlaceRule → Result LinuxPlaces PlanFault
+unfoldable pub linux_sites : (ℕ → Bool) → Kernel → LinuxAsked → Option PlaceRule → Option PlaceRule
+    → Result LinuxPlaces PlanFault
 linux_sites ram k r headers_rule purgatory_rule = do
   front ← front_sites ram nothing k r
-  later ← later_sites ram (with_front nothing front) k (command_of r.command) headers_rule purgatory_rule
+  later ← later_sites ram (with_front nothing front) k (command_of r.command) headers_rule
+      purgatory_rule
   Ok (record { front = front; later = later })
 
 -- kernel and boot parameters lie below the limit of addresses
@@ -109,7 +115,8 @@ rows_of (Some map) (Crash area) = crash_rows map
 abbrev pub headers_size : Option Named → Kind → List Note → Option ℕ
 headers_size None kind notes = None
 headers_size (Some map) Normal notes = None
-headers_size (Some map) (Crash area) notes = Some (min (2 ^ 64 - 1) (length_for (length notes) (core_ranges map)))
+headers_size (Some map) (Crash area) notes =
+    Some (min (2 ^ 64 - 1) (length_for (length notes) (core_ranges map)))
 
 -- the crash headers, in a crash load
 abbrev pub made_headers : Result (List ℕ) PlanFault → Result (Option (List ℕ)) PlanFault
@@ -119,14 +126,26 @@ made_headers (Err e) = Err e
 unfoldable pub some_headers : Option Named → Kind → List Note → Result (Option (List ℕ)) PlanFault
 some_headers None kind notes = Ok None
 some_headers (Some map) Normal notes = Ok None
-some_headers (Some map) (Crash area) notes = made_headers (told_by of_crash (headers_or_fault notes (core_ranges map)))
+some_headers (Some map) (Crash area) notes =
+    made_headers (told_by of_crash (headers_or_fault notes (core_ranges map)))
 
--- the segments: the kernel's protected-mode part, the initrd, the crash headers, the boot parameters
-unfoldable pub linux_parts : Kernel → LinuxAsked → Option (List ℕ) → List Row → LinuxPlaces → Result (List SegmentValue) PlanFault
+-- the segments of these parts at their places: the kernel's protected-mode part, the initrd, the crash headers, the
+-- boot parameters
+abbrev pub linux_list : LinuxPlaces → List ℕ → Option (List ℕ) → Option (List ℕ) → List ℕ
+    → List SegmentValue
+linux_list s kernel initrd headers parameters =
+    segment_at s.front.kernel kernel ∷ segment_if s.front.initrd initrd
+    ++ segment_if s.later.headers headers ++ segment_at s.later.back.parameters parameters ∷ []
+
+unfoldable pub linux_parts : Kernel → LinuxAsked → Option (List ℕ) → List Row → LinuxPlaces
+    → Result (List SegmentValue) PlanFault
 linux_parts k r headers rows s = do
-  parameters ← told_by of_params (params k rows s.later.command s.later.back.parameters.at (initrd_told s.front.initrd r.initrd))
-  Ok (segment_at s.front.kernel (drop k.start r.kernel) ∷ segment_if s.front.initrd r.initrd ++ segment_if s.later.headers headers ++ segment_at s.later.back.parameters parameters ∷ [])
+  parameters ← told_by of_params
+      (params k rows s.later.command s.later.back.parameters.at
+      (initrd_told s.front.initrd r.initrd))
+  Ok (linux_list s (drop k.start r.kernel) r.initrd headers parameters)
 
 -- the start at the 64-bit entry
 abbrev pub linux_start : LinuxPlaces → Start
-linux_start s = record { entry = s.front.kernel.at + 0x200; rax = 0; rbx = 0; rsi = s.later.back.parameters.at }
+linux_start s =
+    record { entry = s.front.kernel.at + 0x200; rax = 0; rbx = 0; rsi = s.later.back.parameters.at }

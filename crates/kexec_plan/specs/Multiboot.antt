@@ -1,6 +1,6 @@
 -- A Multiboot kernel with its command and its modules (Multiboot Specification 0.6.96: eax holds 0x2badb002 at the start,
 -- and ebx the address of the information; the order of places is this project's own).
-use Rattle.std.specs.Prelude.{ℕ, ◌+◌, ◌^◌, ◌<◌, ◌++◌, Bool, List, [], ◌∷◌, length, Result, Ok, Err}
+use Rattle.std.specs.Prelude.{ℕ, ◌+◌, ◌^◌, ◌<◌, ◌++◌, Bool, List, [], ◌∷◌, length, Result, Ok}
 use Rattle.kx_laws.specs.Results.{◌>>=◌}
 use Rattle.kx_pages.specs.Lists.{Each}
 use Rattle.kx_pages.specs.Spans.{in_spans}
@@ -26,12 +26,16 @@ pub record Laid : Type 0 where
 abbrev pub laid_of : Laying → Laid
 laid_of l = record { taken = in_spans l.taken; list = l.list.items; slots = l.slots.items }
 
+-- a module at its place, as the kernel is told of it
+abbrev pub slot_at : Site → AskedModule → PlacedModule
+slot_at s m = record { start = s.at; size = length m.bytes; text = m.text }
+
 -- one more module, at its place
 abbrev pub with_module : Laid → AskedModule → Site → Laid
 with_module l m s = record {
   taken = taking l.taken s;
   list = l.list ++ segment_at s m.bytes ∷ [];
-  slots = l.slots ++ record { start = s.at; size = length m.bytes; text = m.text } ∷ [];
+  slots = l.slots ++ slot_at s m ∷ [];
 }
 
 unfoldable pub module_onto : (ℕ → Bool) → Laid → AskedModule → Result Laid PlanFault
@@ -60,4 +64,5 @@ multiboot_parts l information rows command =
 
 -- the start of the kernel, whose information is at this address
 abbrev pub multiboot_start : ℕ → Site → Start
-multiboot_start entry information = record { entry = entry; rax = 0x2badb002; rbx = information.at; rsi = 0 }
+multiboot_start entry information =
+    record { entry = entry; rax = 0x2badb002; rbx = information.at; rsi = 0 }

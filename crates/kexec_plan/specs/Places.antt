@@ -1,5 +1,5 @@
 -- Where the parts of a plan are placed (this project's own).
-use Rattle.std.specs.Prelude.{◌≡◌, ℕ, ◌+◌, ◌*◌, ◌/◌, ◌%◌, ◌^◌, ◌≤◌, ◌||◌, Bool, false, ◌&&◌, max, min, nat_lt, nat_le, if◌then◌else◌, List, [], ◌∷◌, Option, Some, None, Result, Ok, Err}
+use Rattle.std.specs.Prelude.{◌≡◌, ℕ, ◌+◌, ◌*◌, ◌/◌, ◌%◌, ◌^◌, ◌≤◌, ◌||◌, Bool, false, ◌&&◌, max, min, nat_lt, nat_le, if◌then◌else◌, List, Option, Some, None, Result, Ok, Err}
 use Rattle.std.specs.List.{list_any}
 use Rattle.kx_laws.specs.Results.{◌>>=◌}
 use Rattle.segments.specs.Values.{SegmentValue, stop}
@@ -7,7 +7,6 @@ use Rattle.kx_pages.specs.Spans.{Run, in_span}
 use Rattle.memory_map.specs.Named.{Named, is_ram}
 use Rattle.segments.specs.declared.fault.Kind.{Kind}
 use Rattle.segments.specs.declared.fault.Kind.TheVariants.{Normal, Crash}
-use Rattle.kexec_plan.specs.declared.fault.Part.{Part}
 use Rattle.kexec_plan.specs.declared.fault.PlanFault.{PlanFault}
 use Rattle.kexec_plan.specs.declared.fault.PlanFault.TheVariants as faults
 use Rattle.kexec_plan.specs.declared.places.Site.{Site}
@@ -53,7 +52,8 @@ unfoldable pub taking : (ℕ → Bool) → Site → ℕ → Bool
 taking taken s q = taken q || in_span (pages_at s) q
 
 -- the same for a part that may be left out
-unfoldable pub placed_some : (ℕ → Bool) → (ℕ → Bool) → Option PlaceRule → Result (Option Site) PlanFault
+unfoldable pub placed_some : (ℕ → Bool) → (ℕ → Bool) → Option PlaceRule
+    → Result (Option Site) PlanFault
 placed_some ram taken None = Ok None
 placed_some ram taken (Some r) = do
   s ← placed ram taken r

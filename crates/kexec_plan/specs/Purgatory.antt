@@ -1,7 +1,7 @@
 -- The purgatory: code that runs between the old kernel and the new one. It finds the registers of the new kernel, the
 -- regions that it tests and their digest in three symbols, and starts at a fourth (the names are those of kexec-tools'
 -- purgatory; sizes and the order of the registers are this project's own).
-use Rattle.std.specs.Prelude.{◌≡◌, ℕ, ◌+◌, ◌-◌, ◌%◌, ◌^◌, ◌<◌, ◌≤◌, ◌==◌, not, Bool, List, [], ◌∷◌, length, codes, refl, if◌then◌else◌, Option, Some, None, Result, Ok, Err}
+use Rattle.std.specs.Prelude.{◌≡◌, ℕ, ◌+◌, ◌-◌, ◌%◌, ◌^◌, ◌<◌, ◌≤◌, ◌==◌, not, Bool, List, [], ◌∷◌, codes, if◌then◌else◌, Option, Some, None, Result, Ok, Err}
 use Rattle.kx_laws.specs.Results.{◌>>=◌}
 use Rattle.kx_fields.specs.Fields.{zeros, with_bytes}
 use Rattle.kx_fields.specs.Formats.{Format, written}
@@ -21,7 +21,7 @@ use Rattle.kexec_plan.specs.declared.places.Site.{Site}
 use Rattle.kexec_plan.specs.declared.places.PlaceRule.{PlaceRule}
 use Rattle.kexec_plan.specs.declared.symbols.Symbols.{Symbols}
 use Rattle.kexec_plan.specs.Faults.{told_by, of_elf, of_link}
-use Rattle.kexec_plan.specs.Table.{highest, last_address}
+use Rattle.kexec_plan.specs.Table.{highest}
 
 -- a purgatory that was read: the object, its file, and how many bytes it is linked to
 pub record PurgatoryValue : Type 0 where

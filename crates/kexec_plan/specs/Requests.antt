@@ -43,7 +43,8 @@ request_of r = record {
 }
 
 abbrev pub planned_of : Planned → Plan
-planned_of p = record { segments = p.segments; start = p.start; regions = p.regions; digest = p.digest }
+planned_of p =
+    record { segments = p.segments; start = p.start; regions = p.regions; digest = p.digest }
 
 -- a value that may be lent
 abbrev pub lent : {A : Type 0} → Option (Bor A) → Option A

@@ -21,9 +21,11 @@ first_refusal None kind ss = bare_refusal ss
 first_refusal (Some map) kind ss = refusal (ram_runs map) kind ss
 
 -- the segments, unless they are refused
-abbrev pub unless_refused : List SegmentValue → Option SegFault → Result (List SegmentValue) PlanFault
+abbrev pub unless_refused : List SegmentValue → Option SegFault
+    → Result (List SegmentValue) PlanFault
 unless_refused ss None = Ok ss
 unless_refused ss (Some fault) = Err (faults.Segments fault)
 
-unfoldable pub tested : Option Named → Kind → List SegmentValue → Result (List SegmentValue) PlanFault
+unfoldable pub tested : Option Named → Kind → List SegmentValue
+    → Result (List SegmentValue) PlanFault
 tested map kind ss = unless_refused ss (first_refusal map kind ss)

@@ -18,7 +18,8 @@ last_address above4g = if above4g then 2 ^ 46 - 1 else 2 ^ 32 - 1
 
 -- a part of so many bytes, as high as it can lie
 abbrev pub highest : Part → ℕ → ℕ → PlaceRule
-highest part n most = record { part = part; length = n; end = Greatest; align = 4096; min = 0; most = most }
+highest part n most =
+    record { part = part; length = n; end = Greatest; align = 4096; min = 0; most = most }
 
 -- a bzImage: its protected-mode part, or as much as it needs at its start, as low as it can lie from the address that it
 -- prefers on, and not below 1 MiB
@@ -45,7 +46,8 @@ headers_rule k n = highest parts.Headers n (last_address k.above4g)
 
 -- its boot parameters: the zero page, the command and a NUL
 abbrev pub parameters_rule : Kernel → List ℕ → PlaceRule
-parameters_rule k command = highest parts.Parameters (4096 + length command + 1) (last_address k.above4g)
+parameters_rule k command =
+    highest parts.Parameters (4096 + length command + 1) (last_address k.above4g)
 
 -- a module of a Multiboot kernel, so that the address behind its last page is below 4 GiB
 abbrev pub module_rule : AskedModule → PlaceRule
@@ -54,4 +56,5 @@ module_rule m = highest parts.Module (length m.bytes) (2 ^ 32 - 4097)
 -- its information: the length of what is made for these rows, this command and these modules, as a number of 64 bits
 abbrev pub information_rule : List Row → List ℕ → List PlacedModule → PlaceRule
 information_rule rows command modules =
-    highest parts.Information (min (2 ^ 64 - 1) (info_size (length rows) (length command) modules)) (2 ^ 32 - 1)
+    highest parts.Information (min (2 ^ 64 - 1) (info_size (length rows) (length command) modules))
+    (2 ^ 32 - 1)

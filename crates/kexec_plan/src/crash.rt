@@ -22,7 +22,8 @@ pub(crate) fn some_headers_rule(
     kind: &Kind,
     notes: &[Note],
 ) -> Option<PlaceRule>
-    ensures { result ≡ option_map (headers_rule image.now) (headers_size (lent map.entry) kind.now notes.now) }
+    ensures { result
+        ≡ option_map (headers_rule image.now) (headers_size (lent map.entry) kind.now notes.now) }
 {
     match (map, kind) {
         (Some(map), Kind::Crash { .. }) => Some(headers_rule(image, length(map, notes.len()))),

@@ -1,15 +1,14 @@
 //! The end of every plan: the purgatory is linked, the segments are tested, and the purgatory gets what it is to find.
 
 ghost use Rattle.std.specs.Prelude.{◌≡◌, ◌++◌, ◌∷◌, [], ◌<◌, length, List, Some, IfOk, OnOk};
-ghost use Rattle.std.specs.List.{slice_set, slice_get};
+ghost use Rattle.std.specs.List.{slice_set};
 ghost use Rattle.kx_laws.specs.Results.{Gives};
-ghost use Rattle.segments.specs.Values.{SegmentValue};
-ghost use Rattle.purgatory_link.specs.Regions.{others, digest, region_table};
 ghost use Rattle.kexec_plan.specs.Requests.{planned_of, lent};
 ghost use Rattle.kexec_plan.specs.Parts.{segment_at};
 ghost use Rattle.kexec_plan.specs.Rules.{tested};
-ghost use Rattle.kexec_plan.specs.Purgatory.{IsLinkable, HasSymbols, armed};
-ghost use Rattle.kexec_plan.specs.Finish.{plain_plan, armed_segment, armed_plan, linked_plan, finished};
+ghost use Rattle.kexec_plan.specs.Purgatory.{IsLinkable, HasSymbols};
+ghost use Rattle.kexec_plan.specs.Finish.{OfSegment, armed_of, plain_plan, armed_segment};
+ghost use Rattle.kexec_plan.specs.Finish.{armed_plan, linked_plan, finished};
 
 use crate::fault::PlanFault;
 use crate::parts::{segment_at, start_at};
@@ -33,7 +32,8 @@ fn plain_plan(
     list: Vec<Segment>,
     start: Start,
 ) -> Result<Planned, PlanFault>
-    ensures { Gives PlanFault.Memory planned_of result (plain_plan (lent map.entry) kind.now list.items start) }
+    ensures { Gives PlanFault.Memory planned_of result
+        (plain_plan (lent map.entry) kind.now list.items start) }
 {
     match tested(alloc, map, kind, list) {
         Ok(segments) => Ok(Planned {
@@ -56,9 +56,13 @@ fn armed_bytes(
     start: Start,
 ) -> Result<Vec<u8>, AllocError>
     requires inside { purgatory < length segments.now }
-    requires symbols { (s : SegmentValue) → slice_get segments.now purgatory ≡ Some s → HasSymbols base (length s.bytes) symbols }
-    ensures length { IfOk result (λ v. (s : SegmentValue) → slice_get segments.now purgatory ≡ Some s → length v.items ≡ length s.bytes) }
-    ensures exact { IfOk result (λ v. (s : SegmentValue) → slice_get segments.now purgatory ≡ Some s → v.items ≡ armed (record { base = base; bytes = s.bytes; symbols = symbols }) start (region_table (others segments.now purgatory)) (digest segments.now purgatory)) }
+    requires symbols { OfSegment segments.now purgatory
+        (λ s. HasSymbols base (length s.bytes) symbols) }
+    ensures length { IfOk result
+        (λ v. OfSegment segments.now purgatory (λ s. length v.items ≡ length s.bytes)) }
+    ensures exact { IfOk result
+        (λ v. OfSegment segments.now purgatory
+        (λ s. v.items ≡ armed_of segments.now purgatory base symbols start s)) }
 {
     let table = regions_of(segments, purgatory);
     let digest = digest_of(segments, purgatory);
@@ -84,8 +88,12 @@ fn arm_segment(
     start: Start,
 ) -> Result<(), AllocError>
     requires inside { purgatory < length segments.old }
-    requires symbols { (s : SegmentValue) → slice_get segments.old purgatory ≡ Some s → HasSymbols base (length s.bytes) symbols }
-    ensures { OnOk result ((s : SegmentValue) → slice_get segments.old purgatory ≡ Some s → segments.new ≡ slice_set segments.old purgatory (record s { bytes = armed (record { base = base; bytes = s.bytes; symbols = symbols }) start (region_table (others segments.old purgatory)) (digest segments.old purgatory) })) }
+    requires symbols { OfSegment segments.old purgatory
+        (λ s. HasSymbols base (length s.bytes) symbols) }
+    ensures { OnOk result
+        (OfSegment segments.old purgatory
+        (λ s. segments.new ≡ slice_set segments.old purgatory
+        (record s { bytes = armed_of segments.old purgatory base symbols start s }))) }
 {
     let bytes = armed_bytes(alloc, segments, purgatory, base, symbols, start)?;
     segments.replace(purgatory, &bytes);
@@ -104,7 +112,8 @@ fn armed_plan(
     site: Site,
 ) -> Result<Planned, PlanFault>
     requires { HasSymbols linkage.base (length linkage.bytes) linkage.symbols }
-    ensures { Gives PlanFault.Memory planned_of result (armed_plan (lent map.entry) kind.now list.items start linkage site) }
+    ensures { Gives PlanFault.Memory planned_of result
+        (armed_plan (lent map.entry) kind.now list.items start linkage site) }
 {
     let Linkage {
         base,
@@ -138,7 +147,8 @@ fn linked_plan(
     site: Site,
 ) -> Result<Planned, PlanFault>
     requires { IsLinkable (Some purgatory) (Some site) }
-    ensures { Gives PlanFault.Memory planned_of result (linked_plan (lent map.entry) kind.now list.items start purgatory site) }
+    ensures { Gives PlanFault.Memory planned_of result
+        (linked_plan (lent map.entry) kind.now list.items start purgatory site) }
 {
     let linkage = match purgatory.link_at(alloc, site) {
         Ok(linkage) => linkage,
@@ -158,7 +168,8 @@ pub(crate) fn finished(
     site: Option<Site>,
 ) -> Result<Planned, PlanFault>
     requires { IsLinkable purgatory site }
-    ensures { Gives PlanFault.Memory planned_of result (finished (lent map.entry) kind.now list.items start purgatory site) }
+    ensures { Gives PlanFault.Memory planned_of result
+        (finished (lent map.entry) kind.now list.items start purgatory site) }
 {
     match (purgatory, site) {
         (Some(purgatory), Some(site)) => {

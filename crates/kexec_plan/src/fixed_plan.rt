@@ -54,7 +54,8 @@ pub(crate) fn fixed_plan(
     kind: &Kind,
 ) -> Result<Planned, PlanFault>
     ensures { Gives PlanFault.Memory planned_of result
-        (fixed_plan (in_spans ram.now) list.items start (option_map (λ v. v.items) file) (lent map.entry) kind.now) }
+        (fixed_plan (in_spans ram.now) list.items start (option_map (λ v. v.items) file)
+        (lent map.entry) kind.now) }
 {
     let purgatory = match some_purgatory(alloc, file) {
         Ok(purgatory) => purgatory,
@@ -81,7 +82,8 @@ pub(crate) fn elf_plan(
     kind: &Kind,
 ) -> Result<Planned, PlanFault>
     ensures { Gives PlanFault.Memory planned_of result
-        (elf_plan (in_spans ram.now) file.items (option_map (λ v. v.items) purgatory) (lent map.entry) kind.now) }
+        (elf_plan (in_spans ram.now) file.items (option_map (λ v. v.items) purgatory)
+        (lent map.entry) kind.now) }
 {
     let Kernel { list, entry } = match elf_segments(alloc, file) {
         Ok(kernel) => kernel,

@@ -19,12 +19,20 @@ mod multiboot_plan;
 mod parts;
 mod places;
 mod planning;
+mod promise;
 mod purgatory;
+#[cfg(test)]
+mod refusal_tests;
 mod request;
 mod rules;
 mod symbols;
 mod table;
+#[cfg(test)]
+mod test_files;
+#[cfg(test)]
+mod tests;
 
 pub use fault::{Part, PlanFault};
 pub use planning::plan;
+pub use promise::planned_regions_are_same;
 pub use request::{Module, Planned, Request};

@@ -6,7 +6,8 @@ ghost use Rattle.kx_pages.specs.Spans.{in_spans};
 ghost use Rattle.bzimage.specs.Kernel.{IsSound};
 ghost use Rattle.kexec_plan.specs.Parts.{segment_at};
 ghost use Rattle.kexec_plan.specs.Requests.{lent};
-ghost use Rattle.kexec_plan.specs.Linux.{linux_parts, linux_start, segment_if, initrd_told, rows_of, AreLow};
+ghost use Rattle.kexec_plan.specs.Linux.{linux_list, linux_parts, linux_start, segment_if};
+ghost use Rattle.kexec_plan.specs.Linux.{initrd_told, rows_of, AreLow};
 
 use crate::fault::PlanFault;
 use crate::linux_sites::LinuxSites;
@@ -40,7 +41,12 @@ impl Model for LinuxRequest {
 
     ghost Value = { LinuxAsked };
 
-    ghost view = { λ r. record { kernel = r.kernel.items; initrd = option_map (λ v. v.items) r.initrd; command = option_map (λ v. v.items) r.command; notes = r.notes.items } };
+    ghost view = { λ r. record {
+      kernel = r.kernel.items;
+      initrd = option_map (λ v. v.items) r.initrd;
+      command = option_map (λ v. v.items) r.command;
+      notes = r.notes.items;
+    } };
 }
 
 // The bytes from number `n` on.
@@ -57,7 +63,8 @@ fn push_some(
     site: Option<Site>,
     bytes: Option<Vec<u8>>,
 ) -> Result<(), AllocError>
-    ensures { OnOk result (list.new.items ≡ list.old.items ++ segment_if site (option_map (λ v. v.items) bytes)) }
+    ensures { OnOk result
+        (list.new.items ≡ list.old.items ++ segment_if site (option_map (λ v. v.items) bytes)) }
 {
     if let (Some(site), Some(bytes)) = (site, bytes) {
         list.push(segment_at(site, bytes))?;
@@ -95,7 +102,9 @@ fn segments_of(
     headers: Option<Vec<u8>>,
     parameters: Vec<u8>,
 ) -> Result<Vec<Segment>, AllocError>
-    ensures { IfOk result (λ v. v.items ≡ segment_at sites.now.front.kernel kernel.items ∷ segment_if sites.now.front.initrd (option_map (λ b. b.items) initrd) ++ segment_if sites.now.later.headers (option_map (λ b. b.items) headers) ++ segment_at sites.now.later.back.parameters parameters.items ∷ []) }
+    ensures { IfOk result
+        (λ v. v.items ≡ linux_list sites.now kernel.items (option_map (λ b. b.items) initrd)
+        (option_map (λ b. b.items) headers) parameters.items) }
 {
     let mut list = Vec::new(alloc);
     list.push(segment_at(sites.front.kernel, kernel))?;
@@ -117,7 +126,8 @@ pub(crate) fn linux_parts(
 ) -> Result<Vec<Segment>, PlanFault>
     requires sound { IsSound (length request.kernel) image.now }
     requires low { AreLow sites.now }
-    ensures { Gives PlanFault.Memory (λ v. v.items) result (linux_parts image.now request (option_map (λ v. v.items) headers) rows.now sites.now) }
+    ensures { Gives PlanFault.Memory (λ v. v.items) result
+        (linux_parts image.now request (option_map (λ v. v.items) headers) rows.now sites.now) }
 {
     let LinuxRequest {
         mut kernel,

@@ -38,7 +38,8 @@ fn linux_made(
     requires low { AreLow sites.now }
     requires purgatory { IsLinkable purgatory sites.now.later.back.purgatory }
     ensures { Gives PlanFault.Memory planned_of result
-        (linux_made image.now request purgatory (option_map (λ v. v.items) headers) (lent map.entry) kind.now sites.now) }
+        (linux_made image.now request purgatory (option_map (λ v. v.items) headers) (lent map.entry)
+        kind.now sites.now) }
 {
     let list = match linux_parts(alloc, image, request, headers, rows_of(map, kind), sites) {
         Ok(list) => list,
@@ -110,7 +111,8 @@ fn linux_read(
 ) -> Result<Planned, PlanFault>
     requires sound { IsSound (length request.kernel) image.now }
     ensures { Gives PlanFault.Memory planned_of result
-        (linux_read (in_spans ram.now) image.now request (option_map (λ v. v.items) file) (lent map.entry) kind.now) }
+        (linux_read (in_spans ram.now) image.now request (option_map (λ v. v.items) file)
+        (lent map.entry) kind.now) }
 {
     let purgatory = match some_purgatory(alloc, file) {
         Ok(purgatory) => purgatory,
@@ -130,7 +132,8 @@ pub(crate) fn linux_plan(
     kind: &Kind,
 ) -> Result<Planned, PlanFault>
     ensures { Gives PlanFault.Memory planned_of result
-        (linux_plan (in_spans ram.now) request (option_map (λ v. v.items) file) (lent map.entry) kind.now) }
+        (linux_plan (in_spans ram.now) request (option_map (λ v. v.items) file)
+        (lent map.entry) kind.now) }
 {
     let image = match bzimage::read(alloc, &request.kernel) {
         Ok(image) => image,

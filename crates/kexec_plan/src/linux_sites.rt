@@ -197,7 +197,8 @@ fn later_sites(
     ensures low { IfOk result (λ s. s.back.parameters.at + 4096 < 2 ^ 46) }
     ensures purgatory { IfOk result (λ s. IsPlacedIf purgatory_rule s.back.purgatory) }
     ensures exact { Gives PlanFault.Memory (λ s. s) result
-        (later_sites (in_spans ram.now) (in_spans taken.old) image.now command.now headers_rule purgatory_rule) }
+        (later_sites (in_spans ram.now) (in_spans taken.old) image.now command.now headers_rule
+        purgatory_rule) }
 {
     let headers = match place_some(ram, taken, headers_rule) {
         Ok(site) => site,

@@ -4,7 +4,8 @@ ghost use Rattle.std.specs.Prelude.{◌≡◌, ◌++◌, ◌∷◌, [], length, 
 ghost use Rattle.kx_laws.specs.Results.{Gives};
 ghost use Rattle.kx_pages.specs.Spans.{in_spans};
 ghost use Rattle.kexec_plan.specs.Parts.{segment_at};
-ghost use Rattle.kexec_plan.specs.Multiboot.{laid_of, with_module, module_onto, modules_onto, EndLow};
+ghost use Rattle.kexec_plan.specs.Multiboot.{laid_of, slot_at, with_module, module_onto};
+ghost use Rattle.kexec_plan.specs.Multiboot.{modules_onto, EndLow};
 
 use crate::fault::PlanFault;
 use crate::parts::segment_at;
@@ -34,8 +35,9 @@ fn push_module(
     asked: Module,
     site: Site,
 ) -> Result<(), AllocError>
-    ensures list { OnOk result (list.new.items ≡ list.old.items ++ segment_at site asked.bytes ∷ []) }
-    ensures slots { OnOk result (slots.new.items ≡ slots.old.items ++ record { start = site.at; size = length asked.bytes; text = asked.text } ∷ []) }
+    ensures list { OnOk result
+        (list.new.items ≡ list.old.items ++ segment_at site asked.bytes ∷ []) }
+    ensures slots { OnOk result (slots.new.items ≡ slots.old.items ++ slot_at site asked ∷ []) }
 {
     let Module { bytes, text } = asked;
     slots.push(Placed {

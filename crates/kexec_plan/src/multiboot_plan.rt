@@ -49,7 +49,11 @@ impl Model for MultibootRequest {
 
     ghost Value = { MultibootAsked };
 
-    ghost view = { λ r. record { kernel = r.kernel.items; command = option_map (λ v. v.items) r.command; modules = r.modules.items } };
+    ghost view = { λ r. record {
+      kernel = r.kernel.items;
+      command = option_map (λ v. v.items) r.command;
+      modules = r.modules.items;
+    } };
 }
 
 // Puts the information behind the segments.
@@ -64,7 +68,9 @@ fn push_information(
 ) -> Result<(), AllocError>
     requires low { EndLow slots.now }
     requires place { IsPlacedBy (information_rule rows.now command.now slots.now) site }
-    ensures { IfOk result (λ _. list.new.items ≡ list.old.items ++ segment_at site (info site.at rows.now command.now slots.now) ∷ []) }
+    ensures { IfOk result
+        (λ _. list.new.items ≡ list.old.items
+        ++ segment_at site (info site.at rows.now command.now slots.now) ∷ []) }
 {
     let bytes = info_bytes(alloc, site.at, rows, command, slots)?;
     list.push(segment_at(site, bytes))?;
@@ -97,7 +103,8 @@ fn multiboot_told(
 ) -> Result<Planned, PlanFault>
     requires { EndLow laying.slots.items }
     ensures { Gives PlanFault.Memory planned_of result
-        (multiboot_told (in_spans ram.now) (laid_of laying) entry command.now purgatory (lent map.entry) kind.now) }
+        (multiboot_told (in_spans ram.now) (laid_of laying) entry command.now purgatory
+        (lent map.entry) kind.now) }
 {
     let Laying {
         mut taken,
@@ -170,7 +177,8 @@ fn multiboot_read(
     kind: &Kind,
 ) -> Result<Planned, PlanFault>
     ensures { Gives PlanFault.Memory planned_of result
-        (multiboot_read (in_spans ram.now) kernel request (option_map (λ v. v.items) file) (lent map.entry) kind.now) }
+        (multiboot_read (in_spans ram.now) kernel request (option_map (λ v. v.items) file)
+        (lent map.entry) kind.now) }
 {
     let purgatory = match some_purgatory(alloc, file) {
         Ok(purgatory) => purgatory,
@@ -190,7 +198,8 @@ pub(crate) fn multiboot_plan(
     kind: &Kind,
 ) -> Result<Planned, PlanFault>
     ensures { Gives PlanFault.Memory planned_of result
-        (multiboot_plan (in_spans ram.now) request (option_map (λ v. v.items) file) (lent map.entry) kind.now) }
+        (multiboot_plan (in_spans ram.now) request (option_map (λ v. v.items) file)
+        (lent map.entry) kind.now) }
 {
     let kernel = match read_multiboot(alloc, &request.kernel) {
         Ok(kernel) => kernel,

@@ -135,7 +135,8 @@ fn take(taken: &mut PageSet, site: Site) -> Result<(), AllocError>
 pub(crate) fn place(ram: &PageSet, taken: &mut PageSet, rule: PlaceRule) -> Result<Site, PlanFault>
     requires some_align { 0 < rule.align }
     requires align { rule.align ≤ 2 ^ 45 }
-    ensures exact { Gives PlanFault.Memory (λ s. s) result (placed (in_spans ram.now) (in_spans taken.old) rule) }
+    ensures exact { Gives PlanFault.Memory (λ s. s) result
+        (placed (in_spans ram.now) (in_spans taken.old) rule) }
     ensures place { IfOk result (IsPlacedBy rule) }
     ensures taken { IfOk result (λ s. in_spans taken.new ≡ taking (in_spans taken.old) s) }
 {
@@ -156,7 +157,8 @@ pub(crate) fn place_some(
 ) -> Result<Option<Site>, PlanFault>
     requires some_align { IfSome rule (λ r. 0 < r.align) }
     requires align { IfSome rule (λ r. r.align ≤ 2 ^ 45) }
-    ensures exact { Gives PlanFault.Memory (λ s. s) result (placed_some (in_spans ram.now) (in_spans taken.old) rule) }
+    ensures exact { Gives PlanFault.Memory (λ s. s) result
+        (placed_some (in_spans ram.now) (in_spans taken.old) rule) }
     ensures place { IfOk result (IsPlacedIf rule) }
     ensures taken { IfOk result (λ s. in_spans taken.new ≡ taking_some (in_spans taken.old) s) }
 {

@@ -102,7 +102,8 @@ fn plan_as(
 #[tactic(auto, unfolding(crate::specs::Plan::plan))]
 pub fn plan(alloc: Global, request: Request, map: Option<&Map>) -> Result<Planned, PlanFault>
     requires mapped { IsMapped (request_of request) (lent map) }
-    ensures exact { Gives PlanFault.Memory planned_of result (plan (request_of request) (lent map.entry)) }
+    ensures exact { Gives PlanFault.Memory planned_of result
+        (plan (request_of request) (lent map.entry)) }
 {
     let format = match format_of(&request) {
         Ok(format) => format,

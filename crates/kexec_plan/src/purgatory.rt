@@ -30,7 +30,8 @@ impl Model for Purgatory {
 
     ghost view = { λ p. record { object = p.object; file = p.file.items; size = p.size } };
 
-    ghost invariant = { λ p. IsPurgatory (record { object = p.object; file = p.file.items; size = p.size }) };
+    ghost invariant = { λ p. IsPurgatory
+        (record { object = p.object; file = p.file.items; size = p.size }) };
 }
 
 /// A linked purgatory.
@@ -73,7 +74,8 @@ pub(crate) fn some_purgatory(
     alloc: Global,
     file: Option<Vec<u8>>,
 ) -> Result<Option<Purgatory>, PlanFault>
-    ensures { Gives PlanFault.Memory (λ p. p) result (some_purgatory (option_map (λ v. v.items) file)) }
+    ensures { Gives PlanFault.Memory (λ p. p) result
+        (some_purgatory (option_map (λ v. v.items) file)) }
 {
     match file {
         Some(file) => match read_purgatory(alloc, file) {
@@ -143,7 +145,9 @@ pub(crate) fn arm(
     requires symbols { HasSymbols base (length bytes.old) symbols }
     requires table { length table.now ≡ 256 }
     requires digest { length digest.now ≡ 32 }
-    ensures { bytes.new ≡ armed (record { base = base; bytes = bytes.old; symbols = symbols }) start table.now digest.now }
+    ensures { bytes.new
+        ≡ armed (record { base = base; bytes = bytes.old; symbols = symbols }) start table.now
+        digest.now }
 {
     let registers = registers_of(start);
     write_at(bytes, (symbols.regs - base) as usize, registers.bytes());

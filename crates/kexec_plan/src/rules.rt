@@ -40,7 +40,8 @@ pub(crate) fn tested(
     list: Vec<Segment>,
 ) -> Result<Segments, PlanFault>
     ensures same { IfOk result (λ s. s ≡ list.items) }
-    ensures exact { Gives PlanFault.Memory (λ s. s) result (tested (lent map.entry) kind.now list.items) }
+    ensures exact { Gives PlanFault.Memory (λ s. s) result
+        (tested (lent map.entry) kind.now list.items) }
 {
     match test_all(alloc, map, kind, list) {
         Ok(segments) => Ok(segments),

@@ -44,11 +44,11 @@ window_stays b u at these xs within (inr behind) =
     ∙ drop-drop n end xs
     ∙ ap (λ m. drop m xs) right)
 
-length-table : (ss : List SegmentValue) → length ss ≤ 16 → length (region_table ss) ≡ 256
+pub length-table : (ss : List SegmentValue) → length ss ≤ 16 → length (region_table ss) ≡ 256
 unfolding region_table zeros
 length-table ss few = omega (arith, length-append (flat_map row ss) (replicate (256 - 16 * length ss) 0), length-rows ss, length-replicate {A = ℕ} (256 - 16 * length ss) 0)
 
-length-digest : (ss : List SegmentValue) (g : ℕ) → length (digest ss g) ≡ 32
+pub length-digest : (ss : List SegmentValue) (g : ℕ) → length (digest ss g) ≡ 32
 unfolding digest
 length-digest ss g = length-sha256 _
 

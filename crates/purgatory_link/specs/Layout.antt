@@ -84,7 +84,9 @@ linked_limit = 16777216
 -- the number of linked bytes before they are filled up to pages. One that passes 64 bits is told as
 -- their greatest number.
 abbrev pub size_of_end : ℕ → Result ℕ LinkFault
-size_of_end n = if nat_lt linked_limit n then Err (faults.TooLarge (min n (2 ^ 64 - 1))) else Ok (in_pages n)
+size_of_end n =
+    if nat_lt linked_limit n then Err (faults.TooLarge (min n (2 ^ 64 - 1)))
+    else Ok (in_pages n)
 
 -- the number of linked bytes, or the least loaded section whose alignment is none
 unfoldable pub linked_size : List Section → Result ℕ LinkFault

@@ -18,7 +18,8 @@ pub record Holds (base : ℕ) (o : Relocatable) (bytes : List ℕ) (r : Reloc) :
       → start_at (starts_of o) r.target ≡ Some start
       → form_of r.kind ≡ Some form
       → symbol_value base (starts_of o) o.symbols r.symbol ≡ Ok s
-      → field (start + r.offset) (wide form) bytes ≡ modulo (256 ^ wide form) (formula form s r.addend (base + (start + r.offset)))
+      → field (start + r.offset) (wide form) bytes
+      ≡ modulo (256 ^ wide form) (formula form s r.addend (base + (start + r.offset)))
 
 -- each relocation's field does
 abbrev pub AllHold : ℕ → Relocatable → List ℕ → Type 0
@@ -26,25 +27,32 @@ AllHold base o bytes = AllByRecursion (Holds base o bytes) o.relocs
 
 -- byte k is one of a field
 abbrev pub is_in_field : ℕ → ℕ → Option ℕ → Option Form → Bool
-is_in_field k offset (Some start) (Some form) = nat_le (start + offset) k && nat_lt k (start + offset + wide form)
+is_in_field k offset (Some start) (Some form) =
+    nat_le (start + offset) k && nat_lt k (start + offset + wide form)
 is_in_field k offset start form = false
 
 -- or of one of the relocations' fields
 abbrev pub is_relocated : Relocatable → ℕ → Bool
-is_relocated o k = list_any (λ r. is_in_field k r.offset (start_at (starts_of o) r.target) (form_of r.kind)) o.relocs
+is_relocated o k =
+    list_any (λ r. is_in_field k r.offset (start_at (starts_of o) r.target) (form_of r.kind))
+    o.relocs
 
 -- byte k of a section that starts at this place, or else another
 abbrev pub section_byte : List ℕ → ℕ → Section → Option ℕ → ℕ → ℕ
 section_byte file k s None other = other
 section_byte file k s (Some start) other =
-    if nat_le start k && nat_lt k (start + s.size) then slice_index (contents file s) (k - start) else other
+    if nat_le start k && nat_lt k (start + s.size) then slice_index (contents file s) (k - start)
+    else other
 
 -- byte k of the section that has it, or zero
 unfoldable pub laid_byte : List ℕ → ℕ → List Section → List (Option ℕ) → ℕ
 laid_byte file k [] starts = 0
 laid_byte file k (s ∷ ss) [] = 0
-laid_byte file k (s ∷ ss) (start ∷ starts) = section_byte file k s start (laid_byte file k ss starts)
+laid_byte file k (s ∷ ss) (start ∷ starts) =
+    section_byte file k s start (laid_byte file k ss starts)
 
 -- every other byte is its section's, or zero
 pub record KeepsOthers (o : Relocatable) (file bytes : List ℕ) : Type 0 where
-  pub others : (k : ℕ) → is_relocated o k ≡ false → slice_index bytes k ≡ laid_byte file k o.sections (starts_of o)
+  pub others : (k : ℕ)
+      → is_relocated o k ≡ false
+      → slice_index bytes k ≡ laid_byte file k o.sections (starts_of o)

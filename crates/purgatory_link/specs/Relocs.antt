@@ -35,7 +35,8 @@ meets at w puts = list_any (meets_one at w) puts
 -- earlier ones
 unfoldable pub placed : ℕ → Relocatable → List Put → Reloc → ℕ → ℕ → Result (Unit {0}) LinkFault
 placed base o earlier r at w =
-    if not (w == 0) && nat_lt (size_at o r.target) (r.offset + w) then Err (faults.OutsideSection r.section r.entry)
+    if not (w == 0) && nat_lt (size_at o r.target) (r.offset + w) then
+    Err (faults.OutsideSection r.section r.entry)
     else if meets at w earlier then Err (faults.RelocsMeet (base + at))
     else Ok tt
 
@@ -43,11 +44,13 @@ placed base o earlier r at w =
 abbrev pub put_value : ℕ → ℕ → Form → ℤ → Result (Option Put) LinkFault
 put_value base at forms.Empty v = Ok None
 put_value base at form v =
-    if fits form v then Ok (Some (record { at = at; wide = wide form; value = modulo (256 ^ wide form) v }))
+    if fits form v then
+    Ok (Some (record { at = at; wide = wide form; value = modulo (256 ^ wide form) v }))
     else Err (faults.DoesNotFit (base + at))
 
 -- what a relocation of a loaded section puts at this place from the base on
-abbrev pub put_form : ℕ → Relocatable → List (Option ℕ) → List Put → Reloc → ℕ → Option Form → Result (Option Put) LinkFault
+abbrev pub put_form : ℕ → Relocatable → List (Option ℕ) → List Put → Reloc → ℕ → Option Form
+    → Result (Option Put) LinkFault
 put_form base o starts earlier r at None = Err (faults.UnknownReloc r.kind)
 put_form base o starts earlier r at (Some form) = do
   _ ← placed base o earlier r at (wide form)
@@ -55,12 +58,15 @@ put_form base o starts earlier r at (Some form) = do
   put_value base at form (formula form s r.addend (base + at))
 
 -- a relocation whose target is not loaded is passed over
-abbrev pub put_in : ℕ → Relocatable → List (Option ℕ) → List Put → Reloc → Option ℕ → Result (Option Put) LinkFault
+abbrev pub put_in : ℕ → Relocatable → List (Option ℕ) → List Put → Reloc → Option ℕ
+    → Result (Option Put) LinkFault
 put_in base o starts earlier r None = Ok None
-put_in base o starts earlier r (Some start) = put_form base o starts earlier r (start + r.offset) (form_of r.kind)
+put_in base o starts earlier r (Some start) =
+    put_form base o starts earlier r (start + r.offset) (form_of r.kind)
 
 -- what a relocation puts, and where, behind the earlier ones
-unfoldable pub put_of : ℕ → Relocatable → List (Option ℕ) → List Put → Reloc → Result (Option Put) LinkFault
+unfoldable pub put_of : ℕ → Relocatable → List (Option ℕ) → List Put → Reloc
+    → Result (Option Put) LinkFault
 put_of base o starts earlier r = put_in base o starts earlier r (start_at starts r.target)
 
 -- with one more, if there is one
@@ -69,7 +75,8 @@ with_one puts None = puts
 with_one puts (Some p) = puts ++ p ∷ []
 
 -- what all relocations put, in their order, or the first fault
-unfoldable pub puts_of : ℕ → Relocatable → List (Option ℕ) → List Put → List Reloc → Result (List Put) LinkFault
+unfoldable pub puts_of : ℕ → Relocatable → List (Option ℕ) → List Put → List Reloc
+    → Result (List Put) LinkFault
 puts_of base o starts earlier [] = Ok earlier
 puts_of base o starts earlier (r ∷ rs) = do
   p ← put_of base o starts earlier r

@@ -1,5 +1,5 @@
 -- The values of symbols (ELF gABI, "Symbol Table": st_shndx, st_value).
-use Rattle.std.specs.Prelude.{ℕ, ◌+◌, ◌%◌, ◌^◌, ◌==◌, ◌||◌, Bool, List, [], ◌∷◌, Option, Some, None, Result, Ok, Err, if◌then◌else◌}
+use Rattle.std.specs.Prelude.{ℕ, ◌+◌, ◌%◌, ◌^◌, ◌==◌, ◌||◌, Bool, List, [], ◌∷◌, ◌++◌, Option, Some, None, Result, Ok, Err, if◌then◌else◌}
 use Rattle.std.specs.List.{slice_get, flat_map}
 use Rattle.purgatory_link.specs.declared.fault.LinkFault.{LinkFault}
 use Rattle.purgatory_link.specs.declared.fault.LinkFault.TheVariants as faults
@@ -42,16 +42,30 @@ value_of base starts i (Some s) =
 
 -- the value of the symbol of this index. Symbol 0 has the value 0.
 unfoldable pub symbol_value : ℕ → List (Option ℕ) → List Sym → ℕ → Result ℕ LinkFault
-symbol_value base starts symbols i = if i == 0 then Ok 0 else value_of base starts i (slice_get symbols i)
+symbol_value base starts symbols i =
+    if i == 0 then Ok 0 else value_of base starts i (slice_get symbols i)
+
+-- the name and size of a symbol, with this address
+abbrev pub name_at : ℕ → Sym → Named
+name_at at s = record { name = s.name; address = at; size = s.size }
 
 -- the name, address and size of a symbol that is defined in a loaded section
 abbrev pub named_at : ℕ → Sym → Option ℕ → List Named
 named_at base s None = []
-named_at base s (Some start) = record { name = s.name; address = address base start s; size = s.size } ∷ []
+named_at base s (Some start) = name_at (address base start s) s ∷ []
 
 abbrev pub named : ℕ → List (Option ℕ) → Sym → List Named
 named base starts s = named_at base s (home starts s)
 
+-- symbol 0 has the value 0 as an address too, where its entry names a loaded section
+abbrev pub null_at : Sym → Option ℕ → List Named
+null_at s None = []
+null_at s (Some start) = name_at 0 s ∷ []
+
+abbrev pub null_named : List (Option ℕ) → Sym → List Named
+null_named starts s = null_at s (home starts s)
+
 -- of all of them, in the order of their indexes
 abbrev pub names_of : ℕ → List (Option ℕ) → List Sym → List Named
-names_of base starts symbols = flat_map (named base starts) symbols
+names_of base starts [] = []
+names_of base starts (null ∷ symbols) = null_named starts null ++ flat_map (named base starts) symbols

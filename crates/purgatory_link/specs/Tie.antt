@@ -43,7 +43,9 @@ pub record HasPlaces (s : SegmentValue) (r t : ℕ) : Type 0 where
 -- s, which is segment number g, with the table and the digest of the others among its bytes
 abbrev pub with_regions : List SegmentValue → ℕ → SegmentValue → ℕ → ℕ → SegmentValue
 with_regions ss g s r t = record {
-  bytes = with_bytes (t - s.mem) (regions.digest ss g) (with_bytes (r - s.mem) (region_table (others ss g)) s.bytes);
+  bytes =
+      with_bytes (t - s.mem) (regions.digest ss g)
+      (with_bytes (r - s.mem) (region_table (others ss g)) s.bytes);
   mem = s.mem;
   memsz = s.memsz;
 }

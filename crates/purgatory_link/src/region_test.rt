@@ -205,8 +205,8 @@ pub fn loaded_regions_are_same()
         → HasRegions ss g s r t → HasWanted M ss → test M r t ≡ RegionTest.Same }
     ensures others { (ss : List SegmentValue) (g : ℕ) (s : SegmentValue)
         → others (slice_set ss g s) g ≡ others ss g }
-    ensures digest { (ss : List SegmentValue) (g : ℕ) (s : SegmentValue) (bytes : List ℕ) → IsBare ss
-        → slice_get ss g ≡ Some s
+    ensures digest { (ss : List SegmentValue) (g : ℕ) (s : SegmentValue) (bytes : List ℕ)
+        → IsBare ss → slice_get ss g ≡ Some s
         → digest (slice_set ss g (record s { bytes = bytes })) g ≡ digest ss g }
     ensures put { (ss : List SegmentValue) (g r t : ℕ) (s : SegmentValue) → IsBare ss
         → slice_get ss g ≡ Some s → HasPlaces s r t

@@ -1,7 +1,9 @@
 //! The values and the names of symbols.
 
-ghost use Rattle.std.specs.Prelude.{◌≡◌, ℕ, ◌++◌, IfOk, OnOk};
-ghost use Rattle.purgatory_link.specs.Symbols.{start_at, home, address, symbol_value, named, names_of};
+ghost use Rattle.std.specs.Prelude.{◌≡◌, ℕ, [], ◌∷◌, ◌++◌, IfOk, OnOk};
+ghost use Rattle.std.specs.List.{flat_map};
+ghost use Rattle.purgatory_link.specs.Symbols.{start_at, home, address, symbol_value};
+ghost use Rattle.purgatory_link.specs.Symbols.{name_at, null_named, named, names_of};
 
 use crate::fault::LinkFault;
 use crate::names::Name;
@@ -74,8 +76,41 @@ fn copy_of(alloc: Global, bytes: &[u8]) -> Result<Vec<u8>, AllocError>
     Ok(copy)
 }
 
-// Puts the symbol behind the names, if it is defined in a loaded section.
+// Puts the symbol behind the names, with this address.
 fn push_name(
+    alloc: Global,
+    names: &mut Vec<Name>,
+    address: u64,
+    symbol: &Symbol,
+) -> Result<(), AllocError>
+    ensures { OnOk result (names.new.items ≡ names.old.items ++ name_at address symbol.now ∷ []) }
+{
+    let name = copy_of(alloc, &symbol.name)?;
+    names.push(Name {
+        name,
+        address,
+        size: symbol.size,
+    })?;
+    Ok(())
+}
+
+// Puts symbol 0 behind the names, if its entry names a loaded section: its value is 0 all the same.
+fn push_null(
+    alloc: Global,
+    names: &mut Vec<Name>,
+    starts: &[Option<u64>],
+    symbol: &Symbol,
+) -> Result<(), AllocError>
+    ensures { OnOk result (names.new.items ≡ names.old.items ++ null_named starts.now symbol.now) }
+{
+    match home(starts, symbol) {
+        Some(_) => push_name(alloc, names, 0, symbol),
+        None => Ok(()),
+    }
+}
+
+// Puts another symbol behind the names, if it is defined in a loaded section.
+fn push_defined(
     alloc: Global,
     names: &mut Vec<Name>,
     base: u64,
@@ -84,19 +119,31 @@ fn push_name(
 ) -> Result<(), AllocError>
     ensures { OnOk result (names.new.items ≡ names.old.items ++ named base starts.now symbol.now) }
 {
-    let Some(start) = home(starts, symbol) else {
-        return Ok(());
-    };
-    let name = copy_of(alloc, &symbol.name)?;
-    names.push(Name {
-        name,
-        address: address(base, start, symbol),
-        size: symbol.size,
-    })?;
+    match home(starts, symbol) {
+        Some(start) => push_name(alloc, names, address(base, start, symbol), symbol),
+        None => Ok(()),
+    }
+}
+
+// Puts those of these symbols behind the names that are defined in loaded sections, in their order.
+fn push_all(
+    alloc: Global,
+    names: &mut Vec<Name>,
+    base: u64,
+    starts: &[Option<u64>],
+    symbols: &[Symbol],
+) -> Result<(), AllocError>
+    ensures { OnOk result
+        (names.new.items ≡ names.old.items ++ flat_map (named base starts.now) symbols.now) }
+{
+    for symbol in symbols {
+        push_defined(alloc, names, base, starts, symbol)?;
+    }
     Ok(())
 }
 
 /// The names, addresses and sizes of the symbols that are defined in loaded sections, in the order of their indexes.
+/// Symbol 0 has the address 0.
 pub fn names_of(
     alloc: Global,
     base: u64,
@@ -106,8 +153,9 @@ pub fn names_of(
     ensures { IfOk result (λ v. v.items ≡ names_of base starts.now symbols.now) }
 {
     let mut names = Vec::new(alloc);
-    for symbol in symbols {
-        push_name(alloc, &mut names, base, starts, symbol)?;
+    if let Some((null, others)) = symbols.split_first() {
+        push_null(alloc, &mut names, starts, null)?;
+        push_all(alloc, &mut names, base, starts, others)?;
     }
     Ok(names)
 }

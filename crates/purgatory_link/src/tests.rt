@@ -354,11 +354,30 @@ fn symbols_are_found_and_set(rt: HostRuntime) -> Result<(), Fail> {
 fn set_fault(rt: &HostRuntime, size: u64, bytes: &[u8]) -> Result<Option<LinkFault>, Fail> {
     let mut object = object(rt.alloc(), 0, &[])?;
     object.symbols.clear();
-    object
-        .symbols
-        .push(symbol(rt.alloc(), b"regs", 1, 0, size)?)?;
+    for (name, section) in [(b"null", 0), (b"regs", 1)] {
+        object
+            .symbols
+            .push(symbol(rt.alloc(), name, section, 0, size)?)?;
+    }
     let mut linked = linked(rt, &object).ok().ok_or("a linked object")?;
     Ok(linked.set_symbol(b"regs", bytes).err())
+}
+
+#[test]
+fn symbol_0_has_the_address_0(rt: HostRuntime) -> Result<(), Fail> {
+    let mut object = object(rt.alloc(), 0, &[])?;
+    // Its entry names section 1, and it comes before another of its name.
+    object.symbols.clear();
+    for value in [4, 8] {
+        object
+            .symbols
+            .push(symbol(rt.alloc(), b"regs", 1, value, 8)?)?;
+    }
+    let mut linked = linked(&rt, &object).ok().ok_or("a linked object")?;
+    assert_eq!(rt; linked.symbol(b"regs"), Some((0, 8)));
+    let outside = LinkFault::WrongSize { found: 8 };
+    assert_eq!(rt; linked.set_symbol(b"regs", &[1; 8]), Err(outside));
+    Ok(())
 }
 
 #[test]

@@ -1,4 +1,4 @@
-use Rattle.std.proofs.Common.{◌≡◌, length, ap, ◌∙◌}
+use Rattle.std.proofs.Common.{length, ap, ◌∙◌}
 use Rattle.kexec_plan.proofs.finishing.arm_segment.Goals as goal
 
 pub replace-requires-clause-same_length : goal.replace-requires-clause-same_length

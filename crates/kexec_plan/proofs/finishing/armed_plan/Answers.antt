@@ -1,11 +1,11 @@
-use Rattle.std.proofs.Common.{◌≡◌, ◌++◌, ◌∷◌, [], length, Ok, rules, refl, sym, subst, ap, ◌∙◌}
+use Rattle.std.proofs.Common.{◌≡◌, ◌++◌, ◌∷◌, [], length, Ok, rules, subst}
 use Rattle.kexec_plan.specs.Parts.{segment_at}
 use Rattle.kexec_plan.specs.Purgatory.{Linkage, HasSymbols}
 use Rattle.kexec_plan.specs.Rules.{tested}
 use Rattle.kexec_plan.specs.Requests.{planned_of, lent}
 use Rattle.kexec_plan.specs.Finish.{armed_plan}
 use Rattle.kexec_plan.proofs.Armed.{armed_is}
-use Rattle.kexec_plan.proofs.Last.{last_is, last_before, last_get, last_set}
+use Rattle.kexec_plan.proofs.Last.{last_is, last_before, last_get}
 use Rattle.kexec_plan.proofs.finishing.armed_plan.Goals as goal
 
 pub arm_segment-requires-clause-inside : goal.arm_segment-requires-clause-inside

@@ -1,0 +1,232 @@
+use crate::test_files::{
+    LITTLE, MACHINE, RAW, RESERVED, bzimage, bzimage_of, copy_of, module, places, planned,
+    purgatory, put, request, request_for, segment, stand,
+};
+use crate::{Request, plan};
+use crash_headers::Note;
+use kx_pages::{ImageType, Start};
+use std::alloc::Global;
+use std::test::Fail;
+
+// A bzImage that needs so many bytes, with an initrd of so many and a command.
+fn linux(alloc: Global, needed: u32, initrd: usize) -> Result<Request, Fail> {
+    let mut asked = request(alloc, ImageType::Auto, bzimage_of(alloc, needed)?);
+    asked.initrd = Some(vec![in alloc; 7u8; initrd]?);
+    asked.command = copy_of(alloc, b"console=ttyS0")?;
+    Ok(asked)
+}
+
+// A start with zeros in all registers but these.
+fn start(entry: u64, rax: u64, rbx: u64, rsi: u64) -> Start {
+    Start {
+        entry,
+        rax,
+        rbx,
+        rsi,
+    }
+}
+
+#[test]
+fn a_linux_kernel_is_placed_with_initrd_and_parameters(rt: HostRuntime) -> Result<(), Fail> {
+    let alloc = rt.alloc();
+    let planned = planned(alloc, linux(alloc, 48 << 20, 40 << 20)?, MACHINE)?;
+    // The kernel from its preferred address on; the initrd and then the parameters at the end of RAM.
+    let wanted = [
+        (0x100_0000, 48 << 20),
+        (0x1_3d80_0000, 40 << 20),
+        (0x1_3d7f_e000, 0x2000),
+    ];
+    assert!(rt; places(alloc, &planned)?.as_slice() == wanted.as_slice());
+    assert_eq!(rt; planned.segments.pages(), 22_530);
+    assert_eq!(rt; planned.start, start(0x100_0200, 0, 0, 0x1_3d7f_e000));
+    assert_eq!(rt; (planned.regions, planned.digest), (0, 0));
+    // The kernel's bytes are those behind its header.
+    assert!(rt; stand(&planned, 0, 0, &[0xeb]));
+    // High halves of addresses and lengths, five rows of the map, the type of the loader.
+    let parameters: [(usize, &[u8]); 7] = [
+        (0x0c0, &[1, 0, 0, 0, 0, 0, 0, 0, 1, 0, 0, 0]),
+        (0x1e8, &[5]),
+        (0x210, &[0xd0]),
+        (0x218, &[0, 0, 0x80, 0x3d, 0, 0, 0x80, 2]),
+        (0x228, &[0, 0xf0, 0x7f, 0x3d]),
+        (0x2d0, &[0, 0x10, 0, 0, 0, 0, 0, 0, 0, 0xf0, 9]),
+        (0x1000, b"console=ttyS0\0"),
+    ];
+    for (at, bytes) in parameters {
+        assert!(rt; stand(&planned, 2, at, bytes));
+    }
+    Ok(())
+}
+
+#[test]
+fn a_purgatory_starts_in_front_of_a_linux_kernel(rt: HostRuntime) -> Result<(), Fail> {
+    let alloc = rt.alloc();
+    let mut asked = linux(alloc, 1 << 20, 0x8001)?;
+    asked.purgatory = Some(purgatory(alloc)?);
+    let planned = planned(alloc, asked, MACHINE)?;
+    let wanted = [
+        (0x100_0000, 0x10_0000),
+        (0x1_3fff_7000, 0x9000),
+        (0x1_3fff_5000, 0x2000),
+        (0x7fff_f000, 0x1000),
+    ];
+    assert!(rt; places(alloc, &planned)?.as_slice() == wanted.as_slice());
+    assert_eq!(rt; planned.start, start(0x7fff_f400, 0, 0, 0));
+    assert_eq!(rt;
+        (planned.regions, planned.digest),
+        (0x7fff_f100, 0x7fff_f200)
+    );
+    let purgatory: [(usize, &[u8]); 4] = [
+        // rsi and rip of the kernel
+        (48, &[0, 0x50, 0xff, 0x3f, 1, 0, 0, 0]),
+        (128, &[0, 2, 0, 1, 0, 0, 0, 0]),
+        // addresses and lengths of the kernel and of the parameters, behind which the rows are empty
+        (0x100, &[0, 0, 0, 1, 0, 0, 0, 0, 0, 0, 0x10, 0, 0, 0, 0, 0]),
+        (
+            0x120,
+            &[
+                0, 0x50, 0xff, 0x3f, 1, 0, 0, 0, 0, 0x20, 0, 0, 0, 0, 0, 0, 0, 0, 0, 0,
+            ],
+        ),
+    ];
+    for (at, bytes) in purgatory {
+        assert!(rt; stand(&planned, 3, at, bytes));
+    }
+    Ok(())
+}
+
+#[test]
+fn a_linux_kernel_of_32_bits_has_all_parts_in_reach(rt: HostRuntime) -> Result<(), Fail> {
+    let alloc = rt.alloc();
+    let mut file = bzimage(alloc)?;
+    put(&mut file, 0x236, &[1]);
+    let mut asked = request(alloc, ImageType::Bzimage, file);
+    asked.initrd = Some(vec![in alloc; 7u8; 0x8001]?);
+    asked.purgatory = Some(purgatory(alloc)?);
+    let planned = planned(alloc, asked, MACHINE)?;
+    // The initrd ends at initrd_addr_max, the parameters in front of the last row of RAM below 4 GiB.
+    let wanted = [
+        (0x100_0000, 4 << 20),
+        (0x7fff_7000, 0x9000),
+        (0xbffd_d000, 0x2000),
+        (0x7fff_6000, 0x1000),
+    ];
+    assert!(rt; places(alloc, &planned)?.as_slice() == wanted.as_slice());
+    Ok(())
+}
+
+#[test]
+fn a_crash_kernel_is_told_where_its_headers_lie(rt: HostRuntime) -> Result<(), Fail> {
+    let alloc = rt.alloc();
+    let mut asked = request_for(alloc, ImageType::Bzimage)?;
+    asked.crash = true;
+    asked.command = copy_of(alloc, b"quiet")?;
+    asked.notes.push(Note {
+        start: 0x20_0000,
+        size: 0x400,
+    })?;
+    let planned = planned(alloc, asked, RESERVED)?;
+    let wanted = [
+        (0x400_0000, 4 << 20),
+        (0x5ff_f000, 0x1000),
+        (0x5ff_d000, 0x2000),
+    ];
+    assert!(rt; places(alloc, &planned)?.as_slice() == wanted.as_slice());
+    assert_eq!(rt; planned.start, start(0x400_0200, 0, 0, 0x5ff_d000));
+    assert_eq!(rt; segment(&planned, 1).map(|s| s.bytes.len()), Some(232));
+    // The load of the RAM below the area: its row is number 1.
+    let load: [(usize, &[u8]); 4] = [
+        (120, &[1, 0, 0, 0, 7, 0, 0, 0, 0, 0, 0x10, 0]),
+        (136, &[0, 0, 0x10, 0, 0x80, 0x88, 0xff, 0xff]),
+        (144, &[0, 0, 0x10, 0, 0, 0, 0, 0]),
+        (152, &[0, 0, 0xf0, 3, 0, 0, 0, 0]),
+    ];
+    for (at, bytes) in load {
+        assert!(rt; stand(&planned, 1, at, bytes));
+    }
+    assert!(rt; stand(&planned, 2, 0x1000, b"quiet elfcorehdr=98300K\0"));
+    Ok(())
+}
+
+#[test]
+fn an_elf_kernel_lies_where_its_file_says(rt: HostRuntime) -> Result<(), Fail> {
+    let alloc = rt.alloc();
+    for image in [ImageType::Elf, ImageType::Auto] {
+        let mut asked = request_for(alloc, ImageType::Elf)?;
+        asked.image = image;
+        let planned = planned(alloc, asked, LITTLE)?;
+        assert!(rt; places(alloc, &planned)?.as_slice() == [(0x10_0000, 0x2000)].as_slice());
+        assert_eq!(rt; planned.start, start(0x10_0900, 0, 0, 0));
+    }
+    Ok(())
+}
+
+#[test]
+fn a_raw_kernel_needs_no_map(rt: HostRuntime) -> Result<(), Fail> {
+    let alloc = rt.alloc();
+    let asked = Request {
+        crash: false,
+        image: RAW,
+        kernel: vec![in alloc; b'a', b'b', b'c']?,
+        initrd: None,
+        command: None,
+        modules: Vec::new(alloc),
+        purgatory: None,
+        notes: Vec::new(alloc),
+    };
+    let planned = plan(alloc, asked, None)?;
+    assert!(rt; places(alloc, &planned)?.as_slice() == [(0x2000, 0x1000)].as_slice());
+    assert_eq!(rt; planned.start, start(0x2000, 0, 0, 0));
+    Ok(())
+}
+
+#[test]
+fn zeros_are_digested_too(rt: HostRuntime) -> Result<(), Fail> {
+    let alloc = rt.alloc();
+    let mut asked = request_for(alloc, RAW)?;
+    asked.purgatory = Some(purgatory(alloc)?);
+    let planned = planned(alloc, asked, LITTLE)?;
+    // SHA-256 of `abc` and 4,093 zeros, by sha256sum.
+    let digest = [
+        0x73, 0xfb, 0xfd, 0x76, 0xaa, 0x21, 0x43, 0xde, 0x16, 0x0e, 0xdd, 0x50, 0x9f, 0xf9, 0x37,
+        0x71, 0xf4, 0x4d, 0xb1, 0x69, 0x24, 0xbd, 0x51, 0x23, 0x5f, 0x31, 0x1f, 0x32, 0xaa, 0xf5,
+        0xfc, 0x42,
+    ];
+    assert!(rt; stand(&planned, 1, 0x200, &digest));
+    Ok(())
+}
+
+#[test]
+fn a_multiboot_kernel_gets_its_modules(rt: HostRuntime) -> Result<(), Fail> {
+    let alloc = rt.alloc();
+    let mut asked = request_for(alloc, ImageType::Multiboot)?;
+    asked.image = ImageType::Auto;
+    for _ in 0..12 {
+        asked.modules.push(module(alloc, b"m")?)?;
+    }
+    let planned = planned(alloc, asked, LITTLE)?;
+    // Kernel, modules one below another, and below them the information.
+    let places = places(alloc, &planned)?;
+    assert_eq!(rt; places.len(), 14);
+    assert!(rt; places.get(0) == Some(&(0x10_0000, 0x1000)));
+    assert!(rt; places.get(1) == Some(&(0x7f_f000, 0x1000)));
+    assert!(rt; places.get(12) == Some(&(0x7f_4000, 0x1000)));
+    assert!(rt; places.get(13) == Some(&(0x7f_3000, 0x1000)));
+    assert_eq!(rt; planned.start, start(0x10_0020, 0x2bad_b002, 0x7f_3000, 0));
+    let information: [(usize, &[u8]); 4] = [
+        // 640 KiB below 1 MiB, and 7 MiB above it
+        (0, &[0x4d, 2, 0, 0, 0x80, 2, 0, 0, 0, 0x1c, 0, 0]),
+        // twelve modules, whose table stands behind the one row of the map
+        (20, &[12, 0, 0, 0, 0x70, 0x30, 0x7f, 0]),
+        // the first one's start and end, and its text behind the table, the command and the loader's name
+        (
+            112,
+            &[0, 0xf0, 0x7f, 0, 1, 0xf0, 0x7f, 0, 0x37, 0x31, 0x7f, 0],
+        ),
+        (304, b"\0kexec\0m\0m\0"),
+    ];
+    for (at, bytes) in information {
+        assert!(rt; stand(&planned, 13, at, bytes));
+    }
+    Ok(())
+}
