@@ -150,9 +150,9 @@ not_both b f t = let k = sym f ∙ t in cc
 
 exec_not : (load : TakenLoad) (twice : Bool) (out : List ℕ) (a : Refusal Reason) → CanExec load twice → executes_by load twice out (Err a) → ⊥
 exec_not (Normal x) twice out (by why) can (inl k) = not_both (is_not_kept twice x) can.kept k.1
-exec_not (Normal x) twice out (by why) can (inr (k, (pool, r))) =
-    let c = checked_with (load_of x pool) r.0 r.1 r.2 in
-    heavy (after_runs (runs_asked twice x) c) why (λ n h. can.light c pool n refl h) r.4
+exec_not (Normal x) twice out (by why) can (inr (k, r)) =
+    let c = checked_with (load_of x) r.0 r.1 r.2 in
+    heavy (after_runs (runs_asked twice x) c) why (λ n h. can.light c n refl h) r.4
 exec_not (Normal x) twice out (too_long name limit) can m = m
 exec_not (Crash x) twice out (by why) can (inl k) = not_both twice can.once k.1
 exec_not (Crash x) twice out (by why) can (inr (once, accepted, f)) = heavy (at x.memory) why can.light f

@@ -171,16 +171,15 @@ module _ {S O : Type 0} (D : Shelf S) (E : Sink O) (held : Files) (s : S) (o : O
       → HasExecuted D E held s o s' o' e ⊎ HasExecutedCrash D E held s o s' o' e
   executed_by e (Normal x) goods read m fault out =
       let n = subst (λ f. executes_as x e.twice e.out goods f) fault m.1 in
-      let r = n.1 in
-      let c = checked_with (load_of x n.0) r.0 r.1 r.2 in
+      let r = n in
+      let c = checked_with (load_of x) r.0 r.1 r.2 in
       let mode = x.load_record.image.mode in
       let bare = exec_bare e held x read in
       inl (record {
         files = x;
         read = read;
-        pool = n.0;
         checked = c;
-        of_files = λ i. load_of x n.0;
+        of_files = λ i. load_of x;
         accepted = r.3;
         ends = list_ends c.load c.words c.links c.pairs bare r.3;
         ends_again = ends_again (runs_asked e.twice x) c mode (λ i. mode) (runs_fit e.twice mode) bare r.3;

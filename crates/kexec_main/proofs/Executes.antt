@@ -2,7 +2,6 @@
 use Rattle.std.proofs.Common.{◌≡◌, ℕ, List, Bool, true, false, Result, Ok, Err, sym, subst, inr}
 use Rattle.kx_pages.specs.declared.image.Mode.{Mode}
 use Rattle.kx_pages.specs.declared.image.Mode.TheVariants.{Plain, Kept}
-use Rattle.page_pool.specs.Pages.{Pages}
 use Rattle.list_checker.specs.declared.fault.ListFault.{ListFault}
 use Rattle.file_commands.specs.declared.goods.Goods.{Goods as MadeGoods}
 use Rattle.file_commands.specs.declared.stop.MakeFault.{MakeFault}
@@ -20,9 +19,9 @@ runs_fit false (Kept swap) = tt
 runs_fit true (Kept swap) = tt
 
 -- what runs the list of the files is what `exec` makes
-pub executed : (x : LoadFiles) (twice : Bool) (out : List ℕ) (pool : Pages) (result : Result (MadeGoods ListFault) (MakeFault Reason)) → is_not_kept twice x ≡ false
-    → MakesOr (λ g. RunsList (runs_asked twice x) (load_of x pool) x.load_record.start x.load_record.regions x.load_record.digest out (goods_of g)) (RefusesRun (runs_asked twice x) (load_of x pool)) result
+pub executed : (x : LoadFiles) (twice : Bool) (out : List ℕ) (result : Result (MadeGoods ListFault) (MakeFault Reason)) → is_not_kept twice x ≡ false
+    → MakesOr (λ g. RunsList (runs_asked twice x) (load_of x) x.load_record.start x.load_record.regions x.load_record.digest out (goods_of g)) (RefusesRun (runs_asked twice x) (load_of x)) result
     → Makes (λ x. executes_list x twice out) x result
-executed x twice out pool (Ok g) e m = (e, subst (λ fault. executes_as x twice out (goods_of g) fault) (sym m.5) (pool, m))
-executed x twice out pool (Err (makes.Refused why)) e m = inr (e, (pool, m))
-executed x twice out pool (Err makes.Memory) e m = tt
+executed x twice out (Ok g) e m = (e, subst (λ fault. executes_as x twice out (goods_of g) fault) (sym m.5) m)
+executed x twice out (Err (makes.Refused why)) e m = inr (e, m)
+executed x twice out (Err makes.Memory) e m = tt

@@ -10,7 +10,6 @@ use Rattle.kx_edge.specs.declared.edge.Shelf.{Ghosts as Shelf}
 use Rattle.kx_edge.specs.declared.edge.Sink.{Ghosts as Sink}
 use Rattle.page_memory.specs.Contents.{at}
 use Rattle.page_memory.specs.Memory.{Mem}
-use Rattle.page_pool.specs.Pages.{Pages}
 use Rattle.segments.specs.Values.{need, pages, want}
 use Rattle.memory_map.specs.Named.{reserved_area}
 use Rattle.list_checker.specs.declared.fault.ListFault.{ListFault}
@@ -184,9 +183,8 @@ module _ {S O : Type 0} (D : Shelf S) (E : Sink O) (held : Files) (s : S) (o : O
   pub record HasExecuted (e : ExecValue) : Type 0 where
     pub files : LoadFiles
     pub read : reads (exec_files e) held ≡ Ok (exec_of e (Normal files))
-    pub pool : Pages
     pub checked : Checked
-    pub of_files : checked.load ≡ load_of files pool
+    pub of_files : checked.load ≡ load_of files
     pub accepted : Told checked.load checked.words checked.links checked.pairs
     pub ends : EndsAfter checked.load checked.words
     pub ends_again : EndsAgain (runs_asked e.twice files) checked
@@ -254,7 +252,7 @@ pub record CanRun (x : LoadFiles) (twice : Bool) : Type 0 where
   pub items : List Item
   pub accepted : IsAcceptedIn x items
   pub kept : is_not_kept twice x ≡ false
-  pub light : (c : Checked) (pool : Pages) (n : ℕ) → c.load ≡ load_of x pool →
+  pub light : (c : Checked) (n : ℕ) → c.load ≡ load_of x →
     IsTooHeavy (after_runs (runs_asked twice x) c) n → ⊥
 
 -- a crash load lies in its place, and is to run once

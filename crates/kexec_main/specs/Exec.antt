@@ -3,9 +3,8 @@ use Rattle.std.specs.Prelude.{◌≡◌, ℕ, Bool, true, false, List, Option, S
 use Rattle.kx_pages.specs.declared.image.Mode.{Mode}
 use Rattle.kx_pages.specs.declared.image.Mode.TheVariants.{Plain, Kept}
 use Rattle.kx_pages.specs.declared.image.Start.{Start}
-use Rattle.page_pool.specs.Pages.{Pages}
 use Rattle.list_checker.specs.declared.fault.ListFault.{ListFault}
-use Rattle.load_states.specs.States.{Load}
+use Rattle.load_states.specs.States.{Load, no_pages}
 use Rattle.load_states.specs.Ready.{Told}
 use Rattle.file_commands.specs.Taking.{Refusal, Take, ok, too_long, by, ◌>>=◌}
 use Rattle.kexec_words.specs.Values.{ExecValue}
@@ -52,9 +51,14 @@ runs_of twice Plain = None
 runs_of false (Kept swap) = Some Once
 runs_of true (Kept swap) = Some Twice
 
--- the load that the files tell, with any pool: no page is drawn any more
-abbrev pub load_of : LoadFiles → Pages → Load
-load_of x pool = record { memory = x.memory; pool = pool; image = x.load_record.image; segments = x.load_record.segments }
+-- the load that the files tell: no page is drawn for it any more
+abbrev pub load_of : LoadFiles → Load
+load_of x = record {
+  memory = x.memory;
+  pool = no_pages;
+  image = x.load_record.image;
+  segments = x.load_record.segments;
+}
 
 -- The accepted list of a load is run: the file of the memory after the last run is the output, and the text tells the list
 -- and each run.
@@ -80,11 +84,10 @@ is_not_kept twice x = lacks_swap_page twice x.load_record.image.mode
 abbrev pub RunsFiles : LoadFiles → Bool → List ℕ → Made → Type 0
 RunsFiles x twice out goods =
     let r = x.load_record in
-    (pool : Pages)
-    × RunsList (runs_asked twice x) (load_of x pool) r.start r.regions r.digest out goods
+    RunsList (runs_asked twice x) (load_of x) r.start r.regions r.digest out goods
 
 abbrev pub RefusesFiles : LoadFiles → Bool → Reason → Type 0
-RefusesFiles x twice why = (pool : Pages) × RefusesRun (runs_asked twice x) (load_of x pool) why
+RefusesFiles x twice why = RefusesRun (runs_asked twice x) (load_of x) why
 
 -- the list is accepted and was run, or its first fault is told and nothing was run
 abbrev pub executes_as : LoadFiles → Bool → List ℕ → Made → Option ListFault → Type 0

@@ -23,7 +23,6 @@ use kx_pages::{Mode, Start};
 use list_checker::ListFault;
 use load_record::LoadRecord;
 use load_states::{Accepted, Loaded};
-use page_pool::Pool;
 use std::alloc::Global;
 
 /// What `exec` took, whether the list is to run twice, and the name of its output.
@@ -123,7 +122,7 @@ fn exec_list(
         });
     }
     let runs = runs_of(twice, image.mode);
-    let loaded = Loaded::from_parts(memory, Pool::empty(alloc), image, segments);
+    let loaded = Loaded::from_files(alloc, memory, image, segments);
     match loaded.accept(alloc) {
         Ok(accepted) => run_goods(alloc, accepted, runs, &start, regions, digest, out),
         Err(refused) => unaccepted_goods(alloc, refused.why),

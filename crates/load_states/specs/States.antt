@@ -1,6 +1,7 @@
 -- What clauses see of the states from a load to its run.
-use Rattle.std.specs.Prelude.{◌≡◌, ℕ, List, Option, unwrap_or, map, refl}
+use Rattle.std.specs.Prelude.{◌≡◌, ℕ, List, [], Option, unwrap_or, map, refl}
 use Rattle.std.proofs.Common.{ap}
+use Rattle.std.specs.FinMap.{empty}
 use Rattle.std.specs.Coded.{Coded, code_by, coded×, coded_ℕ, coded_list, coded_option}
 use Rattle.kx_pages.specs.declared.image.Image.{Image}
 use Rattle.page_memory.specs.Contents.{Contents, contents_code, at, IsHeld}
@@ -17,6 +18,10 @@ pub record Load : Type 0 where
   pub pool : Pages
   pub image : Image
   pub segments : List SegmentValue
+
+-- the pool of a list that was read from files: no page is left, drawn or filed
+abbrev pub no_pages : Pages
+no_pages = record { left = []; drawn = []; marks = empty }
 
 -- a load and what is told of its list: how many words its walk has, how many link pages, and its pairs
 pub record Checked : Type 0 where

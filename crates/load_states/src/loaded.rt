@@ -6,7 +6,7 @@ ghost use Rattle.page_memory.specs.Contents.{IsHeld, after_set, page_of};
 ghost use Rattle.relocate_machine.specs.Writes.{AreHeld, move_writes};
 ghost use Rattle.list_checker.specs.Checked.{as_pair, IsAccept, IsCheckFault};
 ghost use Rattle.segments.specs.Rules.{IsBare};
-ghost use Rattle.load_states.specs.States.{IsLeftAs, with_memory};
+ghost use Rattle.load_states.specs.States.{IsLeftAs, no_pages, with_memory};
 ghost use Rattle.load_states.specs.Answers.{IsAcceptedAs};
 ghost use Rattle.load_states.specs.Runs.{TellsAlike, checked_in};
 
@@ -60,6 +60,28 @@ impl Loaded {
         Loaded {
             memory,
             pool,
+            image,
+            segments,
+        }
+    }
+
+    /// The load of a list that was read from files: no page is drawn for it any more, so that its pool has none.
+    pub fn from_files(
+        alloc: Global,
+        memory: Memory,
+        image: Image,
+        segments: Segments,
+    ) -> Loaded
+        ensures { result ≡ record {
+          memory = memory;
+          pool = no_pages;
+          image = image;
+          segments = segments;
+        } }
+    {
+        Loaded {
+            memory,
+            pool: Pool::empty(alloc),
             image,
             segments,
         }
