@@ -1,37 +1,44 @@
 -- What nothing refuses is done; what lacks pages is refused for them.
 use Rattle.std.proofs.Common.{◌≡◌, true, ℕ, ◌<◌, ◌≤◌, List, Option, Some, None, Result, Ok, Err, refl, sym, ap, ◌∙◌, subst, inl, inr, arith}
-use Rattle.std.specs.Prelude.{◌⊎◌, length, IfSome}
+use Rattle.std.specs.Prelude.{◌⊎◌, Bool, false, length, IfSome}
 use Rattle.kx_laws.proofs.Results.{ok_same}
 use Rattle.kx_edge.specs.Edge.{Files, Rose}
 use Rattle.kx_edge.specs.declared.edge.Shelf.{Ghosts as Shelf}
 use Rattle.kx_edge.specs.declared.edge.Sink.{Ghosts as Sink}
-use Rattle.kx_pages.specs.declared.item.Item.{Item}
 use Rattle.kx_pages.specs.declared.image.Wish.{Wish}
 use Rattle.page_memory.specs.Contents.{at}
 use Rattle.page_memory.specs.Memory.{Mem}
 use Rattle.segments.specs.Values.{need}
 use Rattle.list_checker.specs.declared.fault.ListFault.{ListFault}
-use Rattle.load_states.specs.States.{Checked}
+use Rattle.load_states.specs.States.{Checked, CrashLoad}
 use Rattle.file_commands.specs.Taking.{Refusal, by, too_long, reads}
 use Rattle.file_commands.specs.Answers.{Answer, MeetsTold, RefusesFor, Stands, done, memory, refused}
 use Rattle.file_commands.proofs.Meeting.{refuses, stands_told}
 use Rattle.kexec_words.specs.declared.faults.UsageWhy.{UsageWhy}
-use Rattle.kexec_words.specs.Values.{CommandValue, BootValue, ExecValue, LoadValue, LoadNamesValue, TraceValue}
+use Rattle.kexec_words.specs.Values.{CommandValue, BootValue, ExecValue, LoadPanicValue, LoadValue, LoadNamesValue, TraceValue}
 use Rattle.kexec_words.specs.Values as words
 use Rattle.kexec_plan.specs.Requests.{Plan}
 use Rattle.kexec_plan.specs.Plan.{plan}
 use Rattle.kexec_plan.specs.declared.fault.PlanFault.{PlanFault}
+use Rattle.kexec_main.specs.declared.files.CrashFiles.{CrashFiles}
 use Rattle.kexec_main.specs.declared.files.LoadFiles.{LoadFiles}
+use Rattle.kexec_main.specs.declared.files.TakenLoad.{TakenLoad}
+use Rattle.kexec_main.specs.declared.files.TakenLoad.TheVariants.{Normal, Crash}
 use Rattle.kexec_main.specs.declared.status.Reason.{Reason}
 use Rattle.kexec_main.specs.declared.status.Reason.TheVariants as reasons
 use Rattle.kexec_main.specs.Boot.{BootInputs, boots}
-use Rattle.kexec_main.specs.Call.{CanLoad, CanRun, IsInOrder, HasTooFew, LacksPages}
-use Rattle.kexec_main.specs.Check.{IsAcceptedIn, checks_as}
-use Rattle.kexec_main.specs.Commands.{Holds, boot, load, check, dump, exec, trace}
-use Rattle.kexec_main.specs.Exec.{ExecInputs, executes_as, lacks_swap_page, load_of, runs_asked}
+use Rattle.kexec_main.specs.Call.{CanExec, CanLoad, CanLoadPanic, IsAccepted, IsInOrder, HasTooFew, LacksPages}
+use Rattle.kexec_main.specs.Check.{checks, checks_list_as, checks_place_as}
+use Rattle.kexec_main.specs.Commands.{Holds, boot, load, load_panic, check, dump, exec, trace}
+use Rattle.kexec_main.specs.CrashExec.{executes_place_as}
+use Rattle.kexec_main.specs.CrashInputs.{CrashInputs}
+use Rattle.kexec_main.specs.CrashLoading.{IsCrashLoaded}
+use Rattle.kexec_main.specs.Dump.{dumps}
+use Rattle.kexec_main.specs.Exec.{ExecInputs, executes_as, executes_by, is_not_kept, load_of, runs_asked}
 use Rattle.kexec_main.specs.Inputs.{LoadInputs}
 use Rattle.kexec_main.specs.Load.{LoadCommand, loads}
-use Rattle.kexec_main.specs.Loading.{IsLoaded, IsTooFew, RefusesLoad}
+use Rattle.kexec_main.specs.LoadPanic.{LoadPanicCommand, loads_panic}
+use Rattle.kexec_main.specs.Loading.{HasNoPlan, IsLoaded, IsTooFew, RefusesLoad}
 use Rattle.kexec_main.specs.Outputs.{Made, HasNoFile, IsTooHeavy}
 use Rattle.kexec_main.specs.Runs.{after_runs, checked_with, wish_of}
 use Rattle.kexec_main.specs.Trace.{TraceInputs, traces}
@@ -86,30 +93,85 @@ load_stands l x can = record { unrefused = none; whole = λ goods m. m.4 }
     none (by why) (inr (p, c, k, f)) = heavy (at c.load.memory) why (λ n h. can.light c n (loaded_as x.wish x.load (λ c. at c.load.memory) p c can k.0) h) f
     none (too_long name limit) m = m
 
-check_stands : (l : LoadNamesValue) (x : LoadFiles) (is : List Item) → IsAcceptedIn x is → Stands (check l) x
-check_stands l x is accepted = record { unrefused = λ a m. m; whole = λ goods m. whole goods goods.fault m refl }
+-- nothing refuses a crash load that can be made
+panic_not : (i : CrashInputs) (why : Reason) → CanLoadPanic i → HasNoPlan i.request (Some i.map) why → ⊥
+panic_not i (reasons.Plan f) can h = no_fault can.p f (sym can.planned ∙ h)
+panic_not i (reasons.Usage w) can h = h
+panic_not i (reasons.NotBuilt w) can h = h
+panic_not i (reasons.Input f) can h = h
+panic_not i reasons.NotKept can h = h
+panic_not i (reasons.NoPages left n) can h = h
+panic_not i (reasons.Heavy n) can h = h
+
+panic_as : (i : CrashInputs) (p : Plan) (c : CrashLoad) → (can : CanLoadPanic i) → IsCrashLoaded i p c → IsCrashLoaded i can.p c
+panic_as i p c can l = subst (λ p. IsCrashLoaded i p c) (ok_same {F = PlanFault} p can.p (sym l.planned ∙ can.planned)) l
+
+load_panic_stands : (l : LoadPanicValue) (x : LoadPanicCommand) → CanLoadPanic x.load → Stands (load_panic l) x
+load_panic_stands l x can = record { unrefused = none; whole = λ goods m. m.4 }
   where
-    whole : (goods : Made) (f : Option ListFault) → checks_as x goods f → goods.fault ≡ f → goods.fault ≡ None
-    whole goods None m e = e
-    whole goods (Some f) m e = absurd (m.0.1 is accepted)
-
-dump_stands : (l : LoadNamesValue) (x : LoadFiles) → Stands (dump l) x
-dump_stands l x = record { unrefused = λ a m. m; whole = λ goods m. m.1 }
-
-exec_stands : (e : ExecValue) (x : ExecInputs) → CanRun x → Stands (exec e) x
-exec_stands e x can = record { unrefused = none; whole = λ goods m. whole goods goods.fault m.1 refl }
-  where
-    kept_not : lacks_swap_page x.twice x.files.load_record.image.mode ≡ true → ⊥
-    kept_not t = let k = sym can.kept ∙ t in cc
-
-    none : (a : Refusal Reason) → (exec e).makes x (Err a) → ⊥
-    none (by why) (inl k) = kept_not k.1
-    none (by why) (inr (k, (pool, r))) = heavy (after_runs (runs_asked x) (checked_with (load_of x.files pool) r.0 r.1 r.2)) why (λ n h. can.light (checked_with (load_of x.files pool) r.0 r.1 r.2) pool n refl h) r.4
+    none : (a : Refusal Reason) → loads_panic x (Err a) → ⊥
+    none (by why) (inl r) = panic_not x.load why can r
+    none (by why) (inr (p, c, k, f)) = heavy (at c.memory) why (λ n h. can.light c n (panic_as x.load p c can k) h) f
     none (too_long name limit) m = m
 
-    whole : (goods : Made) (f : Option ListFault) → executes_as x goods f → goods.fault ≡ f → goods.fault ≡ None
-    whole goods None m e = e
-    whole goods (Some f) m e = absurd (m.0.1 can.items can.accepted)
+-- what is accepted has no fault
+list_whole : (x : LoadFiles) (goods : Made) (f : Option ListFault) → IsAccepted (Normal x) → checks_list_as x goods f → goods.fault ≡ f → goods.fault ≡ None
+list_whole x goods None accepted m e = e
+list_whole x goods (Some f) accepted m e = absurd (m.0.1 accepted.0 accepted.1)
+
+place_whole : (x : CrashFiles) (goods : Made) (f : Option ListFault) → IsAccepted (Crash x) → checks_place_as x goods f → goods.fault ≡ f → goods.fault ≡ None
+place_whole x goods None accepted m e = e
+place_whole x goods (Some f) accepted m e = absurd (m.0.no_place accepted)
+
+check_whole : (x : TakenLoad) (goods : Made) → IsAccepted x → checks x (Ok goods) → goods.fault ≡ None
+check_whole (Normal x) goods accepted m = list_whole x goods goods.fault accepted m refl
+check_whole (Crash x) goods accepted m = place_whole x goods goods.fault accepted m refl
+
+check_not : (x : TakenLoad) (a : Refusal Reason) → checks x (Err a) → ⊥
+check_not (Normal x) a m = m
+check_not (Crash x) a m = m
+
+check_stands : (l : LoadNamesValue) (x : TakenLoad) → IsAccepted x → Stands (check l) x
+check_stands l x accepted = record { unrefused = check_not x; whole = λ goods m. check_whole x goods accepted m }
+
+dump_not : (x : TakenLoad) (a : Refusal Reason) → dumps x (Err a) → ⊥
+dump_not (Normal x) a m = m
+dump_not (Crash x) a m = m
+
+dump_whole : (x : TakenLoad) (goods : Made) → dumps x (Ok goods) → goods.fault ≡ None
+dump_whole (Normal x) goods m = ap (λ (g : Made). g.fault) m.3
+dump_whole (Crash x) goods m = ap (λ (g : Made). g.fault) m
+
+dump_stands : (l : LoadNamesValue) (x : TakenLoad) → Stands (dump l) x
+dump_stands l x = record { unrefused = dump_not x; whole = dump_whole x }
+
+not_both : (b : Bool) → b ≡ false → b ≡ true → ⊥
+not_both b f t = let k = sym f ∙ t in cc
+
+exec_not : (load : TakenLoad) (twice : Bool) (out : List ℕ) (a : Refusal Reason) → CanExec load twice → executes_by load twice out (Err a) → ⊥
+exec_not (Normal x) twice out (by why) can (inl k) = not_both (is_not_kept twice x) can.kept k.1
+exec_not (Normal x) twice out (by why) can (inr (k, r)) =
+    let c = checked_with (load_of x) r.0 r.1 r.2 in
+    heavy (after_runs (runs_asked twice x) c) why (λ n h. can.light c n refl h) r.4
+exec_not (Normal x) twice out (too_long name limit) can m = m
+exec_not (Crash x) twice out (by why) can (inl k) = not_both twice can.once k.1
+exec_not (Crash x) twice out (by why) can (inr (once, accepted, f)) = heavy (at x.memory) why can.light f
+exec_not (Crash x) twice out (too_long name limit) can m = m
+
+run_whole : (x : LoadFiles) (twice : Bool) (out : List ℕ) (goods : Made) (f : Option ListFault) → IsAccepted (Normal x) → executes_as x twice out goods f → goods.fault ≡ f → goods.fault ≡ None
+run_whole x twice out goods None accepted m e = e
+run_whole x twice out goods (Some f) accepted m e = absurd (m.0.1 accepted.0 accepted.1)
+
+crash_whole : (x : CrashFiles) (out : List ℕ) (goods : Made) (f : Option ListFault) → IsAccepted (Crash x) → executes_place_as x out goods f → goods.fault ≡ f → goods.fault ≡ None
+crash_whole x out goods None accepted m e = e
+crash_whole x out goods (Some f) accepted m e = absurd (m.0.no_place accepted)
+
+exec_whole : (load : TakenLoad) (twice : Bool) (out : List ℕ) (goods : Made) → CanExec load twice → executes_by load twice out (Ok goods) → goods.fault ≡ None
+exec_whole (Normal x) twice out goods can m = run_whole x twice out goods goods.fault (can.items, can.accepted) m.1 refl
+exec_whole (Crash x) twice out goods can m = crash_whole x out goods goods.fault can.accepted m.1 refl
+
+exec_stands : (e : ExecValue) (x : ExecInputs) → CanExec x.load x.twice → Stands (exec e) x
+exec_stands e x can = record { unrefused = λ a m. exec_not x.load x.twice x.out a can m; whole = λ goods m. exec_whole x.load x.twice x.out goods can m }
 
 trace_stands : (t : TraceValue) (x : TraceInputs) → ((why : Reason) → traces x (Err (by why)) → ⊥) → Stands (trace t) x
 trace_stands t x light = record { unrefused = none; whole = λ goods m. m.1 }
@@ -150,11 +212,11 @@ module _ {S O : Type 0} (D : Shelf S) (E : Sink O) (held : Files) (s : S) (o : O
   ends : (c : CommandValue) → IsInOrder c held → Holds (λ X p. MeetsTold D E p held s o a s' o') (Ok c) → (a ≡ done) ⊎ (a ≡ memory)
   ends (words.boot b) i m = stands_told D E (boot b) held i.0 s s' o o' a i.1 (boot_stands b i.0 i.2) calm quiet m
   ends (words.load l) i m = stands_told D E (load l) held i.0 s s' o o' a i.1 (load_stands l i.0 i.2) calm quiet m
-  ends (words.check l) i m = stands_told D E (check l) held i.0 s s' o o' a i.1 (check_stands l i.0 i.2 i.3) calm quiet m
+  ends (words.load_panic l) i m = stands_told D E (load_panic l) held i.0 s s' o o' a i.1 (load_panic_stands l i.0 i.2) calm quiet m
+  ends (words.check l) i m = stands_told D E (check l) held i.0 s s' o o' a i.1 (check_stands l i.0 i.2) calm quiet m
   ends (words.dump l) i m = stands_told D E (dump l) held i.0 s s' o o' a i.1 (dump_stands l i.0) calm quiet m
   ends (words.exec e) i m = stands_told D E (exec e) held i.0 s s' o o' a i.1 (exec_stands e i.0 i.2) calm quiet m
   ends (words.trace t) i m = stands_told D E (trace t) held i.0 s s' o o' a i.1 (trace_stands t i.0 (λ why h. heavy _ why i.2 h)) calm quiet m
-  ends (words.load_panic l) i m = absurd i
   ends (words.sample n) i m = absurd i
 
   -- what is in order is done, or memory is wanted

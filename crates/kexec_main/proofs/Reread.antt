@@ -11,17 +11,18 @@ use Rattle.load_record.specs.File.{Record, head_tested, record_of, record_readin
 use Rattle.load_record.specs.declared.fault.RecFault.{RecFault}
 use Rattle.load_record.specs.declared.head.Head.{Head}
 use Rattle.file_commands.specs.Files.{from_reader, whole_file}
-use Rattle.file_commands.specs.Taking.{Refusal, by, file_at, ok, reads, refuse, too_long, ◌>>=◌}
+use Rattle.file_commands.specs.Taking.{Refusal, file_at, ok, reads, too_long, ◌>>=◌}
 use Rattle.file_commands.proofs.Measured.{measured_reads}
 use Rattle.file_commands.proofs.Steps.{reads_cases}
 use Rattle.kexec_words.specs.Values.{ExecValue}
+use Rattle.kexec_main.specs.declared.files.CrashFiles.{CrashFiles}
 use Rattle.kexec_main.specs.declared.files.LoadFiles.{LoadFiles}
+use Rattle.kexec_main.specs.declared.files.TakenLoad.TheVariants.{Crash, Normal}
 use Rattle.kexec_main.specs.declared.status.InputFault.TheVariants as inputs
-use Rattle.kexec_main.specs.declared.status.NotBuilt.TheVariants.{Crash}
 use Rattle.kexec_main.specs.declared.status.Reason.{Reason}
-use Rattle.kexec_main.specs.declared.status.Reason.TheVariants.{Input, NotBuilt}
-use Rattle.kexec_main.specs.Exec.{ExecInputs, exec_files}
-use Rattle.kexec_main.specs.Files.{list_record, load_files, load_record_file, memory_file, memory_limit, record_limit}
+use Rattle.kexec_main.specs.declared.status.Reason.TheVariants.{Input}
+use Rattle.kexec_main.specs.Exec.{ExecInputs, exec_files, exec_of}
+use Rattle.kexec_main.specs.Files.{load_by, load_files, load_record_file, memory_file, memory_limit, record_limit}
 
 -- a whole file is what the name holds
 whole_found : (limit : ℕ) (name : List ℕ) (held : Files) (bytes : List ℕ) → reads {R = Reason} (whole_file limit name) held ≡ Ok bytes → file_at held name ≡ bytes
@@ -39,28 +40,37 @@ memory_found name held m h =
     let k = reads_cases (whole_file memory_limit name) (λ bytes. from_reader (λ e. Input (inputs.Mem e)) (reading bytes)) held m h in
     subst (λ bytes. reading bytes ≡ Ok m) (sym (whole_found memory_limit name held k.0 k.1)) (reader_found (λ e. Input (inputs.Mem e)) (reading k.0) held m k.2)
 
--- a record of a list is taken as it was read
-list_found : (r : Record) (b : Bool) (held : Files) (x : Record) → r.crash ≡ b → reads (list_record r) held ≡ Ok x → r ≡ x
-list_found r true held x e h = let k = subst (λ b. reads (if b then refuse (by (NotBuilt Crash)) else ok r) held ≡ Ok x) e h in cc
-list_found r false held x e h = ok_same {F = Refusal Reason} r x (subst (λ b. reads (if b then refuse (by (NotBuilt Crash)) else ok r) held ≡ Ok x) e h)
-
 pub record_found : (name : List ℕ) (held : Files) (r : Record) → reads (load_record_file name) held ≡ Ok r → record_reading (file_at held name) ≡ Ok r
 record_found name held r h =
-    let k = reads_cases (whole_file record_limit name) (λ bytes. from_reader (λ e. Input (inputs.Rec e)) (record_reading bytes) >>= list_record) held r h in
-    let m = reads_cases (from_reader (λ e. Input (inputs.Rec e)) (record_reading k.0)) list_record held r k.2 in
-    subst (λ bytes. record_reading bytes ≡ Ok r) (sym (whole_found record_limit name held k.0 k.1))
-    (reader_found (λ e. Input (inputs.Rec e)) (record_reading k.0) held m.0 m.1 ∙ ap Ok (list_found m.0 m.0.crash held r refl m.2))
+    let k = reads_cases (whole_file record_limit name) (λ bytes. from_reader (λ e. Input (inputs.Rec e)) (record_reading bytes)) held r h in
+    subst (λ bytes. record_reading bytes ≡ Ok r) (sym (whole_found record_limit name held k.0 k.1)) (reader_found (λ e. Input (inputs.Rec e)) (record_reading k.0) held r k.2)
 
--- what `exec` read, file by file
-pub exec_read : (e : ExecValue) (held : Files) (x : ExecInputs) → reads (exec_files e) held ≡ Ok x → (m : Contents) × (r : Record)
-    × (reads (memory_file e.memory) held ≡ Ok m) × (reads (load_record_file e.load_record) held ≡ Ok r)
-    × (x ≡ record { files = record { memory = m; load_record = r }; twice = e.twice; out = e.out })
+abbrev crash_of : Contents → Record → CrashFiles
+crash_of m r = record { memory = m; head = r.image.head; segments = r.segments; start = r.start; regions = r.regions; digest = r.digest }
+
+-- the load that the files tell, by the kind of the record
+by_kind : (m : Contents) (r : Record) (b : Bool) → r.crash ≡ b → (if b then Crash (crash_of m r) else Normal (record { memory = m; load_record = r })) ≡ load_by m r
+by_kind m r true e = ap (λ b. if b then Crash (crash_of m r) else Normal (record { memory = m; load_record = r })) (sym e)
+by_kind m r false e = ap (λ b. if b then Crash (crash_of m r) else Normal (record { memory = m; load_record = r })) (sym e)
+
+-- a load that is normal is that of the memory and the record
+normal_by : (m : Contents) (r : Record) (x : LoadFiles) (b : Bool) → r.crash ≡ b → load_by m r ≡ Normal x → (m ≡ x.memory) × (r ≡ x.load_record)
+normal_by m r x true e h = let k = by_kind m r true e ∙ h in cc
+normal_by m r x false e h =
+    let k = by_kind m r false e ∙ h in
+    let same : record { memory = m; load_record = r } ≡ x = cc in
+    (ap (λ (y : LoadFiles). y.memory) same, ap (λ (y : LoadFiles). y.load_record) same)
+
+-- what `exec` read of a normal load, file by file
+pub exec_read : (e : ExecValue) (held : Files) (x : LoadFiles) → reads (exec_files e) held ≡ Ok (exec_of e (Normal x))
+    → (reads (memory_file e.memory) held ≡ Ok x.memory) × (reads (load_record_file e.load_record) held ≡ Ok x.load_record)
 exec_read e held x h =
-    let k = reads_cases (load_files e.memory e.load_record) (λ f. ok (record { files = f; twice = e.twice; out = e.out })) held x h in
-    let m = reads_cases (memory_file e.memory) (λ m. load_record_file e.load_record >>= (λ r. ok (record { memory = m; load_record = r }))) held k.0 k.1 in
-    let r = reads_cases (load_record_file e.load_record) (λ r. ok (record { memory = m.0; load_record = r })) held k.0 m.2 in
-    let files : record { memory = m.0; load_record = r.0 } ≡ k.0 = ok_same {F = Refusal Reason} _ k.0 r.2 in
-    (m.0, r.0, m.1, r.1, sym (ap (λ (f : LoadFiles). record { files = f; twice = e.twice; out = e.out }) files ∙ ok_same {F = Refusal Reason} _ x k.2))
+    let k = reads_cases (load_files e.memory e.load_record) (λ load. ok (exec_of e load)) held (exec_of e (Normal x)) h in
+    let m = reads_cases (memory_file e.memory) (λ m. load_record_file e.load_record >>= (λ r. ok (load_by m r))) held k.0 k.1 in
+    let r = reads_cases (load_record_file e.load_record) (λ r. ok (load_by m.0 r)) held k.0 m.2 in
+    let load : k.0 ≡ Normal x = ap (λ (i : ExecInputs). i.load) (ok_same {F = Refusal Reason} (exec_of e k.0) (exec_of e (Normal x)) k.2) in
+    let same = normal_by m.0 r.0 x r.0.crash refl (ok_same {F = Refusal Reason} (load_by m.0 r.0) k.0 r.2 ∙ load) in
+    (m.1 ∙ ap Ok same.0, r.1 ∙ ap Ok same.1)
 
 -- the segments of a record that was read break no rule
 ruled_bare : (h : Head) (ss : List SegmentValue) (first : Option SegFault) (r : Record) → bare_refusal ss ≡ first → ruled h ss first ≡ Ok r → IsBare r.segments
@@ -74,8 +84,5 @@ record_bare bytes r h =
     let list = bind_ok (segments_read (length bytes) head.0.segments (drop 96 bytes)) _ r head.2 in
     ruled_bare head.0 list.0 (bare_refusal list.0) r refl list.2
 
-pub exec_bare : (e : ExecValue) (held : Files) (x : ExecInputs) → reads (exec_files e) held ≡ Ok x → IsBare x.files.load_record.segments
-exec_bare e held x h =
-    let k = exec_read e held x h in
-    subst (λ (x : ExecInputs). IsBare x.files.load_record.segments) (sym k.4)
-    (record_bare (file_at held e.load_record) k.1 (record_found e.load_record held k.1 k.3))
+pub exec_bare : (e : ExecValue) (held : Files) (x : LoadFiles) → reads (exec_files e) held ≡ Ok (exec_of e (Normal x)) → IsBare x.load_record.segments
+exec_bare e held x h = record_bare (file_at held e.load_record) x.load_record (record_found e.load_record held x.load_record (exec_read e held x h).1)

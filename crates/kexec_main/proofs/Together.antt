@@ -34,14 +34,13 @@ use Rattle.kexec_plan.specs.Plan.{plan}
 use Rattle.kexec_plan.specs.declared.fault.PlanFault.{PlanFault}
 use Rattle.kexec_main.specs.declared.status.Reason.{Reason}
 use Rattle.kexec_main.specs.Boot.{BootInputs, boot_files}
-use Rattle.kexec_main.specs.Call.{HasBooted, HasExecuted, HasLoaded, NormalLoad}
-use Rattle.kexec_main.specs.Exec.{ExecInputs, exec_files, runs_asked, runs_of}
-use Rattle.kexec_main.specs.Files.{load_record_file, memory_file}
+use Rattle.kexec_main.specs.Call.{HasBooted, HasExecuted, HasLoaded, NormalLoad, files_text}
+use Rattle.kexec_main.specs.Exec.{runs_asked, runs_of}
 use Rattle.kexec_main.specs.Inputs.{LoadInputs, load_inputs}
 use Rattle.kexec_main.specs.Load.{LoadCommand, load_command_files, load_wish, record_of_load}
 use Rattle.kexec_main.specs.Outputs.{IsFileOf}
 use Rattle.kexec_main.specs.Runs.{after_runs, run_text, wish_of}
-use Rattle.kexec_main.specs.Together.{AskTogether, LoadThenExecIsBoot, booted_text, executed_text, is_twice}
+use Rattle.kexec_main.specs.Together.{AskTogether, LoadThenExecIsBoot, booted_text, is_twice}
 use Rattle.kexec_main.proofs.Reread.{exec_read, memory_found, record_found}
 
 -- a load of segments over a pool is one
@@ -114,22 +113,15 @@ module _ {S O : Type 0} (D : Shelf S) (E : Sink O) (held after : Files) (s t u s
   alike = loads_alike (wish_of b.kept) (load_wish l) boot.inputs.load load.inputs.load boot.planned load.planned boot.checked load.checked ask.wish same_inputs boot.load load.load
 
   -- the record and the memory that `exec` read are those that `load` put
-  files : (m : Contents) × (r : Record) × (reads (memory_file e.memory) after ≡ Ok m) × (reads (load_record_file e.load_record) after ≡ Ok r)
-      × (exec.inputs ≡ record { files = record { memory = m; load_record = r }; twice = e.twice; out = e.out })
-  files = exec_read e after exec.inputs exec.read
-
-  record_is : exec.inputs.files.load_record ≡ record_of_load load.checked.load load.planned
+  record_is : exec.files.load_record ≡ record_of_load load.checked.load load.planned
   record_is =
-      let R = record_of_load load.checked.load load.planned in
-      let read : record_reading (file_at after e.load_record) ≡ Ok files.1 = record_found e.load_record after files.1 files.3 in
-      ap (λ (x : ExecInputs). x.files.load_record) files.4
-      ∙ ok_same {F = RecFault} files.1 R (sym read ∙ ap record_reading (ap (file_at after) ask.load_record ∙ record_put) ∙ load.read_back)
+      let read : record_reading (file_at after e.load_record) ≡ Ok exec.files.load_record = record_found e.load_record after exec.files.load_record (exec_read e after exec.files exec.read).1 in
+      ok_same {F = RecFault} exec.files.load_record (record_of_load load.checked.load load.planned) (sym read ∙ ap record_reading (ap (file_at after) ask.load_record ∙ record_put) ∙ load.read_back)
 
-  memory_is : Agree (at exec.inputs.files.memory) (at load.checked.load.memory)
-  memory_is = λ page.
-      ap (λ (x : ExecInputs). at x.files.memory page) files.4
-      ∙ file_agrees (at load.checked.load.memory) load.output files.0 load.is_memory
-      (subst (λ bytes. reading bytes ≡ Ok files.0) (ap (file_at after) ask.memory ∙ memory_put) (memory_found e.memory after files.0 files.2)) page
+  memory_is : Agree (at exec.files.memory) (at load.checked.load.memory)
+  memory_is =
+      file_agrees (at load.checked.load.memory) load.output exec.files.memory load.is_memory
+      (subst (λ bytes. reading bytes ≡ Ok exec.files.memory) (ap (file_at after) ask.memory ∙ memory_put) (memory_found e.memory after exec.files.memory (exec_read e after exec.files exec.read).0))
 
   read_alike : IsSameLoad load.checked.load exec.checked.load
   read_alike = record {
@@ -144,11 +136,11 @@ module _ {S O : Type 0} (D : Shelf S) (E : Sink O) (held after : Files) (s t u s
   check : IsSameCheck boot.checked exec.checked
   check = tells_alike boot.checked boot.load.accepted exec.checked whole exec.accepted
 
-  runs : runs_asked exec.inputs ≡ b.kept
+  runs : runs_asked e.twice exec.files ≡ b.kept
   runs =
       let laid = boot.load.laid in
-      same_runs b.kept (swap_of laid.loading) exec.inputs.twice exec.inputs.files.load_record.image.mode
-      (ap (λ (x : ExecInputs). x.twice) files.4 ∙ ask.twice)
+      same_runs b.kept (swap_of laid.loading) e.twice exec.files.load_record.image.mode
+      ask.twice
       (ap (λ (s : Load). s.image.mode) (sym exec.of_files) ∙ ap (λ i. i.mode) whole.image ∙ ap (λ i. i.mode) laid.image)
 
   same_output : exec.output ≡ boot.output
@@ -156,9 +148,9 @@ module _ {S O : Type 0} (D : Shelf S) (E : Sink O) (held after : Files) (s t u s
       one_file (after_runs b.kept boot.checked) exec.output boot.output
       (subst (λ N. IsFileOf N exec.output) (ap (λ r. after_runs r exec.checked) runs ∙ same_after b.kept boot.checked exec.checked check) exec.is_memory) boot.is_memory
 
-  said_same : executed_text exec.inputs exec.checked ≡ booted_text b.kept boot.checked boot.planned
+  said_same : files_text e.twice exec.files exec.checked ≡ booted_text b.kept boot.checked boot.planned
   said_same =
-      ap (λ (r : Record). run_text (runs_asked exec.inputs) exec.checked r.start r.regions r.digest) record_is
+      ap (λ (r : Record). run_text (runs_asked e.twice exec.files) exec.checked r.start r.regions r.digest) record_is
       ∙ ap (λ r. run_text r exec.checked load.planned.start load.planned.regions load.planned.digest) runs
       ∙ same_text b.kept boot.checked exec.checked load.planned.start load.planned.regions load.planned.digest check whole.image
       ∙ ap (λ (p : Plan). booted_text b.kept boot.checked p) alike.0

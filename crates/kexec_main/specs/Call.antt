@@ -1,7 +1,8 @@
 -- What the top call promises of each command, over files that are told (this project's own).
-use Rattle.std.specs.Prelude.{◌≡◌, ℕ, ◌≤◌, ◌<◌, List, [], ◌∷◌, ◌++◌, length, take, Option, Some, None, Result, Ok, Err, false}
+use Rattle.std.specs.Prelude.{◌≡◌, ℕ, Bool, ◌≤◌, ◌<◌, List, [], ◌∷◌, ◌++◌, length, take, Option, Some, None, Result, Ok, Err, ◌⊎◌, false}
 use Rattle.std.specs.List.{flat_map}
 use Rattle.kx_pages.specs.Lists.{count}
+use Rattle.kx_pages.specs.Spans.{Run, in_span}
 use Rattle.kx_pages.specs.declared.item.Item.{Item}
 use Rattle.kx_pages.specs.declared.image.Wish.{Wish}
 use Rattle.kx_edge.specs.Edge.{Files, Said}
@@ -9,37 +10,44 @@ use Rattle.kx_edge.specs.declared.edge.Shelf.{Ghosts as Shelf}
 use Rattle.kx_edge.specs.declared.edge.Sink.{Ghosts as Sink}
 use Rattle.page_memory.specs.Contents.{at}
 use Rattle.page_memory.specs.Memory.{Mem}
-use Rattle.page_pool.specs.Pages.{Pages}
-use Rattle.segments.specs.Values.{need}
+use Rattle.segments.specs.Values.{need, pages, want}
+use Rattle.memory_map.specs.Maps.{reserved_area}
 use Rattle.list_checker.specs.declared.fault.ListFault.{ListFault}
 use Rattle.list_checker.specs.Reading.{IsWalk}
 use Rattle.list_checker.specs.Walk.{links, pairs}
 use Rattle.load_record.specs.File.{record_file}
-use Rattle.load_states.specs.States.{Checked}
+use Rattle.load_states.specs.States.{Checked, CrashLoad}
 use Rattle.load_states.specs.Ready.{Told}
 use Rattle.load_states.specs.Fillings.{IsSealed}
 use Rattle.load_states.specs.Runs.{EndsAfter}
 use Rattle.relocate_machine.specs.Run.{run_of}
 use Rattle.file_commands.specs.Taking.{reads}
 use Rattle.file_commands.specs.Answers.{FilesPut}
-use Rattle.kexec_words.specs.Values.{CommandValue, BootValue, ExecValue, LoadValue, LoadNamesValue, TraceValue}
+use Rattle.kexec_words.specs.Values.{CommandValue, BootValue, ExecValue, LoadValue, LoadPanicValue, LoadNamesValue, TraceValue}
 use Rattle.kexec_words.specs.Values as words
 use Rattle.purgatory_link.specs.declared.region_test.RegionTest.TheVariants.{Same}
 use Rattle.purgatory_link.specs.RegionTest.{test}
 use Rattle.kexec_plan.specs.Finish.{HasTableApart}
 use Rattle.kexec_plan.specs.Requests.{Plan}
 use Rattle.kexec_plan.specs.Plan.{plan}
+use Rattle.kexec_main.specs.declared.files.CrashFiles.{CrashFiles}
 use Rattle.kexec_main.specs.declared.files.LoadFiles.{LoadFiles}
+use Rattle.kexec_main.specs.declared.files.TakenLoad.{TakenLoad}
+use Rattle.kexec_main.specs.declared.files.TakenLoad.TheVariants.{Normal, Crash}
 use Rattle.kexec_main.specs.Inputs.{LoadInputs}
+use Rattle.kexec_main.specs.CrashInputs.{CrashInputs}
+use Rattle.kexec_main.specs.CrashLoading.{IsCrashLoaded}
 use Rattle.kexec_main.specs.Loading.{IsLoaded}
 use Rattle.kexec_main.specs.Outputs.{IsFileOf, IsTooHeavy}
-use Rattle.kexec_main.specs.Texts.{accepted_line}
+use Rattle.kexec_main.specs.Texts.{accepted_line, crash_line}
 use Rattle.kexec_main.specs.Runs.{EndsAgain, IsOnce, Leaves, after_runs, list_text, run_text, wish_of}
 use Rattle.kexec_main.specs.Boot.{BootInputs, boot_files}
 use Rattle.kexec_main.specs.Load.{IsReadBack, LoadCommand, load_command_files, load_wish, record_of_load}
-use Rattle.kexec_main.specs.Check.{IsAcceptedIn}
-use Rattle.kexec_main.specs.Dump.{segment_line, walk_text}
-use Rattle.kexec_main.specs.Exec.{ExecInputs, exec_files, lacks_swap_page, load_of, runs_asked}
+use Rattle.kexec_main.specs.LoadPanic.{LoadPanicCommand, load_panic_files, load_panic_of, panic_text, record_of_crash}
+use Rattle.kexec_main.specs.Check.{IsAcceptedIn, IsInPlace}
+use Rattle.kexec_main.specs.Dump.{head_text, segment_line, walk_text}
+use Rattle.kexec_main.specs.CrashExec.{crash_text}
+use Rattle.kexec_main.specs.Exec.{ExecInputs, exec_files, exec_of, is_not_kept, load_of, runs_asked}
 use Rattle.kexec_main.specs.Files.{load_files_of}
 use Rattle.kexec_main.specs.Trace.{TraceInputs, outcome_line, trace_files}
 
@@ -57,6 +65,28 @@ pub record NormalLoad (wish : Wish) (i : LoadInputs) (p : Plan) (c : Checked) : 
   pub accepted : Told c.load c.words c.links c.pairs
   -- and its run ends within its entries: the machine is done after as many steps as the walk has words
   pub ends : EndsAfter c.load c.words
+
+-- A crash kernel was put in its place, whatever memory held.
+pub record PanicLoad (i : CrashInputs) (p : Plan) (load : CrashLoad) : Type 0 where
+  -- the request has this plan
+  pub planned : plan i.request (Some i.map) ≡ Ok p
+  -- the memory map has this reserved area
+  pub area : Run
+  pub reserved : reserved_area i.map ≡ Some area
+  -- memory is as it was at every page outside the area
+  pub only_the_area : (q : ℕ) → in_span area q ≡ false → at load.memory q ≡ at i.memory q
+  -- each page of the segments has its segment's bytes and then zeros
+  pub arrives : (q : ℕ) (bytes : List ℕ) → want p.segments q ≡ Some bytes → at load.memory q ≡ bytes
+  -- and memory is as it was at every other page
+  pub only_its_pages : (q : ℕ) → want p.segments q ≡ None → at load.memory q ≡ at i.memory q
+  -- the list is the done word alone
+  pub head : load.head ≡ 4
+  pub segments : load.segments ≡ p.segments
+
+-- what `exec` says of a list that it ran, by what was taken
+abbrev pub files_text : Bool → LoadFiles → Checked → List ℕ
+files_text twice x c =
+    let r = x.load_record in run_text (runs_asked twice x) c r.start r.regions r.digest
 
 module _ {S O : Type 0} (D : Shelf S) (E : Sink O) (held : Files) (s : S) (o : O) (s' : S) (o' : O) where
   -- After `boot`: all that the words name was read, and the kernel loaded. The runs left what they are to leave, each after
@@ -92,42 +122,90 @@ module _ {S O : Type 0} (D : Shelf S) (E : Sink O) (held : Files) (s : S) (o : O
     pub put : FilesPut (D.files s) ((l.out, output) ∷ (l.load_record, record_file (record_of_load checked.load planned)) ∷ []) (D.files s')
     pub said : Said (E.said o) (list_text checked planned.start) (E.said o')
 
-  -- After `check`: the list of the record is accepted in the memory for its segments, and the text tells it.
+  -- After `load-panic`: the crash kernel was put in its place. OUT is the file of the memory after the
+  -- load, RECORD tells its start and segments, every other file is as it was, and the text tells how
+  -- many pages it has and how it starts.
+  pub record HasLoadedPanic (l : LoadPanicValue) : Type 0 where
+    pub inputs : CrashInputs
+    pub read : reads (load_panic_files l) held ≡ Ok (load_panic_of l inputs)
+    pub planned : Plan
+    pub loaded : CrashLoad
+    pub load : PanicLoad inputs planned loaded
+    pub output : List ℕ
+    pub is_memory : IsFileOf (at loaded.memory) output
+    pub put : FilesPut (D.files s)
+      ((l.out, output) ∷ (l.load_record, record_file (record_of_crash loaded planned)) ∷ [])
+      (D.files s')
+    pub said : Said (E.said o) (panic_text planned) (E.said o')
+
+  -- After `check` of a normal load: the list of the record is accepted in the memory for its segments,
+  -- and the text tells it.
   pub record HasChecked (l : LoadNamesValue) : Type 0 where
     pub files : LoadFiles
-    pub read : reads (load_files_of l) held ≡ Ok files
+    pub read : reads (load_files_of l) held ≡ Ok (Normal files)
     pub items : List Item
     pub accepted : IsAcceptedIn files items
     pub put : FilesPut (D.files s) [] (D.files s')
-    pub said : Said (E.said o) (accepted_line (length items) (length (links items)) (length (pairs items))) (E.said o')
+    pub said : Said (E.said o)
+      (accepted_line (length items) (length (links items)) (length (pairs items))) (E.said o')
 
-  -- After `dump`: the text tells each word of the record's list, up to the done word or the first that cannot be followed,
-  -- and each segment.
+  -- After `check` of a crash load: it lies in its place, and the text tells how many pages it has.
+  pub record HasCheckedCrash (l : LoadNamesValue) : Type 0 where
+    pub files : CrashFiles
+    pub read : reads (load_files_of l) held ≡ Ok (Crash files)
+    pub accepted : IsInPlace files
+    pub put : FilesPut (D.files s) [] (D.files s')
+    pub said : Said (E.said o) (crash_line (length (pages files.segments))) (E.said o')
+
+  -- After `dump` of a normal load: the text tells each word of the record's list, up to the done word
+  -- or the first that cannot be followed, and each segment.
   pub record HasDumped (l : LoadNamesValue) : Type 0 where
     pub files : LoadFiles
-    pub read : reads (load_files_of l) held ≡ Ok files
+    pub read : reads (load_files_of l) held ≡ Ok (Normal files)
     pub list : List ℕ
     pub fault : Option ListFault
     pub walk : IsWalk (at files.memory) files.load_record.image.head list fault
     pub put : FilesPut (D.files s) [] (D.files s')
-    pub said : Said (E.said o) (walk_text list fault ++ flat_map segment_line files.load_record.segments) (E.said o')
+    pub said : Said (E.said o)
+      (walk_text list fault ++ flat_map segment_line files.load_record.segments) (E.said o')
 
-  -- After `exec`: the record's list is accepted in the memory for the record's segments. The runs left what they are to
-  -- leave; OUT is the file of that memory, every other file is as it was, and the text tells the list and each run.
+  -- After `dump` of a crash load: the text tells its head and each segment.
+  pub record HasDumpedCrash (l : LoadNamesValue) : Type 0 where
+    pub files : CrashFiles
+    pub read : reads (load_files_of l) held ≡ Ok (Crash files)
+    pub put : FilesPut (D.files s) [] (D.files s')
+    pub said : Said (E.said o)
+      (head_text files.head ++ flat_map segment_line files.segments) (E.said o')
+
+  -- After `exec` of a normal load: the record's list is accepted in the memory for the record's
+  -- segments. The runs left what they are to leave; OUT is the file of that memory, every other file
+  -- is as it was, and the text tells the list and each run.
   pub record HasExecuted (e : ExecValue) : Type 0 where
-    pub inputs : ExecInputs
-    pub read : reads (exec_files e) held ≡ Ok inputs
-    pub pool : Pages
+    pub files : LoadFiles
+    pub read : reads (exec_files e) held ≡ Ok (exec_of e (Normal files))
     pub checked : Checked
-    pub of_files : checked.load ≡ load_of inputs.files pool
+    pub of_files : checked.load ≡ load_of files
     pub accepted : Told checked.load checked.words checked.links checked.pairs
     pub ends : EndsAfter checked.load checked.words
-    pub ends_again : EndsAgain (runs_asked inputs) checked
-    pub leaves : Leaves (runs_asked inputs) checked (after_runs (runs_asked inputs) checked)
+    pub ends_again : EndsAgain (runs_asked e.twice files) checked
+    pub leaves : Leaves (runs_asked e.twice files) checked
+      (after_runs (runs_asked e.twice files) checked)
     pub output : List ℕ
-    pub is_memory : IsFileOf (after_runs (runs_asked inputs) checked) output
-    pub put : FilesPut (D.files s) ((inputs.out, output) ∷ []) (D.files s')
-    pub said : Said (E.said o) (run_text (runs_asked inputs) checked inputs.files.load_record.start inputs.files.load_record.regions inputs.files.load_record.digest) (E.said o')
+    pub is_memory : IsFileOf (after_runs (runs_asked e.twice files) checked) output
+    pub put : FilesPut (D.files s) ((e.out, output) ∷ []) (D.files s')
+    pub said : Said (E.said o) (files_text e.twice files checked) (E.said o')
+
+  -- After `exec` of a crash load: it lies in its place. OUT is the file of the memory as it was, every
+  -- other file is as it was, and the text tells the load, and one run of one step.
+  pub record HasExecutedCrash (e : ExecValue) : Type 0 where
+    pub files : CrashFiles
+    pub read : reads (exec_files e) held ≡ Ok (exec_of e (Crash files))
+    pub once : e.twice ≡ false
+    pub accepted : IsInPlace files
+    pub output : List ℕ
+    pub is_memory : IsFileOf (at files.memory) output
+    pub put : FilesPut (D.files s) ((e.out, output) ∷ []) (D.files s')
+    pub said : Said (E.said o) (crash_text files) (E.said o')
 
   -- After `trace`: OUT is the file of the memory after the steps of the machine, and the text tells how its run came out.
   pub record HasTraced (t : TraceValue) : Type 0 where
@@ -142,11 +220,11 @@ module _ {S O : Type 0} (D : Shelf S) (E : Sink O) (held : Files) (s : S) (o : O
   abbrev pub HasDone : CommandValue → Type 0
   HasDone (words.boot b) = HasBooted b
   HasDone (words.load l) = HasLoaded l
-  HasDone (words.check l) = HasChecked l
-  HasDone (words.dump l) = HasDumped l
-  HasDone (words.exec e) = HasExecuted e
+  HasDone (words.load_panic l) = HasLoadedPanic l
+  HasDone (words.check l) = HasChecked l ⊎ HasCheckedCrash l
+  HasDone (words.dump l) = HasDumped l ⊎ HasDumpedCrash l
+  HasDone (words.exec e) = HasExecuted e ⊎ HasExecutedCrash e
   HasDone (words.trace t) = HasTraced t
-  HasDone (words.load_panic l) = ⊥
   HasDone (words.sample n) = ⊥
 
 -- Nothing refuses the load of what was taken: the request has a plan, the pool has as many pages as the load takes, and
@@ -157,24 +235,49 @@ pub record CanLoad (wish : Wish) (i : LoadInputs) (leaves : Checked → Mem) : T
   pub enough : need wish p.segments ≤ length i.pool
   pub light : (c : Checked) (n : ℕ) → IsLoaded wish i p c.load → IsTooHeavy (leaves c) n → ⊥
 
--- the record's list is accepted in the memory, a record that is to run twice is in kept mode, and the memory after the runs
--- has a file
-pub record CanRun (x : ExecInputs) : Type 0 where
+-- The same of a crash load, which takes no page of a pool.
+pub record CanLoadPanic (i : CrashInputs) : Type 0 where
+  pub p : Plan
+  pub planned : plan i.request (Some i.map) ≡ Ok p
+  pub light : (c : CrashLoad) (n : ℕ) → IsCrashLoaded i p c → IsTooHeavy (at c.memory) n → ⊥
+
+-- the load that was taken is accepted in the memory
+abbrev pub IsAccepted : TakenLoad → Type 0
+IsAccepted (Normal x) = (is : List Item) × IsAcceptedIn x is
+IsAccepted (Crash x) = IsInPlace x
+
+-- the record's list is accepted in the memory, a record that is to run twice is in kept mode, and the
+-- memory after the runs has a file
+pub record CanRun (x : LoadFiles) (twice : Bool) : Type 0 where
   pub items : List Item
-  pub accepted : IsAcceptedIn x.files items
-  pub kept : lacks_swap_page x.twice x.files.load_record.image.mode ≡ false
-  pub light : (c : Checked) (pool : Pages) (n : ℕ) → c.load ≡ load_of x.files pool → IsTooHeavy (after_runs (runs_asked x) c) n → ⊥
+  pub accepted : IsAcceptedIn x items
+  pub kept : is_not_kept twice x ≡ false
+  pub light : (c : Checked) (n : ℕ) → c.load ≡ load_of x →
+    IsTooHeavy (after_runs (runs_asked twice x) c) n → ⊥
+
+-- a crash load lies in its place, and is to run once
+pub record CanRunInPlace (x : CrashFiles) (twice : Bool) : Type 0 where
+  pub accepted : IsInPlace x
+  pub once : twice ≡ false
+  pub light : (n : ℕ) → IsTooHeavy (at x.memory) n → ⊥
+
+abbrev pub CanExec : TakenLoad → Bool → Type 0
+CanExec (Normal x) twice = CanRun x twice
+CanExec (Crash x) twice = CanRunInPlace x twice
 
 -- a command is in order over these files: they are read, and nothing refuses what they are
 abbrev pub IsInOrder : CommandValue → Files → Type 0
 IsInOrder (words.boot b) held = (x : BootInputs) × (reads (boot_files b) held ≡ Ok x) × CanLoad (wish_of x.runs) x.load (after_runs x.runs)
 IsInOrder (words.load l) held = (x : LoadCommand) × (reads (load_command_files l) held ≡ Ok x) × CanLoad x.wish x.load (λ c. at c.load.memory)
-IsInOrder (words.check l) held = (x : LoadFiles) × (reads (load_files_of l) held ≡ Ok x) × (is : List Item) × IsAcceptedIn x is
-IsInOrder (words.dump l) held = (x : LoadFiles) × (reads (load_files_of l) held ≡ Ok x)
-IsInOrder (words.exec e) held = (x : ExecInputs) × (reads (exec_files e) held ≡ Ok x) × CanRun x
+IsInOrder (words.load_panic l) held =
+    (x : LoadPanicCommand) × (reads (load_panic_files l) held ≡ Ok x) × CanLoadPanic x.load
+IsInOrder (words.check l) held =
+    (x : TakenLoad) × (reads (load_files_of l) held ≡ Ok x) × IsAccepted x
+IsInOrder (words.dump l) held = (x : TakenLoad) × (reads (load_files_of l) held ≡ Ok x)
+IsInOrder (words.exec e) held =
+    (x : ExecInputs) × (reads (exec_files e) held ≡ Ok x) × CanExec x.load x.twice
 IsInOrder (words.trace t) held =
     (x : TraceInputs) × (reads (trace_files t) held ≡ Ok x) × ((n : ℕ) → IsTooHeavy (at (run_of x.memory x.head x.mode x.limit).0.memory) n → ⊥)
-IsInOrder (words.load_panic l) held = ⊥
 IsInOrder (words.sample n) held = ⊥
 
 -- the files are read and the request has a plan, whose load takes more pages than the pool has: so many, and so many

@@ -1,30 +1,49 @@
--- What `check` makes: what is told of an accepted list, or the first fault of another (this project's own).
+-- What `check` makes: what is told of an accepted load, or the first fault of another (this
+-- project's own).
 use Rattle.std.specs.Prelude.{◌≡◌, List, [], length, codes, ◌++◌, Option, Some, None, Result, Ok, Err}
 use Rattle.kx_pages.specs.declared.item.Item.{Item}
+use Rattle.kx_pages.specs.Items.{decode}
 use Rattle.page_memory.specs.Contents.{at}
-use Rattle.segments.specs.Values.{want}
+use Rattle.segments.specs.Values.{pages, want}
 use Rattle.list_checker.specs.declared.fault.ListFault.{ListFault}
 use Rattle.list_checker.specs.Walk.{IsAccepted, links, pairs}
 use Rattle.list_checker.specs.Checked.{IsFirstFault}
+use Rattle.list_checker.specs.Crash.{AcceptedCrash, crash_reason}
 use Rattle.list_checker.specs.Texts.{fault_text}
 use Rattle.file_commands.specs.Taking.{Refusal}
+use Rattle.kexec_main.specs.declared.files.CrashFiles.{CrashFiles}
 use Rattle.kexec_main.specs.declared.files.LoadFiles.{LoadFiles}
+use Rattle.kexec_main.specs.declared.files.TakenLoad.{TakenLoad}
+use Rattle.kexec_main.specs.declared.files.TakenLoad.TheVariants.{Normal, Crash}
 use Rattle.kexec_main.specs.declared.status.Reason.{Reason}
 use Rattle.kexec_main.specs.Outputs.{Made}
-use Rattle.kexec_main.specs.Texts.{accepted_line}
+use Rattle.kexec_main.specs.Texts.{accepted_line, crash_line}
 use Rattle.kx_pages.specs.Modes.{swap_page}
 
--- the items are a list that is accepted for the record's segments in the memory, in the record's mode
+-- the items are a list that is accepted for the record's segments in the memory, in its mode
 abbrev pub IsAcceptedIn : LoadFiles → List Item → Type 0
 IsAcceptedIn x is =
     let r = x.load_record in
-    IsAccepted (at x.memory) (want r.segments) r.image.head r.image.control (swap_page r.image.mode) is
+    IsAccepted (at x.memory) (want r.segments) r.image.head r.image.control (swap_page r.image.mode)
+    is
 
 -- the list is not accepted, and this is its first fault
 abbrev pub IsFaultIn : LoadFiles → ListFault → Type 0
 IsFaultIn x f = IsFirstFault x.memory x.load_record.segments x.load_record.image f.word f.why
 
--- the goods of a list that is not accepted: the fault's line alone
+-- the crash load lies in its place: its head is a done word, and each page of its segments has its
+-- segment's bytes and then zeros
+abbrev pub IsInPlace : CrashFiles → Type 0
+IsInPlace x = AcceptedCrash (at x.memory) (want x.segments) x.head
+
+-- it does not, and this is its first fault, which is told of the head
+pub record IsPlaceFault (x : CrashFiles) (f : ListFault) : Type 0 where
+  pub head : f.word ≡ 0
+  pub why : crash_reason (at x.memory) (want x.segments) (pages x.segments) (decode x.head)
+    ≡ Some f.why
+  pub no_place : IsInPlace x → ⊥
+
+-- the goods of a load that is not accepted: the fault's line alone
 pub record IsFaultLine (f : ListFault) (goods : Made) : Type 0 where
   pub outputs : goods.outputs ≡ []
   pub text : goods.text ≡ fault_text f ++ codes "\n"
@@ -37,11 +56,31 @@ pub record IsAcceptedLine (x : LoadFiles) (goods : Made) : Type 0 where
   pub text : goods.text ≡ accepted_line (length items) (length (links items)) (length (pairs items))
   pub outputs : goods.outputs ≡ []
 
-abbrev pub checks_as : LoadFiles → Made → Option ListFault → Type 0
-checks_as x goods None = IsAcceptedLine x goods
-checks_as x goods (Some f) = IsFaultIn x f × IsFaultLine f goods
+-- the line of a crash load that lies in its place
+pub record IsPlaceLine (x : CrashFiles) (goods : Made) : Type 0 where
+  pub accepted : IsInPlace x
+  pub text : goods.text ≡ crash_line (length (pages x.segments))
+  pub outputs : goods.outputs ≡ []
+
+abbrev pub checks_list_as : LoadFiles → Made → Option ListFault → Type 0
+checks_list_as x goods None = IsAcceptedLine x goods
+checks_list_as x goods (Some f) = IsFaultIn x f × IsFaultLine f goods
 
 -- the line of an accepted list, or its first fault; no output is made, and nothing is refused
-abbrev pub checks : LoadFiles → Result Made (Refusal Reason) → Type 0
-checks x (Ok goods) = checks_as x goods goods.fault
-checks x (Err other) = ⊥
+abbrev pub checks_list : LoadFiles → Result Made (Refusal Reason) → Type 0
+checks_list x (Ok goods) = checks_list_as x goods goods.fault
+checks_list x (Err other) = ⊥
+
+abbrev pub checks_place_as : CrashFiles → Made → Option ListFault → Type 0
+checks_place_as x goods None = IsPlaceLine x goods
+checks_place_as x goods (Some f) = IsPlaceFault x f × IsFaultLine f goods
+
+-- the same of a crash load
+abbrev pub checks_in_place : CrashFiles → Result Made (Refusal Reason) → Type 0
+checks_in_place x (Ok goods) = checks_place_as x goods goods.fault
+checks_in_place x (Err other) = ⊥
+
+-- by the record's kind
+abbrev pub checks : TakenLoad → Result Made (Refusal Reason) → Type 0
+checks (Normal x) r = checks_list x r
+checks (Crash x) r = checks_in_place x r

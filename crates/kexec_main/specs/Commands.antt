@@ -4,9 +4,9 @@ use Rattle.list_checker.specs.declared.fault.ListFault.{ListFault}
 use Rattle.file_commands.specs.Taking.{refuse, by}
 use Rattle.file_commands.specs.Answers.{Command, command_of}
 use Rattle.kexec_words.specs.declared.faults.UsageWhy.{UsageWhy}
-use Rattle.kexec_words.specs.Values.{CommandValue, BootValue, ExecValue, LoadValue, LoadNamesValue, TraceValue}
+use Rattle.kexec_words.specs.Values.{CommandValue, BootValue, ExecValue, LoadValue, LoadPanicValue, LoadNamesValue, TraceValue}
 use Rattle.kexec_words.specs.Values as words
-use Rattle.kexec_main.specs.declared.files.LoadFiles.{LoadFiles}
+use Rattle.kexec_main.specs.declared.files.TakenLoad.{TakenLoad}
 use Rattle.kexec_main.specs.declared.status.NotBuilt.TheVariants as parts
 use Rattle.kexec_main.specs.declared.status.Reason.{Reason}
 use Rattle.kexec_main.specs.declared.status.Reason.TheVariants.{NotBuilt, Usage}
@@ -16,6 +16,7 @@ use Rattle.kexec_main.specs.Dump.{dumps}
 use Rattle.kexec_main.specs.Exec.{ExecInputs, exec_files, executes}
 use Rattle.kexec_main.specs.Files.{load_files_of}
 use Rattle.kexec_main.specs.Load.{LoadCommand, load_command_files, loads}
+use Rattle.kexec_main.specs.LoadPanic.{LoadPanicCommand, load_panic_files, loads_panic}
 use Rattle.kexec_main.specs.Trace.{TraceInputs, trace_files, traces}
 
 -- a command whose goods may have the fault of a list
@@ -28,10 +29,13 @@ boot b = command_of (boot_files b) boots
 abbrev pub load : LoadValue → Program LoadCommand
 load l = command_of (load_command_files l) loads
 
-abbrev pub check : LoadNamesValue → Program LoadFiles
+abbrev pub load_panic : LoadPanicValue → Program LoadPanicCommand
+load_panic l = command_of (load_panic_files l) loads_panic
+
+abbrev pub check : LoadNamesValue → Program TakenLoad
 check l = command_of (load_files_of l) checks
 
-abbrev pub dump : LoadNamesValue → Program LoadFiles
+abbrev pub dump : LoadNamesValue → Program TakenLoad
 dump l = command_of (load_files_of l) dumps
 
 abbrev pub exec : ExecValue → Program ExecInputs
@@ -50,9 +54,9 @@ abbrev pub Holds : ((X : Type 0) → Program X → Type 0) → Result CommandVal
 Holds P (Err why) = P (Unit {0}) (refusal (Usage why))
 Holds P (Ok (words.boot b)) = P BootInputs (boot b)
 Holds P (Ok (words.load l)) = P LoadCommand (load l)
-Holds P (Ok (words.check l)) = P LoadFiles (check l)
-Holds P (Ok (words.dump l)) = P LoadFiles (dump l)
+Holds P (Ok (words.check l)) = P TakenLoad (check l)
+Holds P (Ok (words.dump l)) = P TakenLoad (dump l)
 Holds P (Ok (words.exec e)) = P ExecInputs (exec e)
 Holds P (Ok (words.trace t)) = P TraceInputs (trace t)
-Holds P (Ok (words.load_panic l)) = P (Unit {0}) (refusal (NotBuilt parts.Command))
+Holds P (Ok (words.load_panic l)) = P LoadPanicCommand (load_panic l)
 Holds P (Ok (words.sample n)) = P (Unit {0}) (refusal (NotBuilt parts.Command))

@@ -1,5 +1,5 @@
 -- What `dump` makes: a line for each word of the list, and one for each segment.
-use Rattle.std.specs.Prelude.{◌≡◌, ℕ, ◌+◌, ◌*◌, ◌/◌, List, [], ◌∷◌, ◌++◌, length, take, codes, decimal, Option, Some, None, Result, Ok, Err}
+use Rattle.std.specs.Prelude.{◌≡◌, ℕ, ◌+◌, ◌*◌, ◌/◌, List, [], ◌∷◌, ◌++◌, length, take, codes, decimal, Option, Some, None, option_map, Result, Ok, Err}
 use Rattle.std.specs.List.{flat_map}
 use Rattle.kx_pages.specs.declared.item.Item.{Item}
 use Rattle.kx_pages.specs.declared.item.Item.TheVariants.{Link, Destination, Source, Done}
@@ -7,12 +7,16 @@ use Rattle.kx_pages.specs.Items.{decode}
 use Rattle.page_memory.specs.Contents.{at}
 use Rattle.segments.specs.Values.{SegmentValue}
 use Rattle.list_checker.specs.declared.fault.ListFault.{ListFault}
+use Rattle.list_checker.specs.Crash.{crash_reason}
 use Rattle.list_checker.specs.Reading.{IsWalk}
 use Rattle.list_checker.specs.Texts.{fault_text}
 use Rattle.sha2.specs.Sha256.{sha256}
 use Rattle.hex.specs.Hex.{encode_lower}
 use Rattle.file_commands.specs.Taking.{Refusal}
+use Rattle.kexec_main.specs.declared.files.CrashFiles.{CrashFiles}
 use Rattle.kexec_main.specs.declared.files.LoadFiles.{LoadFiles}
+use Rattle.kexec_main.specs.declared.files.TakenLoad.{TakenLoad}
+use Rattle.kexec_main.specs.declared.files.TakenLoad.TheVariants.{Normal, Crash}
 use Rattle.kexec_main.specs.declared.status.Reason.{Reason}
 use Rattle.kexec_main.specs.Outputs.{Made}
 use Rattle.kexec_main.specs.Texts.{hexadecimal}
@@ -43,10 +47,40 @@ unfoldable pub segment_line : SegmentValue → List ℕ
 segment_line s =
     codes "segment " ++ (hexadecimal s.mem ++ (codes " memsz " ++ (hexadecimal s.memsz ++ (codes " bufsz " ++ (decimal (length s.bytes) ++ (codes " sha256 " ++ (encode_lower (sha256 s.bytes) ++ codes "\n")))))))
 
--- a line for each word and each segment; no output is made, whether the list is accepted or not, and nothing is refused
-abbrev pub dumps : LoadFiles → Result Made (Refusal Reason) → Type 0
-dumps x (Ok goods) =
-    (goods.outputs ≡ []) × (goods.fault ≡ None)
-    × ((ws : List ℕ) × (fault : Option ListFault) × IsWalk (at x.memory) x.load_record.image.head ws fault
-    × (goods.text ≡ walk_text ws fault ++ flat_map segment_line x.load_record.segments))
-dumps x (Err other) = ⊥
+-- why the head of a crash load is no done word, if it is none: the fault of a load without pages
+abbrev pub head_fault : ℕ → Option ListFault
+head_fault head =
+    option_map (λ why. record { word = 0; why = why })
+    (crash_reason (λ p. []) (λ p. None) [] (decode head))
+
+abbrev pub head_text_by : ℕ → Option ListFault → List ℕ
+head_text_by head None = word_line 0 head
+head_text_by head (Some f) = fault_text f ++ codes "\n"
+
+-- the line of the head of a crash load: the done word, or why it is none
+abbrev pub head_text : ℕ → List ℕ
+head_text head = head_text_by head (head_fault head)
+
+-- goods that are lines alone
+abbrev pub lines_of : List ℕ → Made
+lines_of text = record { outputs = []; text = text; fault = None }
+
+-- a line for each word and each segment; no output is made, whether the list is accepted or not,
+-- and nothing is refused
+abbrev pub dumps_list : LoadFiles → Result Made (Refusal Reason) → Type 0
+dumps_list x (Ok goods) =
+    (ws : List ℕ) × (fault : Option ListFault)
+    × IsWalk (at x.memory) x.load_record.image.head ws fault
+    × (goods ≡ lines_of (walk_text ws fault ++ flat_map segment_line x.load_record.segments))
+dumps_list x (Err other) = ⊥
+
+-- the same of a crash load, whose list is the head alone
+abbrev pub dumps_in_place : CrashFiles → Result Made (Refusal Reason) → Type 0
+dumps_in_place x (Ok goods) =
+    goods ≡ lines_of (head_text x.head ++ flat_map segment_line x.segments)
+dumps_in_place x (Err other) = ⊥
+
+-- by the record's kind
+abbrev pub dumps : TakenLoad → Result Made (Refusal Reason) → Type 0
+dumps (Normal x) r = dumps_list x r
+dumps (Crash x) r = dumps_in_place x r

@@ -3,9 +3,8 @@ use Rattle.std.specs.Prelude.{◌≡◌, ℕ, Bool, true, false, List, Option, S
 use Rattle.kx_pages.specs.declared.image.Mode.{Mode}
 use Rattle.kx_pages.specs.declared.image.Mode.TheVariants.{Plain, Kept}
 use Rattle.kx_pages.specs.declared.image.Start.{Start}
-use Rattle.page_pool.specs.Pages.{Pages}
 use Rattle.list_checker.specs.declared.fault.ListFault.{ListFault}
-use Rattle.load_states.specs.States.{Load}
+use Rattle.load_states.specs.States.{Load, no_pages}
 use Rattle.load_states.specs.Ready.{Told}
 use Rattle.file_commands.specs.Taking.{Refusal, Take, ok, too_long, by, ◌>>=◌}
 use Rattle.kexec_words.specs.Values.{ExecValue}
@@ -13,26 +12,33 @@ use Rattle.kexec_words.specs.declared.commands.Runs.{Runs}
 use Rattle.kexec_words.specs.declared.commands.Runs.TheVariants.{Once, Twice}
 use Rattle.kexec_main.specs.declared.exec.ExecInputs.{ExecInputs as Taken}
 use Rattle.kexec_main.specs.declared.files.LoadFiles.{LoadFiles}
+use Rattle.kexec_main.specs.declared.files.TakenLoad.{TakenLoad}
+use Rattle.kexec_main.specs.declared.files.TakenLoad.TheVariants as kinds
 use Rattle.kexec_main.specs.declared.status.Reason.{Reason}
 use Rattle.kexec_main.specs.declared.status.Reason.TheVariants.{NotKept}
 use Rattle.kexec_main.specs.Check.{IsFaultIn, IsFaultLine}
+use Rattle.kexec_main.specs.CrashExec.{executes_in_place}
 use Rattle.kexec_main.specs.Files.{load_files}
 use Rattle.kexec_main.specs.Outputs.{Made, HasNoFile, IsMemoryFile}
 use Rattle.kexec_main.specs.Runs.{after_runs, checked_with, run_text}
 
 -- what `exec` took, whether the list is to run twice, and the name of its output
 pub record ExecInputs : Type 0 where
-  pub files : LoadFiles
+  pub load : TakenLoad
   pub twice : Bool
   pub out : List ℕ
 
+-- what the words ask of a load
+abbrev pub exec_of : ExecValue → TakenLoad → ExecInputs
+exec_of e load = record { load = load; twice = e.twice; out = e.out }
+
 abbrev pub exec_files : ExecValue → Take Reason ExecInputs
 exec_files e = do
-  x ← load_files e.memory e.load_record
-  ok (record { files = x; twice = e.twice; out = e.out })
+  load ← load_files e.memory e.load_record
+  ok (exec_of e load)
 
 abbrev pub exec_inputs : Taken → ExecInputs
-exec_inputs e = record { files = e.files; twice = e.twice; out = string_bytes e.out }
+exec_inputs e = record { load = e.load; twice = e.twice; out = string_bytes e.out }
 
 -- a second run is asked for, and there is no swap page to run the list again with
 abbrev pub lacks_swap_page : Bool → Mode → Bool
@@ -45,9 +51,14 @@ runs_of twice Plain = None
 runs_of false (Kept swap) = Some Once
 runs_of true (Kept swap) = Some Twice
 
--- the load that the files tell, with any pool: no page is drawn any more
-abbrev pub load_of : LoadFiles → Pages → Load
-load_of x pool = record { memory = x.memory; pool = pool; image = x.load_record.image; segments = x.load_record.segments }
+-- the load that the files tell: no page is drawn for it any more
+abbrev pub load_of : LoadFiles → Load
+load_of x = record {
+  memory = x.memory;
+  pool = no_pages;
+  image = x.load_record.image;
+  segments = x.load_record.segments;
+}
 
 -- The accepted list of a load is run: the file of the memory after the last run is the output, and the text tells the list
 -- and each run.
@@ -62,25 +73,41 @@ abbrev pub RefusesRun : Option Runs → Load → Reason → Type 0
 RefusesRun runs load why =
     (words : ℕ) × (links : ℕ) × (qs : List (ℕ × ℕ)) × Told load words links qs × HasNoFile (after_runs runs (checked_with load words links qs)) why
 
--- the list of the files is run
-abbrev pub runs_asked : ExecInputs → Option Runs
-runs_asked x = runs_of x.twice x.files.load_record.image.mode
+-- the runs that are asked of the list of the files
+abbrev pub runs_asked : Bool → LoadFiles → Option Runs
+runs_asked twice x = runs_of twice x.load_record.image.mode
 
-abbrev pub RunsFiles : ExecInputs → Made → Type 0
-RunsFiles x goods = (pool : Pages) × RunsList (runs_asked x) (load_of x.files pool) x.files.load_record.start x.files.load_record.regions x.files.load_record.digest x.out goods
+-- a second run is asked for, and there is no swap page
+abbrev pub is_not_kept : Bool → LoadFiles → Bool
+is_not_kept twice x = lacks_swap_page twice x.load_record.image.mode
 
-abbrev pub RefusesFiles : ExecInputs → Reason → Type 0
-RefusesFiles x why = (pool : Pages) × RefusesRun (runs_asked x) (load_of x.files pool) why
+abbrev pub RunsFiles : LoadFiles → Bool → List ℕ → Made → Type 0
+RunsFiles x twice out goods =
+    let r = x.load_record in
+    RunsList (runs_asked twice x) (load_of x) r.start r.regions r.digest out goods
+
+abbrev pub RefusesFiles : LoadFiles → Bool → Reason → Type 0
+RefusesFiles x twice why = RefusesRun (runs_asked twice x) (load_of x) why
 
 -- the list is accepted and was run, or its first fault is told and nothing was run
-abbrev pub executes_as : ExecInputs → Made → Option ListFault → Type 0
-executes_as x goods None = RunsFiles x goods
-executes_as x goods (Some f) = IsFaultIn x.files f × IsFaultLine f goods
+abbrev pub executes_as : LoadFiles → Bool → List ℕ → Made → Option ListFault → Type 0
+executes_as x twice out goods None = RunsFiles x twice out goods
+executes_as x twice out goods (Some f) = IsFaultIn x f × IsFaultLine f goods
 
--- A plain list is not run twice: this is refused before the list is looked at. After the runs memory may have no file.
+-- A plain list is not run twice: this is refused before the list is looked at. After the runs memory
+-- may have no file.
+abbrev pub executes_list : LoadFiles → Bool → List ℕ → Result Made (Refusal Reason) → Type 0
+executes_list x twice out (Ok goods) =
+    (is_not_kept twice x ≡ false) × executes_as x twice out goods goods.fault
+executes_list x twice out (Err (by why)) =
+    ((why ≡ NotKept) × (is_not_kept twice x ≡ true))
+    ⊎ ((is_not_kept twice x ≡ false) × RefusesFiles x twice why)
+executes_list x twice out (Err (too_long name limit)) = ⊥
+
+-- by the record's kind
+abbrev pub executes_by : TakenLoad → Bool → List ℕ → Result Made (Refusal Reason) → Type 0
+executes_by (kinds.Normal x) twice out r = executes_list x twice out r
+executes_by (kinds.Crash x) twice out r = executes_in_place x twice out r
+
 abbrev pub executes : ExecInputs → Result Made (Refusal Reason) → Type 0
-executes x (Ok goods) = (lacks_swap_page x.twice x.files.load_record.image.mode ≡ false) × executes_as x goods goods.fault
-executes x (Err (by why)) =
-    ((why ≡ NotKept) × (lacks_swap_page x.twice x.files.load_record.image.mode ≡ true))
-    ⊎ ((lacks_swap_page x.twice x.files.load_record.image.mode ≡ false) × RefusesFiles x why)
-executes x (Err (too_long name limit)) = ⊥
+executes x r = executes_by x.load x.twice x.out r

@@ -1,19 +1,21 @@
 -- The files of the commands, and what is read of each (this project's own).
-use Rattle.std.specs.Prelude.{ℕ, List, if◌then◌else◌}
+use Rattle.std.specs.Prelude.{ℕ, List, [], Option, Some, None, if◌then◌else◌}
 use Rattle.page_memory.specs.Contents.{Contents}
 use Rattle.page_memory.specs.File.{reading}
 use Rattle.page_pool.specs.File.{pool_reading}
 use Rattle.load_record.specs.File.{Record, record_reading}
+use Rattle.crash_headers.specs.declared.note.Note.{Note}
+use Rattle.crash_headers.specs.Notes.{notes_reading}
 use Rattle.memory_map.specs.Maps.{MapValue}
 use Rattle.memory_map.specs.Text.{map_reading}
 use Rattle.kexec_words.specs.Values.{LoadNamesValue}
-use Rattle.file_commands.specs.Taking.{Take, ok, refuse, by, ◌>>=◌}
+use Rattle.file_commands.specs.Taking.{Take, ok, ◌>>=◌}
 use Rattle.file_commands.specs.Files.{from_reader, whole_file}
-use Rattle.kexec_main.specs.declared.files.LoadFiles.{LoadFiles}
+use Rattle.kexec_main.specs.declared.files.TakenLoad.{TakenLoad}
+use Rattle.kexec_main.specs.declared.files.TakenLoad.TheVariants.{Normal, Crash}
 use Rattle.kexec_main.specs.declared.status.InputFault.TheVariants as inputs
-use Rattle.kexec_main.specs.declared.status.NotBuilt.TheVariants.{Crash}
 use Rattle.kexec_main.specs.declared.status.Reason.{Reason}
-use Rattle.kexec_main.specs.declared.status.Reason.TheVariants.{Input, NotBuilt}
+use Rattle.kexec_main.specs.declared.status.Reason.TheVariants.{Input}
 
 -- the limits of single files, in bytes
 abbrev pub memory_limit : ℕ
@@ -41,24 +43,42 @@ map_file name = do
   bytes ← whole_file text_limit name
   from_reader (λ e. Input (inputs.Map e)) (map_reading bytes)
 
--- the record of a list: that of a crash kernel is not served yet
-abbrev pub list_record : Record → Take Reason Record
-list_record r = if r.crash then refuse (by (NotBuilt Crash)) else ok r
+abbrev pub notes_file : List ℕ → Take Reason (List Note)
+notes_file name = do
+  bytes ← whole_file text_limit name
+  from_reader (λ e. Input (inputs.Notes e)) (notes_reading bytes)
+
+-- the notes of a file that may be named: none without one
+abbrev pub some_notes : Option (List ℕ) → Take Reason (List Note)
+some_notes None = ok []
+some_notes (Some name) = notes_file name
 
 -- the load record that a file spells
 abbrev pub load_record_file : List ℕ → Take Reason Record
 load_record_file name = do
   bytes ← whole_file record_limit name
-  r ← from_reader (λ e. Input (inputs.Rec e)) (record_reading bytes)
-  list_record r
+  from_reader (λ e. Input (inputs.Rec e)) (record_reading bytes)
+
+-- the load that a memory and a record tell, by the record's kind
+abbrev pub load_by : Contents → Record → TakenLoad
+load_by m r =
+    if r.crash then Crash (record {
+      memory = m;
+      head = r.image.head;
+      segments = r.segments;
+      start = r.start;
+      regions = r.regions;
+      digest = r.digest;
+    })
+    else Normal (record { memory = m; load_record = r })
 
 -- the memory file, then the file of the load record
-abbrev pub load_files : List ℕ → List ℕ → Take Reason LoadFiles
+abbrev pub load_files : List ℕ → List ℕ → Take Reason TakenLoad
 load_files memory load_record = do
   m ← memory_file memory
   r ← load_record_file load_record
-  ok (record { memory = m; load_record = r })
+  ok (load_by m r)
 
 -- what `check` and `dump` take
-abbrev pub load_files_of : LoadNamesValue → Take Reason LoadFiles
+abbrev pub load_files_of : LoadNamesValue → Take Reason TakenLoad
 load_files_of l = load_files l.memory l.load_record

@@ -50,3 +50,16 @@ purgatory_line N table digest = if (table == 0) && (digest == 0) then [] else re
 -- what a load says
 abbrev pub load_lines : ℕ → ℕ → ℕ → Image → Start → List ℕ
 load_lines words links pairs image start = accepted_line words links pairs ++ (head_line image ++ start_line start)
+
+-- a crash load that is accepted: how many pages its segments have
+abbrev pub crash_line : ℕ → List ℕ
+crash_line pages = codes "accepted crash pages " ++ (decimal pages ++ codes "\n")
+
+-- what a crash load says
+abbrev pub crash_lines : ℕ → Start → List ℕ
+crash_lines pages start = crash_line pages ++ start_line start
+
+-- what is said of a crash load and of its run, after which memory is this
+abbrev pub crash_ran_text : Mem → (pages steps : ℕ) → Start → (table digest : ℕ) → List ℕ
+crash_ran_text N pages steps start table digest =
+    (crash_lines pages start ++ ran_line steps) ++ purgatory_line N table digest

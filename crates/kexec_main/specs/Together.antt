@@ -3,16 +3,14 @@ use Rattle.std.specs.Prelude.{◌≡◌, ℕ, Bool, true, false, List, Option, S
 use Rattle.kx_edge.specs.Edge.{Files}
 use Rattle.kx_edge.specs.declared.edge.Shelf.{Ghosts as Shelf}
 use Rattle.kx_edge.specs.declared.edge.Sink.{Ghosts as Sink}
-use Rattle.kx_pages.specs.declared.image.Start.{Start}
-use Rattle.load_record.specs.File.{Record, record_file}
+use Rattle.load_record.specs.File.{record_file}
 use Rattle.load_states.specs.States.{Checked}
 use Rattle.file_commands.specs.Taking.{file_at}
 use Rattle.kexec_words.specs.declared.commands.Runs.{Runs}
 use Rattle.kexec_words.specs.declared.commands.Runs.TheVariants.{Once, Twice}
 use Rattle.kexec_words.specs.Values.{BootValue, ExecValue, LoadValue}
 use Rattle.kexec_plan.specs.Requests.{Plan}
-use Rattle.kexec_main.specs.Call.{HasBooted, HasExecuted, HasLoaded}
-use Rattle.kexec_main.specs.Exec.{ExecInputs, runs_asked}
+use Rattle.kexec_main.specs.Call.{HasBooted, HasExecuted, HasLoaded, files_text}
 use Rattle.kexec_main.specs.Load.{load_wish, record_of_load}
 use Rattle.kexec_main.specs.Runs.{run_text, wish_of}
 
@@ -31,14 +29,9 @@ pub record AskTogether (b : BootValue) (l : LoadValue) (e : ExecValue) : Type 0 
   pub memory : e.memory ≡ l.out
   pub load_record : e.load_record ≡ l.load_record
 
--- what a boot and an exec said
+-- what a boot said
 abbrev pub booted_text : Option Runs → Checked → Plan → List ℕ
 booted_text runs c p = run_text runs c p.start p.regions p.digest
-
-abbrev pub executed_text : ExecInputs → Checked → List ℕ
-executed_text x c =
-    let r = x.files.load_record in
-    run_text (runs_asked x) c r.start r.regions r.digest
 
 -- Where `boot` was done over some files, `load` over the same ones, and `exec` over files that have what `load` put: OUT of
 -- `exec` is that of `boot`, and both said the same.
@@ -49,4 +42,4 @@ LoadThenExecIsBoot {S} {O} D E =
     → file_at after l.out ≡ load.output
     → file_at after l.load_record ≡ record_file (record_of_load load.checked.load load.planned)
     → (exec.output ≡ boot.output)
-    × (executed_text exec.inputs exec.checked ≡ booted_text b.kept boot.checked boot.planned)
+    × (files_text e.twice exec.files exec.checked ≡ booted_text b.kept boot.checked boot.planned)

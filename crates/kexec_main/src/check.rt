@@ -1,50 +1,62 @@
-//! `check`: whether the list of a load record is accepted.
+//! `check`: whether the load that a record tells is accepted.
 
 ghost use Rattle.std.specs.Prelude.{◌≡◌, IfOk, IfErr};
 ghost use Rattle.list_checker.specs.declared.fault.ListFault.{ListFault as SpecFault};
 ghost use Rattle.list_checker.specs.declared.fault.CheckFault.TheVariants as faults;
 ghost use Rattle.file_commands.specs.Calls.{Makes, goods_of};
 ghost use Rattle.kexec_words.specs.Values.{load_names_value};
-ghost use Rattle.kexec_main.specs.Check.{IsFaultLine, checks};
+ghost use Rattle.kexec_main.specs.Check.{IsFaultLine, checks, checks_in_place, checks_list};
 ghost use Rattle.kexec_main.specs.Files.{load_files_of};
 
-use crate::files::{LoadFiles, take_load_files};
+use crate::files::{CrashFiles, LoadFiles, TakenLoad, take_load_files};
 use crate::status::Reason;
-use crate::text::accepted_line;
+use crate::text::{accepted_line, crash_line};
 use crate::words::CheckWords;
 use file_commands::{Command, Goods, MakeFault, TakeFault};
 use kx_edge::Shelf;
-use list_checker::{CheckFault, ListFault, check as check_list};
+use list_checker::{CheckFault, ListFault, check, check_crash};
 use std::alloc::Global;
 
-/// What is made of a list that was not found to be accepted: its first fault's line alone, and the fault.
+/// What is made of a load that is not accepted: its first fault's line alone, and the fault.
 pub(crate) fn fault_goods(
+    alloc: Global,
+    fault: ListFault,
+) -> Result<Goods<ListFault>, MakeFault<Reason>>
+    ensures line { IfOk result (λ g. IsFaultLine fault (goods_of g)) }
+    ensures memory { IfErr result (λ e. e ≡ MakeFault.Memory) }
+{
+    Ok(Goods {
+        outputs: Vec::new(alloc),
+        text: format!(in alloc; "{fault}\n")?,
+        fault: Some(fault),
+    })
+}
+
+/// The same of a list that was not found to be accepted.
+pub(crate) fn unaccepted_goods(
     alloc: Global,
     why: CheckFault,
 ) -> Result<Goods<ListFault>, MakeFault<Reason>>
-    ensures line { IfOk result (λ g. (f : SpecFault) × (why ≡ faults.List f) × IsFaultLine f (goods_of g)) }
+    ensures line { IfOk result (λ g.
+        (f : SpecFault) × (why ≡ faults.List f) × IsFaultLine f (goods_of g)) }
     ensures memory { IfErr result (λ e. e ≡ MakeFault.Memory) }
 {
     match why {
         CheckFault::Memory => Err(MakeFault::Memory),
-        CheckFault::List { fault } => Ok(Goods {
-            outputs: Vec::new(alloc),
-            text: format!(in alloc; "{fault}\n")?,
-            fault: Some(fault),
-        }),
+        CheckFault::List { fault } => fault_goods(alloc, fault),
     }
 }
 
-// Checks the list, and makes the line that tells of it.
-fn make_check(alloc: Global, files: LoadFiles) -> Result<Goods<ListFault>, MakeFault<Reason>>
-    ensures { Makes checks files result }
+// Checks the list of a normal load, and makes the line that tells of it.
+fn check_list(alloc: Global, files: LoadFiles) -> Result<Goods<ListFault>, MakeFault<Reason>>
+    ensures { Makes checks_list files result }
 {
     let LoadFiles {
         memory,
         load_record,
     } = files;
-    match check_list(alloc, &memory, &load_record.image, &load_record.segments) {
-        Err(why) => fault_goods(alloc, why),
+    match check(alloc, &memory, &load_record.image, &load_record.segments) {
+        Err(why) => unaccepted_goods(alloc, why),
         Ok(accept) => {
             let pairs = accept.pairs.len() as u64;
             Ok(Goods {
@@ -56,16 +68,40 @@ fn make_check(alloc: Global, files: LoadFiles) -> Result<Goods<ListFault>, MakeF
     }
 }
 
+// Checks a crash load, and makes the line that tells of it.
+fn check_in_place(alloc: Global, files: CrashFiles) -> Result<Goods<ListFault>, MakeFault<Reason>>
+    ensures { Makes checks_in_place files result }
+{
+    match check_crash(&files.memory, files.head, &files.segments) {
+        Err(fault) => fault_goods(alloc, fault),
+        Ok(()) => Ok(Goods {
+            outputs: Vec::new(alloc),
+            text: crash_line(alloc, files.segments.pages())?,
+            fault: None,
+        }),
+    }
+}
+
+// Checks the load, and makes the line that tells of it.
+fn make_check(alloc: Global, load: TakenLoad) -> Result<Goods<ListFault>, MakeFault<Reason>>
+    ensures { Makes checks load result }
+{
+    match load {
+        TakenLoad::Normal(files) => check_list(alloc, files),
+        TakenLoad::Crash(files) => check_in_place(alloc, files),
+    }
+}
+
 impl Command for CheckWords {
-    type Taken = LoadFiles;
+    type Taken = TakenLoad;
 
     type Fault = ListFault;
 
     type Reason = Reason;
 
-    ghost use Rattle.kexec_main.specs.declared.files.LoadFiles.{LoadFiles};
+    ghost use Rattle.kexec_main.specs.declared.files.TakenLoad.{TakenLoad};
 
-    ghost Inputs = { LoadFiles };
+    ghost Inputs = { TakenLoad };
 
     ghost inputs = { λ f. f };
 
@@ -73,11 +109,11 @@ impl Command for CheckWords {
 
     ghost makes = { checks };
 
-    fn take<S: Shelf>(self, alloc: Global, shelf: &mut S) -> Result<LoadFiles, TakeFault<Reason>> {
+    fn take<S: Shelf>(self, alloc: Global, shelf: &mut S) -> Result<TakenLoad, TakeFault<Reason>> {
         take_load_files(alloc, self.words.memory, self.words.load_record, shelf)
     }
 
-    fn make(alloc: Global, files: LoadFiles) -> Result<Goods<ListFault>, MakeFault<Reason>> {
-        make_check(alloc, files)
+    fn make(alloc: Global, load: TakenLoad) -> Result<Goods<ListFault>, MakeFault<Reason>> {
+        make_check(alloc, load)
     }
 }

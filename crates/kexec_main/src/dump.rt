@@ -1,19 +1,19 @@
-//! `dump`: the words of the list of a load record, and its segments.
+//! `dump`: the words of the list that a record tells, and its segments.
 
 ghost use Rattle.std.specs.Prelude.{◌≡◌, ◌++◌, ◌∷◌, [], IfOk, OnOk, string_bytes};
 ghost use Rattle.std.specs.List.{flat_map};
-ghost use Rattle.file_commands.specs.Calls.{Makes};
+ghost use Rattle.file_commands.specs.Calls.{Makes, goods_of};
 ghost use Rattle.kexec_words.specs.Values.{load_names_value};
-ghost use Rattle.kexec_main.specs.Dump.{dumps, segment_line, walk_text, word_line, word_lines};
+ghost use Rattle.kexec_main.specs.Dump.{dumps, dumps_in_place, dumps_list, head_fault, head_text, lines_of, segment_line, walk_text, word_line, word_lines};
 ghost use Rattle.kexec_main.specs.Files.{load_files_of};
 
-use crate::files::{LoadFiles, take_load_files};
+use crate::files::{CrashFiles, LoadFiles, TakenLoad, take_load_files};
 use crate::status::Reason;
 use crate::words::DumpWords;
 use file_commands::{Command, Goods, MakeFault, TakeFault};
 use kx_edge::Shelf;
-use kx_pages::Item;
-use list_checker::{ListFault, Walk, walk};
+use kx_pages::{Item, Page};
+use list_checker::{ListFault, Walk, Why, walk};
 use segments::{Segment, Segments};
 use sha2::{Digest, Sha256};
 use std::alloc::{AllocError, Global};
@@ -82,9 +82,47 @@ fn push_segments(alloc: Global, text: &mut String, segments: &Segments) -> Resul
     Ok(())
 }
 
-// Makes the lines of the list and of the segments.
-fn make_dump(alloc: Global, files: LoadFiles) -> Result<Goods<ListFault>, MakeFault<Reason>>
-    ensures { Makes dumps files result }
+// Why the head of a crash load is no done word, if it is none.
+fn head_fault(head: u64) -> Option<ListFault>
+    ensures { result ≡ head_fault head }
+{
+    let why = match Item::of_word(head) {
+        Some(Item::Done(_)) => return None,
+        Some(Item::Link(number) | Item::Destination(number) | Item::Source(number)) => {
+            match Page::new(number) {
+                Some(_) => Why::HeadKind,
+                None => Why::PastLimit,
+            }
+        }
+        None => Why::Flags,
+    };
+    Some(ListFault { word: 0, why })
+}
+
+// The line of the head of a crash load.
+fn head_text(alloc: Global, head: u64) -> Result<String, AllocError>
+    ensures { IfOk result (λ s. string_bytes s ≡ head_text head) }
+{
+    match head_fault(head) {
+        None => word_line(alloc, 0, head),
+        Some(fault) => format!(in alloc; "{fault}\n"),
+    }
+}
+
+// The lines of a load, as its goods.
+fn lines(alloc: Global, text: String) -> Goods<ListFault>
+    ensures { goods_of result ≡ lines_of (string_bytes text) }
+{
+    Goods {
+        outputs: Vec::new(alloc),
+        text,
+        fault: None,
+    }
+}
+
+// Makes the lines of the list and of the segments of a normal load.
+fn dump_list(alloc: Global, files: LoadFiles) -> Result<Goods<ListFault>, MakeFault<Reason>>
+    ensures { Makes dumps_list files result }
 {
     let LoadFiles {
         memory,
@@ -94,23 +132,38 @@ fn make_dump(alloc: Global, files: LoadFiles) -> Result<Goods<ListFault>, MakeFa
     let mut text = String::new(alloc);
     push_walk(alloc, &mut text, walk)?;
     push_segments(alloc, &mut text, &load_record.segments)?;
-    Ok(Goods {
-        outputs: Vec::new(alloc),
-        text,
-        fault: None,
-    })
+    Ok(lines(alloc, text))
+}
+
+// Makes the lines of the head and of the segments of a crash load.
+fn dump_in_place(alloc: Global, files: CrashFiles) -> Result<Goods<ListFault>, MakeFault<Reason>>
+    ensures { Makes dumps_in_place files result }
+{
+    let mut text = head_text(alloc, files.head)?;
+    push_segments(alloc, &mut text, &files.segments)?;
+    Ok(lines(alloc, text))
+}
+
+// Makes the lines of the load.
+fn make_dump(alloc: Global, load: TakenLoad) -> Result<Goods<ListFault>, MakeFault<Reason>>
+    ensures { Makes dumps load result }
+{
+    match load {
+        TakenLoad::Normal(files) => dump_list(alloc, files),
+        TakenLoad::Crash(files) => dump_in_place(alloc, files),
+    }
 }
 
 impl Command for DumpWords {
-    type Taken = LoadFiles;
+    type Taken = TakenLoad;
 
     type Fault = ListFault;
 
     type Reason = Reason;
 
-    ghost use Rattle.kexec_main.specs.declared.files.LoadFiles.{LoadFiles};
+    ghost use Rattle.kexec_main.specs.declared.files.TakenLoad.{TakenLoad};
 
-    ghost Inputs = { LoadFiles };
+    ghost Inputs = { TakenLoad };
 
     ghost inputs = { λ f. f };
 
@@ -118,11 +171,11 @@ impl Command for DumpWords {
 
     ghost makes = { dumps };
 
-    fn take<S: Shelf>(self, alloc: Global, shelf: &mut S) -> Result<LoadFiles, TakeFault<Reason>> {
+    fn take<S: Shelf>(self, alloc: Global, shelf: &mut S) -> Result<TakenLoad, TakeFault<Reason>> {
         take_load_files(alloc, self.words.memory, self.words.load_record, shelf)
     }
 
-    fn make(alloc: Global, files: LoadFiles) -> Result<Goods<ListFault>, MakeFault<Reason>> {
-        make_dump(alloc, files)
+    fn make(alloc: Global, load: TakenLoad) -> Result<Goods<ListFault>, MakeFault<Reason>> {
+        make_dump(alloc, load)
     }
 }

@@ -1,15 +1,16 @@
-//! `exec`: runs the list of a load record where it is accepted.
+//! `exec`: runs the load that a record tells where it is accepted.
 
 ghost use Rattle.std.specs.Prelude.{◌≡◌, string_bytes};
 ghost use Rattle.load_states.specs.Answers.{IsAcceptedAs};
 ghost use Rattle.load_states.specs.States.{Load as LoadOf};
 ghost use Rattle.file_commands.specs.Calls.{Makes, MakesOr, Takes, goods_of};
 ghost use Rattle.kexec_words.specs.Values.{exec_value};
-ghost use Rattle.kexec_main.specs.Exec.{ExecInputs as Inputs, RunsList, RefusesRun, exec_files, exec_inputs, executes, lacks_swap_page, runs_of};
+ghost use Rattle.kexec_main.specs.Exec.{ExecInputs as Inputs, RunsList, RefusesRun, exec_files, exec_inputs, executes, executes_list, lacks_swap_page, runs_of};
 ghost use Rattle.kexec_main.specs.Runs.{HasMode};
 
-use crate::check::fault_goods;
-use crate::files::{LoadFiles, take_load_files};
+use crate::check::unaccepted_goods;
+use crate::crash_exec::exec_in_place;
+use crate::files::{LoadFiles, TakenLoad, take_load_files};
 use crate::output::memory_output;
 use crate::running::run_accepted;
 use crate::status::Reason;
@@ -22,13 +23,12 @@ use kx_pages::{Mode, Start};
 use list_checker::ListFault;
 use load_record::LoadRecord;
 use load_states::{Accepted, Loaded};
-use page_pool::Pool;
 use std::alloc::Global;
 
 /// What `exec` took, whether the list is to run twice, and the name of its output.
 #[derive(Drop)]
 pub(crate) struct ExecInputs {
-    pub(crate) files: LoadFiles,
+    pub(crate) load: TakenLoad,
     pub(crate) twice: bool,
     pub(crate) out: String,
 }
@@ -47,8 +47,8 @@ fn take_exec<S: Shelf>(
         out,
         twice,
     } = exec;
-    let files = take_load_files(alloc, memory, load_record, shelf)?;
-    Ok(ExecInputs { files, twice, out })
+    let load = take_load_files(alloc, memory, load_record, shelf)?;
+    Ok(ExecInputs { load, twice, out })
 }
 
 // A second run is asked for, and the record is in plain mode.
@@ -95,11 +95,15 @@ fn run_goods(
     })
 }
 
-// Runs the list where it is accepted, and makes the file of the memory after the last run.
-fn make_exec(alloc: Global, exec: ExecInputs) -> Result<Goods<ListFault>, MakeFault<Reason>>
-    ensures { Makes executes (exec_inputs exec) result }
+// Runs the list of a normal load where it is accepted, and makes the file of the memory after the last run.
+fn exec_list(
+    alloc: Global,
+    files: LoadFiles,
+    twice: bool,
+    out: String,
+) -> Result<Goods<ListFault>, MakeFault<Reason>>
+    ensures { Makes (λ x. executes_list x twice (string_bytes out)) files result }
 {
-    let ExecInputs { files, twice, out } = exec;
     let LoadFiles {
         memory,
         load_record,
@@ -118,10 +122,21 @@ fn make_exec(alloc: Global, exec: ExecInputs) -> Result<Goods<ListFault>, MakeFa
         });
     }
     let runs = runs_of(twice, image.mode);
-    let loaded = Loaded::from_parts(memory, Pool::empty(alloc), image, segments);
+    let loaded = Loaded::from_files(alloc, memory, image, segments);
     match loaded.accept(alloc) {
         Ok(accepted) => run_goods(alloc, accepted, runs, &start, regions, digest, out),
-        Err(refused) => fault_goods(alloc, refused.why),
+        Err(refused) => unaccepted_goods(alloc, refused.why),
+    }
+}
+
+// Runs the load where it is accepted.
+fn make_exec(alloc: Global, exec: ExecInputs) -> Result<Goods<ListFault>, MakeFault<Reason>>
+    ensures { Makes executes (exec_inputs exec) result }
+{
+    let ExecInputs { load, twice, out } = exec;
+    match load {
+        TakenLoad::Normal(files) => exec_list(alloc, files, twice, out),
+        TakenLoad::Crash(files) => exec_in_place(alloc, files, twice, out),
     }
 }
 

@@ -3,22 +3,25 @@
 ghost use Rattle.std.specs.Prelude.{◌≡◌, ℕ, false, is_some, option_map, string_bytes, IfOk};
 ghost use Rattle.file_commands.specs.Calls.{Takes};
 ghost use Rattle.file_commands.specs.Files.{optional_file};
-ghost use Rattle.kexec_main.specs.Files.{load_files, load_record_file, map_file, memory_file, pool_file};
+ghost use Rattle.kexec_main.specs.Files.{load_by, load_files, load_record_file, map_file, memory_file, notes_file, pool_file, some_notes};
 ghost use Rattle.page_pool.specs.Pages.{is_filed};
 
-use crate::status::{InputFault, NotBuilt, Reason};
+use crate::status::{InputFault, Reason};
+use crash_headers::{Note, NoteFault, read_notes};
 use file_commands::{FileParts, TakeFault, take_apart, take_file};
 use kx_edge::Shelf;
+use kx_pages::Start;
 use load_record::{FIRST_BYTES, LoadRecord, RecFault};
 use memory_map::{Map, MapFault};
 use page_memory::{MemFault, Memory};
 use page_pool::{Pool, PoolFault};
+use segments::Segments;
 use std::alloc::Global;
 
 /// The most bytes of a memory file: 16 and 4,104 for each of 131,072 pages.
 const MEMORY_LIMIT: usize = 537_919_504;
 
-/// The most bytes of a pool file and of a memory map.
+/// The most bytes of a pool file, of a memory map and of a file of notes.
 const TEXT_LIMIT: usize = 1_048_576;
 
 /// The most bytes of a load record: its head, sixteen segments' heads, and the bytes of 65,536 pages.
@@ -67,9 +70,9 @@ pub(crate) fn take_pool<S: Shelf>(
     }
 }
 
-// Takes a memory map and reads it.
+/// Takes a memory map and reads it.
 #[tactic(auto, unfolding(file_commands::specs::Taking::and_then, file_commands::specs::Taking::Took, file_commands::specs::Taking::FailedAt, file_commands::specs::Calls::TakesNot))]
-fn take_map_file<S: Shelf>(
+pub(crate) fn take_map_file<S: Shelf>(
     alloc: Global,
     name: String,
     shelf: &mut S,
@@ -104,23 +107,57 @@ pub(crate) fn take_map<S: Shelf>(
     }
 }
 
-/// Takes the file of a load record and reads it: what follows its front is taken into the buffer that becomes its first
-/// segment's. The record of a crash kernel is not served yet.
+// Takes a file of notes and reads it.
 #[tactic(auto, unfolding(file_commands::specs::Taking::and_then, file_commands::specs::Taking::Took, file_commands::specs::Taking::FailedAt, file_commands::specs::Calls::TakesNot))]
-pub(crate) fn take_record<S: Shelf>(
+fn take_notes_file<S: Shelf>(
+    alloc: Global,
+    name: String,
+    shelf: &mut S,
+) -> Result<Vec<Note>, TakeFault<Reason>>
+    ensures { Takes S.Shelf (notes_file (string_bytes name)) (λ v. v.items) shelf.old result
+        shelf.new }
+{
+    let bytes = take_file(alloc, name, TEXT_LIMIT, shelf)?;
+    match read_notes(alloc, &bytes) {
+        Ok(notes) => Ok(notes),
+        Err(NoteFault::Memory) => Err(TakeFault::Memory),
+        Err(fault) => Err(TakeFault::Refused {
+            why: Reason::Input {
+                fault: InputFault::Notes { fault },
+            },
+        }),
+    }
+}
+
+/// Takes the file of notes, where one is named, and reads it. Without one there are none.
+#[tactic(auto, unfolding(file_commands::specs::Taking::and_then, file_commands::specs::Taking::Took, file_commands::specs::Taking::FailedAt, file_commands::specs::Calls::TakesNot))]
+pub(crate) fn take_notes<S: Shelf>(
+    alloc: Global,
+    name: Option<String>,
+    shelf: &mut S,
+) -> Result<Vec<Note>, TakeFault<Reason>>
+    ensures { Takes S.Shelf (some_notes (option_map string_bytes name)) (λ v. v.items) shelf.old
+        result shelf.new }
+{
+    match name {
+        Some(name) => take_notes_file(alloc, name, shelf),
+        None => Ok(Vec::new(alloc)),
+    }
+}
+
+// Takes the file of a load record and reads it: what follows its front is taken into the buffer that becomes its first
+// segment's.
+#[tactic(auto, unfolding(file_commands::specs::Taking::and_then, file_commands::specs::Taking::Took, file_commands::specs::Taking::FailedAt, file_commands::specs::Calls::TakesNot))]
+fn take_record<S: Shelf>(
     alloc: Global,
     name: String,
     shelf: &mut S,
 ) -> Result<LoadRecord, TakeFault<Reason>>
-    ensures { Takes S.Shelf (load_record_file (string_bytes name)) (λ r. r) shelf.old result shelf.new }
+    ensures { Takes S.Shelf (load_record_file (string_bytes name)) (λ r. r) shelf.old result
+        shelf.new }
 {
     let FileParts { front, rest, .. } = take_apart(alloc, name, FIRST_BYTES, RECORD_LIMIT, shelf)?;
     match LoadRecord::from_file(alloc, &front, rest) {
-        Ok(record) if record.crash => Err(TakeFault::Refused {
-            why: Reason::NotBuilt {
-                what: NotBuilt::Crash,
-            },
-        }),
         Ok(record) => Ok(record),
         Err(RecFault::Memory) => Err(TakeFault::Memory),
         Err(fault) => Err(TakeFault::Refused {
@@ -131,11 +168,60 @@ pub(crate) fn take_record<S: Shelf>(
     }
 }
 
-/// The files of a load, as they were taken: the memory, and the record of its list.
+/// The files of a normal load, as they were taken: the memory, and the record of its list.
 #[derive(Drop)]
 pub(crate) struct LoadFiles {
     pub(crate) memory: Memory,
     pub(crate) load_record: LoadRecord,
+}
+
+/// The files of a crash load, as they were taken: the memory, in which the kernel lies in its place, and what the record
+/// tells of it. Its list is the head alone.
+#[derive(Drop)]
+pub(crate) struct CrashFiles {
+    pub(crate) memory: Memory,
+    pub(crate) head: u64,
+    pub(crate) segments: Segments,
+    pub(crate) start: Start,
+    /// The address of the purgatory's region table, 0 without a purgatory.
+    pub(crate) regions: u64,
+    /// The address of the purgatory's digest, 0 without a purgatory.
+    pub(crate) digest: u64,
+}
+
+/// A load that was taken, by the kind of its record. No command looks at the kind again.
+#[derive(Drop)]
+pub(crate) enum TakenLoad {
+    Normal(LoadFiles),
+    Crash(CrashFiles),
+}
+
+// The load that the files tell.
+fn load_by(memory: Memory, load_record: LoadRecord) -> TakenLoad
+    ensures { result ≡ load_by memory load_record }
+{
+    if !load_record.crash {
+        return TakenLoad::Normal(LoadFiles {
+            memory,
+            load_record,
+        });
+    }
+    let LoadRecord {
+        image,
+        start,
+        regions,
+        digest,
+        segments,
+        ..
+    } = load_record;
+    TakenLoad::Crash(CrashFiles {
+        memory,
+        head: image.head,
+        segments,
+        start,
+        regions,
+        digest,
+    })
 }
 
 /// Takes the memory file, then the file of the load record.
@@ -144,13 +230,11 @@ pub(crate) fn take_load_files<S: Shelf>(
     memory: String,
     load_record: String,
     shelf: &mut S,
-) -> Result<LoadFiles, TakeFault<Reason>>
-    ensures { Takes S.Shelf (load_files (string_bytes memory) (string_bytes load_record)) (λ f. f) shelf.old result shelf.new }
+) -> Result<TakenLoad, TakeFault<Reason>>
+    ensures { Takes S.Shelf (load_files (string_bytes memory) (string_bytes load_record)) (λ f. f)
+        shelf.old result shelf.new }
 {
     let memory = take_memory(alloc, memory, shelf)?;
     let load_record = take_record(alloc, load_record, shelf)?;
-    Ok(LoadFiles {
-        memory,
-        load_record,
-    })
+    Ok(load_by(memory, load_record))
 }

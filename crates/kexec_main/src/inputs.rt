@@ -1,19 +1,21 @@
-//! What `boot` and `load` take: the memory, the pool, the memory map, and the files of the kernel, which become the request
-//! for a plan.
+//! What `boot`, `load` and `load-panic` take: the memory, the pool or the notes, the memory map, and the files of the
+//! kernel, which become the request for a plan.
 
 ghost use Rattle.std.specs.Prelude.{◌≡◌, ◌≤◌, ◌-◌, ℕ, length, map, option_map, is_some, string_bytes, IfOk};
 ghost use Rattle.file_commands.specs.Calls.{Takes, file_of};
 ghost use Rattle.kexec_words.specs.Limits.{HasParts};
-ghost use Rattle.kexec_words.specs.Values.{inputs_value};
+ghost use Rattle.kexec_words.specs.Values.{crash_inputs_value, inputs_value};
 ghost use Rattle.kexec_plan.specs.Requests.{request_of};
 ghost use Rattle.kexec_main.specs.Inputs.{KernelFiles as KernelBytes, inputs_of, kernel_bytes, kernel_files, left_after, load_inputs, module_of, request_with};
+ghost use Rattle.kexec_main.specs.CrashInputs.{crash_inputs, crash_inputs_of, crash_request};
 
-use crate::files::{take_map, take_memory, take_pool};
-use crate::load_inputs::LoadInputs;
+use crate::files::{take_map, take_map_file, take_memory, take_notes, take_pool};
+use crate::load_inputs::{CrashInputs, LoadInputs};
 use crate::status::Reason;
+use crash_headers::Note;
 use file_commands::{File, TakeFault, take_all, take_file, take_optional};
 use kexec_plan::{Module, Request};
-use kexec_words::Inputs;
+use kexec_words::{CrashInputs as CrashNames, Inputs};
 use kx_edge::Shelf;
 use kx_pages::ImageType;
 use std::alloc::{AllocError, Global};
@@ -137,6 +139,52 @@ pub(crate) fn take_inputs<S: Shelf>(
     Ok(LoadInputs {
         memory,
         pool,
+        map,
+        request,
+    })
+}
+
+// The request for the plan of a crash kernel of these files.
+fn crash_request(
+    alloc: Global,
+    command: Option<String>,
+    notes: Vec<Note>,
+    files: KernelFiles,
+) -> Result<Request, AllocError>
+    ensures { IfOk result (λ r. request_of r ≡
+        crash_request (option_map string_bytes command) notes.items (kernel_bytes files)) }
+{
+    let mut request = request_with(alloc, ImageType::Auto, command, files)?;
+    request.crash = true;
+    request.notes = notes;
+    Ok(request)
+}
+
+/// Takes what `load-panic` takes.
+pub(crate) fn take_crash_inputs<S: Shelf>(
+    alloc: Global,
+    inputs: CrashNames,
+    map: String,
+    shelf: &mut S,
+) -> Result<CrashInputs, TakeFault<Reason>>
+    ensures { Takes S.Shelf (crash_inputs (crash_inputs_value inputs) (string_bytes map))
+        crash_inputs_of shelf.old result shelf.new }
+{
+    let CrashNames {
+        memory,
+        notes,
+        kernel,
+        initrd,
+        purgatory,
+        command,
+    } = inputs;
+    let memory = take_memory(alloc, memory, shelf)?;
+    let map = take_map_file(alloc, map, shelf)?;
+    let notes = take_notes(alloc, notes, shelf)?;
+    let files = take_kernel(alloc, kernel, initrd, purgatory, Vec::new(alloc), shelf)?;
+    let request = crash_request(alloc, command, notes, files)?;
+    Ok(CrashInputs {
+        memory,
         map,
         request,
     })

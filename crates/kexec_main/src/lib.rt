@@ -5,9 +5,10 @@
 //!
 //! | Module | What it has |
 //! |---|---|
-//! | `files`, `inputs` | the files of the commands, their limits and readers; the request that a kernel's files make |
+//! | `files`, `inputs` | the files of the commands, their limits and readers; the kind of a load that is taken; the request that a kernel's files make |
 //! | `loading`, `running`, `output`, `text` | the work in memory: a plan, its load, a run, the file of a memory, the text |
-//! | `boot`, `load`, `check`, `dump`, `exec`, `trace` | a command each |
+//! | `crash_loading`, `crash_exec` | the same of a crash kernel, which is put in its place and never moves |
+//! | `boot`, `load`, `load_panic`, `check`, `dump`, `exec`, `trace` | a command each |
 //! | `laws` | what commands do together |
 //! | `status` | how a command ended, and why it may be refused |
 //! | `run` | the top call |
@@ -15,6 +16,12 @@
 
 mod boot;
 mod check;
+#[cfg(test)]
+mod crash_example;
+mod crash_exec;
+mod crash_loading;
+#[cfg(test)]
+mod crash_tests;
 #[cfg(test)]
 mod device_tests;
 mod dump;
@@ -30,6 +37,7 @@ pub mod laws;
 mod limit_tests;
 mod load;
 mod load_inputs;
+mod load_panic;
 mod loading;
 mod output;
 #[cfg(test)]

@@ -21,3 +21,11 @@ pub(crate) struct LoadInputs {
     /// A memory map is there where the request needs one.
     pub(crate) ghost mapped: { IsMapped (request_of request) map },
 }
+
+/// What `load-panic` took: the memory, the memory map, and the request for a plan of a crash kernel.
+#[derive(Drop)]
+pub(crate) struct CrashInputs {
+    pub(crate) memory: Memory,
+    pub(crate) map: Map,
+    pub(crate) request: Request,
+}

@@ -27,8 +27,8 @@ use page_pool::Pool;
 use segments::Segments;
 use std::alloc::Global;
 
-// The plan of a request.
-fn plan_request(
+/// The plan of a request.
+pub(crate) fn plan_request(
     alloc: Global,
     request: Request,
     map: Option<&Map>,

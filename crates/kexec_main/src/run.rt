@@ -14,7 +14,9 @@ ghost use Rattle.kexec_main.specs.Commands.{Holds};
 ghost use Rattle.kexec_main.specs.declared.status.Reason.TheVariants.{NoPages};
 
 use crate::status::{NotBuilt, Reason, Status};
-use crate::words::{BootWords, CheckWords, DumpWords, ExecWords, LoadWords, TraceWords};
+use crate::words::{
+    BootWords, CheckWords, DumpWords, ExecWords, LoadPanicWords, LoadWords, TraceWords,
+};
 use file_commands::{Stop, run};
 use kexec_words::{Command, WordsFault, read};
 use kx_edge::{Shelf, Sink};
@@ -35,11 +37,12 @@ fn run_command<S: Shelf, O: Sink>(
     match command {
         Command::Boot(words) => run(alloc, BootWords { words }, shelf, out),
         Command::Load(words) => run(alloc, LoadWords { words }, shelf, out),
+        Command::LoadPanic(words) => run(alloc, LoadPanicWords { words }, shelf, out),
         Command::Check(words) => run(alloc, CheckWords { words }, shelf, out),
         Command::Dump(words) => run(alloc, DumpWords { words }, shelf, out),
         Command::Exec(words) => run(alloc, ExecWords { words }, shelf, out),
         Command::Trace(words) => run(alloc, TraceWords { words }, shelf, out),
-        Command::LoadPanic(_) | Command::Sample { .. } => Err(Stop::Refused {
+        Command::Sample { .. } => Err(Stop::Refused {
             why: Reason::NotBuilt {
                 what: NotBuilt::Command,
             },

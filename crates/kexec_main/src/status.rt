@@ -6,6 +6,7 @@ ghost use Rattle.file_commands.specs.Taking.{by};
 ghost use Rattle.file_commands.specs.Calls.{answer_of as stop_answer};
 ghost use Rattle.kexec_main.specs.Statuses.{answer_of, code_of};
 
+use crash_headers::NoteFault;
 use file_commands::Stop;
 use kexec_plan::PlanFault;
 use kexec_words::UsageWhy;
@@ -27,15 +28,15 @@ pub enum InputFault {
     Map { fault: MapFault },
     #[error("{fault}")]
     Rec { fault: RecFault },
+    #[error("{fault}")]
+    Notes { fault: NoteFault },
 }
 
 /// What the program does not do yet.
 #[derive(Clone, Copy, Debug, PartialEq, Eq, Error)]
 pub enum NotBuilt {
-    #[error("this command is not served yet: boot, load, check, dump, exec and trace are")]
+    #[error("this command is not served yet: boot, load, load-panic, check, dump, exec and trace are")]
     Command,
-    #[error("crash records are not served yet")]
-    Crash,
 }
 
 /// Why a command is refused, in the order in which its work is done.

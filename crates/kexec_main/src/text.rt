@@ -4,10 +4,11 @@
 ghost use Rattle.std.specs.Prelude.{◌≡◌, ◌++◌, IfOk, OnOk, string_bytes};
 ghost use Rattle.kexec_main.specs.Runs.{ran_text};
 ghost use Rattle.page_memory.specs.Contents.{at};
-ghost use Rattle.kexec_main.specs.Texts.{purgatory_line, regions_line, accepted_line, head_line, start_line, ran_line, load_lines};
+ghost use Rattle.kexec_main.specs.Texts.{accepted_line, crash_line, crash_lines, crash_ran_text, head_line, load_lines, purgatory_line, ran_line, regions_line, start_line};
 
 use crate::running::Ran;
 use kx_pages::{Image, Mode, Start};
+use load_states::RanPlain;
 use page_memory::Memory;
 use purgatory_link::{RegionTest, test_regions};
 use std::alloc::{AllocError, Global};
@@ -121,5 +122,39 @@ pub(crate) fn ran_text(
         Some(steps) => push_ran_line(alloc, &mut text, steps)?,
         None => push_purgatory_line(&mut text, &ran.memory, regions, digest)?,
     }
+    Ok(text)
+}
+
+/// How many pages an accepted crash load has.
+pub(crate) fn crash_line(alloc: Global, pages: u64) -> Result<String, AllocError>
+    ensures { IfOk result (λ s. string_bytes s ≡ crash_line pages) }
+{
+    format!(in alloc; "accepted crash pages {pages}\n")
+}
+
+/// What a crash load says: how many pages it has, and how the new kernel starts.
+pub(crate) fn crash_lines(alloc: Global, pages: u64, start: &Start) -> Result<String, AllocError>
+    ensures { IfOk result (λ s. string_bytes s ≡ crash_lines pages start.now) }
+{
+    let mut text = crash_line(alloc, pages)?;
+    text.push_str(&start_line(alloc, start)?)?;
+    Ok(text)
+}
+
+/// What is said of a crash load and of its run, which left this memory. `regions` and `digest` are as in `ran_text`.
+pub(crate) fn crash_ran_text(
+    alloc: Global,
+    ran: &RanPlain,
+    pages: u64,
+    start: &Start,
+    regions: u64,
+    digest: u64,
+) -> Result<String, AllocError>
+    ensures { IfOk result (λ s. string_bytes s ≡
+        crash_ran_text (at ran.now.memory) pages ran.now.steps start.now regions digest) }
+{
+    let mut text = crash_lines(alloc, pages, start)?;
+    push_ran_line(alloc, &mut text, ran.steps())?;
+    push_purgatory_line(&mut text, ran.memory(), regions, digest)?;
     Ok(text)
 }

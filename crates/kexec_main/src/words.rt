@@ -4,7 +4,7 @@ ghost use Rattle.std.specs.Prelude.{◌≡◌, ◌<◌, ◌^◌, ℕ, Some};
 ghost use Rattle.kexec_words.specs.Limits.{HasParts};
 ghost use Rattle.kexec_words.specs.Values.{inputs_value};
 
-use kexec_words::{Boot, Exec, Load, LoadNames, Trace};
+use kexec_words::{Boot, Exec, Load, LoadPanic, LoadNames, Trace};
 
 /// The words of `boot`.
 #[derive(Drop)]
@@ -20,6 +20,12 @@ pub(crate) struct LoadWords {
     pub(crate) words: Load,
     /// As for `boot`.
     pub(crate) ghost parts: { HasParts (inputs_value words.inputs) words.image },
+}
+
+/// The words of `load-panic`.
+#[derive(Drop)]
+pub(crate) struct LoadPanicWords {
+    pub(crate) words: LoadPanic,
 }
 
 /// The words of `check`.

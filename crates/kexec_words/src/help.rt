@@ -14,7 +14,7 @@ kernel's kexec core do, checks the list of page moves, and runs it.
 Commands:
   boot        load a kernel and run it
   load        load a kernel and write its load record
-  load-panic  load a crash kernel and write its load record (not served yet)
+  load-panic  load a crash kernel and write its load record
   check       say whether the list of a load record is accepted
   dump        print the words and the segments of a load record
   exec        check the list of a load record and run it
@@ -107,9 +107,9 @@ one of the words above.
 const LOAD_PANIC: &str = "\
 Usage: kexec load-panic --map FILE [OPTIONS] MEMORY OUT RECORD KERNEL
 
-Not served yet. Loads a crash kernel, a bzImage, into the area that the memory map names
-Crash kernel, and writes the memory after the load and the load record, which
-check, dump and exec read.
+Loads a crash kernel, a bzImage, into the area that the memory map names Crash
+kernel, and writes the memory after the load and the load record, which check,
+dump and exec read.
 
 Words:
   MEMORY  memory file to read: the memory before the load
@@ -127,6 +127,10 @@ Options:
   --notes FILE      file to read: the ELF notes for the crash headers, on each
                     line an address and a size in bytes, both hexadecimal;
                     default: none
+
+The crash kernel is told where its headers lie, and gets no memory below 1 MiB.
+Users add memmap=0x9e000@0x1000 to its command, and memmap=4K$0xADDRESS with the
+address of the headers.
 
 OUT and RECORD are two files, and none of those that are read. An option is
 given at most once, as --map FILE or --map=FILE, anywhere before a word --,

@@ -4,9 +4,9 @@ use Rattle.kexec_words.specs.Values.{exec_value}
 use Rattle.kexec_main.specs.Exec.{exec_files, exec_inputs}
 use Rattle.kexec_main.proofs.exec.take_exec.Goals as goal
 
-pub returns-in_err-files : goal.returns-in_err-files
-returns-in_err-files g c =
-    stopped g.S.Shelf _ _ _ exec_inputs _ (search rules) (start g.S.Shelf (exec_files (exec_value c.args.exec)) c.args.shelf.now) c.in_err-files.ensures
+pub returns-in_err-load : goal.returns-in_err-load
+returns-in_err-load g c =
+    stopped g.S.Shelf _ _ _ exec_inputs _ (search rules) (start g.S.Shelf (exec_files (exec_value c.args.exec)) c.args.shelf.now) c.in_err-load.ensures
 
 pub returns : goal.returns
-returns g c = finished g.S.Shelf (next g.S.Shelf _ _ (start g.S.Shelf (exec_files (exec_value c.args.exec)) c.args.shelf.now) c.in_ok-files.ensures)
+returns g c = finished g.S.Shelf (next g.S.Shelf _ _ (start g.S.Shelf (exec_files (exec_value c.args.exec)) c.args.shelf.now) c.in_ok-load.ensures)

@@ -1,0 +1,162 @@
+-- The plan of a crash kernel lies in the reserved area.
+use Rattle.std.proofs.Common.{◌≡◌, ℕ, suc, ◌+◌, ◌*◌, ◌≤◌, ◌++◌, List, [], ◌∷◌, length, Bool, true, false, Option, Some, None, Result, Ok, Err, refl, sym, ap, ◌∙◌, subst, arith}
+use Rattle.std.specs.Prelude.{cond, not, nat_le, nat_lt, option_map}
+use Rattle.std.specs.Option.{option_or}
+use Rattle.std.specs.List.{position, position_or_len}
+use Rattle.std.proofs.lemmas.Bool.Decides.{nat_tests}
+use Rattle.std.proofs.lemmas.Option.{none-some}
+use Rattle.kx_laws.specs.Results.{◌>>=◌, unless}
+use Rattle.kx_laws.proofs.Results.{bind_ok, ok_same}
+use Rattle.kx_pages.specs.Lists.{Each}
+use Rattle.kx_pages.specs.Spans.{Run, in_span}
+use Rattle.kx_pages.specs.declared.image.Start.{Start}
+use Rattle.kx_pages.proofs.Lists.{Each-append, Each-left, Each-right}
+use Rattle.segments.specs.declared.fault.Kind.{Kind}
+use Rattle.segments.specs.declared.fault.Kind.TheVariants.{Normal, Crash}
+use Rattle.segments.specs.declared.fault.SegFault.{SegFault}
+use Rattle.segments.specs.declared.fault.SegFault.TheVariants.{OutsideReserved}
+use Rattle.segments.specs.Values.{SegmentValue, is_page_of_segment, want}
+use Rattle.segments.specs.Rules.{at_first, half_of_memory, leaves, misplaced, outside_reserved, refusal, shape_refusal}
+use Rattle.memory_map.specs.Maps.{MapValue, reserved_area}
+use Rattle.bzimage.specs.Kernel.{Kernel, kernel_reading}
+use Rattle.kexec_plan.specs.declared.fault.PlanFault.{PlanFault}
+use Rattle.kexec_plan.specs.declared.fault.PlanFault.TheVariants as faults
+use Rattle.kexec_plan.specs.declared.format.Format.{Format}
+use Rattle.kexec_plan.specs.declared.format.Format.TheVariants as formats
+use Rattle.kexec_plan.specs.declared.places.Site.{Site}
+use Rattle.kexec_plan.specs.Modules.{LinuxAsked}
+use Rattle.kexec_plan.specs.Requests.{Asked, Plan}
+use Rattle.kexec_plan.specs.Faults.{told_by, of_bzimage}
+use Rattle.kexec_plan.specs.Formats.{crash_kind, format_of, is_bzimage, kind_of, unused_part}
+use Rattle.kexec_plan.specs.Places.{searched}
+use Rattle.kexec_plan.specs.Parts.{segment_at}
+use Rattle.kexec_plan.specs.Rules.{first_refusal, ram_runs, tested, unless_refused}
+use Rattle.kexec_plan.specs.Purgatory.{Linkage, PurgatoryValue, linked_at, purgatory_most, purgatory_rule, some_purgatory}
+use Rattle.kexec_plan.specs.Finish.{armed_plan, armed_segment, finished, linked_plan, plain_plan}
+use Rattle.kexec_plan.specs.Table.{headers_rule}
+use Rattle.kexec_plan.specs.Linux.{LinuxPlaces, headers_size, linux_parts, linux_sites, linux_start, rows_of, some_headers}
+use Rattle.kexec_plan.specs.Plan.{linux_headed, linux_made, linux_of, linux_placed, linux_plan, linux_read, plan, plan_as}
+
+-- each segment lies in the area
+abbrev pub AreInside : Run → List SegmentValue → Type 0
+AreInside area ss = Each (λ s. leaves area s ≡ false) ss
+
+-- a page outside the area is a page of none of them
+outside_one : (area : Run) (s : SegmentValue) (q : ℕ) → leaves area s ≡ false → in_span area q ≡ false → is_page_of_segment s q ≡ false
+outside_one area s q inside outside = grind (arith, nat_tests)
+
+pub outside_all : (area : Run) (ss : List SegmentValue) (q : ℕ) → AreInside area ss → in_span area q ≡ false → want ss q ≡ None
+outside_all area [] q inside outside = refl
+outside_all area (s ∷ ss) q inside outside = rw (outside_one area s q inside.0 outside) (outside_all area ss q inside.1 outside)
+
+-- ---- what the rules of segments leave
+none_left : (a b : Option SegFault) → option_or a b ≡ None → a ≡ None
+none_left None b e = refl
+none_left (Some x) b e = e
+
+none_right : (a b : Option SegFault) → option_or a b ≡ None → b ≡ None
+none_right None b e = e
+none_right (Some x) b e = absurd (none-some x (sym e))
+
+map_none : {A B : Type 0} (f : A → B) (o : Option A) → option_map f o ≡ None → o ≡ None
+map_none f None e = refl
+map_none f (Some x) e = absurd (none-some (f x) (sym e))
+
+none_before : (p : SegmentValue → Bool) (xs : List SegmentValue) → position p xs ≡ None → length xs ≤ position_or_len p xs
+none_before p xs h = grind (arith, nat_tests)
+
+all_fail : (p : SegmentValue → Bool) (xs : List SegmentValue) → length xs ≤ position_or_len p xs → Each (λ x. p x ≡ false) xs
+all_fail p [] h = tt
+all_fail p (x ∷ xs) h = by (p x) refl h (λ few. all_fail p xs few)
+  where
+    by : (b : Bool) → p x ≡ b → suc (length xs) ≤ cond (not b) (1 + position_or_len p xs) 0 → (length xs ≤ position_or_len p xs → Each (λ x. p x ≡ false) xs) → Each (λ x. p x ≡ false) (x ∷ xs)
+    by true e few rest = absurd (omega arith)
+    by false e few rest = (e, rest (omega (arith, few)))
+
+inside_by : (area : Run) (ss : List SegmentValue) → outside_reserved (Crash area) ss ≡ None → AreInside area ss
+inside_by area ss e = all_fail (leaves area) ss (none_before (leaves area) ss (map_none OutsideReserved (position (leaves area) ss) e))
+
+unrefused_inside : (ram : List Run) (area : Run) (ss : List SegmentValue) → refusal ram (Crash area) ss ≡ None → AreInside area ss
+unfolding refusal
+unrefused_inside ram area ss e =
+    let half = none_right (shape_refusal ss) _ e in
+    let place = none_right (half_of_memory ram ss) _ half in
+    inside_by area ss (none_left (outside_reserved (Crash area) ss) _ (none_left (misplaced ram (Crash area) ss) _ place))
+
+passed : (ss kept : List SegmentValue) (r : Option SegFault) → unless_refused ss r ≡ Ok kept → (r ≡ None) × (ss ≡ kept)
+passed ss kept None e = (refl, ok_same {F = PlanFault} ss kept e)
+passed ss kept (Some f) e = cc
+
+tested_inside : (map : MapValue) (area : Run) (ss kept : List SegmentValue) → tested (Some map) (Crash area) ss ≡ Ok kept → AreInside area ss × (ss ≡ kept)
+unfolding tested first_refusal
+tested_inside map area ss kept e =
+    let k = passed ss kept (refusal (ram_runs map) (Crash area) ss) e in
+    (unrefused_inside (ram_runs map) area ss k.0, k.1)
+
+-- ---- the end of a plan tests its segments
+plain_inside : (map : MapValue) (area : Run) (ss : List SegmentValue) (start : Start) (p : Plan) → plain_plan (Some map) (Crash area) ss start ≡ Ok p → AreInside area p.segments
+unfolding plain_plan
+plain_inside map area ss start p e =
+    let a = bind_ok (tested (Some map) (Crash area) ss) (λ kept. Ok (record { segments = kept; start = start; regions = 0; digest = 0 })) p e in
+    let t = tested_inside map area ss a.0 a.1 in
+    subst (λ (p : Plan). AreInside area p.segments) (ok_same {F = PlanFault} _ p a.2) (subst (AreInside area) t.1 t.0)
+
+-- the purgatory's segment keeps its place
+armed_inside : (map : MapValue) (area : Run) (ss : List SegmentValue) (start : Start) (l : Linkage) (s : Site) (p : Plan) → armed_plan (Some map) (Crash area) ss start l s ≡ Ok p → AreInside area p.segments
+unfolding armed_plan
+armed_inside map area ss start l s p e =
+    let a = bind_ok (tested (Some map) (Crash area) (ss ++ segment_at s l.bytes ∷ [])) (λ _. Ok (record { segments = ss ++ armed_segment l start ss s ∷ []; start = record { entry = l.symbols.start; rax = 0; rbx = 0; rsi = 0 }; regions = l.symbols.regions; digest = l.symbols.digest })) p e in
+    let t = (tested_inside map area (ss ++ segment_at s l.bytes ∷ []) a.0 a.1).0 in
+    let stays = λ (x : SegmentValue). leaves area x ≡ false in
+    let front = Each-left stays ss (segment_at s l.bytes ∷ []) t in
+    let last = Each-right stays ss (segment_at s l.bytes ∷ []) t in
+    subst (λ (p : Plan). AreInside area p.segments) (ok_same {F = PlanFault} _ p a.2) (Each-append stays ss (armed_segment l start ss s ∷ []) front (last.0, tt))
+
+linked_inside : (map : MapValue) (area : Run) (ss : List SegmentValue) (start : Start) (v : PurgatoryValue) (s : Site) (p : Plan) → linked_plan (Some map) (Crash area) ss start v s ≡ Ok p → AreInside area p.segments
+unfolding linked_plan
+linked_inside map area ss start v s p e =
+    let a = bind_ok (linked_at v s) (λ l. armed_plan (Some map) (Crash area) ss start l s) p e in
+    armed_inside map area ss start a.0 s p a.2
+
+finished_inside : (map : MapValue) (area : Run) (ss : List SegmentValue) (start : Start) (v : Option PurgatoryValue) (s : Option Site) (p : Plan) → finished (Some map) (Crash area) ss start v s ≡ Ok p → AreInside area p.segments
+finished_inside map area ss start (Some v) (Some s) p e = linked_inside map area ss start v s p e
+finished_inside map area ss start (Some v) None p e = plain_inside map area ss start p e
+finished_inside map area ss start None s p e = plain_inside map area ss start p e
+
+-- ---- the plan of a bzImage ends so
+linux_inside : (ram : ℕ → Bool) (r : LinuxAsked) (file : Option (List ℕ)) (map : MapValue) (area : Run) (p : Plan) → linux_plan ram r file (Some map) (Crash area) ≡ Ok p → AreInside area p.segments
+unfolding linux_plan linux_read linux_placed linux_headed linux_made
+linux_inside ram r file map area p e =
+    let m = Some map in
+    let kind = Crash area in
+    let a = bind_ok (told_by of_bzimage (kernel_reading r.kernel)) (λ image. linux_read ram image r file m kind) p e in
+    let b = bind_ok (some_purgatory file) (λ purgatory. linux_placed ram a.0 r purgatory m kind) p a.2 in
+    let c = bind_ok (linux_sites ram a.0 r (option_map (headers_rule a.0) (headers_size m kind r.notes)) (option_map (purgatory_rule (purgatory_most kind a.0.above4g)) b.0))
+      (λ sites. linux_headed a.0 r b.0 m kind sites) p b.2 in
+    let d = bind_ok (some_headers m kind r.notes) (λ headers. linux_made a.0 r b.0 headers m kind c.0) p c.2 in
+    let f = bind_ok (linux_parts a.0 r d.0 (rows_of m kind) c.0) (λ parts. finished m kind parts (linux_start c.0) b.0 c.0.later.back.purgatory) p d.2 in
+    finished_inside map area f.0 (linux_start c.0) b.0 c.0.later.back.purgatory p f.2
+
+-- ---- a crash kernel is a bzImage, and has an area
+has_area : (area : Option Run) (kind : Kind) → crash_kind area ≡ Ok kind → (a : Run) × (area ≡ Some a) × (kind ≡ Crash a)
+has_area None kind e = cc
+has_area (Some a) kind e = (a, refl, sym (ok_same {F = PlanFault} (Crash a) kind e))
+
+crash_form : (r : Asked) (map : MapValue) (format : Format) (kind : Kind) → r.crash ≡ true → kind_of r (Some map) format ≡ Ok kind → (format ≡ formats.Bzimage) × (crash_kind (reserved_area map) ≡ Ok kind)
+crash_form r map (formats.Raw at entry) kind crash e = let k = sym (ap (λ b. cond (not b) (Ok Normal) (Err faults.CrashNeedsBzimage)) crash) ∙ e in cc
+crash_form r map formats.Elf kind crash e = let k = sym (ap (λ b. cond (not b) (Ok Normal) (Err faults.CrashNeedsBzimage)) crash) ∙ e in cc
+crash_form r map formats.Multiboot kind crash e = let k = sym (ap (λ b. cond (not b) (Ok Normal) (Err faults.CrashNeedsBzimage)) crash) ∙ e in cc
+crash_form r map formats.Bzimage kind crash e = (refl, sym (ap (λ b. cond (not b) (Ok Normal) (crash_kind (reserved_area map))) crash) ∙ e)
+
+-- the map of a crash load that has a plan has an area, and each segment lies in it
+pub in_area : (r : Asked) (map : MapValue) (p : Plan) → r.crash ≡ true → plan r (Some map) ≡ Ok p → (area : Run) × (reserved_area map ≡ Some area) × AreInside area p.segments
+unfolding plan
+in_area r map p crash e =
+    let m = Some map in
+    let f = bind_ok (format_of r) (λ format. kind_of r m format >>= λ kind. unless (option_map faults.Unused (unused_part r format)) >>= λ _. plan_as (searched m kind) r m kind format) p e in
+    let k = bind_ok (kind_of r m f.0) (λ kind. unless (option_map faults.Unused (unused_part r f.0)) >>= λ _. plan_as (searched m kind) r m kind f.0) p f.2 in
+    let u = bind_ok (unless (option_map faults.Unused (unused_part r f.0))) (λ _. plan_as (searched m k.0) r m k.0 f.0) p k.2 in
+    let form = crash_form r map f.0 k.0 crash k.1 in
+    let area = has_area (reserved_area map) k.0 form.1 in
+    let as_linux = subst (λ kind. plan_as (searched m kind) r m kind formats.Bzimage ≡ Ok p) area.2 (subst (λ format. plan_as (searched m k.0) r m k.0 format ≡ Ok p) form.0 u.2) in
+    (area.0, area.1, linux_inside (searched m (Crash area.0)) (linux_of r) r.purgatory map area.0 p as_linux)

@@ -1,0 +1,222 @@
+//! Crash loads: what `load-panic` leaves, and what each command makes of it.
+
+use crate::Status;
+use crate::crash_example::{CRASH_TEXT, LOAD_PANIC, crash_shelf, headers};
+use crate::first_example::{lacks, numbers, push_page, run};
+use kx_edge::{MemoryShelf, Shelf};
+use std::alloc::{AllocError, Global};
+use std::test::Fail;
+
+// The file of a memory of so many bytes.
+fn taken(alloc: Global, shelf: &mut MemoryShelf, name: &str) -> Result<Vec<u8>, Fail> {
+    Ok(shelf.take(alloc, name, 100_000).ok().ok_or("a file")?)
+}
+
+// A page as a memory file has it: its number, then its bytes, then zeros.
+fn page(alloc: Global, number: u64, bytes: &[u8]) -> Result<Vec<u8>, AllocError> {
+    let mut file = Vec::new(alloc);
+    push_page(&mut file, number, bytes)?;
+    Ok(file)
+}
+
+// The page that was stale is the kernel's second one, and has zeros.
+#[test]
+fn a_crash_load_writes_its_place_alone(rt: HostRuntime) -> Result<(), Fail> {
+    let alloc = rt.alloc();
+    let mut shelf = crash_shelf(alloc, &[])?;
+    let (status, sink) = run(alloc, &LOAD_PANIC, &mut shelf, &[])?;
+    assert_eq!(rt; status.code(), 0);
+    assert_eq!(rt; sink.said(), CRASH_TEXT);
+    let out = taken(alloc, &mut shelf, "o")?;
+    assert_eq!(rt; out.len(), 16 + 6 * 4104);
+    assert!(rt; out.starts_with(b"KXMEM001\x06\0\0\0\0\0\0\0"));
+    let pages = [
+        (0, page(alloc, 2, b"outside")?),
+        (1, page(alloc, 0x4000, b"crash")?),
+        (2, page(alloc, 0x4005, b"inside")?),
+        (4, page(alloc, 0x5ffe, b"quiet elfcorehdr=98300K\0")?),
+        (5, page(alloc, 0x5fff, &headers(alloc)?)?),
+    ];
+    for (i, bytes) in pages {
+        let at = 16 + 4104 * i;
+        assert!(rt; out[at..].starts_with(&bytes), "page {i}");
+    }
+    let parameters = 16 + 4104 * 3;
+    assert!(rt; out[parameters..].starts_with(&numbers(alloc, &[0x5ffd])?));
+    let told = parameters + 8 + 0x228;
+    assert!(rt; out[told..].starts_with(&[0x00, 0xe0, 0xff, 0x05]));
+    Ok(())
+}
+
+// The head is the done word; there is no control page, no swap page and no purgatory.
+#[test]
+fn a_crash_record_tells_its_kind_and_its_segments(rt: HostRuntime) -> Result<(), Fail> {
+    let alloc = rt.alloc();
+    let mut shelf = crash_shelf(alloc, &[])?;
+    run(alloc, &LOAD_PANIC, &mut shelf, &[])?;
+    let record = taken(alloc, &mut shelf, "r")?;
+    let mut wanted = b"KXREC001\x01\0\0\0\0\0\0\0".to_vec(alloc)?;
+    let fields = [
+        4, 0, 0, 0x400_0200, 0, 0, 0x5ff_d000, 0, 0, 3, 0x400_0000, 0x3000, 5,
+    ];
+    wanted.extend_from_slice(&numbers(alloc, &fields)?)?;
+    wanted.extend_from_slice(b"crash")?;
+    wanted.extend_from_slice(&numbers(alloc, &[0x5ff_f000, 0x1000, 232])?)?;
+    wanted.extend_from_slice(&headers(alloc)?)?;
+    wanted.extend_from_slice(&numbers(alloc, &[0x5ff_d000, 0x2000, 4120])?)?;
+    assert!(rt; record.starts_with(&wanted));
+    assert_eq!(rt; record.len(), wanted.len() + 4120);
+    Ok(())
+}
+
+#[test]
+fn a_crash_load_is_checked_dumped_and_run(rt: HostRuntime) -> Result<(), Fail> {
+    let alloc = rt.alloc();
+    let mut shelf = crash_shelf(alloc, &[])?;
+    run(alloc, &LOAD_PANIC, &mut shelf, &[])?;
+    let (status, sink) = run(alloc, &["check", "o", "r"], &mut shelf, &[])?;
+    assert_eq!(rt; status.code(), 0);
+    assert_eq!(rt; sink.said(), b"accepted crash pages 6\n".as_slice());
+    let (status, sink) = run(alloc, &["dump", "o", "r"], &mut shelf, &[])?;
+    assert_eq!(rt; status.code(), 0);
+    assert!(rt; sink.said().starts_with(b"0 done\nsegment 4000000 memsz 3000 bufsz 5 sha256 "));
+    assert_eq!(rt; sink.said().iter().filter(|byte| **byte == b'\n').count(), 4);
+    let (status, sink) = run(alloc, &["exec", "o", "r", "x"], &mut shelf, &[])?;
+    assert_eq!(rt; status.code(), 0);
+    assert!(rt; sink.said().starts_with(CRASH_TEXT));
+    assert!(rt; sink.said().ends_with(b"\nran 1\n"));
+    assert_eq!(rt; sink.said().len(), CRASH_TEXT.len() + 6);
+    assert!(rt; taken(alloc, &mut shelf, "x")? == taken(alloc, &mut shelf, "o")?);
+    let twice = ["exec", "--twice", "o", "r", "m2"];
+    let (status, _) = run(alloc, &twice, &mut shelf, &[])?;
+    assert!(rt; matches!(status, Status::NotKept));
+    Ok(())
+}
+
+/// The head of the record, and the line of its fault.
+const HEADS: [(u64, &str); 4] = [
+    (0x20002, "word 0: HeadKind\n"),
+    (0x20001, "word 0: HeadKind\n"),
+    (6, "word 0: Flags\n"),
+    (0x4000_0000_0008, "word 0: PastLimit\n"),
+];
+
+// The head of a record stands at its byte 16. `dump` tells the same of it, and then the segments.
+#[test]
+fn each_fault_of_a_crash_load_is_told(rt: HostRuntime) -> Result<(), Fail> {
+    let alloc = rt.alloc();
+    for (head, line) in HEADS {
+        let mut shelf = crash_shelf(alloc, &[])?;
+        run(alloc, &LOAD_PANIC, &mut shelf, &[])?;
+        let mut record = taken(alloc, &mut shelf, "r")?;
+        for (i, byte) in head.to_le_bytes().iter().enumerate() {
+            record[16 + i] = *byte;
+        }
+        shelf.put("r", &record).ok().ok_or("a put")?;
+        for words in [
+            ["check", "o", "r"].as_slice(),
+            ["exec", "o", "r", "x"].as_slice(),
+        ] {
+            let (status, sink) = run(alloc, words, &mut shelf, &[])?;
+            assert_eq!(rt; status.code(), 1, "{line}");
+            assert_eq!(rt; sink.said(), line.as_bytes());
+            assert!(rt; lacks(alloc, &mut shelf, "x"));
+        }
+        let (status, sink) = run(alloc, &["dump", "o", "r"], &mut shelf, &[])?;
+        assert_eq!(rt; status.code(), 0);
+        assert!(rt; sink.said().starts_with(line.as_bytes()));
+    }
+    Ok(())
+}
+
+// The memory before the load has not the kernel's bytes in its first page.
+#[test]
+fn a_crash_load_in_another_memory_is_missing(rt: HostRuntime) -> Result<(), Fail> {
+    let alloc = rt.alloc();
+    let mut shelf = crash_shelf(alloc, &[])?;
+    run(alloc, &LOAD_PANIC, &mut shelf, &[])?;
+    let (status, sink) = run(alloc, &["check", "m", "r"], &mut shelf, &[])?;
+    assert_eq!(rt; status.code(), 1);
+    assert_eq!(rt; sink.said(), b"word 0: Missing 4000000\n".as_slice());
+    Ok(())
+}
+
+/// The option, its file, the kernel, the exit status and the status of crash loads that are refused.
+const REFUSALS: [(&str, &str, &str, u8, &str); 6] = [
+    ("no_area", "notes", "kernel", 8, "Plan { fault: NoReserved }"),
+    ("map", "notes", "elf", 8, "Plan { fault: CrashNeedsBzimage }"),
+    ("map", "notes", "notes", 8, "Plan { fault: UnknownImage }"),
+    (
+        "map",
+        "in_area",
+        "kernel",
+        8,
+        "Plan { fault: Crash { fault: NotesOutside { i: 0 } } }",
+    ),
+    (
+        "map",
+        "empty_note",
+        "kernel",
+        7,
+        "Input { fault: Notes { fault: BadLine { line: 1 } } }",
+    ),
+    (
+        "notes",
+        "notes",
+        "kernel",
+        7,
+        "Input { fault: Map { fault: BadLine { line: 1 } } }",
+    ),
+];
+
+#[test]
+fn each_refusal_of_a_crash_load_is_told(rt: HostRuntime) -> Result<(), Fail> {
+    let alloc = rt.alloc();
+    for (map, notes, kernel, code, wanted) in REFUSALS {
+        let mut shelf = crash_shelf(alloc, &[])?;
+        let words = [
+            "load-panic",
+            "--map",
+            map,
+            "--notes",
+            notes,
+            "m",
+            "o",
+            "r",
+            kernel,
+        ];
+        let (status, sink) = run(alloc, &words, &mut shelf, &[])?;
+        assert_eq!(rt; status.code(), code, "{wanted}");
+        let told = format!(in alloc; "{status:?}")?;
+        assert!(rt; told.as_str() == wanted, "{told}");
+        assert_eq!(rt; sink.said().len(), 0);
+        assert!(rt; lacks(alloc, &mut shelf, "o"));
+    }
+    Ok(())
+}
+
+// The load takes four files, then puts two and says its text.
+#[test]
+fn a_device_that_fails_ends_the_crash_load(rt: HostRuntime) -> Result<(), Fail> {
+    let alloc = rt.alloc();
+    for (failing, wanted) in [(0u64, "m"), (1, "map"), (2, "notes"), (3, "kernel")] {
+        let mut shelf = crash_shelf(alloc, &[failing])?;
+        let (status, sink) = run(alloc, &LOAD_PANIC, &mut shelf, &[])?;
+        assert!(rt; matches!(&status, Status::Unread { name } if name.as_str() == wanted));
+        assert_eq!(rt; sink.said().len(), 0);
+        assert!(rt; lacks(alloc, &mut shelf, "o"));
+    }
+    for (failing, wanted) in [(4u64, "o"), (5, "r")] {
+        let mut shelf = crash_shelf(alloc, &[failing])?;
+        let (status, sink) = run(alloc, &LOAD_PANIC, &mut shelf, &[])?;
+        assert!(rt; matches!(&status, Status::Unwritten { name } if name.as_str() == wanted));
+        assert_eq!(rt; sink.said().len(), 0);
+        assert_eq!(rt; lacks(alloc, &mut shelf, "r"), failing == 4);
+    }
+    let mut shelf = crash_shelf(alloc, &[])?;
+    let (status, sink) = run(alloc, &LOAD_PANIC, &mut shelf, &[0])?;
+    assert_eq!(rt; status.code(), 5);
+    assert_eq!(rt; sink.said().len(), 0);
+    assert_eq!(rt; taken(alloc, &mut shelf, "o")?.len(), 16 + 6 * 4104);
+    Ok(())
+}

@@ -1,0 +1,138 @@
+//! `load-panic`: puts a crash kernel in its place and writes its load record.
+
+ghost use Rattle.std.specs.Prelude.{◌≡◌, string_bytes, IfOk};
+ghost use Rattle.load_record.specs.File.{record_file};
+ghost use Rattle.file_commands.specs.Calls.{Makes, Takes, file_of};
+ghost use Rattle.kexec_words.specs.Values.{load_panic_value};
+ghost use Rattle.kexec_main.specs.CrashLoading.{crash_plan_of};
+ghost use Rattle.kexec_main.specs.LoadPanic.{LoadPanicCommand as Inputs, load_panic_command, load_panic_files, loads_panic, panic_text, record_of_crash};
+
+use crate::crash_loading::{CrashKernel, load_in_place};
+use crate::inputs::take_crash_inputs;
+use crate::load_inputs::CrashInputs;
+use crate::output::memory_output;
+use crate::status::Reason;
+use crate::text::crash_lines;
+use crate::words::LoadPanicWords;
+use file_commands::{Command, File, Goods, MakeFault, TakeFault};
+use kexec_words::LoadPanic;
+use kx_edge::Shelf;
+use kx_pages::{Image, Mode, Page};
+use list_checker::ListFault;
+use load_record::LoadRecord;
+use page_memory::Memory;
+use std::alloc::{AllocError, Global};
+
+/// What `load-panic` took, and the names of its outputs.
+#[derive(Drop)]
+pub(crate) struct LoadPanicCommand {
+    pub(crate) load: CrashInputs,
+    pub(crate) out: String,
+    pub(crate) load_record: String,
+}
+
+// Takes what a crash load is made of.
+fn take_load_panic<S: Shelf>(
+    alloc: Global,
+    load: LoadPanic,
+    shelf: &mut S,
+) -> Result<LoadPanicCommand, TakeFault<Reason>>
+    ensures { Takes S.Shelf (load_panic_files (load_panic_value load)) load_panic_command shelf.old
+        result shelf.new }
+{
+    let LoadPanic {
+        inputs,
+        map,
+        out,
+        load_record,
+    } = load;
+    let load = take_crash_inputs(alloc, inputs, map, shelf)?;
+    Ok(LoadPanicCommand {
+        load,
+        out,
+        load_record,
+    })
+}
+
+// What is said of a crash load, its record, as a file of this name, and the memory that it is of.
+fn record_output(
+    alloc: Global,
+    kernel: CrashKernel,
+    name: String,
+) -> Result<(Memory, String, File), AllocError>
+    ensures memory { IfOk result (λ r. r.0 ≡ kernel.loaded.memory) }
+    ensures text { IfOk result (λ r. string_bytes r.1 ≡ panic_text (crash_plan_of kernel)) }
+    ensures record { IfOk result (λ r. file_of r.2 ≡
+        (string_bytes name, record_file (record_of_crash kernel.loaded (crash_plan_of kernel)))) }
+{
+    let (memory, head, segments) = kernel.loaded.parts();
+    let text = crash_lines(alloc, segments.pages(), &kernel.start)?;
+    let record = LoadRecord {
+        crash: true,
+        image: Image {
+            head,
+            mode: Mode::Plain,
+            control: Page::new(0).unwrap(),
+        },
+        start: kernel.start,
+        regions: kernel.regions,
+        digest: kernel.digest,
+        segments,
+    };
+    let bytes = record.into_file()?;
+    Ok((memory, text, File { name, bytes }))
+}
+
+// Puts the kernel in its place, and makes the file of the memory after the load and its record.
+fn make_load_panic(
+    alloc: Global,
+    load: LoadPanicCommand,
+) -> Result<Goods<ListFault>, MakeFault<Reason>>
+    ensures { Makes loads_panic (load_panic_command load) result }
+{
+    let LoadPanicCommand {
+        load,
+        out,
+        load_record,
+    } = load;
+    let kernel = load_in_place(alloc, load)?;
+    let (memory, text, output) = record_output(alloc, kernel, load_record)?;
+    let mut outputs = memory_output(alloc, memory, out)?;
+    outputs.push(output)?;
+    Ok(Goods {
+        outputs,
+        text,
+        fault: None,
+    })
+}
+
+impl Command for LoadPanicWords {
+    type Taken = LoadPanicCommand;
+
+    type Fault = ListFault;
+
+    type Reason = Reason;
+
+    ghost Inputs = { Inputs };
+
+    ghost inputs = { load_panic_command };
+
+    ghost takes = { λ l. load_panic_files (load_panic_value l.words) };
+
+    ghost makes = { loads_panic };
+
+    fn take<S: Shelf>(
+        self,
+        alloc: Global,
+        shelf: &mut S,
+    ) -> Result<LoadPanicCommand, TakeFault<Reason>> {
+        take_load_panic(alloc, self.words, shelf)
+    }
+
+    fn make(
+        alloc: Global,
+        load: LoadPanicCommand,
+    ) -> Result<Goods<ListFault>, MakeFault<Reason>> {
+        make_load_panic(alloc, load)
+    }
+}
