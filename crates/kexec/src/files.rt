@@ -6,14 +6,12 @@ use kexec_plan::PlanFault;
 
 // The word or option of the file that its reader refused.
 fn input_word(fault: &InputFault) -> &'static str {
-    if let InputFault::Map { .. } = fault {
-        return "--map";
-    }
     match fault {
         InputFault::Mem { .. } => "MEMORY",
         InputFault::Pool { .. } => "POOL",
+        InputFault::Map { .. } => "--map",
         InputFault::Rec { .. } => "RECORD",
-        _ => "--notes",
+        InputFault::Notes { .. } => "--notes",
     }
 }
 
