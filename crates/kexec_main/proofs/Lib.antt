@@ -10,4 +10,4 @@ pub mod Rising
 pub mod Mapped
 pub mod Pages
 pub mod Again
-pub mod Area
+pub mod Places

@@ -5,3 +5,4 @@ pub mod Last
 pub mod Armed
 pub mod Laying
 pub mod Reach
+pub mod Area
