@@ -36,7 +36,7 @@ use Rattle.kexec_main.specs.LoadPanic.{LoadPanicCommand, load_panic_files, load_
 use Rattle.kexec_main.specs.Loading.{IsLoaded}
 use Rattle.kexec_main.specs.Outputs.{Made}
 use Rattle.kexec_main.specs.Runs.{checked_with}
-use Rattle.kexec_main.proofs.Area.{in_area, outside_all}
+use Rattle.kexec_plan.proofs.Area.{in_area, outside_all}
 use Rattle.load_states.proofs.Ready.{list_ends}
 use Rattle.kexec_main.proofs.Ending.{again_of, ends_again, loaded_bare}
 use Rattle.kexec_main.proofs.Executes.{runs_fit}

@@ -14,4 +14,4 @@ pub mod Ending
 pub mod Reread
 pub mod Together
 pub mod Proving
-pub mod Area
+pub mod Places

@@ -181,7 +181,8 @@ pub(crate) fn take_crash_inputs<S: Shelf>(
     let memory = take_memory(alloc, memory, shelf)?;
     let map = take_map_file(alloc, map, shelf)?;
     let notes = take_notes(alloc, notes, shelf)?;
-    let files = take_kernel(alloc, kernel, initrd, purgatory, Vec::new(alloc), shelf)?;
+    let modules = Vec::new(alloc);
+    let files = take_kernel(alloc, kernel, initrd, purgatory, modules, shelf)?;
     let request = crash_request(alloc, command, notes, files)?;
     Ok(CrashInputs {
         memory,

@@ -10,3 +10,4 @@ pub mod Linkages
 pub mod Ways
 pub mod Bare
 pub mod Regions
+pub mod Area

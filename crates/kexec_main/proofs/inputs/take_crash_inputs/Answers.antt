@@ -1,4 +1,4 @@
-use Rattle.std.proofs.Common.{rules}
+use Rattle.std.proofs.Common.{rules, ◌≡◌, []}
 use Rattle.std.specs.Prelude.{string_bytes}
 use Rattle.file_commands.proofs.Steps.{start, next, stopped, wanting, finished}
 use Rattle.kexec_words.specs.Values.{crash_inputs_value}
@@ -33,7 +33,8 @@ returns-in_err-files g c =
     let memory = next g.S.Shelf _ _ begun c.in_ok-memory.ensures in
     let map = next g.S.Shelf _ _ memory c.in_ok-map.ensures in
     let notes = next g.S.Shelf _ _ map c.in_ok-notes.ensures in
-    stopped g.S.Shelf _ _ _ crash_inputs_of _ (search rules) notes c.in_err-files.ensures.takes
+    let none : c.new-modules.result.items ≡ [] = search rules in
+    stopped g.S.Shelf _ _ _ crash_inputs_of _ (search rules) notes (rw none at c.in_err-files.ensures.takes)
 
 pub returns-in_err-request : goal.returns-in_err-request
 returns-in_err-request g c =
@@ -42,7 +43,8 @@ returns-in_err-request g c =
     let memory = next g.S.Shelf _ _ begun c.in_ok-memory.ensures in
     let map = next g.S.Shelf _ _ memory c.in_ok-map.ensures in
     let notes = next g.S.Shelf _ _ map c.in_ok-notes.ensures in
-    let files = next g.S.Shelf _ _ notes c.in_ok-files.ensures.takes in
+    let none : c.new-modules.result.items ≡ [] = search rules in
+    let files = next g.S.Shelf _ _ notes (rw none at c.in_ok-files.ensures.takes) in
     wanting g.S.Shelf crash_inputs_of _ (search rules) files
 
 pub returns : goal.returns
@@ -52,5 +54,6 @@ returns g c =
     let memory = next g.S.Shelf _ _ begun c.in_ok-memory.ensures in
     let map = next g.S.Shelf _ _ memory c.in_ok-map.ensures in
     let notes = next g.S.Shelf _ _ map c.in_ok-notes.ensures in
-    let files = next g.S.Shelf _ _ notes c.in_ok-files.ensures.takes in
+    let none : c.new-modules.result.items ≡ [] = search rules in
+    let files = next g.S.Shelf _ _ notes (rw none at c.in_ok-files.ensures.takes) in
     rw c.in_ok-request.ensures (finished g.S.Shelf files)
