@@ -35,8 +35,8 @@ meets at w puts = list_any (meets_one at w) puts
 -- earlier ones
 unfoldable pub placed : ℕ → Relocatable → List Put → Reloc → ℕ → ℕ → Result (Unit {0}) LinkFault
 placed base o earlier r at w =
-    if not (w == 0) && nat_lt (size_at o r.target) (r.offset + w) then
-    Err (faults.OutsideSection r.section r.entry)
+    if not (w == 0) && nat_lt (size_at o r.target) (r.offset + w)
+    then Err (faults.OutsideSection r.section r.entry)
     else if meets at w earlier then Err (faults.RelocsMeet (base + at))
     else Ok tt
 
@@ -44,8 +44,8 @@ placed base o earlier r at w =
 abbrev pub put_value : ℕ → ℕ → Form → ℤ → Result (Option Put) LinkFault
 put_value base at forms.Empty v = Ok None
 put_value base at form v =
-    if fits form v then
-    Ok (Some (record { at = at; wide = wide form; value = modulo (256 ^ wide form) v }))
+    if fits form v
+    then Ok (Some (record { at = at; wide = wide form; value = modulo (256 ^ wide form) v }))
     else Err (faults.DoesNotFit (base + at))
 
 -- what a relocation of a loaded section puts at this place from the base on
