@@ -134,8 +134,8 @@ module _ {S O : Type 0} (D : Shelf S) (E : Sink O) (held : Files) (s : S) (o : O
     pub output : List ℕ
     pub is_memory : IsFileOf (at loaded.memory) output
     pub put : FilesPut (D.files s)
-      ((l.out, output) ∷ (l.load_record, record_file (record_of_crash loaded planned)) ∷ [])
-      (D.files s')
+        ((l.out, output) ∷ (l.load_record, record_file (record_of_crash loaded planned)) ∷ [])
+        (D.files s')
     pub said : Said (E.said o) (panic_text planned) (E.said o')
 
   -- After `check` of a normal load: the list of the record is accepted in the memory for its segments,
@@ -147,7 +147,7 @@ module _ {S O : Type 0} (D : Shelf S) (E : Sink O) (held : Files) (s : S) (o : O
     pub accepted : IsAcceptedIn files items
     pub put : FilesPut (D.files s) [] (D.files s')
     pub said : Said (E.said o)
-      (accepted_line (length items) (length (links items)) (length (pairs items))) (E.said o')
+        (accepted_line (length items) (length (links items)) (length (pairs items))) (E.said o')
 
   -- After `check` of a crash load: it lies in its place, and the text tells how many pages it has.
   pub record HasCheckedCrash (l : LoadedValue) : Type 0 where
@@ -167,7 +167,7 @@ module _ {S O : Type 0} (D : Shelf S) (E : Sink O) (held : Files) (s : S) (o : O
     pub walk : IsWalk (at files.memory) files.load_record.image.head list fault
     pub put : FilesPut (D.files s) [] (D.files s')
     pub said : Said (E.said o)
-      (walk_text list fault ++ flat_map segment_line files.load_record.segments) (E.said o')
+        (walk_text list fault ++ flat_map segment_line files.load_record.segments) (E.said o')
 
   -- After `dump` of a crash load: the text tells its head and each segment.
   pub record HasDumpedCrash (l : LoadedValue) : Type 0 where
@@ -175,7 +175,7 @@ module _ {S O : Type 0} (D : Shelf S) (E : Sink O) (held : Files) (s : S) (o : O
     pub read : reads (load_files_of l) held ≡ Ok (Crash files)
     pub put : FilesPut (D.files s) [] (D.files s')
     pub said : Said (E.said o)
-      (head_text files.head ++ flat_map segment_line files.segments) (E.said o')
+        (head_text files.head ++ flat_map segment_line files.segments) (E.said o')
 
   -- After `exec` of a normal load: the record's list is accepted in the memory for the record's
   -- segments. The runs left what they are to leave; OUT is the file of that memory, every other file
@@ -189,7 +189,7 @@ module _ {S O : Type 0} (D : Shelf S) (E : Sink O) (held : Files) (s : S) (o : O
     pub ends : EndsAfter checked.load checked.words
     pub ends_again : EndsAgain (runs_asked e.twice files) checked
     pub leaves : Leaves (runs_asked e.twice files) checked
-      (after_runs (runs_asked e.twice files) checked)
+        (after_runs (runs_asked e.twice files) checked)
     pub output : List ℕ
     pub is_memory : IsFileOf (after_runs (runs_asked e.twice files) checked) output
     pub put : FilesPut (D.files s) ((e.out, output) ∷ []) (D.files s')
@@ -253,7 +253,7 @@ pub record CanRun (x : LoadFiles) (twice : Bool) : Type 0 where
   pub accepted : IsAcceptedIn x items
   pub kept : is_not_kept twice x ≡ false
   pub light : (c : Checked) (n : ℕ) → c.load ≡ load_of x →
-    IsTooHeavy (after_runs (runs_asked twice x) c) n → ⊥
+      IsTooHeavy (after_runs (runs_asked twice x) c) n → ⊥
 
 -- a crash load lies in its place, and is to run once
 pub record CanRunInPlace (x : CrashFiles) (twice : Bool) : Type 0 where
