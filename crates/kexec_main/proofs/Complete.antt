@@ -27,7 +27,7 @@ use Rattle.kexec_main.specs.declared.status.Reason.TheVariants as reasons
 use Rattle.kexec_main.specs.Boot.{BootInputs, boots}
 use Rattle.kexec_main.specs.Call.{CanLoad, CanRun, IsInOrder, HasTooFew, LacksPages}
 use Rattle.kexec_main.specs.Check.{IsAcceptedIn, checks_as}
-use Rattle.kexec_main.specs.Commands.{Holds, boot, load, check, dump, exec, trace}
+use Rattle.kexec_main.specs.Commands.{Holds, boot, load, check, dump, exec, sample, trace}
 use Rattle.kexec_main.specs.Exec.{ExecInputs, executes_as, lacks_swap_page, load_of, runs_asked}
 use Rattle.kexec_main.specs.Inputs.{LoadInputs}
 use Rattle.kexec_main.specs.Load.{LoadCommand, loads}
@@ -35,6 +35,7 @@ use Rattle.kexec_main.specs.Loading.{IsLoaded, IsTooFew, RefusesLoad}
 use Rattle.kexec_main.specs.Outputs.{Made, HasNoFile, IsTooHeavy}
 use Rattle.kexec_main.specs.Runs.{after_runs, checked_with, wish_of}
 use Rattle.kexec_main.specs.Trace.{TraceInputs, traces}
+use Rattle.kexec_main.proofs.Sampled.{sample_stands}
 
 -- a memory without a file is too heavy for one
 heavy : (N : Mem) (why : Reason) → ((n : ℕ) → IsTooHeavy N n → ⊥) → HasNoFile N why → ⊥
@@ -155,7 +156,7 @@ module _ {S O : Type 0} (D : Shelf S) (E : Sink O) (held : Files) (s : S) (o : O
   ends (words.exec e) i m = stands_told D E (exec e) held i.0 s s' o o' a i.1 (exec_stands e i.0 i.2) calm quiet m
   ends (words.trace t) i m = stands_told D E (trace t) held i.0 s s' o o' a i.1 (trace_stands t i.0 (λ why h. heavy _ why i.2 h)) calm quiet m
   ends (words.load_panic l) i m = absurd i
-  ends (words.sample n) i m = absurd i
+  ends (words.sample n) i m = stands_told D E (sample n) held n s s' o o' a refl (sample_stands n) calm quiet m
 
   -- what is in order is done, or memory is wanted
   pub complete : (w : Result CommandValue UsageWhy) (c : CommandValue) → w ≡ Ok c → IsInOrder c held → Holds (λ X p. MeetsTold D E p held s o a s' o') w → (a ≡ done) ⊎ (a ≡ memory)

@@ -30,6 +30,7 @@ use Rattle.kexec_main.specs.Outputs.{Made}
 use Rattle.kexec_main.specs.Runs.{checked_with}
 use Rattle.kexec_main.proofs.Executes.{runs_fit}
 use Rattle.kexec_main.proofs.Leaving.{leaves_by, leaves_of}
+use Rattle.kexec_main.proofs.Sampled.{sampled}
 
 normal : (wish : Wish) (i : LoadInputs) (p : Plan) (c : Checked) → IsLoaded wish i p c.load → Told c.load c.words c.links c.pairs → NormalLoad wish i p c
 normal wish i p c l told = record { planned = l.planned; enough = l.enough; laid = l.laid; only_pool_pages = l.laid.others; accepted = told }
@@ -124,7 +125,7 @@ module _ {S O : Type 0} (D : Shelf S) (E : Sink O) (held : Files) (s : S) (o : O
   done_as (words.exec e) m = executed e m
   done_as (words.trace t) m = traced t m
   done_as (words.load_panic l) (x, goods, read, m, fault, out) = m
-  done_as (words.sample n) (x, goods, read, m, fault, out) = m
+  done_as (words.sample n) m = sampled D E s o s' o' held n m
 
   pub has_done : (w : Result CommandValue UsageWhy) (c : CommandValue) (a : Answer ListFault Reason) → w ≡ Ok c → a ≡ done → Holds (λ X p. MeetsTold D E p held s o a s' o') w → HasDone D E held s o s' o' c
   has_done w c a e f h = done_as c (subst (λ a. Holds (λ X p. MeetsTold D E p held s o a s' o') (Ok c)) f (subst (λ w. Holds (λ X p. MeetsTold D E p held s o a s' o') w) e h))

@@ -14,7 +14,7 @@ first_text : (runs : Option Runs) (c : Checked) (r : Ran) (start : Start) → Ha
 first_text runs c r start h = rw (h.words, h.links, h.pairs, h.image, h.ends) refl
 
 -- memories that agree are one
-one_memory : (N M : Mem) → Agree N M → N ≡ M
+pub one_memory : (N M : Mem) → Agree N M → N ≡ M
 one_memory N M h = λ i p. h p i
 
 by_runs : (runs : Option Runs) (c : Checked) (start : Start) (table digest : ℕ)

@@ -20,12 +20,13 @@ use Rattle.load_states.specs.Ready.{Told}
 use Rattle.load_states.specs.Fillings.{IsSealed}
 use Rattle.relocate_machine.specs.Run.{run_of}
 use Rattle.file_commands.specs.Taking.{reads}
-use Rattle.file_commands.specs.Answers.{FilesPut}
+use Rattle.file_commands.specs.Answers.{Answer, FilesPut, done, memory, unsaid}
 use Rattle.kexec_words.specs.Values.{CommandValue, BootValue, ExecValue, LoadValue, LoadedValue, TraceValue}
 use Rattle.kexec_words.specs.Values as words
 use Rattle.kexec_plan.specs.Requests.{Plan}
 use Rattle.kexec_plan.specs.Plan.{plan}
 use Rattle.kexec_main.specs.declared.files.LoadFiles.{LoadFiles}
+use Rattle.kexec_main.specs.declared.status.Reason.{Reason}
 use Rattle.kexec_main.specs.Inputs.{LoadInputs}
 use Rattle.kexec_main.specs.Loading.{IsLoaded}
 use Rattle.kexec_main.specs.Outputs.{IsFileOf, IsTooHeavy}
@@ -37,6 +38,7 @@ use Rattle.kexec_main.specs.Check.{IsAcceptedIn}
 use Rattle.kexec_main.specs.Dump.{segment_line, walk_text}
 use Rattle.kexec_main.specs.Exec.{ExecInputs, exec_files, lacks_swap_page, load_of, runs_asked}
 use Rattle.kexec_main.specs.Files.{load_files_of}
+use Rattle.kexec_main.specs.Sample.{IsSample, sample_text}
 use Rattle.kexec_main.specs.Trace.{TraceInputs, outcome_line, trace_files}
 
 -- A kernel was loaded, whatever memory held.
@@ -51,6 +53,23 @@ pub record NormalLoad (wish : Wish) (i : LoadInputs) (p : Plan) (c : Checked) : 
   pub only_pool_pages : (q : ℕ) → count q (take (need wish p.segments) i.pool) ≡ 0 → at c.load.memory q ≡ at i.memory q
   -- the list is accepted for the segments, by a walk of so many words with so many link pages and these pairs
   pub accepted : Told c.load c.words c.links c.pairs
+
+module _ {S O : Type 0} (D : Shelf S) (E : Sink O) (s : S) (o : O) (s' : S) (o' : O) where
+  -- After `sample`: the load that the number makes was run, which left each page of its segments what it is to have and
+  -- every other page as it was. Every file is as it was, and the text tells the list, its run and the memory after it.
+  pub record HasSampled (number : ℕ) : Type 0 where
+    pub checked : Checked
+    pub sample : IsSample number checked
+    pub leaves : Leaves None checked (after_runs None checked)
+    pub put : FilesPut (D.files s) [] (D.files s')
+    pub said : Said (E.said o) (sample_text number checked) (E.said o')
+
+  -- `sample` takes no file, so this holds over every shelf: it is done, or the text could not be said, or memory is wanted
+  abbrev pub EndsSample : ℕ → Answer ListFault Reason → Type 0
+  EndsSample number done = HasSampled number
+  EndsSample number unsaid = Unit {0}
+  EndsSample number memory = Unit {0}
+  EndsSample number other = ⊥
 
 module _ {S O : Type 0} (D : Shelf S) (E : Sink O) (held : Files) (s : S) (o : O) (s' : S) (o' : O) where
   -- After `boot`: all that the words name was read, and the kernel loaded. The runs left what they are to leave, each after
@@ -134,7 +153,7 @@ module _ {S O : Type 0} (D : Shelf S) (E : Sink O) (held : Files) (s : S) (o : O
   HasDone (words.exec e) = HasExecuted e
   HasDone (words.trace t) = HasTraced t
   HasDone (words.load_panic l) = ⊥
-  HasDone (words.sample n) = ⊥
+  HasDone (words.sample n) = HasSampled D E s o s' o' n
 
 -- Nothing refuses the load of what was taken: the request has a plan, the pool has as many pages as the load takes, and
 -- each memory that it may leave has a file.
@@ -162,7 +181,7 @@ IsInOrder (words.exec e) held = (x : ExecInputs) × (reads (exec_files e) held �
 IsInOrder (words.trace t) held =
     (x : TraceInputs) × (reads (trace_files t) held ≡ Ok x) × ((n : ℕ) → IsTooHeavy (at (run_of x.memory x.head x.mode x.limit).0.memory) n → ⊥)
 IsInOrder (words.load_panic l) held = ⊥
-IsInOrder (words.sample n) held = ⊥
+IsInOrder (words.sample n) held = Unit {0}
 
 -- the files are read and the request has a plan, whose load takes more pages than the pool has: so many, and so many
 abbrev pub LacksPages : Wish → LoadInputs → (pool need : ℕ) → Type 0

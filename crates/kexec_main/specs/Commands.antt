@@ -1,5 +1,5 @@
 -- The commands of the program as commands over files: what they take and what they make of it (this project's own).
-use Rattle.std.specs.Prelude.{Result, Ok, Err}
+use Rattle.std.specs.Prelude.{ℕ, Result, Ok, Err}
 use Rattle.list_checker.specs.declared.fault.ListFault.{ListFault}
 use Rattle.file_commands.specs.Taking.{refuse, by}
 use Rattle.file_commands.specs.Answers.{Command, command_of}
@@ -16,6 +16,7 @@ use Rattle.kexec_main.specs.Dump.{dumps}
 use Rattle.kexec_main.specs.Exec.{ExecInputs, exec_files, executes}
 use Rattle.kexec_main.specs.Files.{load_files_of}
 use Rattle.kexec_main.specs.Load.{LoadCommand, load_command_files, loads}
+use Rattle.kexec_main.specs.Sample.{sample_files, samples}
 use Rattle.kexec_main.specs.Trace.{TraceInputs, trace_files, traces}
 
 -- a command whose goods may have the fault of a list
@@ -40,6 +41,9 @@ exec e = command_of (exec_files e) executes
 abbrev pub trace : TraceValue → Program TraceInputs
 trace t = command_of (trace_files t) traces
 
+abbrev pub sample : ℕ → Program ℕ
+sample number = command_of (sample_files number) samples
+
 -- a command that is refused before any file is taken
 abbrev pub refusal : Reason → Program (Unit {0})
 refusal why = command_of (refuse (by why)) (λ x r. ⊥)
@@ -55,4 +59,4 @@ Holds P (Ok (words.dump l)) = P LoadFiles (dump l)
 Holds P (Ok (words.exec e)) = P ExecInputs (exec e)
 Holds P (Ok (words.trace t)) = P TraceInputs (trace t)
 Holds P (Ok (words.load_panic l)) = P (Unit {0}) (refusal (NotBuilt parts.Command))
-Holds P (Ok (words.sample n)) = P (Unit {0}) (refusal (NotBuilt parts.Command))
+Holds P (Ok (words.sample n)) = P ℕ (sample n)

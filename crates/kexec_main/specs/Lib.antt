@@ -11,5 +11,6 @@ pub mod Check
 pub mod Dump
 pub mod Exec
 pub mod Trace
+pub mod Sample
 pub mod Commands
 pub mod Call

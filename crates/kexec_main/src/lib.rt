@@ -7,7 +7,7 @@
 //! |---|---|
 //! | `files`, `inputs` | the files of the commands, their limits and readers; the request that a kernel's files make |
 //! | `loading`, `running`, `output`, `text` | the work in memory: a plan, its load, a run, the file of a memory, the text |
-//! | `boot`, `load`, `check`, `dump`, `exec`, `trace` | a command each |
+//! | `boot`, `load`, `check`, `dump`, `exec`, `trace`, `sample` | a command each |
 //! | `status` | how a command ended, and why it may be refused |
 //! | `run` | the top call |
 #![tactic(auto)]
@@ -30,6 +30,7 @@ mod output;
 mod refused_memory_tests;
 mod run;
 mod running;
+mod sample;
 mod status;
 #[cfg(test)]
 mod status_tests;

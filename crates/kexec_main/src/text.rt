@@ -4,12 +4,13 @@
 ghost use Rattle.std.specs.Prelude.{◌≡◌, ◌++◌, IfOk, OnOk, string_bytes};
 ghost use Rattle.kexec_main.specs.Runs.{ran_text};
 ghost use Rattle.page_memory.specs.Contents.{at};
-ghost use Rattle.kexec_main.specs.Texts.{purgatory_line, regions_line, accepted_line, head_line, start_line, ran_line, load_lines};
+ghost use Rattle.kexec_main.specs.Texts.{memory_line, purgatory_line, regions_line, accepted_line, head_line, start_line, ran_line, load_lines};
 
 use crate::running::Ran;
 use kx_pages::{Image, Mode, Start};
 use page_memory::Memory;
 use purgatory_link::{RegionTest, test_regions};
+use sample_load::digest_of;
 use std::alloc::{AllocError, Global};
 
 /// How many words the walk of an accepted list has, how many link pages, and how many pairs.
@@ -121,5 +122,26 @@ pub(crate) fn ran_text(
         Some(steps) => push_ran_line(alloc, &mut text, steps)?,
         None => push_purgatory_line(&mut text, &ran.memory, regions, digest)?,
     }
+    Ok(text)
+}
+
+// Adds the digest of a sample's memory.
+#[tactic(auto, unfolding(crate::specs::Texts::memory_line))]
+fn push_memory_line(alloc: Global, text: &mut String, memory: &Memory) -> Result<(), AllocError>
+    ensures { OnOk result (string_bytes text.new
+        ≡ string_bytes text.old ++ memory_line (at memory.now)) }
+{
+    let digest = hex::encode(alloc, digest_of(memory))?;
+    text.push_str(&format!(in alloc; "memory {digest}\n")?)?;
+    Ok(())
+}
+
+/// What `sample` says: of its list and the run, and the digest of the memory after it.
+pub(crate) fn sample_text(alloc: Global, ran: &Ran, start: &Start) -> Result<String, AllocError>
+    ensures { IfOk result (λ s. string_bytes s
+        ≡ ran_text ran.now start.now 0 0 ++ memory_line (at ran.now.memory)) }
+{
+    let mut text = ran_text(alloc, ran, start, 0, 0)?;
+    push_memory_line(alloc, &mut text, &ran.memory)?;
     Ok(text)
 }
