@@ -29,7 +29,7 @@ use Rattle.kexec_main.specs.declared.status.Reason.TheVariants as reasons
 use Rattle.kexec_main.specs.Boot.{BootInputs, boots}
 use Rattle.kexec_main.specs.Call.{CanExec, CanLoad, CanLoadPanic, IsAccepted, IsInOrder, HasTooFew, LacksPages}
 use Rattle.kexec_main.specs.Check.{checks, checks_list_as, checks_place_as}
-use Rattle.kexec_main.specs.Commands.{Holds, boot, load, load_panic, check, dump, exec, trace}
+use Rattle.kexec_main.specs.Commands.{Holds, boot, load, load_panic, check, dump, exec, sample, trace}
 use Rattle.kexec_main.specs.CrashExec.{executes_place_as}
 use Rattle.kexec_main.specs.CrashInputs.{CrashInputs}
 use Rattle.kexec_main.specs.CrashLoading.{IsCrashLoaded}
@@ -42,12 +42,12 @@ use Rattle.kexec_main.specs.Loading.{HasNoPlan, IsLoaded, IsTooFew, RefusesLoad}
 use Rattle.kexec_main.specs.Outputs.{Made, HasNoFile, IsTooHeavy}
 use Rattle.kexec_main.specs.Runs.{after_runs, checked_with, wish_of}
 use Rattle.kexec_main.specs.Trace.{TraceInputs, traces}
+use Rattle.kexec_main.proofs.Sampled.{sample_stands}
 
 -- a memory without a file is too heavy for one
 heavy : (N : Mem) (why : Reason) → ((n : ℕ) → IsTooHeavy N n → ⊥) → HasNoFile N why → ⊥
 heavy N (reasons.Heavy n) light h = light n h
 heavy N (reasons.Usage w) light h = h
-heavy N (reasons.NotBuilt w) light h = h
 heavy N (reasons.Input f) light h = h
 heavy N reasons.NotKept light h = h
 heavy N (reasons.Plan f) light h = h
@@ -69,7 +69,6 @@ loads_not wish i leaves (reasons.NoPages left n) can (q, planned, few) =
     too_few (length i.pool) (need wish can.p.segments) left n can.enough few.0 (few.1 ∙ ap (λ (p : Plan). need wish p.segments) (one_plan i q can.p planned can.planned)) few.2
 loads_not wish i leaves (reasons.Plan f) can h = no_fault can.p f (sym can.planned ∙ h)
 loads_not wish i leaves (reasons.Usage w) can h = h
-loads_not wish i leaves (reasons.NotBuilt w) can h = h
 loads_not wish i leaves (reasons.Input f) can h = h
 loads_not wish i leaves reasons.NotKept can h = h
 loads_not wish i leaves (reasons.Heavy n) can h = h
@@ -97,7 +96,6 @@ load_stands l x can = record { unrefused = none; whole = λ goods m. m.4 }
 panic_not : (i : CrashInputs) (why : Reason) → CanLoadPanic i → HasNoPlan i.request (Some i.map) why → ⊥
 panic_not i (reasons.Plan f) can h = no_fault can.p f (sym can.planned ∙ h)
 panic_not i (reasons.Usage w) can h = h
-panic_not i (reasons.NotBuilt w) can h = h
 panic_not i (reasons.Input f) can h = h
 panic_not i reasons.NotKept can h = h
 panic_not i (reasons.NoPages left n) can h = h
@@ -186,7 +184,6 @@ few_reason wish i p pool n planned same all (reasons.NoPages left m) (q, other, 
     rw (few.0 ∙ sym same, few.1 ∙ ap (λ (p : Plan). need wish p.segments) (one_plan i q p other planned) ∙ sym all) refl
 few_reason wish i p pool n planned same all (reasons.Plan f) h = absurd (no_fault p f (sym planned ∙ h))
 few_reason wish i p pool n planned same all (reasons.Usage w) h = absurd h
-few_reason wish i p pool n planned same all (reasons.NotBuilt w) h = absurd h
 few_reason wish i p pool n planned same all (reasons.Input f) h = absurd h
 few_reason wish i p pool n planned same all reasons.NotKept h = absurd h
 few_reason wish i p pool n planned same all (reasons.Heavy m) h = absurd h
@@ -217,7 +214,7 @@ module _ {S O : Type 0} (D : Shelf S) (E : Sink O) (held : Files) (s : S) (o : O
   ends (words.dump l) i m = stands_told D E (dump l) held i.0 s s' o o' a i.1 (dump_stands l i.0) calm quiet m
   ends (words.exec e) i m = stands_told D E (exec e) held i.0 s s' o o' a i.1 (exec_stands e i.0 i.2) calm quiet m
   ends (words.trace t) i m = stands_told D E (trace t) held i.0 s s' o o' a i.1 (trace_stands t i.0 (λ why h. heavy _ why i.2 h)) calm quiet m
-  ends (words.sample n) i m = absurd i
+  ends (words.sample n) i m = stands_told D E (sample n) held n s s' o o' a refl (sample_stands n) calm quiet m
 
   -- what is in order is done, or memory is wanted
   pub complete : (w : Result CommandValue UsageWhy) (c : CommandValue) → w ≡ Ok c → IsInOrder c held → Holds (λ X p. MeetsTold D E p held s o a s' o') w → (a ≡ done) ⊎ (a ≡ memory)

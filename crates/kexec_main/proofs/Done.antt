@@ -43,6 +43,7 @@ use Rattle.kexec_main.proofs.Executes.{runs_fit}
 use Rattle.kexec_main.proofs.Leaving.{leaves_by, leaves_of}
 use Rattle.kexec_main.proofs.Proving.{proves_itself}
 use Rattle.kexec_main.proofs.Reread.{exec_bare}
+use Rattle.kexec_main.proofs.Sampled.{sampled}
 
 normal : (wish : Wish) (i : LoadInputs) (p : Plan) (c : Checked) → IsLoaded wish i p c.load → Told c.load c.words c.links c.pairs → NormalLoad wish i p c
 normal wish i p c l told = record {
@@ -212,7 +213,6 @@ module _ {S O : Type 0} (D : Shelf S) (E : Sink O) (held : Files) (s : S) (o : O
   traced t (x, goods, read, m, fault, out) =
       record { inputs = x; read = read; output = m.2.0; is_memory = m.2.2; put = put_as goods.outputs ((x.out, m.2.0) ∷ []) m.2.1 out.put; said = said_as goods.text _ m.0 out.said }
 
-  -- a command that is not served takes no file and makes nothing
   done_as : (c : CommandValue) → Holds (λ X p. MeetsTold D E p held s o done s' o') (Ok c) → HasDone D E held s o s' o' c
   done_as (words.boot b) m = booted b m
   done_as (words.load l) m = loaded l m
@@ -221,7 +221,7 @@ module _ {S O : Type 0} (D : Shelf S) (E : Sink O) (held : Files) (s : S) (o : O
   done_as (words.exec e) m = executed e m
   done_as (words.trace t) m = traced t m
   done_as (words.load_panic l) m = loaded_panic l m
-  done_as (words.sample n) (x, goods, read, m, fault, out) = m
+  done_as (words.sample n) m = sampled D E s o s' o' held n m
 
   pub has_done : (w : Result CommandValue UsageWhy) (c : CommandValue) (a : Answer ListFault Reason) → w ≡ Ok c → a ≡ done → Holds (λ X p. MeetsTold D E p held s o a s' o') w → HasDone D E held s o s' o' c
   has_done w c a e f h = done_as c (subst (λ a. Holds (λ X p. MeetsTold D E p held s o a s' o') (Ok c)) f (subst (λ w. Holds (λ X p. MeetsTold D E p held s o a s' o') w) e h))

@@ -1,4 +1,5 @@
 pub mod Told
+pub mod Sampled
 pub mod Outputs
 pub mod Lines
 pub mod Executes

@@ -11,7 +11,6 @@ use Rattle.kexec_main.specs.Loading.{IsTooFew, RefusesLoad}
 pub too_few_refuses : (wish : Wish) (i : LoadInputs) (p : Plan) → plan i.request i.map ≡ Ok p → (why : Reason) → IsTooFew i.pool wish p.segments why → RefusesLoad wish i why
 too_few_refuses wish i p planned (reasons.NoPages left n) h = (p, planned, h)
 too_few_refuses wish i p planned (reasons.Usage w) h = absurd h
-too_few_refuses wish i p planned (reasons.NotBuilt w) h = absurd h
 too_few_refuses wish i p planned (reasons.Input f) h = absurd h
 too_few_refuses wish i p planned reasons.NotKept h = absurd h
 too_few_refuses wish i p planned (reasons.Plan f) h = absurd h

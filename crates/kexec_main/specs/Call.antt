@@ -22,7 +22,7 @@ use Rattle.load_states.specs.Fillings.{IsSealed}
 use Rattle.load_states.specs.Runs.{EndsAfter}
 use Rattle.relocate_machine.specs.Run.{run_of}
 use Rattle.file_commands.specs.Taking.{reads}
-use Rattle.file_commands.specs.Answers.{FilesPut}
+use Rattle.file_commands.specs.Answers.{Answer, FilesPut, done, memory, unsaid}
 use Rattle.kexec_words.specs.Values.{CommandValue, BootValue, ExecValue, LoadValue, LoadPanicValue, LoadNamesValue, TraceValue}
 use Rattle.kexec_words.specs.Values as words
 use Rattle.purgatory_link.specs.declared.region_test.RegionTest.TheVariants.{Same}
@@ -34,6 +34,7 @@ use Rattle.kexec_main.specs.declared.files.CrashFiles.{CrashFiles}
 use Rattle.kexec_main.specs.declared.files.LoadFiles.{LoadFiles}
 use Rattle.kexec_main.specs.declared.files.TakenLoad.{TakenLoad}
 use Rattle.kexec_main.specs.declared.files.TakenLoad.TheVariants.{Normal, Crash}
+use Rattle.kexec_main.specs.declared.status.Reason.{Reason}
 use Rattle.kexec_main.specs.Inputs.{LoadInputs}
 use Rattle.kexec_main.specs.CrashInputs.{CrashInputs}
 use Rattle.kexec_main.specs.CrashLoading.{IsCrashLoaded}
@@ -49,6 +50,7 @@ use Rattle.kexec_main.specs.Dump.{head_text, segment_line, walk_text}
 use Rattle.kexec_main.specs.CrashExec.{crash_text}
 use Rattle.kexec_main.specs.Exec.{ExecInputs, exec_files, exec_of, is_not_kept, load_of, runs_asked}
 use Rattle.kexec_main.specs.Files.{load_files_of}
+use Rattle.kexec_main.specs.Sample.{IsSample, sample_text}
 use Rattle.kexec_main.specs.Trace.{TraceInputs, outcome_line, trace_files}
 
 -- A kernel was loaded, whatever memory held.
@@ -87,6 +89,23 @@ pub record PanicLoad (i : CrashInputs) (p : Plan) (load : CrashLoad) : Type 0 wh
 abbrev pub files_text : Bool → LoadFiles → Checked → List ℕ
 files_text twice x c =
     let r = x.load_record in run_text (runs_asked twice x) c r.start r.regions r.digest
+
+module _ {S O : Type 0} (D : Shelf S) (E : Sink O) (s : S) (o : O) (s' : S) (o' : O) where
+  -- After `sample`: the load that the number makes was run, which left each page of its segments what it is to have and
+  -- every other page as it was. Every file is as it was, and the text tells the list, its run and the memory after it.
+  pub record HasSampled (number : ℕ) : Type 0 where
+    pub checked : Checked
+    pub sample : IsSample number checked
+    pub leaves : Leaves None checked (after_runs None checked)
+    pub put : FilesPut (D.files s) [] (D.files s')
+    pub said : Said (E.said o) (sample_text number checked) (E.said o')
+
+  -- `sample` takes no file, so this holds over every shelf: it is done, or the text could not be said, or memory is wanted
+  abbrev pub EndsSample : ℕ → Answer ListFault Reason → Type 0
+  EndsSample number done = HasSampled number
+  EndsSample number unsaid = Unit {0}
+  EndsSample number memory = Unit {0}
+  EndsSample number other = ⊥
 
 module _ {S O : Type 0} (D : Shelf S) (E : Sink O) (held : Files) (s : S) (o : O) (s' : S) (o' : O) where
   -- After `boot`: all that the words name was read, and the kernel loaded. The runs left what they are to leave, each after
@@ -134,8 +153,8 @@ module _ {S O : Type 0} (D : Shelf S) (E : Sink O) (held : Files) (s : S) (o : O
     pub output : List ℕ
     pub is_memory : IsFileOf (at loaded.memory) output
     pub put : FilesPut (D.files s)
-      ((l.out, output) ∷ (l.load_record, record_file (record_of_crash loaded planned)) ∷ [])
-      (D.files s')
+        ((l.out, output) ∷ (l.load_record, record_file (record_of_crash loaded planned)) ∷ [])
+        (D.files s')
     pub said : Said (E.said o) (panic_text planned) (E.said o')
 
   -- After `check` of a normal load: the list of the record is accepted in the memory for its segments,
@@ -147,7 +166,7 @@ module _ {S O : Type 0} (D : Shelf S) (E : Sink O) (held : Files) (s : S) (o : O
     pub accepted : IsAcceptedIn files items
     pub put : FilesPut (D.files s) [] (D.files s')
     pub said : Said (E.said o)
-      (accepted_line (length items) (length (links items)) (length (pairs items))) (E.said o')
+        (accepted_line (length items) (length (links items)) (length (pairs items))) (E.said o')
 
   -- After `check` of a crash load: it lies in its place, and the text tells how many pages it has.
   pub record HasCheckedCrash (l : LoadNamesValue) : Type 0 where
@@ -167,7 +186,7 @@ module _ {S O : Type 0} (D : Shelf S) (E : Sink O) (held : Files) (s : S) (o : O
     pub walk : IsWalk (at files.memory) files.load_record.image.head list fault
     pub put : FilesPut (D.files s) [] (D.files s')
     pub said : Said (E.said o)
-      (walk_text list fault ++ flat_map segment_line files.load_record.segments) (E.said o')
+        (walk_text list fault ++ flat_map segment_line files.load_record.segments) (E.said o')
 
   -- After `dump` of a crash load: the text tells its head and each segment.
   pub record HasDumpedCrash (l : LoadNamesValue) : Type 0 where
@@ -175,7 +194,7 @@ module _ {S O : Type 0} (D : Shelf S) (E : Sink O) (held : Files) (s : S) (o : O
     pub read : reads (load_files_of l) held ≡ Ok (Crash files)
     pub put : FilesPut (D.files s) [] (D.files s')
     pub said : Said (E.said o)
-      (head_text files.head ++ flat_map segment_line files.segments) (E.said o')
+        (head_text files.head ++ flat_map segment_line files.segments) (E.said o')
 
   -- After `exec` of a normal load: the record's list is accepted in the memory for the record's
   -- segments. The runs left what they are to leave; OUT is the file of that memory, every other file
@@ -189,7 +208,7 @@ module _ {S O : Type 0} (D : Shelf S) (E : Sink O) (held : Files) (s : S) (o : O
     pub ends : EndsAfter checked.load checked.words
     pub ends_again : EndsAgain (runs_asked e.twice files) checked
     pub leaves : Leaves (runs_asked e.twice files) checked
-      (after_runs (runs_asked e.twice files) checked)
+        (after_runs (runs_asked e.twice files) checked)
     pub output : List ℕ
     pub is_memory : IsFileOf (after_runs (runs_asked e.twice files) checked) output
     pub put : FilesPut (D.files s) ((e.out, output) ∷ []) (D.files s')
@@ -216,7 +235,7 @@ module _ {S O : Type 0} (D : Shelf S) (E : Sink O) (held : Files) (s : S) (o : O
     pub put : FilesPut (D.files s) ((inputs.out, output) ∷ []) (D.files s')
     pub said : Said (E.said o) (outcome_line (run_of inputs.memory inputs.head inputs.mode inputs.limit).1) (E.said o')
 
-  -- what stands after a command answered Done; a command that is not served never does
+  -- what stands after a command answered Done
   abbrev pub HasDone : CommandValue → Type 0
   HasDone (words.boot b) = HasBooted b
   HasDone (words.load l) = HasLoaded l
@@ -225,7 +244,7 @@ module _ {S O : Type 0} (D : Shelf S) (E : Sink O) (held : Files) (s : S) (o : O
   HasDone (words.dump l) = HasDumped l ⊎ HasDumpedCrash l
   HasDone (words.exec e) = HasExecuted e ⊎ HasExecutedCrash e
   HasDone (words.trace t) = HasTraced t
-  HasDone (words.sample n) = ⊥
+  HasDone (words.sample n) = HasSampled D E s o s' o' n
 
 -- Nothing refuses the load of what was taken: the request has a plan, the pool has as many pages as the load takes, and
 -- each memory that it may leave has a file.
@@ -253,7 +272,7 @@ pub record CanRun (x : LoadFiles) (twice : Bool) : Type 0 where
   pub accepted : IsAcceptedIn x items
   pub kept : is_not_kept twice x ≡ false
   pub light : (c : Checked) (n : ℕ) → c.load ≡ load_of x →
-    IsTooHeavy (after_runs (runs_asked twice x) c) n → ⊥
+      IsTooHeavy (after_runs (runs_asked twice x) c) n → ⊥
 
 -- a crash load lies in its place, and is to run once
 pub record CanRunInPlace (x : CrashFiles) (twice : Bool) : Type 0 where
@@ -278,7 +297,7 @@ IsInOrder (words.exec e) held =
     (x : ExecInputs) × (reads (exec_files e) held ≡ Ok x) × CanExec x.load x.twice
 IsInOrder (words.trace t) held =
     (x : TraceInputs) × (reads (trace_files t) held ≡ Ok x) × ((n : ℕ) → IsTooHeavy (at (run_of x.memory x.head x.mode x.limit).0.memory) n → ⊥)
-IsInOrder (words.sample n) held = ⊥
+IsInOrder (words.sample n) held = Unit {0}
 
 -- the files are read and the request has a plan, whose load takes more pages than the pool has: so many, and so many
 abbrev pub LacksPages : Wish → LoadInputs → (pool need : ℕ) → Type 0

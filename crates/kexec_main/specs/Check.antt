@@ -40,7 +40,7 @@ IsInPlace x = AcceptedCrash (at x.memory) (want x.segments) x.head
 pub record IsPlaceFault (x : CrashFiles) (f : ListFault) : Type 0 where
   pub head : f.word ≡ 0
   pub why : crash_reason (at x.memory) (want x.segments) (pages x.segments) (decode x.head)
-    ≡ Some f.why
+      ≡ Some f.why
   pub no_place : IsInPlace x → ⊥
 
 -- the goods of a load that is not accepted: the fault's line alone

@@ -22,7 +22,6 @@ answer_of (status.Plan fault) = refused (by (reasons.Plan fault))
 answer_of (status.NoPages pool need) = refused (by (reasons.NoPages pool need))
 answer_of (status.Heavy count) = refused (by (reasons.Heavy count))
 answer_of status.NotKept = refused (by reasons.NotKept)
-answer_of (status.NotBuilt what) = refused (by (reasons.NotBuilt what))
 answer_of status.Memory = memory
 
 -- the exit status of each
@@ -40,4 +39,3 @@ code_of (status.NoPages pool need) = 9
 code_of (status.Heavy count) = 10
 code_of status.NotKept = 11
 code_of status.Memory = 12
-code_of (status.NotBuilt what) = 64

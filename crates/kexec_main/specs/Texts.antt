@@ -6,6 +6,8 @@ use Rattle.purgatory_link.specs.declared.region_test.RegionTest.{RegionTest}
 use Rattle.purgatory_link.specs.declared.region_test.RegionTest.TheVariants as tests
 use Rattle.purgatory_link.specs.RegionTest.{test}
 use Rattle.std.specs.Fmt.{digits}
+use Rattle.hex.specs.Hex.{encode_lower}
+use Rattle.sample_load.specs.Samples.{memory_digest}
 use Rattle.kx_pages.specs.declared.image.Start.{Start}
 use Rattle.kx_pages.specs.declared.image.Image.{Image}
 use Rattle.kx_pages.specs.declared.image.Mode.{Mode}
@@ -46,6 +48,10 @@ regions_line (tests.Wild region) = codes "regions wild\n"
 -- the line of that test after one run, where there is a purgatory: its region table and its digest have addresses
 abbrev pub purgatory_line : Mem → ℕ → ℕ → List ℕ
 purgatory_line N table digest = if (table == 0) && (digest == 0) then [] else regions_line (test N table digest)
+
+-- the digest of a sample's memory, in hexadecimal
+unfoldable pub memory_line : Mem → List ℕ
+memory_line N = codes "memory " ++ (encode_lower (memory_digest N) ++ codes "\n")
 
 -- what a load says
 abbrev pub load_lines : ℕ → ℕ → ℕ → Image → Start → List ℕ

@@ -1,7 +1,6 @@
 //! `exec` of a crash load: it lies in its place, so that its run moves nothing.
 
-ghost use Rattle.std.specs.Prelude.{◌≡◌, string_bytes};
-ghost use Rattle.load_states.specs.States.{CrashLoad};
+ghost use Rattle.std.specs.Prelude.{string_bytes};
 ghost use Rattle.page_memory.specs.Contents.{at};
 ghost use Rattle.file_commands.specs.Calls.{Makes, MakesOr, goods_of};
 ghost use Rattle.kexec_main.specs.CrashExec.{RunsInPlace, executes_in_place};
@@ -30,7 +29,7 @@ fn run_in_place(
 ) -> Result<Goods<ListFault>, MakeFault<Reason>>
     ensures { MakesOr
         (λ g. RunsInPlace (at accepted.memory) pages start.now regions digest
-            (string_bytes out) (goods_of g))
+        (string_bytes out) (goods_of g))
         (HasNoFile (at accepted.memory)) result }
 {
     let ran = accepted.exec();

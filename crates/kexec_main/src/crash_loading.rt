@@ -1,6 +1,6 @@
 //! The request of a crash kernel is planned, and its segments are put in their place.
 
-ghost use Rattle.std.specs.Prelude.{◌≡◌, Some};
+ghost use Rattle.std.specs.Prelude.{Some};
 ghost use Rattle.file_commands.specs.Calls.{MakesOr};
 ghost use Rattle.kexec_main.specs.CrashInputs.{crash_inputs_of};
 ghost use Rattle.kexec_main.specs.CrashLoading.{IsCrashLoaded, crash_plan_of};

@@ -79,8 +79,14 @@ fn a_crash_load_is_checked_dumped_and_run(rt: HostRuntime) -> Result<(), Fail> {
     assert_eq!(rt; sink.said(), b"accepted crash pages 6\n".as_slice());
     let (status, sink) = run(alloc, &["dump", "o", "r"], &mut shelf, &[])?;
     assert_eq!(rt; status.code(), 0);
-    assert!(rt; sink.said().starts_with(b"0 done\nsegment 4000000 memsz 3000 bufsz 5 sha256 "));
-    assert_eq!(rt; sink.said().iter().filter(|byte| **byte == b'\n').count(), 4);
+    assert!(rt;
+        sink.said()
+            .starts_with(b"0 done\nsegment 4000000 memsz 3000 bufsz 5 sha256 ")
+    );
+    assert_eq!(rt;
+        sink.said().iter().filter(|byte| **byte == b'\n').count(),
+        4
+    );
     let (status, sink) = run(alloc, &["exec", "o", "r", "x"], &mut shelf, &[])?;
     assert_eq!(rt; status.code(), 0);
     assert!(rt; sink.said().starts_with(CRASH_TEXT));
@@ -143,8 +149,20 @@ fn a_crash_load_in_another_memory_is_missing(rt: HostRuntime) -> Result<(), Fail
 
 /// The option, its file, the kernel, the exit status and the status of crash loads that are refused.
 const REFUSALS: [(&str, &str, &str, u8, &str); 6] = [
-    ("no_area", "notes", "kernel", 8, "Plan { fault: NoReserved }"),
-    ("map", "notes", "elf", 8, "Plan { fault: CrashNeedsBzimage }"),
+    (
+        "no_area",
+        "notes",
+        "kernel",
+        8,
+        "Plan { fault: NoReserved }",
+    ),
+    (
+        "map",
+        "notes",
+        "elf",
+        8,
+        "Plan { fault: CrashNeedsBzimage }",
+    ),
     ("map", "notes", "notes", 8, "Plan { fault: UnknownImage }"),
     (
         "map",

@@ -8,7 +8,7 @@
 //! | `files`, `inputs` | the files of the commands, their limits and readers; the kind of a load that is taken; the request that a kernel's files make |
 //! | `loading`, `running`, `output`, `text` | the work in memory: a plan, its load, a run, the file of a memory, the text |
 //! | `crash_loading`, `crash_exec` | the same of a crash kernel, which is put in its place and never moves |
-//! | `boot`, `load`, `load_panic`, `check`, `dump`, `exec`, `trace` | a command each |
+//! | `boot`, `load`, `load_panic`, `check`, `dump`, `exec`, `trace`, `sample` | a command each |
 //! | `laws` | what commands do together |
 //! | `status` | how a command ended, and why it may be refused |
 //! | `run` | the top call |
@@ -44,6 +44,7 @@ mod output;
 mod refused_memory_tests;
 mod run;
 mod running;
+mod sample;
 mod status;
 #[cfg(test)]
 mod status_tests;
@@ -56,4 +57,4 @@ mod wild_list_tests;
 mod words;
 
 pub use run::kexec;
-pub use status::{InputFault, NotBuilt, Reason, Status};
+pub use status::{InputFault, Reason, Status};

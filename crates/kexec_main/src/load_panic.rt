@@ -129,10 +129,7 @@ impl Command for LoadPanicWords {
         take_load_panic(alloc, self.words, shelf)
     }
 
-    fn make(
-        alloc: Global,
-        load: LoadPanicCommand,
-    ) -> Result<Goods<ListFault>, MakeFault<Reason>> {
+    fn make(alloc: Global, load: LoadPanicCommand) -> Result<Goods<ListFault>, MakeFault<Reason>> {
         make_load_panic(alloc, load)
     }
 }

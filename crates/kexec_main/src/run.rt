@@ -7,15 +7,15 @@ ghost use Rattle.file_commands.specs.Taking.{by};
 ghost use Rattle.file_commands.specs.Calls.{call_answer};
 ghost use Rattle.kexec_words.specs.Limits.{IsWithinLimits};
 ghost use Rattle.kexec_words.specs.Meaning.{command_of};
-ghost use Rattle.kexec_words.specs.Values.{CommandValue, command_value};
+ghost use Rattle.kexec_words.specs.Values.{CommandValue, command_value, sample};
 ghost use Rattle.kexec_main.specs.Statuses.{answer_of};
-ghost use Rattle.kexec_main.specs.Call.{HasDone, HasTooFew, IsInOrder};
+ghost use Rattle.kexec_main.specs.Call.{EndsSample, HasDone, HasTooFew, IsInOrder};
 ghost use Rattle.kexec_main.specs.Commands.{Holds};
 ghost use Rattle.kexec_main.specs.declared.status.Reason.TheVariants.{NoPages};
 
-use crate::status::{NotBuilt, Reason, Status};
+use crate::status::{Reason, Status};
 use crate::words::{
-    BootWords, CheckWords, DumpWords, ExecWords, LoadPanicWords, LoadWords, TraceWords,
+    BootWords, CheckWords, DumpWords, ExecWords, LoadPanicWords, LoadWords, SampleWords, TraceWords,
 };
 use file_commands::{Stop, run};
 use kexec_words::{Command, WordsFault, read};
@@ -42,11 +42,7 @@ fn run_command<S: Shelf, O: Sink>(
         Command::Dump(words) => run(alloc, DumpWords { words }, shelf, out),
         Command::Exec(words) => run(alloc, ExecWords { words }, shelf, out),
         Command::Trace(words) => run(alloc, TraceWords { words }, shelf, out),
-        Command::Sample { .. } => Err(Stop::Refused {
-            why: Reason::NotBuilt {
-                what: NotBuilt::Command,
-            },
-        }),
+        Command::Sample { number } => run(alloc, SampleWords { number }, shelf, out),
     }
 }
 
@@ -88,6 +84,10 @@ pub fn kexec<S: Shelf, O: Sink>(
     // What stands after each command that answered Done.
     ensures done { (c : CommandValue) → command_of (map string_bytes words.now) ≡ Ok c → answer_of result ≡ done
         → IfSome (S.files shelf.old) (λ held. HasDone S.Shelf O.Sink held shelf.old out.old shelf.new out.new c) }
+
+    // `sample` is done over every shelf, told or not, unless its text cannot be said or memory is wanted.
+    ensures sampled { (n : ℕ) → command_of (map string_bytes words.now) ≡ Ok (sample n)
+        → EndsSample S.Shelf O.Sink shelf.old out.old shelf.new out.new n (answer_of result) }
 
     // What is in order is Done where no device fails, or memory is wanted.
     ensures complete { (c : CommandValue) → command_of (map string_bytes words.now) ≡ Ok c

@@ -32,20 +32,11 @@ pub enum InputFault {
     Notes { fault: NoteFault },
 }
 
-/// What the program does not do yet.
-#[derive(Clone, Copy, Debug, PartialEq, Eq, Error)]
-pub enum NotBuilt {
-    #[error("this command is not served yet: boot, load, load-panic, check, dump, exec and trace are")]
-    Command,
-}
-
 /// Why a command is refused, in the order in which its work is done.
 #[derive(Clone, Copy, Debug, PartialEq, Eq)]
 pub enum Reason {
     /// The words are refused.
     Usage { why: UsageWhy },
-    /// The program does not do this yet.
-    NotBuilt { what: NotBuilt },
     /// The reader of an input file refused it.
     Input { fault: InputFault },
     /// `exec --twice` was given a record that is not in kept mode.
@@ -97,9 +88,6 @@ pub enum Status {
     /// `exec --twice` was given a record that is not in kept mode.
     #[error("the record is in plain mode, and --twice needs one that was loaded with --kept")]
     NotKept,
-    /// The program does not do this yet.
-    #[error("{what}")]
-    NotBuilt { what: NotBuilt },
     /// There was not enough memory for the work.
     #[error("there is not enough memory for the work: free some and try again")]
     Memory,
@@ -124,7 +112,6 @@ impl Status {
             Status::Heavy { .. } => 10,
             Status::NotKept => 11,
             Status::Memory => 12,
-            Status::NotBuilt { .. } => 64,
         }
     }
 }
@@ -135,7 +122,6 @@ impl From<Reason> for Status {
     fn from(why: Reason) -> Self {
         match why {
             Reason::Usage { why } => Status::Usage { why },
-            Reason::NotBuilt { what } => Status::NotBuilt { what },
             Reason::Input { fault } => Status::Input { fault },
             Reason::NotKept => Status::NotKept,
             Reason::Plan { fault } => Status::Plan { fault },

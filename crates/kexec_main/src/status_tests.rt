@@ -7,7 +7,7 @@ use std::alloc::{AllocError, Global};
 use std::test::Fail;
 
 /// The words, the exit status and the status, of commands that are refused: nothing is written or said.
-const REFUSALS: [(&str, u8, &str); 29] = [
+const REFUSALS: [(&str, u8, &str); 28] = [
     ("", 2, "Usage { why: Command }"),
     ("reboot m p o k", 2, "Usage { why: Command }"),
     ("boot m p o", 2, "Usage { why: Parse }"),
@@ -51,7 +51,6 @@ const REFUSALS: [(&str, u8, &str); 29] = [
     ),
     ("boot --type raw m p o k", 2, "Usage { why: NeedsAt }"),
     ("boot m p o k", 2, "Usage { why: NeedsMap }"),
-    ("sample 1", 64, "NotBuilt { what: Command }"),
     ("boot --map f m p o k", 8, "Plan { fault: UnknownImage }"),
     (
         "boot --type raw --at 2000 none p o k",

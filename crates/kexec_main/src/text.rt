@@ -4,13 +4,14 @@
 ghost use Rattle.std.specs.Prelude.{◌≡◌, ◌++◌, IfOk, OnOk, string_bytes};
 ghost use Rattle.kexec_main.specs.Runs.{ran_text};
 ghost use Rattle.page_memory.specs.Contents.{at};
-ghost use Rattle.kexec_main.specs.Texts.{accepted_line, crash_line, crash_lines, crash_ran_text, head_line, load_lines, purgatory_line, ran_line, regions_line, start_line};
+ghost use Rattle.kexec_main.specs.Texts.{accepted_line, crash_line, crash_lines, crash_ran_text, head_line, load_lines, memory_line, purgatory_line, ran_line, regions_line, start_line};
 
 use crate::running::Ran;
 use kx_pages::{Image, Mode, Start};
 use load_states::RanPlain;
 use page_memory::Memory;
 use purgatory_link::{RegionTest, test_regions};
+use sample_load::digest_of;
 use std::alloc::{AllocError, Global};
 
 /// How many words the walk of an accepted list has, how many link pages, and how many pairs.
@@ -156,5 +157,26 @@ pub(crate) fn crash_ran_text(
     let mut text = crash_lines(alloc, pages, start)?;
     push_ran_line(alloc, &mut text, ran.steps())?;
     push_purgatory_line(&mut text, ran.memory(), regions, digest)?;
+    Ok(text)
+}
+
+// Adds the digest of a sample's memory.
+#[tactic(auto, unfolding(crate::specs::Texts::memory_line))]
+fn push_memory_line(alloc: Global, text: &mut String, memory: &Memory) -> Result<(), AllocError>
+    ensures { OnOk result (string_bytes text.new
+        ≡ string_bytes text.old ++ memory_line (at memory.now)) }
+{
+    let digest = hex::encode(alloc, digest_of(memory))?;
+    text.push_str(&format!(in alloc; "memory {digest}\n")?)?;
+    Ok(())
+}
+
+/// What `sample` says: of its list and the run, and the digest of the memory after it.
+pub(crate) fn sample_text(alloc: Global, ran: &Ran, start: &Start) -> Result<String, AllocError>
+    ensures { IfOk result (λ s. string_bytes s
+        ≡ ran_text ran.now start.now 0 0 ++ memory_line (at ran.now.memory)) }
+{
+    let mut text = ran_text(alloc, ran, start, 0, 0)?;
+    push_memory_line(alloc, &mut text, &ran.memory)?;
     Ok(text)
 }

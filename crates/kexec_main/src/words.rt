@@ -46,6 +46,12 @@ pub(crate) struct ExecWords {
     pub(crate) words: Exec,
 }
 
+/// The words of `sample`: a number below 10^18.
+#[derive(Drop)]
+pub(crate) struct SampleWords {
+    pub(crate) number: u64,
+}
+
 /// The words of `trace`.
 #[derive(Drop)]
 pub(crate) struct TraceWords {

@@ -1,6 +1,6 @@
 -- The plan of a crash kernel lies in the reserved area.
-use Rattle.std.proofs.Common.{◌≡◌, ℕ, suc, ◌+◌, ◌*◌, ◌≤◌, ◌++◌, List, [], ◌∷◌, length, Bool, true, false, Option, Some, None, Result, Ok, Err, refl, sym, ap, ◌∙◌, subst, arith}
-use Rattle.std.specs.Prelude.{cond, not, nat_le, nat_lt, option_map}
+use Rattle.std.proofs.Common.{◌≡◌, ℕ, suc, ◌+◌, ◌≤◌, ◌++◌, List, [], ◌∷◌, length, Bool, true, false, Option, Some, None, Ok, Err, refl, sym, ap, ◌∙◌, subst, arith}
+use Rattle.std.specs.Prelude.{cond, not, option_map}
 use Rattle.std.specs.Option.{option_or}
 use Rattle.std.specs.List.{position, position_or_len}
 use Rattle.std.proofs.lemmas.Bool.Decides.{nat_tests}
@@ -16,9 +16,9 @@ use Rattle.segments.specs.declared.fault.Kind.TheVariants.{Normal, Crash}
 use Rattle.segments.specs.declared.fault.SegFault.{SegFault}
 use Rattle.segments.specs.declared.fault.SegFault.TheVariants.{OutsideReserved}
 use Rattle.segments.specs.Values.{SegmentValue, is_page_of_segment, want}
-use Rattle.segments.specs.Rules.{at_first, half_of_memory, leaves, misplaced, outside_reserved, refusal, shape_refusal}
+use Rattle.segments.specs.Rules.{half_of_memory, leaves, misplaced, outside_reserved, refusal, shape_refusal}
 use Rattle.memory_map.specs.Maps.{MapValue, reserved_area}
-use Rattle.bzimage.specs.Kernel.{Kernel, kernel_reading}
+use Rattle.bzimage.specs.Kernel.{kernel_reading}
 use Rattle.kexec_plan.specs.declared.fault.PlanFault.{PlanFault}
 use Rattle.kexec_plan.specs.declared.fault.PlanFault.TheVariants as faults
 use Rattle.kexec_plan.specs.declared.format.Format.{Format}
@@ -27,14 +27,14 @@ use Rattle.kexec_plan.specs.declared.places.Site.{Site}
 use Rattle.kexec_plan.specs.Modules.{LinuxAsked}
 use Rattle.kexec_plan.specs.Requests.{Asked, Plan}
 use Rattle.kexec_plan.specs.Faults.{told_by, of_bzimage}
-use Rattle.kexec_plan.specs.Formats.{crash_kind, format_of, is_bzimage, kind_of, unused_part}
+use Rattle.kexec_plan.specs.Formats.{crash_kind, format_of, kind_of, unused_part}
 use Rattle.kexec_plan.specs.Places.{searched}
 use Rattle.kexec_plan.specs.Parts.{segment_at}
 use Rattle.kexec_plan.specs.Rules.{first_refusal, ram_runs, tested, unless_refused}
 use Rattle.kexec_plan.specs.Purgatory.{Linkage, PurgatoryValue, linked_at, purgatory_most, purgatory_rule, some_purgatory}
 use Rattle.kexec_plan.specs.Finish.{armed_plan, armed_segment, finished, linked_plan, plain_plan}
 use Rattle.kexec_plan.specs.Table.{headers_rule}
-use Rattle.kexec_plan.specs.Linux.{LinuxPlaces, headers_size, linux_parts, linux_sites, linux_start, rows_of, some_headers}
+use Rattle.kexec_plan.specs.Linux.{headers_size, linux_parts, linux_sites, linux_start, rows_of, some_headers}
 use Rattle.kexec_plan.specs.Plan.{linux_headed, linux_made, linux_of, linux_placed, linux_plan, linux_read, plan, plan_as}
 
 -- each segment lies in the area
@@ -132,7 +132,7 @@ linux_inside ram r file map area p e =
     let a = bind_ok (told_by of_bzimage (kernel_reading r.kernel)) (λ image. linux_read ram image r file m kind) p e in
     let b = bind_ok (some_purgatory file) (λ purgatory. linux_placed ram a.0 r purgatory m kind) p a.2 in
     let c = bind_ok (linux_sites ram a.0 r (option_map (headers_rule a.0) (headers_size m kind r.notes)) (option_map (purgatory_rule (purgatory_most kind a.0.above4g)) b.0))
-      (λ sites. linux_headed a.0 r b.0 m kind sites) p b.2 in
+    (λ sites. linux_headed a.0 r b.0 m kind sites) p b.2 in
     let d = bind_ok (some_headers m kind r.notes) (λ headers. linux_made a.0 r b.0 headers m kind c.0) p c.2 in
     let f = bind_ok (linux_parts a.0 r d.0 (rows_of m kind) c.0) (λ parts. finished m kind parts (linux_start c.0) b.0 c.0.later.back.purgatory) p d.2 in
     finished_inside map area f.0 (linux_start c.0) b.0 c.0.later.back.purgatory p f.2

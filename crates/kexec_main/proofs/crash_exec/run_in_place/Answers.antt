@@ -30,8 +30,8 @@ returns c =
     let same : Agree N M = λ p. ap (λ m. at m p) c.into_memory.ensures ∙ c.exec-ran.ensures.memory p in
     record {
       text = c.in_ok-text.ensures
-      ∙ ap (λ steps. crash_ran_text (at ran.memory) a.pages steps a.start.now a.regions a.digest) c.exec-ran.ensures.steps
-      ∙ ap (λ L. crash_ran_text L a.pages 1 a.start.now a.regions a.digest) (one_memory (at ran.memory) M c.exec-ran.ensures.memory);
+          ∙ ap (λ steps. crash_ran_text (at ran.memory) a.pages steps a.start.now a.regions a.digest) c.exec-ran.ensures.steps
+          ∙ ap (λ L. crash_ran_text L a.pages 1 a.start.now a.regions a.digest) (one_memory (at ran.memory) M c.exec-ran.ensures.memory);
       fault = refl;
       output = output_as N M _ (string_bytes a.out) same c.in_ok-outputs.ensures;
     }

@@ -1,5 +1,4 @@
 use Rattle.std.proofs.Common.{rules, ◌≡◌, ◌∙◌, ◌++◌, ◌∷◌, [], Ok, Err, List, Some, ap, inl, inr, map, refl}
-use Rattle.std.specs.Prelude.{string_bytes}
 use Rattle.std.proofs.lemmas.List.{map-append}
 use Rattle.page_memory.specs.Contents.{at}
 use Rattle.file_commands.specs.Taking.{File, by}

@@ -1,8 +1,12 @@
-use Rattle.std.proofs.Common.{map, string_bytes}
+use Rattle.std.proofs.Common.{map, string_bytes, subst}
+use Rattle.file_commands.specs.Answers.{Meets}
 use Rattle.kexec_words.specs.Meaning.{command_of}
+use Rattle.kexec_main.specs.Commands.{Holds}
+use Rattle.kexec_main.specs.Statuses.{answer_of}
 use Rattle.kexec_main.proofs.Complete.{complete, lacks_pages}
 use Rattle.kexec_main.proofs.Done.{has_done}
 use Rattle.kexec_main.proofs.Holding.{told, told_gives}
+use Rattle.kexec_main.proofs.Sampled.{ends_sample}
 use Rattle.kexec_main.proofs.Rising.{unread_rose, unsaid_rose, unwritten_rose}
 use Rattle.kexec_main.proofs.run.kexec.Goals as goal
 
@@ -13,6 +17,10 @@ pub returns-clause-done : goal.returns-clause-done
 returns-clause-done g c = λ w e f.
     let said = command_of (map string_bytes c.args.words.now) in
     told_gives g.S.Shelf g.O.Sink _ _ _ _ _ said (λ held h. has_done g.S.Shelf g.O.Sink held _ _ _ _ said w _ e f h) c.answered.ensures
+
+pub returns-clause-sampled : goal.returns-clause-sampled
+returns-clause-sampled g c = λ n e.
+    ends_sample g.S.Shelf g.O.Sink _ _ _ _ n _ (subst (λ w. Holds (λ X p. Meets g.S.Shelf g.O.Sink p c.args.shelf.now c.args.out.now (answer_of c.answered.result) c.answered.new.shelf c.answered.new.out) w) e c.answered.ensures)
 
 pub returns-clause-complete : goal.returns-clause-complete
 returns-clause-complete g c = λ w e.
