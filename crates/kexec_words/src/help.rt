@@ -19,7 +19,7 @@ Commands:
   dump        print the words and the segments of a load record
   exec        check the list of a load record and run it
   trace       run a list for some steps, whether it is accepted or not
-  sample      load and run what is made from a number (not served yet)
+  sample      load and run what is made from a number
 
 Files:
   memory file  KXMEM001, the number of pages, and each page that is not all zero
