@@ -35,8 +35,10 @@ Boots x p c = IsLoaded (wish_of x.runs) x.load p c.load × Told c.load c.words c
 -- list and each run. Or the plan or the load refuses, or that memory has no file.
 abbrev pub boots : BootInputs → Result Made (Refusal Reason) → Type 0
 boots x (Ok goods) =
-    (p : Plan) × (c : Checked) × Boots x p c × (goods.text ≡ run_text x.runs c p.start p.regions p.digest) × (goods.fault ≡ None)
+    (p : Plan) × (c : Checked) × Boots x p c
+    × (goods.text ≡ run_text x.runs c p.start p.regions p.digest) × (goods.fault ≡ None)
     × IsMemoryFile goods.outputs x.out (after_runs x.runs c)
 boots x (Err (by why)) =
-    RefusesLoad (wish_of x.runs) x.load why ⊎ ((p : Plan) × (c : Checked) × Boots x p c × HasNoFile (after_runs x.runs c) why)
+    RefusesLoad (wish_of x.runs) x.load why
+    ⊎ ((p : Plan) × (c : Checked) × Boots x p c × HasNoFile (after_runs x.runs c) why)
 boots x (Err (too_long name limit)) = ⊥

@@ -62,7 +62,8 @@ pub record NormalLoad (wish : Wish) (i : LoadInputs) (p : Plan) (c : Checked) : 
   -- the list, the control page and the sources are those that the rules of taking pages and laying a list give
   pub laid : IsSealed (at i.memory) i.pool wish p.segments c.load
   -- memory is as it was at every page but the first ones of the pool
-  pub only_pool_pages : (q : ℕ) → count q (take (need wish p.segments) i.pool) ≡ 0 → at c.load.memory q ≡ at i.memory q
+  pub only_pool_pages : (q : ℕ) → count q (take (need wish p.segments) i.pool) ≡ 0
+      → at c.load.memory q ≡ at i.memory q
   -- the list is accepted for the segments, by a walk of so many words with so many link pages and these pairs
   pub accepted : Told c.load c.words c.links c.pairs
   -- and its run ends within its entries: the machine is done after as many steps as the walk has words
@@ -107,7 +108,8 @@ module _ {S O : Type 0} (D : Shelf S) (E : Sink O) (s : S) (o : O) (s' : S) (o' 
   EndsSample number memory = Unit {0}
   EndsSample number other = ⊥
 
-module _ {S O : Type 0} (D : Shelf S) (E : Sink O) (held : Files) (s : S) (o : O) (s' : S) (o' : O) where
+module _ {S O : Type 0} (D : Shelf S) (E : Sink O) (held : Files) (s : S) (o : O) (s' : S)
+    (o' : O) where
   -- After `boot`: all that the words name was read, and the kernel loaded. The runs left what they are to leave, each after
   -- as many steps as the walk has words. OUT is the file of the memory after the last run, every other file is as it was,
   -- and the text tells the list and each run.
@@ -125,7 +127,8 @@ module _ {S O : Type 0} (D : Shelf S) (E : Sink O) (held : Files) (s : S) (o : O
     pub output : List ℕ
     pub is_memory : IsFileOf (after_runs b.kept checked) output
     pub put : FilesPut (D.files s) ((b.out, output) ∷ []) (D.files s')
-    pub said : Said (E.said o) (run_text b.kept checked planned.start planned.regions planned.digest) (E.said o')
+    pub said : Said (E.said o)
+        (run_text b.kept checked planned.start planned.regions planned.digest) (E.said o')
 
   -- After `load`: the kernel was loaded. OUT is the file of the memory after the load. RECORD tells its list, start and
   -- segments, and reads back as it was written. Every other file is as it was, and the text tells the list.
@@ -138,7 +141,9 @@ module _ {S O : Type 0} (D : Shelf S) (E : Sink O) (held : Files) (s : S) (o : O
     pub output : List ℕ
     pub is_memory : IsFileOf (at checked.load.memory) output
     pub read_back : IsReadBack (record_of_load checked.load planned)
-    pub put : FilesPut (D.files s) ((l.out, output) ∷ (l.load_record, record_file (record_of_load checked.load planned)) ∷ []) (D.files s')
+    pub put : FilesPut (D.files s)
+        ((l.out, output) ∷ (l.load_record, record_file (record_of_load checked.load planned)) ∷ [])
+        (D.files s')
     pub said : Said (E.said o) (list_text checked planned.start) (E.said o')
 
   -- After `load-panic`: the crash kernel was put in its place. OUT is the file of the memory after the
@@ -231,9 +236,11 @@ module _ {S O : Type 0} (D : Shelf S) (E : Sink O) (held : Files) (s : S) (o : O
     pub inputs : TraceInputs
     pub read : reads (trace_files t) held ≡ Ok inputs
     pub output : List ℕ
-    pub is_memory : IsFileOf (at (run_of inputs.memory inputs.head inputs.mode inputs.limit).0.memory) output
+    pub is_memory : IsFileOf
+        (at (run_of inputs.memory inputs.head inputs.mode inputs.limit).0.memory) output
     pub put : FilesPut (D.files s) ((inputs.out, output) ∷ []) (D.files s')
-    pub said : Said (E.said o) (outcome_line (run_of inputs.memory inputs.head inputs.mode inputs.limit).1) (E.said o')
+    pub said : Said (E.said o)
+        (outcome_line (run_of inputs.memory inputs.head inputs.mode inputs.limit).1) (E.said o')
 
   -- what stands after a command answered Done
   abbrev pub HasDone : CommandValue → Type 0
@@ -286,8 +293,12 @@ CanExec (Crash x) twice = CanRunInPlace x twice
 
 -- a command is in order over these files: they are read, and nothing refuses what they are
 abbrev pub IsInOrder : CommandValue → Files → Type 0
-IsInOrder (words.boot b) held = (x : BootInputs) × (reads (boot_files b) held ≡ Ok x) × CanLoad (wish_of x.runs) x.load (after_runs x.runs)
-IsInOrder (words.load l) held = (x : LoadCommand) × (reads (load_command_files l) held ≡ Ok x) × CanLoad x.wish x.load (λ c. at c.load.memory)
+IsInOrder (words.boot b) held =
+    (x : BootInputs) × (reads (boot_files b) held ≡ Ok x)
+    × CanLoad (wish_of x.runs) x.load (after_runs x.runs)
+IsInOrder (words.load l) held =
+    (x : LoadCommand) × (reads (load_command_files l) held ≡ Ok x)
+    × CanLoad x.wish x.load (λ c. at c.load.memory)
 IsInOrder (words.load_panic l) held =
     (x : LoadPanicCommand) × (reads (load_panic_files l) held ≡ Ok x) × CanLoadPanic x.load
 IsInOrder (words.check l) held =
@@ -296,14 +307,20 @@ IsInOrder (words.dump l) held = (x : TakenLoad) × (reads (load_files_of l) held
 IsInOrder (words.exec e) held =
     (x : ExecInputs) × (reads (exec_files e) held ≡ Ok x) × CanExec x.load x.twice
 IsInOrder (words.trace t) held =
-    (x : TraceInputs) × (reads (trace_files t) held ≡ Ok x) × ((n : ℕ) → IsTooHeavy (at (run_of x.memory x.head x.mode x.limit).0.memory) n → ⊥)
+    (x : TraceInputs) × (reads (trace_files t) held ≡ Ok x)
+    × ((n : ℕ) → IsTooHeavy (at (run_of x.memory x.head x.mode x.limit).0.memory) n → ⊥)
 IsInOrder (words.sample n) held = Unit {0}
 
 -- the files are read and the request has a plan, whose load takes more pages than the pool has: so many, and so many
 abbrev pub LacksPages : Wish → LoadInputs → (pool need : ℕ) → Type 0
-LacksPages wish i pool n = (p : Plan) × (plan i.request i.map ≡ Ok p) × (pool ≡ length i.pool) × (n ≡ need wish p.segments) × (pool < n)
+LacksPages wish i pool n =
+    (p : Plan) × (plan i.request i.map ≡ Ok p) × (pool ≡ length i.pool) × (n ≡ need wish p.segments)
+    × (pool < n)
 
 abbrev pub HasTooFew : CommandValue → Files → (pool need : ℕ) → Type 0
-HasTooFew (words.boot b) held pool n = (x : BootInputs) × (reads (boot_files b) held ≡ Ok x) × LacksPages (wish_of x.runs) x.load pool n
-HasTooFew (words.load l) held pool n = (x : LoadCommand) × (reads (load_command_files l) held ≡ Ok x) × LacksPages x.wish x.load pool n
+HasTooFew (words.boot b) held pool n =
+    (x : BootInputs) × (reads (boot_files b) held ≡ Ok x)
+    × LacksPages (wish_of x.runs) x.load pool n
+HasTooFew (words.load l) held pool n =
+    (x : LoadCommand) × (reads (load_command_files l) held ≡ Ok x) × LacksPages x.wish x.load pool n
 HasTooFew other held pool n = ⊥

@@ -30,7 +30,8 @@ item_text (Done p) address = codes " done\n"
 
 -- the line of a word of a walk: its number, what it is, and its address
 unfoldable pub word_line : ℕ → ℕ → List ℕ
-word_line n w = elim (decode w) [ None ↦ [] | Some item ↦ decimal n ++ item_text item (4096 * (w / 4096)) ]
+word_line n w =
+    elim (decode w) [ None ↦ [] | Some item ↦ decimal n ++ item_text item (4096 * (w / 4096)) ]
 
 -- the lines of words, the first of which has this number
 abbrev pub word_lines : ℕ → List ℕ → List ℕ
@@ -45,7 +46,13 @@ walk_text ws (Some f) = word_lines 0 (take f.word ws) ++ (fault_text f ++ codes 
 -- the line of a segment: its address, its bytes of memory, the count of its bytes and their digest by SHA-256 (FIPS 180-4)
 unfoldable pub segment_line : SegmentValue → List ℕ
 segment_line s =
-    codes "segment " ++ (hexadecimal s.mem ++ (codes " memsz " ++ (hexadecimal s.memsz ++ (codes " bufsz " ++ (decimal (length s.bytes) ++ (codes " sha256 " ++ (encode_lower (sha256 s.bytes) ++ codes "\n")))))))
+    codes "segment "
+    ++ (hexadecimal s.mem
+    ++ (codes " memsz "
+    ++ (hexadecimal s.memsz
+    ++ (codes " bufsz "
+    ++ (decimal (length s.bytes)
+    ++ (codes " sha256 " ++ (encode_lower (sha256 s.bytes) ++ codes "\n")))))))
 
 -- why the head of a crash load is no done word, if it is none: the fault of a load without pages
 abbrev pub head_fault : ℕ → Option ListFault

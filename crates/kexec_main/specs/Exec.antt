@@ -65,13 +65,15 @@ load_of x = record {
 abbrev pub RunsList : Option Runs → Load → Start → (table digest : ℕ) → List ℕ → Made → Type 0
 RunsList runs load start table digest out goods =
     (words : ℕ) × (links : ℕ) × (qs : List (ℕ × ℕ)) × Told load words links qs
-    × (goods.text ≡ run_text runs (checked_with load words links qs) start table digest) × (goods.fault ≡ None)
+    × (goods.text ≡ run_text runs (checked_with load words links qs) start table digest)
+    × (goods.fault ≡ None)
     × IsMemoryFile goods.outputs out (after_runs runs (checked_with load words links qs))
 
 -- the memory after the last run has no file, for this reason
 abbrev pub RefusesRun : Option Runs → Load → Reason → Type 0
 RefusesRun runs load why =
-    (words : ℕ) × (links : ℕ) × (qs : List (ℕ × ℕ)) × Told load words links qs × HasNoFile (after_runs runs (checked_with load words links qs)) why
+    (words : ℕ) × (links : ℕ) × (qs : List (ℕ × ℕ)) × Told load words links qs
+    × HasNoFile (after_runs runs (checked_with load words links qs)) why
 
 -- the runs that are asked of the list of the files
 abbrev pub runs_asked : Bool → LoadFiles → Option Runs

@@ -35,7 +35,8 @@ pub record KernelFiles : Type 0 where
   pub modules : List File
 
 -- they are taken by these names, in this order
-abbrev pub kernel_files : List ℕ → Option (List ℕ) → Option (List ℕ) → List (List ℕ) → Take Reason KernelFiles
+abbrev pub kernel_files : List ℕ → Option (List ℕ) → Option (List ℕ) → List (List ℕ)
+    → Take Reason KernelFiles
 kernel_files kernel initrd purgatory modules = do
   k ← whole_file kernel_limit kernel
   i ← optional_file (whole_file (kernel_limit - length k)) initrd
@@ -86,4 +87,5 @@ kernel_bytes f = record {
 }
 
 abbrev pub inputs_of : Taken → LoadInputs
-inputs_of t = record { memory = t.memory; pool = t.pool.left; map = t.map; request = request_of t.request }
+inputs_of t =
+    record { memory = t.memory; pool = t.pool.left; map = t.map; request = request_of t.request }

@@ -35,7 +35,13 @@ load_command_files l = do
   ok (record { load = x; wish = load_wish l; out = l.out; load_record = l.load_record })
 
 abbrev pub load_command : Taken → LoadCommand
-load_command l = record { load = inputs_of l.load; wish = l.wish; out = string_bytes l.out; load_record = string_bytes l.load_record }
+load_command l =
+    record {
+      load = inputs_of l.load;
+      wish = l.wish;
+      out = string_bytes l.out;
+      load_record = string_bytes l.load_record;
+    }
 
 -- the kernel is loaded by this plan, and so much is told of its accepted list
 abbrev pub Loads : LoadCommand → Plan → Checked → Type 0
@@ -44,11 +50,20 @@ Loads x p c = IsLoaded x.wish x.load p c.load × Told c.load c.words c.links c.p
 -- what is said of a load, by what is told of its accepted list
 abbrev pub IsToldText : Load → Start → List ℕ → Type 0
 IsToldText load start text =
-    (words : ℕ) × (links : ℕ) × (qs : List (ℕ × ℕ)) × Told load words links qs × (text ≡ load_lines words links (length qs) load.image start)
+    (words : ℕ) × (links : ℕ) × (qs : List (ℕ × ℕ)) × Told load words links qs
+    × (text ≡ load_lines words links (length qs) load.image start)
 
 -- the record of a load
 abbrev pub record_of_load : Load → Plan → Record
-record_of_load load p = record { crash = false; image = load.image; start = p.start; regions = p.regions; digest = p.digest; segments = load.segments }
+record_of_load load p =
+    record {
+      crash = false;
+      image = load.image;
+      start = p.start;
+      regions = p.regions;
+      digest = p.digest;
+      segments = load.segments;
+    }
 
 -- the file of a record reads as the record itself
 abbrev pub IsReadBack : Record → Type 0
@@ -58,10 +73,12 @@ IsReadBack r = record_reading (record_file r) ≡ Ok r
 -- text tells the list. Or the plan or the load refuses, or that memory has no file.
 abbrev pub loads : LoadCommand → Result Made (Refusal Reason) → Type 0
 loads x (Ok goods) =
-    (p : Plan) × (c : Checked) × Loads x p c × (goods.text ≡ list_text c p.start) × (goods.fault ≡ None)
+    (p : Plan) × (c : Checked) × Loads x p c × (goods.text ≡ list_text c p.start)
+    × (goods.fault ≡ None)
     × (bytes : List ℕ) × IsFileOf (at c.load.memory) bytes
     × (goods.outputs ≡ (x.out, bytes) ∷ (x.load_record, record_file (record_of_load c.load p)) ∷ [])
     × IsReadBack (record_of_load c.load p)
 loads x (Err (by why)) =
-    RefusesLoad x.wish x.load why ⊎ ((p : Plan) × (c : Checked) × Loads x p c × HasNoFile (at c.load.memory) why)
+    RefusesLoad x.wish x.load why
+    ⊎ ((p : Plan) × (c : Checked) × Loads x p c × HasNoFile (at c.load.memory) why)
 loads x (Err (too_long name limit)) = ⊥

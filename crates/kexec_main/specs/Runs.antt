@@ -38,7 +38,8 @@ checked_with load words links qs = record { load = load; words = words; links = 
 abbrev pub after_runs : Option Runs → Checked → Mem
 after_runs None c = overlay (at c.load.memory) (want c.load.segments)
 after_runs (Some Once) c = exchange (at c.load.memory) c.pairs (swap_of c.load)
-after_runs (Some Twice) c = exchange (exchange (at c.load.memory) c.pairs (swap_of c.load)) c.pairs (swap_of c.load)
+after_runs (Some Twice) c =
+    exchange (exchange (at c.load.memory) c.pairs (swap_of c.load)) c.pairs (swap_of c.load)
 
 -- the steps of the second run, where there is one
 abbrev pub second_steps : Option Runs → ℕ → Option ℕ
@@ -59,7 +60,8 @@ pub record HasRun (runs : Option Runs) (c : Checked) (r : Ran) : Type 0 where
 -- a load was run: so much is told of its accepted list
 abbrev pub RunsLoaded : Option Runs → Load → Ran → Type 0
 RunsLoaded runs load r =
-    (words : ℕ) × (links : ℕ) × (qs : List (ℕ × ℕ)) × Told load words links qs × HasRun runs (checked_with load words links qs) r
+    (words : ℕ) × (links : ℕ) × (qs : List (ℕ × ℕ)) × Told load words links qs
+    × HasRun runs (checked_with load words links qs) r
 
 -- each page of the segments has what it is to have
 abbrev pub Arrives : Checked → Mem → Type 0
@@ -84,7 +86,8 @@ abbrev pub EndsAgain : Option Runs → Checked → Type 0
 EndsAgain None c = Unit {0}
 EndsAgain (Some Once) c = Unit {0}
 EndsAgain (Some Twice) c =
-    (m : Contents) → Agree (at m) (after_runs (Some Once) c) → EndsAfter (with_memory c.load m) c.words
+    (m : Contents) → Agree (at m) (after_runs (Some Once) c)
+    → EndsAfter (with_memory c.load m) c.words
 
 -- what is said of the list, and then of each run, which takes as many steps as the walk has words
 abbrev pub list_text : Checked → Start → List ℕ
@@ -92,9 +95,13 @@ list_text c start = load_lines c.words c.links (length c.pairs) c.load.image sta
 
 -- after one run, where there is a purgatory, the test of its regions in the memory that the run left
 abbrev pub run_text : Option Runs → Checked → Start → (table digest : ℕ) → List ℕ
-run_text None c start table digest = (list_text c start ++ ran_line c.words) ++ purgatory_line (after_runs None c) table digest
-run_text (Some Once) c start table digest = (list_text c start ++ ran_line c.words) ++ purgatory_line (after_runs (Some Once) c) table digest
-run_text (Some Twice) c start table digest = (list_text c start ++ ran_line c.words) ++ ran_line c.words
+run_text None c start table digest =
+    (list_text c start ++ ran_line c.words) ++ purgatory_line (after_runs None c) table digest
+run_text (Some Once) c start table digest =
+    (list_text c start ++ ran_line c.words)
+    ++ purgatory_line (after_runs (Some Once) c) table digest
+run_text (Some Twice) c start table digest =
+    (list_text c start ++ ran_line c.words) ++ ran_line c.words
 
 -- the same by what ran: the line of the second run, or else that of the test
 abbrev pub last_line : Option ℕ → List ℕ → List ℕ → List ℕ
@@ -103,4 +110,5 @@ last_line (Some steps) text line = text ++ ran_line steps
 
 abbrev pub ran_text : Ran → Start → (table digest : ℕ) → List ℕ
 ran_text r start table digest =
-    last_line r.back (load_lines r.words r.links r.pairs r.image start ++ ran_line r.steps) (purgatory_line (at r.memory) table digest)
+    last_line r.back (load_lines r.words r.links r.pairs r.image start ++ ran_line r.steps)
+    (purgatory_line (at r.memory) table digest)

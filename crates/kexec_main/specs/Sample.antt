@@ -25,10 +25,12 @@ pub record IsSample (number : ℕ) (c : Checked) : Type 0 where
 -- what is said of the list, of its run, and of the memory after it
 abbrev pub sample_text : ℕ → Checked → List ℕ
 sample_text number c =
-    (list_text c (start_of (sample_segments number)) ++ ran_line c.words) ++ memory_line (after_runs None c)
+    (list_text c (start_of (sample_segments number)) ++ ran_line c.words)
+    ++ memory_line (after_runs None c)
 
 -- The list of the sample is run, and the text tells of it. No output is made, and nothing is refused.
 abbrev pub samples : ℕ → Result Made (Refusal Reason) → Type 0
 samples number (Ok goods) =
-    (c : Checked) × IsSample number c × (goods.outputs ≡ []) × (goods.text ≡ sample_text number c) × (goods.fault ≡ None)
+    (c : Checked) × IsSample number c × (goods.outputs ≡ []) × (goods.text ≡ sample_text number c)
+    × (goods.fault ≡ None)
 samples number (Err why) = ⊥

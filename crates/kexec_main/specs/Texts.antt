@@ -19,12 +19,17 @@ hexadecimal n = digits 16 false n
 -- an accepted list: how many words its walk has, how many link pages, how many pairs of destination and source
 abbrev pub accepted_line : ℕ → ℕ → ℕ → List ℕ
 accepted_line words links pairs =
-    codes "accepted words " ++ (decimal words ++ (codes " links " ++ (decimal links ++ (codes " pairs " ++ (decimal pairs ++ codes "\n")))))
+    codes "accepted words "
+    ++ (decimal words
+    ++ (codes " links "
+    ++ (decimal links ++ (codes " pairs " ++ (decimal pairs ++ codes "\n")))))
 
 -- the head word, the control page's address, and with context preserved the swap page's
 abbrev pub head_line : Image → List ℕ
 head_line image =
-    codes "head " ++ (hexadecimal image.head ++ (codes " control " ++ (hexadecimal (4096 * image.control) ++ swap_end image.mode)))
+    codes "head "
+    ++ (hexadecimal image.head
+    ++ (codes " control " ++ (hexadecimal (4096 * image.control) ++ swap_end image.mode)))
   where
     swap_end : Mode → List ℕ
     swap_end Plain = codes "\n"
@@ -33,7 +38,12 @@ head_line image =
 -- where the new kernel starts, and with which registers
 abbrev pub start_line : Start → List ℕ
 start_line s =
-    codes "start entry " ++ (hexadecimal s.entry ++ (codes " rax " ++ (hexadecimal s.rax ++ (codes " rbx " ++ (hexadecimal s.rbx ++ (codes " rsi " ++ (hexadecimal s.rsi ++ codes "\n")))))))
+    codes "start entry "
+    ++ (hexadecimal s.entry
+    ++ (codes " rax "
+    ++ (hexadecimal s.rax
+    ++ (codes " rbx "
+    ++ (hexadecimal s.rbx ++ (codes " rsi " ++ (hexadecimal s.rsi ++ codes "\n")))))))
 
 -- a run, and how many steps it took
 abbrev pub ran_line : ℕ → List ℕ
@@ -47,7 +57,9 @@ regions_line (tests.Wild region) = codes "regions wild\n"
 
 -- the line of that test after one run, where there is a purgatory: its region table and its digest have addresses
 abbrev pub purgatory_line : Mem → ℕ → ℕ → List ℕ
-purgatory_line N table digest = if (table == 0) && (digest == 0) then [] else regions_line (test N table digest)
+purgatory_line N table digest =
+    if (table == 0) && (digest == 0) then []
+    else regions_line (test N table digest)
 
 -- the digest of a sample's memory, in hexadecimal
 unfoldable pub memory_line : Mem → List ℕ
@@ -55,7 +67,8 @@ memory_line N = codes "memory " ++ (encode_lower (memory_digest N) ++ codes "\n"
 
 -- what a load says
 abbrev pub load_lines : ℕ → ℕ → ℕ → Image → Start → List ℕ
-load_lines words links pairs image start = accepted_line words links pairs ++ (head_line image ++ start_line start)
+load_lines words links pairs image start =
+    accepted_line words links pairs ++ (head_line image ++ start_line start)
 
 -- a crash load that is accepted: how many pages its segments have
 abbrev pub crash_line : ℕ → List ℕ

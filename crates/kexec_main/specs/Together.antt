@@ -37,8 +37,10 @@ booted_text runs c p = run_text runs c p.start p.regions p.digest
 -- `exec` is that of `boot`, and both said the same.
 abbrev pub LoadThenExecIsBoot : {S O : Type 0} → Shelf S → Sink O → Type 0
 LoadThenExecIsBoot {S} {O} D E =
-    (held after : Files) (s t u s' t' u' : S) (o p q o' p' q' : O) (b : BootValue) (l : LoadValue) (e : ExecValue) → AskTogether b l e
-    → (boot : HasBooted D E held s o s' o' b) (load : HasLoaded D E held t p t' p' l) (exec : HasExecuted D E after u q u' q' e)
+    (held after : Files) (s t u s' t' u' : S) (o p q o' p' q' : O) (b : BootValue) (l : LoadValue)
+    (e : ExecValue) → AskTogether b l e
+    → (boot : HasBooted D E held s o s' o' b) (load : HasLoaded D E held t p t' p' l)
+    (exec : HasExecuted D E after u q u' q' e)
     → file_at after l.out ≡ load.output
     → file_at after l.load_record ≡ record_file (record_of_load load.checked.load load.planned)
     → (exec.output ≡ boot.output)

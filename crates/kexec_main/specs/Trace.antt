@@ -18,7 +18,8 @@ use Rattle.kexec_main.specs.Texts.{hexadecimal}
 abbrev pub outcome_line : Outcome → List ℕ
 outcome_line (outcomes.Done steps) = codes "done " ++ (decimal steps ++ codes "\n")
 outcome_line (outcomes.Running limit) = codes "running " ++ (decimal limit ++ codes "\n")
-outcome_line (outcomes.Off address steps) = codes "off " ++ (hexadecimal address ++ (codes " after " ++ (decimal steps ++ codes "\n")))
+outcome_line (outcomes.Off address steps) =
+    codes "off " ++ (hexadecimal address ++ (codes " after " ++ (decimal steps ++ codes "\n")))
 
 -- with a swap page the moves are those of kept mode
 abbrev pub mode_by : Option ℕ → Mode
@@ -39,12 +40,20 @@ trace_files t = do
   ok (record { memory = m; head = t.head; mode = mode_by t.swap; limit = t.limit; out = t.out })
 
 abbrev pub trace_inputs : Taken → TraceInputs
-trace_inputs t = record { memory = t.memory; head = t.head; mode = t.mode; limit = t.limit; out = string_bytes t.out }
+trace_inputs t =
+    record {
+      memory = t.memory;
+      head = t.head;
+      mode = t.mode;
+      limit = t.limit;
+      out = string_bytes t.out;
+    }
 
 -- the file of the memory after the steps and the outcome's line; or that memory has no file
 abbrev pub traces : TraceInputs → Result Made (Refusal Reason) → Type 0
 traces x (Ok goods) =
     let run = run_of x.memory x.head x.mode x.limit in
-    (goods.text ≡ outcome_line run.1) × (goods.fault ≡ None) × IsMemoryFile goods.outputs x.out (at run.0.memory)
+    (goods.text ≡ outcome_line run.1) × (goods.fault ≡ None)
+    × IsMemoryFile goods.outputs x.out (at run.0.memory)
 traces x (Err (by why)) = HasNoFile (at (run_of x.memory x.head x.mode x.limit).0.memory) why
 traces x (Err (too_long name limit)) = ⊥

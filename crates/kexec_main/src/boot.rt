@@ -46,7 +46,8 @@ fn take_boot<S: Shelf>(
     boot: BootWords,
     shelf: &mut S,
 ) -> Result<BootInputs, TakeFault<Reason>>
-    ensures { Takes S.Shelf (boot_files (boot_value boot.words)) boot_inputs shelf.old result shelf.new }
+    ensures { Takes S.Shelf (boot_files (boot_value boot.words)) boot_inputs shelf.old
+        result shelf.new }
 {
     let Boot {
         inputs,

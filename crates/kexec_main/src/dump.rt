@@ -35,7 +35,8 @@ fn word_line(alloc: Global, number: usize, word: u64) -> Result<String, AllocErr
 
 // Adds the lines of words, which are numbered from 0.
 fn push_words(alloc: Global, text: &mut String, words: &[u64]) -> Result<(), AllocError>
-    ensures { OnOk result (string_bytes text.new ≡ string_bytes text.old ++ word_lines 0 words.now) }
+    ensures { OnOk result
+        (string_bytes text.new ≡ string_bytes text.old ++ word_lines 0 words.now) }
 {
     for (number, word) in words.iter().enumerate() {
         text.push_str(&word_line(alloc, number, *word)?)?;
@@ -45,7 +46,8 @@ fn push_words(alloc: Global, text: &mut String, words: &[u64]) -> Result<(), All
 
 // Adds the lines of a walk, and why it ends where its last word cannot be followed.
 fn push_walk(alloc: Global, text: &mut String, walk: Walk) -> Result<(), AllocError>
-    ensures { OnOk result (string_bytes text.new ≡ string_bytes text.old ++ walk_text walk.words.items walk.fault) }
+    ensures { OnOk result
+        (string_bytes text.new ≡ string_bytes text.old ++ walk_text walk.words.items walk.fault) }
 {
     let Walk { mut words, fault } = walk;
     if let Some(fault) = fault {
@@ -74,7 +76,8 @@ fn segment_line(alloc: Global, segment: &Segment) -> Result<String, AllocError>
 
 // Adds the lines of segments.
 fn push_segments(alloc: Global, text: &mut String, segments: &Segments) -> Result<(), AllocError>
-    ensures { OnOk result (string_bytes text.new ≡ string_bytes text.old ++ flat_map segment_line segments.now) }
+    ensures { OnOk result
+        (string_bytes text.new ≡ string_bytes text.old ++ flat_map segment_line segments.now) }
 {
     for i in 0..segments.count() {
         text.push_str(&segment_line(alloc, segments.segment(i))?)?;

@@ -83,7 +83,9 @@ fn run_goods(
     out: String,
 ) -> Result<Goods<ListFault>, MakeFault<Reason>>
     requires { (s : LoadOf) × IsAcceptedAs s accepted × HasMode runs s.image.mode }
-    ensures { (s : LoadOf) → IsAcceptedAs s accepted → MakesOr (λ g. RunsList runs s start.now regions digest (string_bytes out) (goods_of g)) (RefusesRun runs s) result }
+    ensures { (s : LoadOf) → IsAcceptedAs s accepted
+        → MakesOr (λ g. RunsList runs s start.now regions digest (string_bytes out) (goods_of g))
+        (RefusesRun runs s) result }
 {
     let ran = run_accepted(accepted, runs);
     let text = ran_text(alloc, &ran, start, regions, digest)?;

@@ -55,7 +55,8 @@ pub(crate) fn take_pool<S: Shelf>(
     name: String,
     shelf: &mut S,
 ) -> Result<Pool, TakeFault<Reason>>
-    ensures takes { Takes S.Shelf (pool_file (string_bytes name)) (λ p. p.left) shelf.old result shelf.new }
+    ensures takes { Takes S.Shelf (pool_file (string_bytes name)) (λ p. p.left) shelf.old
+        result shelf.new }
     ensures unfiled { IfOk result (λ p. (q : ℕ) → is_filed p q ≡ false) }
 {
     let bytes = take_file(alloc, name, TEXT_LIMIT, shelf)?;
@@ -98,7 +99,8 @@ pub(crate) fn take_map<S: Shelf>(
     name: Option<String>,
     shelf: &mut S,
 ) -> Result<Option<Map>, TakeFault<Reason>>
-    ensures takes { Takes S.Shelf (optional_file map_file (option_map string_bytes name)) (λ m. m) shelf.old result shelf.new }
+    ensures takes { Takes S.Shelf (optional_file map_file (option_map string_bytes name)) (λ m. m)
+        shelf.old result shelf.new }
     ensures named { IfOk result (λ m. is_some m ≡ is_some name) }
 {
     match name {

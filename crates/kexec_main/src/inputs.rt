@@ -54,7 +54,10 @@ fn take_kernel<S: Shelf>(
     modules: Vec<String>,
     shelf: &mut S,
 ) -> Result<KernelFiles, TakeFault<Reason>>
-    ensures takes { Takes S.Shelf (kernel_files (string_bytes kernel) (option_map string_bytes initrd) (option_map string_bytes purgatory) (map string_bytes modules.items)) kernel_bytes shelf.old result shelf.new }
+    ensures takes { Takes S.Shelf
+        (kernel_files (string_bytes kernel) (option_map string_bytes initrd)
+        (option_map string_bytes purgatory) (map string_bytes modules.items)) kernel_bytes
+        shelf.old result shelf.new }
     ensures named { IfOk result (λ f. is_some f.purgatory ≡ is_some purgatory) }
 {
     let kernel = take_file(alloc, kernel, KERNEL_LIMIT, shelf)?;
@@ -92,7 +95,9 @@ fn request_with(
     command: Option<String>,
     files: KernelFiles,
 ) -> Result<Request, AllocError>
-    ensures { IfOk result (λ r. request_of r ≡ request_with image (option_map string_bytes command) (kernel_bytes files)) }
+    ensures { IfOk result
+        (λ r. request_of r
+        ≡ request_with image (option_map string_bytes command) (kernel_bytes files)) }
 {
     let modules = modules_of(alloc, files.modules)?;
     let command = match command {
@@ -119,7 +124,8 @@ pub(crate) fn take_inputs<S: Shelf>(
     shelf: &mut S,
 ) -> Result<LoadInputs, TakeFault<Reason>>
     requires { HasParts (inputs_value inputs) image }
-    ensures { Takes S.Shelf (load_inputs image (inputs_value inputs)) inputs_of shelf.old result shelf.new }
+    ensures { Takes S.Shelf (load_inputs image (inputs_value inputs)) inputs_of shelf.old
+        result shelf.new }
 {
     let Inputs {
         memory,

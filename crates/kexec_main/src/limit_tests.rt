@@ -68,8 +68,14 @@ fn a_memory_that_has_no_file_is_told_with_its_pages(rt: HostRuntime) -> Result<(
     let alloc = rt.alloc();
     let full = full_memory(alloc)?;
     for (line, wanted) in [
-        ("boot --type raw --at 2000 m p o k", "Heavy { count: 131075 }"),
-        ("load --type raw --at 2000 m p o r k", "Heavy { count: 131074 }"),
+        (
+            "boot --type raw --at 2000 m p o k",
+            "Heavy { count: 131075 }",
+        ),
+        (
+            "load --type raw --at 2000 m p o r k",
+            "Heavy { count: 131074 }",
+        ),
     ] {
         let mut files = Vec::new(alloc);
         files.push((String::from_str(alloc, "m")?, full.to_vec(alloc)?))?;

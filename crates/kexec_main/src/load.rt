@@ -52,7 +52,8 @@ fn take_load<S: Shelf>(
     load: LoadWords,
     shelf: &mut S,
 ) -> Result<LoadCommand, TakeFault<Reason>>
-    ensures { Takes S.Shelf (load_command_files (load_value load.words)) load_command shelf.old result shelf.new }
+    ensures { Takes S.Shelf (load_command_files (load_value load.words)) load_command shelf.old
+        result shelf.new }
 {
     let Load {
         inputs,
@@ -72,7 +73,9 @@ fn take_load<S: Shelf>(
 
 // What is said of a load whose list is accepted.
 fn loaded_text(alloc: Global, loaded: &Loaded, start: &Start) -> Result<String, AllocError>
-    requires { (is : List Item) × IsAccepted (at loaded.now.memory) (want loaded.now.segments) loaded.now.image.head loaded.now.image.control (swap_page loaded.now.image.mode) is }
+    requires { (is : List Item)
+        × IsAccepted (at loaded.now.memory) (want loaded.now.segments) loaded.now.image.head
+        loaded.now.image.control (swap_page loaded.now.image.mode) is }
     ensures { IfOk result (λ s. IsToldText loaded.now start.now (string_bytes s)) }
 {
     let image = loaded.image();
@@ -95,7 +98,8 @@ fn record_output(kernel: LoadedKernel, name: String) -> Result<(Memory, File), A
     ensures memory { IfOk result (λ r. r.0 ≡ kernel.loaded.memory) }
     ensures record { IfOk result (λ r. file_of r.1
         ≡ (string_bytes name, record_file (record_of_load kernel.loaded (plan_of kernel)))) }
-    ensures read_back { IfOk result (λ r. IsReadBack (record_of_load kernel.loaded (plan_of kernel))) }
+    ensures read_back { IfOk result
+        (λ r. IsReadBack (record_of_load kernel.loaded (plan_of kernel))) }
 {
     let (memory, _, image, segments) = kernel.loaded.parts();
     let record = LoadRecord {

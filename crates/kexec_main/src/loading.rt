@@ -34,7 +34,8 @@ pub(crate) fn plan_request(
     map: Option<&Map>,
 ) -> Result<Planned, MakeFault<Reason>>
     requires { IsMapped (request_of request) (lent map) }
-    ensures { MakesOr (λ p. plan (request_of request) (lent map.entry) ≡ Ok (planned_of p)) (HasNoPlan (request_of request) (lent map.entry)) result }
+    ensures { MakesOr (λ p. plan (request_of request) (lent map.entry) ≡ Ok (planned_of p))
+        (HasNoPlan (request_of request) (lent map.entry)) result }
 {
     match plan(alloc, request, map) {
         Ok(planned) => Ok(planned),
@@ -47,7 +48,8 @@ pub(crate) fn plan_request(
 
 // Writes the segments that are left, and ends the list.
 fn fill_all(mut filling: Filling) -> Loaded
-    ensures { (M : Mem) (pool : List ℕ) (wish : WishOf) → FillsFrom M pool wish filling → IsSealed M pool wish filling.segments result }
+    ensures { (M : Mem) (pool : List ℕ) (wish : WishOf) → FillsFrom M pool wish filling
+        → IsSealed M pool wish filling.segments result }
 {
     while filling.left() > 0 {
         filling.fill();
@@ -64,7 +66,10 @@ fn load_segments(
     wish: Wish,
 ) -> Result<Loaded, MakeFault<Reason>>
     requires { (q : ℕ) → is_filed pool q ≡ false }
-    ensures { MakesOr (λ load. (need wish segments ≤ length pool.left) × IsSealed (at memory) pool.left wish segments load) (IsTooFew pool.left wish segments) result }
+    ensures { MakesOr
+        (λ load. (need wish segments ≤ length pool.left)
+        × IsSealed (at memory) pool.left wish segments load)
+        (IsTooFew pool.left wish segments) result }
 {
     match Filling::begin(alloc, memory, pool, segments, wish) {
         Ok(filling) => Ok(fill_all(filling)),
@@ -93,7 +98,8 @@ pub(crate) fn load_request(
     inputs: LoadInputs,
     wish: Wish,
 ) -> Result<LoadedKernel, MakeFault<Reason>>
-    ensures { MakesOr (λ k. IsLoaded wish (inputs_of inputs) (plan_of k) k.loaded) (RefusesLoad wish (inputs_of inputs)) result }
+    ensures { MakesOr (λ k. IsLoaded wish (inputs_of inputs) (plan_of k) k.loaded)
+        (RefusesLoad wish (inputs_of inputs)) result }
 {
     let LoadInputs {
         memory,

@@ -39,7 +39,9 @@ pub(crate) fn memory_output(
     memory: Memory,
     name: String,
 ) -> Result<Vec<File>, MakeFault<Reason>>
-    ensures { MakesOr (λ files. IsMemoryFile (map file_of files.items) (string_bytes name) (at memory)) (HasNoFile (at memory)) result }
+    ensures { MakesOr
+        (λ files. IsMemoryFile (map file_of files.items) (string_bytes name) (at memory))
+        (HasNoFile (at memory)) result }
 {
     let bytes = memory_bytes(memory)?;
     Ok(one(alloc, File { name, bytes })?)

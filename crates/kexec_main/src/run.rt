@@ -32,7 +32,9 @@ fn run_command<S: Shelf, O: Sink>(
     out: &mut O,
 ) -> Result<(), Stop<ListFault, Reason>>
     requires { IsWithinLimits (command_value command) }
-    ensures { Holds (λ X c. Meets S.Shelf O.Sink c shelf.old out.old (call_answer result) shelf.new out.new) (Ok (command_value command)) }
+    ensures { Holds
+        (λ X c. Meets S.Shelf O.Sink c shelf.old out.old (call_answer result) shelf.new out.new)
+        (Ok (command_value command)) }
 {
     match command {
         Command::Boot(words) => run(alloc, BootWords { words }, shelf, out),
@@ -54,7 +56,9 @@ fn answered<S: Shelf, O: Sink>(
     shelf: &mut S,
     out: &mut O,
 ) -> Status
-    ensures { Holds (λ X c. Meets S.Shelf O.Sink c shelf.old out.old (answer_of result) shelf.new out.new) (command_of (map string_bytes words.now)) }
+    ensures { Holds
+        (λ X c. Meets S.Shelf O.Sink c shelf.old out.old (answer_of result) shelf.new out.new)
+        (command_of (map string_bytes words.now)) }
 {
     match read(alloc, words) {
         Ok(command) => match run_command(alloc, command, shelf, out) {
@@ -76,14 +80,21 @@ pub fn kexec<S: Shelf, O: Sink>(
 ) -> Status
     // Each answer has its cause over every shelf and sink: the takes that were made, or failed; what was made of them; and
     // the puts and the say that followed, each once.
-    ensures meets { Holds (λ X c. Meets S.Shelf O.Sink c shelf.old out.old (answer_of result) shelf.new out.new) (command_of (map string_bytes words.now)) }
+    ensures meets { Holds
+        (λ X c. Meets S.Shelf O.Sink c shelf.old out.old (answer_of result) shelf.new out.new)
+        (command_of (map string_bytes words.now)) }
 
     // Over files that are told it is so by what is read of them.
-    ensures told { IfSome (S.files shelf.old) (λ held. Holds (λ X c. MeetsTold S.Shelf O.Sink c held shelf.old out.old (answer_of result) shelf.new out.new) (command_of (map string_bytes words.now))) }
+    ensures told { IfSome (S.files shelf.old)
+        (λ held. Holds
+        (λ X c. MeetsTold S.Shelf O.Sink c held shelf.old out.old (answer_of result) shelf.new
+        out.new) (command_of (map string_bytes words.now))) }
 
     // What stands after each command that answered Done.
-    ensures done { (c : CommandValue) → command_of (map string_bytes words.now) ≡ Ok c → answer_of result ≡ done
-        → IfSome (S.files shelf.old) (λ held. HasDone S.Shelf O.Sink held shelf.old out.old shelf.new out.new c) }
+    ensures done { (c : CommandValue) → command_of (map string_bytes words.now) ≡ Ok c
+        → answer_of result ≡ done
+        → IfSome (S.files shelf.old)
+        (λ held. HasDone S.Shelf O.Sink held shelf.old out.old shelf.new out.new c) }
 
     // `sample` is done over every shelf, told or not, unless its text cannot be said or memory is wanted.
     ensures sampled { (n : ℕ) → command_of (map string_bytes words.now) ≡ Ok (sample n)
@@ -92,19 +103,23 @@ pub fn kexec<S: Shelf, O: Sink>(
     // What is in order is Done where no device fails, or memory is wanted.
     ensures complete { (c : CommandValue) → command_of (map string_bytes words.now) ≡ Ok c
         → IfSome (S.files shelf.old) (λ held. IsInOrder c held
-        → (Rose (S.faults shelf.old) (S.faults shelf.new) → ⊥) → (Rose (O.faults out.old) (O.faults out.new) → ⊥)
+        → (Rose (S.faults shelf.old) (S.faults shelf.new) → ⊥)
+        → (Rose (O.faults out.old) (O.faults out.new) → ⊥)
         → (answer_of result ≡ done) ⊎ (answer_of result ≡ memory)) }
 
     // A load that takes more pages than the pool has is refused with both numbers where no device fails, or memory is
     // wanted.
     ensures too_few { (c : CommandValue) → command_of (map string_bytes words.now) ≡ Ok c
         → IfSome (S.files shelf.old) (λ held. (pool need : ℕ) → HasTooFew c held pool need
-        → (Rose (S.faults shelf.old) (S.faults shelf.new) → ⊥) → (Rose (O.faults out.old) (O.faults out.new) → ⊥)
+        → (Rose (S.faults shelf.old) (S.faults shelf.new) → ⊥)
+        → (Rose (O.faults out.old) (O.faults out.new) → ⊥)
         → (answer_of result ≡ refused (by (NoPages pool need))) ⊎ (answer_of result ≡ memory)) }
 
     // An answer that tells of a device comes only where the count of its faults rose.
-    ensures unread { (name : List ℕ) → answer_of result ≡ unread name → Rose (S.faults shelf.old) (S.faults shelf.new) }
-    ensures unwritten { (name : List ℕ) → answer_of result ≡ unwritten name → Rose (S.faults shelf.old) (S.faults shelf.new) }
+    ensures unread { (name : List ℕ) → answer_of result ≡ unread name
+        → Rose (S.faults shelf.old) (S.faults shelf.new) }
+    ensures unwritten { (name : List ℕ) → answer_of result ≡ unwritten name
+        → Rose (S.faults shelf.old) (S.faults shelf.new) }
     ensures unsaid { answer_of result ≡ unsaid → Rose (O.faults out.old) (O.faults out.new) }
 {
     answered(alloc, words, shelf, out)

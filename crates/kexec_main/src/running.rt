@@ -56,7 +56,8 @@ fn run_plain(accepted: AcceptedPlain) -> Ran
 
 // Runs the list again, back to what memory held before: the memory and the steps of this run.
 fn run_back(ran: RanKept) -> (Memory, u64)
-    ensures memory { Agree (at result.0) (exchange (at ran.load.memory) ran.pairs (swap_of ran.load)) }
+    ensures memory { Agree (at result.0)
+        (exchange (at ran.load.memory) ran.pairs (swap_of ran.load)) }
     ensures ends { result.1 ≡ ran.words }
 {
     let back = ran.back();
@@ -113,7 +114,9 @@ pub(crate) fn run_accepted(accepted: Accepted, runs: Option<Runs>) -> Ran
 
 // The accepted state of a load whose list is accepted.
 fn accept(alloc: Global, loaded: Loaded) -> Result<Accepted, AllocError>
-    requires { (is : List Item) × IsAccepted (at loaded.memory) (want loaded.segments) loaded.image.head loaded.image.control (swap_page loaded.image.mode) is }
+    requires { (is : List Item)
+        × IsAccepted (at loaded.memory) (want loaded.segments) loaded.image.head
+        loaded.image.control (swap_page loaded.image.mode) is }
     ensures { IfOk result (λ a. IsAcceptedAs loaded a) }
 {
     match loaded.accept(alloc) {
@@ -131,7 +134,9 @@ pub(crate) fn run_loaded(
     loaded: Loaded,
     runs: Option<Runs>,
 ) -> Result<Ran, AllocError>
-    requires accepted { (is : List Item) × IsAccepted (at loaded.memory) (want loaded.segments) loaded.image.head loaded.image.control (swap_page loaded.image.mode) is }
+    requires accepted { (is : List Item)
+        × IsAccepted (at loaded.memory) (want loaded.segments) loaded.image.head
+        loaded.image.control (swap_page loaded.image.mode) is }
     requires mode { HasMode runs loaded.image.mode }
     ensures { IfOk result (λ r. RunsLoaded runs loaded r) }
 {

@@ -97,7 +97,9 @@ fn push_purgatory_line(
     regions: u64,
     digest: u64,
 ) -> Result<(), AllocError>
-    ensures { OnOk result (string_bytes text.new ≡ string_bytes text.old ++ purgatory_line (at memory.now) regions digest) }
+    ensures { OnOk result
+        (string_bytes text.new
+        ≡ string_bytes text.old ++ purgatory_line (at memory.now) regions digest) }
 {
     if regions == 0 && digest == 0 {
         return Ok(());

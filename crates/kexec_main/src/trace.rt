@@ -58,7 +58,8 @@ fn take_trace<S: Shelf>(
     trace: TraceWords,
     shelf: &mut S,
 ) -> Result<TraceInputs, TakeFault<Reason>>
-    ensures { Takes S.Shelf (trace_files (trace_value trace.words)) trace_inputs shelf.old result shelf.new }
+    ensures { Takes S.Shelf (trace_files (trace_value trace.words)) trace_inputs shelf.old
+        result shelf.new }
 {
     let Trace {
         memory,

@@ -11,11 +11,25 @@ const GOOD: &[u64] = &[0x2001, 0x30008, 4];
 /// begins with "b", as page 0x30 does; what `check` says; the limit of the trace, and what `trace` says. The control page
 /// is 0x21.
 const LISTS: [(&[u64], u64, u64, &str, u64, &str); 13] = [
-    (GOOD, 0x20002, 0x2000, "accepted words 4 links 1 pairs 1", 10, "done 4"),
+    (
+        GOOD,
+        0x20002,
+        0x2000,
+        "accepted words 4 links 1 pairs 1",
+        10,
+        "done 4",
+    ),
     (GOOD, 4, 0x2000, "word 0: Missing 2000", 10, "done 1"),
     (GOOD, 0x2001, 0x2000, "word 0: HeadKind", 5, "running 5"),
     (GOOD, 0, 0x2000, "word 0: Flags", 5, "running 5"),
-    (&[0x30008, 4], 0x20002, 0x2000, "word 1: NoDestination", 10, "done 3"),
+    (
+        &[0x30008, 4],
+        0x20002,
+        0x2000,
+        "word 1: NoDestination",
+        10,
+        "done 3",
+    ),
     (
         &[0x2001, 0x30008, 0x30008, 4],
         0x20002,
@@ -40,10 +54,38 @@ const LISTS: [(&[u64], u64, u64, &str, u64, &str); 13] = [
         5,
         "running 5",
     ),
-    (&[0x2001, 0x21008, 4], 0x20002, 0x2000, "word 2: ControlTouched", 10, "done 4"),
-    (&[0x2001, 0x31008, 4], 0x20002, 0x2000, "word 2: WrongBytes", 10, "done 4"),
-    (&[0x2001, 4], 0x20002, 0x2000, "word 2: Missing 2000", 10, "done 3"),
-    (&[0x2001; 512], 0x20002, 0x2000, "word 512: RunsOff", 600, "running 600"),
+    (
+        &[0x2001, 0x21008, 4],
+        0x20002,
+        0x2000,
+        "word 2: ControlTouched",
+        10,
+        "done 4",
+    ),
+    (
+        &[0x2001, 0x31008, 4],
+        0x20002,
+        0x2000,
+        "word 2: WrongBytes",
+        10,
+        "done 4",
+    ),
+    (
+        &[0x2001, 4],
+        0x20002,
+        0x2000,
+        "word 2: Missing 2000",
+        10,
+        "done 3",
+    ),
+    (
+        &[0x2001; 512],
+        0x20002,
+        0x2000,
+        "word 512: RunsOff",
+        600,
+        "running 600",
+    ),
     (
         &[0x4000_0000_0001, 0x30008, 4],
         0x20002,
@@ -68,9 +110,7 @@ fn shelf(
     let mut load_record = b"KXREC001\0\0\0\0".to_vec(alloc)?;
     load_record.extend_from_slice(&[u8::from(swap.is_some()), 0, 0, 0])?;
     let swap = swap.unwrap_or(0);
-    let fields = [
-        head, 0x21000, swap, 0, 0, 0, 0, 0, 0, 1, segment, 0x1000, 1,
-    ];
+    let fields = [head, 0x21000, swap, 0, 0, 0, 0, 0, 0, 1, segment, 0x1000, 1];
     load_record.extend_from_slice(&numbers(alloc, &fields)?)?;
     load_record.push(b'b')?;
     let mut files = Vec::new(alloc);

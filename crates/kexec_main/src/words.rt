@@ -4,7 +4,7 @@ ghost use Rattle.std.specs.Prelude.{◌≡◌, ◌<◌, ◌^◌, ℕ, Some};
 ghost use Rattle.kexec_words.specs.Limits.{HasParts};
 ghost use Rattle.kexec_words.specs.Values.{inputs_value};
 
-use kexec_words::{Boot, Exec, Load, LoadPanic, LoadNames, Trace};
+use kexec_words::{Boot, Exec, Load, LoadNames, LoadPanic, Trace};
 
 /// The words of `boot`.
 #[derive(Drop)]

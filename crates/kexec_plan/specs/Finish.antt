@@ -17,7 +17,8 @@ use Rattle.kexec_plan.specs.Rules.{tested}
 use Rattle.kexec_plan.specs.Purgatory.{PurgatoryValue, Linkage, linked_at, armed}
 
 -- the plan of these segments, without a purgatory
-unfoldable pub plain_plan : Option MapValue → Kind → List SegmentValue → Start → Result Plan PlanFault
+unfoldable pub plain_plan : Option MapValue → Kind → List SegmentValue → Start
+    → Result Plan PlanFault
 plain_plan map kind ss start = do
   segments ← tested map kind ss
   Ok (record { segments = segments; start = start; regions = 0; digest = 0 })
@@ -52,7 +53,8 @@ armed_plan map kind ss start l s = do
     digest = l.symbols.digest;
   })
 
-unfoldable pub linked_plan : Option MapValue → Kind → List SegmentValue → Start → PurgatoryValue → Site
+unfoldable pub linked_plan : Option MapValue → Kind → List SegmentValue → Start
+    → PurgatoryValue → Site
     → Result Plan PlanFault
 linked_plan map kind ss start p s = do
   l ← linked_at p s

@@ -123,7 +123,8 @@ abbrev pub made_headers : Result (List ℕ) PlanFault → Result (Option (List �
 made_headers (Ok bytes) = Ok (Some bytes)
 made_headers (Err e) = Err e
 
-unfoldable pub some_headers : Option MapValue → Kind → List Note → Result (Option (List ℕ)) PlanFault
+unfoldable pub some_headers : Option MapValue → Kind → List Note
+    → Result (Option (List ℕ)) PlanFault
 some_headers None kind notes = Ok None
 some_headers (Some map) Normal notes = Ok None
 some_headers (Some map) (Crash area) notes =

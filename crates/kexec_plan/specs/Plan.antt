@@ -32,7 +32,8 @@ fixed_placed ram ss start purgatory map kind = do
       (option_map (purgatory_rule (purgatory_most kind false)) purgatory)
   finished map kind ss start purgatory site
 
-unfoldable pub fixed_plan : (ℕ → Bool) → List SegmentValue → Start → Option (List ℕ) → Option MapValue
+unfoldable pub fixed_plan : (ℕ → Bool) → List SegmentValue → Start → Option (List ℕ)
+    → Option MapValue
     → Kind → Result Plan PlanFault
 fixed_plan ram ss start file map kind = do
   purgatory ← some_purgatory file
@@ -70,7 +71,8 @@ linux_placed ram image r purgatory map kind = do
       (option_map (purgatory_rule (purgatory_most kind image.above4g)) purgatory)
   linux_headed image r purgatory map kind sites
 
-unfoldable pub linux_read : (ℕ → Bool) → Kernel → LinuxAsked → Option (List ℕ) → Option MapValue → Kind
+unfoldable pub linux_read : (ℕ → Bool) → Kernel → LinuxAsked → Option (List ℕ)
+    → Option MapValue → Kind
     → Result Plan PlanFault
 linux_read ram image r file map kind = do
   purgatory ← some_purgatory file
@@ -104,7 +106,8 @@ multiboot_read ram k r file map kind = do
   purgatory ← some_purgatory file
   multiboot_laid ram k r purgatory map kind
 
-unfoldable pub multiboot_plan : (ℕ → Bool) → MultibootAsked → Option (List ℕ) → Option MapValue → Kind
+unfoldable pub multiboot_plan : (ℕ → Bool) → MultibootAsked → Option (List ℕ)
+    → Option MapValue → Kind
     → Result Plan PlanFault
 multiboot_plan ram r file map kind = do
   k ← multiboot_kernel r.kernel

@@ -14,5 +14,6 @@ ghost use Rattle.kexec_plan.specs.Plan.{plan};
 /// digest have no byte in common, since the symbols of a purgatory may overlap.
 pub fn planned_regions_are_same()
     ensures { (r : Asked) (map : Option MapValue) (p : Plan) (M : ℕ → List ℕ)
-        → plan r map ≡ Ok p → HasTableApart p → HasWanted M p.segments → test M p.regions p.digest ≡ Same }
+        → plan r map ≡ Ok p → HasTableApart p → HasWanted M p.segments
+        → test M p.regions p.digest ≡ Same }
 {}
