@@ -10,6 +10,8 @@ mod fault;
 mod finishing;
 mod fixed_plan;
 mod format;
+#[cfg(test)]
+mod kernel_tests;
 mod kernels;
 mod linux;
 mod linux_plan;

@@ -4,11 +4,9 @@ use crate::test_files::{
 };
 use crate::{Part, PlanFault, Request};
 use boot_params::ParamsFault;
-use bzimage::BzFault;
 use crash_headers::{CrashFault, Note};
 use elf_image::ElfFault;
 use kx_pages::ImageType;
-use multiboot_image::MbFault;
 use purgatory_link::LinkFault;
 use segments::SegFault;
 use std::alloc::Global;
@@ -25,102 +23,6 @@ const PAGES: [&[u8]; 3] = [
     b"00100000-00101fff : System RAM\n",
     b"00100000-00102fff : System RAM\n",
 ];
-
-#[test]
-fn kernels_are_read_by_their_type(rt: HostRuntime) -> Result<(), Fail> {
-    let alloc = rt.alloc();
-    let elf = |fault| PlanFault::Elf { fault };
-    let bzimage = |fault| PlanFault::Bzimage { fault };
-    let multiboot = |fault| PlanFault::Multiboot { fault };
-    let bit = MbFault::UnknownFlag { bit: 2 };
-    // The file of a type, bytes that are put into it, and the type that is asked for.
-    let rows: [(ImageType, usize, &[u8], ImageType, PlanFault); 11] = [
-        (
-            ImageType::Auto,
-            0,
-            &[0],
-            ImageType::Auto,
-            PlanFault::UnknownImage,
-        ),
-        (
-            ImageType::Auto,
-            0,
-            &[0],
-            ImageType::Elf,
-            elf(ElfFault::NotElf),
-        ),
-        (
-            ImageType::Auto,
-            0,
-            &[0],
-            ImageType::Bzimage,
-            bzimage(BzFault::NotKernel),
-        ),
-        (
-            ImageType::Auto,
-            0,
-            &[0],
-            ImageType::Multiboot,
-            multiboot(MbFault::NoHeader),
-        ),
-        (
-            ImageType::Elf,
-            18,
-            &[3],
-            ImageType::Elf,
-            elf(ElfFault::Machine),
-        ),
-        (
-            ImageType::Elf,
-            144,
-            &[0xff, 7, 0x10],
-            ImageType::Elf,
-            elf(ElfFault::LoadsOverlap { i: 1, j: 0 }),
-        ),
-        (
-            ImageType::Elf,
-            0xd,
-            &[9],
-            ImageType::Bzimage,
-            bzimage(BzFault::NotKernel),
-        ),
-        (
-            ImageType::Bzimage,
-            0x206,
-            &[0x0b],
-            ImageType::Auto,
-            bzimage(BzFault::OldVersion { found: 523 }),
-        ),
-        (
-            ImageType::Bzimage,
-            0x236,
-            &[2],
-            ImageType::Auto,
-            bzimage(BzFault::No64Entry),
-        ),
-        (
-            ImageType::Multiboot,
-            4,
-            &[4, 0, 1, 0, 0xfa],
-            ImageType::Auto,
-            multiboot(bit),
-        ),
-        (
-            ImageType::Multiboot,
-            16,
-            &[1, 0, 0x10],
-            ImageType::Auto,
-            multiboot(MbFault::BadKludge),
-        ),
-    ];
-    for (file, at, bytes, image, wanted) in rows {
-        let mut asked = request_for(alloc, file)?;
-        put(&mut asked.kernel, at, bytes);
-        asked.image = image;
-        assert_eq!(rt; fault(alloc, asked, SMALL)?, Some(wanted));
-    }
-    Ok(())
-}
 
 #[test]
 fn parts_that_a_kernel_has_no_use_for_are_refused(rt: HostRuntime) -> Result<(), Fail> {
@@ -183,10 +85,29 @@ fn crash_kernels_need_a_bzimage_and_an_area(rt: HostRuntime) -> Result<(), Fail>
     Ok(())
 }
 
+// A bzImage that needs so many bytes, as a crash kernel or not, with these parts.
+fn linux(
+    alloc: Global,
+    needed: u32,
+    crash: bool,
+    initrd: bool,
+    with_purgatory: bool,
+) -> Result<Request, Fail> {
+    let mut asked = request(alloc, ImageType::Bzimage, bzimage_of(alloc, needed)?);
+    asked.crash = crash;
+    if initrd {
+        asked.initrd = copy_of(alloc, b"i")?;
+    }
+    if with_purgatory {
+        asked.purgatory = Some(purgatory(alloc)?);
+    }
+    Ok(asked)
+}
+
 #[test]
 fn parts_of_a_linux_kernel_without_a_place_are_refused(rt: HostRuntime) -> Result<(), Fail> {
     let alloc = rt.alloc();
-    // How much the kernel needs, whether there are an initrd and a purgatory, and the part that has no place.
+    // How much the kernel needs, whether it is a crash kernel, has an initrd and a purgatory, and the part without a place.
     let rows = [
         (0x20_1000, SHORT, false, false, false, Part::Kernel),
         (0x20_0000, SHORT, false, true, true, Part::Initrd),
@@ -213,14 +134,7 @@ fn parts_of_a_linux_kernel_without_a_place_are_refused(rt: HostRuntime) -> Resul
         ),
     ];
     for (needed, map, crash, initrd, with_purgatory, part) in rows {
-        let mut asked = request(alloc, ImageType::Bzimage, bzimage_of(alloc, needed)?);
-        asked.crash = crash;
-        if initrd {
-            asked.initrd = copy_of(alloc, b"i")?;
-        }
-        if with_purgatory {
-            asked.purgatory = Some(purgatory(alloc)?);
-        }
+        let asked = linux(alloc, needed, crash, initrd, with_purgatory)?;
         assert_eq!(rt; fault(alloc, asked, map)?, Some(PlanFault::NoHole { part }));
     }
     Ok(())
