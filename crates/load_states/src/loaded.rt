@@ -71,12 +71,7 @@ impl Loaded {
     }
 
     /// The load of a list that was read from files: no page is drawn for it any more, so that its pool has none.
-    pub fn from_files(
-        alloc: Global,
-        memory: Memory,
-        image: Image,
-        segments: Segments,
-    ) -> Loaded
+    pub fn from_files(alloc: Global, memory: Memory, image: Image, segments: Segments) -> Loaded
         ensures { result ≡ record {
           memory = memory;
           pool = no_pages;
