@@ -29,7 +29,7 @@ fault_text f = codes "word " ++ (decimal f.word ++ (codes ": " ++ why_text f.why
 -- what is wrong with a word, for people
 abbrev pub cause_text : Why → List ℕ
 cause_text Flags = codes "its low twelve bits are not exactly one of the flags 1, 2, 4 and 8"
-cause_text HeadKind = codes "a head links to a page or is the done word"
+cause_text HeadKind = codes "a head links to a page or is done, and a crash kernel's head is done"
 cause_text LinkAgain = codes "it links to a page that is already a link page"
 cause_text RunsOff = codes "the last slot of a page has to link on or to end the list"
 cause_text NoDestination = codes "no destination word comes before it"
@@ -43,5 +43,5 @@ cause_text PairsMeet =
 cause_text SwapTouched =
     codes "it names the swap page or moves a page there, or the swap page is the control page"
 cause_text WrongBytes = codes "its source does not hold what its destination is to have"
-cause_text (Missing page) = codes "the list ends before this page of the segments was written"
+cause_text (Missing page) = codes "the list leaves this page without the bytes that it is to have"
 cause_text PastLimit = codes "its address is not below 0x400000000000"

@@ -102,7 +102,7 @@ impl ListFault {
     {
         match self.why {
             Why::Flags => "its low twelve bits are not exactly one of the flags 1, 2, 4 and 8",
-            Why::HeadKind => "a head links to a page or is the done word",
+            Why::HeadKind => "a head links to a page or is done, and a crash kernel's head is done",
             Why::LinkAgain => "it links to a page that is already a link page",
             Why::RunsOff => "the last slot of a page has to link on or to end the list",
             Why::NoDestination => "no destination word comes before it",
@@ -116,7 +116,7 @@ impl ListFault {
             Why::SwapTouched =>
                 "it names the swap page or moves a page there, or the swap page is the control page",
             Why::WrongBytes => "its source does not hold what its destination is to have",
-            Why::Missing { .. } => "the list ends before this page of the segments was written",
+            Why::Missing { .. } => "the list leaves this page without the bytes that it is to have",
             Why::PastLimit => "its address is not below 0x400000000000",
         }
     }
