@@ -15,7 +15,7 @@ use Rattle.file_commands.specs.Taking.{Refusal, by, too_long}
 use Rattle.file_commands.specs.Answers.{Answer, MeetsTold, RefusesFor, Stands, done, memory, refused}
 use Rattle.file_commands.proofs.Meeting.{refuses, stands_told}
 use Rattle.kexec_words.specs.declared.faults.UsageWhy.{UsageWhy}
-use Rattle.kexec_words.specs.Values.{CommandValue, BootValue, ExecValue, LoadPanicValue, LoadValue, LoadedValue, TraceValue}
+use Rattle.kexec_words.specs.Values.{CommandValue, BootValue, ExecValue, LoadPanicValue, LoadValue, LoadNamesValue, TraceValue}
 use Rattle.kexec_words.specs.Values as words
 use Rattle.kexec_plan.specs.Requests.{Plan}
 use Rattle.kexec_plan.specs.Plan.{plan}
@@ -129,7 +129,7 @@ check_not : (x : TakenLoad) (a : Refusal Reason) → checks x (Err a) → ⊥
 check_not (Normal x) a m = m
 check_not (Crash x) a m = m
 
-check_stands : (l : LoadedValue) (x : TakenLoad) → IsAccepted x → Stands (check l) x
+check_stands : (l : LoadNamesValue) (x : TakenLoad) → IsAccepted x → Stands (check l) x
 check_stands l x accepted = record { unrefused = check_not x; whole = λ goods m. check_whole x goods accepted m }
 
 dump_not : (x : TakenLoad) (a : Refusal Reason) → dumps x (Err a) → ⊥
@@ -140,7 +140,7 @@ dump_whole : (x : TakenLoad) (goods : Made) → dumps x (Ok goods) → goods.fau
 dump_whole (Normal x) goods m = ap (λ (g : Made). g.fault) m.3
 dump_whole (Crash x) goods m = ap (λ (g : Made). g.fault) m
 
-dump_stands : (l : LoadedValue) (x : TakenLoad) → Stands (dump l) x
+dump_stands : (l : LoadNamesValue) (x : TakenLoad) → Stands (dump l) x
 dump_stands l x = record { unrefused = dump_not x; whole = dump_whole x }
 
 not_both : (b : Bool) → b ≡ false → b ≡ true → ⊥

@@ -15,7 +15,7 @@ use Rattle.file_commands.specs.Taking.{File, Refusal, ok, reads, ◌>>=◌}
 use Rattle.file_commands.specs.Answers.{Answer, FilesPut, GoesOut, MeetsTold, done}
 use Rattle.file_commands.proofs.Steps.{reads_cases}
 use Rattle.kexec_words.specs.declared.faults.UsageWhy.{UsageWhy}
-use Rattle.kexec_words.specs.Values.{CommandValue, BootValue, CrashInputsValue, ExecValue, LoadPanicValue, LoadValue, LoadedValue, TraceValue}
+use Rattle.kexec_words.specs.Values.{CommandValue, BootValue, CrashInputsValue, ExecValue, LoadPanicValue, LoadValue, LoadNamesValue, TraceValue}
 use Rattle.kexec_words.specs.Values as words
 use Rattle.kexec_plan.specs.Requests.{Plan}
 use Rattle.kexec_main.specs.declared.files.TakenLoad.{TakenLoad}
@@ -154,7 +154,7 @@ module _ {S O : Type 0} (D : Shelf S) (E : Sink O) (held : Files) (s : S) (o : O
         said = said_as goods.text _ n.3 out.said;
       }
 
-  checked : (l : LoadedValue) → MeetsTold D E (check l) held s o done s' o' → HasChecked D E held s o s' o' l ⊎ HasCheckedCrash D E held s o s' o' l
+  checked : (l : LoadNamesValue) → MeetsTold D E (check l) held s o done s' o' → HasChecked D E held s o s' o' l ⊎ HasCheckedCrash D E held s o s' o' l
   checked l (Normal x, goods, read, m, fault, out) =
       let n = subst (λ f. checks_list_as x goods f) fault m in
       inl (record { files = x; read = read; items = n.items; accepted = n.accepted; put = put_as goods.outputs [] n.outputs out.put; said = said_as goods.text _ n.text out.said })
@@ -162,7 +162,7 @@ module _ {S O : Type 0} (D : Shelf S) (E : Sink O) (held : Files) (s : S) (o : O
       let n = subst (λ f. checks_place_as x goods f) fault m in
       inr (record { files = x; read = read; accepted = n.accepted; put = put_as goods.outputs [] n.outputs out.put; said = said_as goods.text _ n.text out.said })
 
-  dumped : (l : LoadedValue) → MeetsTold D E (dump l) held s o done s' o' → HasDumped D E held s o s' o' l ⊎ HasDumpedCrash D E held s o s' o' l
+  dumped : (l : LoadNamesValue) → MeetsTold D E (dump l) held s o done s' o' → HasDumped D E held s o s' o' l ⊎ HasDumpedCrash D E held s o s' o' l
   dumped l (Normal x, goods, read, m, fault, out) =
       inl (record { files = x; read = read; list = m.0; fault = m.1; walk = m.2; put = put_as goods.outputs [] (ap (λ (g : Made). g.outputs) m.3) out.put; said = said_as goods.text _ (ap (λ (g : Made). g.text) m.3) out.said })
   dumped l (Crash x, goods, read, m, fault, out) =

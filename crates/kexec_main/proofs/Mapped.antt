@@ -4,7 +4,7 @@ use Rattle.std.specs.Prelude.{is_some, not, option_map, ◌||◌}
 use Rattle.kx_laws.proofs.Booleans.{or_false, or_true}
 use Rattle.kx_pages.specs.declared.image.ImageType.{ImageType}
 use Rattle.kx_pages.specs.declared.image.ImageType.TheVariants as types
-use Rattle.memory_map.specs.Named.{Named}
+use Rattle.memory_map.specs.Maps.{MapValue}
 use Rattle.kexec_words.specs.Limits.{HasParts}
 use Rattle.kexec_words.specs.Meaning.{needs_map}
 use Rattle.kexec_words.specs.Values.{InputsValue}
@@ -22,6 +22,6 @@ needs_same types.Elf i = or_true (is_some i.purgatory)
 needs_same types.Bzimage i = or_true (is_some i.purgatory)
 needs_same types.Multiboot i = or_true (is_some i.purgatory)
 
-pub request_mapped : (r : Asked) (image : ImageType) (i : InputsValue) (map : Option Named) → r.crash ≡ false → r.image ≡ image → is_some r.purgatory ≡ is_some i.purgatory → is_some map ≡ is_some i.map → HasParts i image → IsMapped r map
+pub request_mapped : (r : Asked) (image : ImageType) (i : InputsValue) (map : Option MapValue) → r.crash ≡ false → r.image ≡ image → is_some r.purgatory ≡ is_some i.purgatory → is_some map ≡ is_some i.map → HasParts i image → IsMapped r map
 request_mapped r image i map crash type same there parts h =
     there ∙ parts.1 (sym (needs_same image i) ∙ sym (ap (λ b. b || (is_some i.purgatory || not (is_raw image))) crash) ∙ sym (ap (λ p. r.crash || (p || not (is_raw image))) same) ∙ sym (ap (λ t. r.crash || (is_some r.purgatory || not (is_raw t))) type) ∙ h)

@@ -11,7 +11,7 @@ use Rattle.kx_edge.specs.declared.edge.Sink.{Ghosts as Sink}
 use Rattle.page_memory.specs.Contents.{at}
 use Rattle.page_memory.specs.Memory.{Mem}
 use Rattle.segments.specs.Values.{need, pages, want}
-use Rattle.memory_map.specs.Named.{reserved_area}
+use Rattle.memory_map.specs.Maps.{reserved_area}
 use Rattle.list_checker.specs.declared.fault.ListFault.{ListFault}
 use Rattle.list_checker.specs.Reading.{IsWalk}
 use Rattle.list_checker.specs.Walk.{links, pairs}
@@ -23,7 +23,7 @@ use Rattle.load_states.specs.Runs.{EndsAfter}
 use Rattle.relocate_machine.specs.Run.{run_of}
 use Rattle.file_commands.specs.Taking.{reads}
 use Rattle.file_commands.specs.Answers.{Answer, FilesPut, done, memory, unsaid}
-use Rattle.kexec_words.specs.Values.{CommandValue, BootValue, ExecValue, LoadValue, LoadPanicValue, LoadedValue, TraceValue}
+use Rattle.kexec_words.specs.Values.{CommandValue, BootValue, ExecValue, LoadValue, LoadPanicValue, LoadNamesValue, TraceValue}
 use Rattle.kexec_words.specs.Values as words
 use Rattle.purgatory_link.specs.declared.region_test.RegionTest.TheVariants.{Same}
 use Rattle.purgatory_link.specs.RegionTest.{test}
@@ -159,7 +159,7 @@ module _ {S O : Type 0} (D : Shelf S) (E : Sink O) (held : Files) (s : S) (o : O
 
   -- After `check` of a normal load: the list of the record is accepted in the memory for its segments,
   -- and the text tells it.
-  pub record HasChecked (l : LoadedValue) : Type 0 where
+  pub record HasChecked (l : LoadNamesValue) : Type 0 where
     pub files : LoadFiles
     pub read : reads (load_files_of l) held ≡ Ok (Normal files)
     pub items : List Item
@@ -169,7 +169,7 @@ module _ {S O : Type 0} (D : Shelf S) (E : Sink O) (held : Files) (s : S) (o : O
         (accepted_line (length items) (length (links items)) (length (pairs items))) (E.said o')
 
   -- After `check` of a crash load: it lies in its place, and the text tells how many pages it has.
-  pub record HasCheckedCrash (l : LoadedValue) : Type 0 where
+  pub record HasCheckedCrash (l : LoadNamesValue) : Type 0 where
     pub files : CrashFiles
     pub read : reads (load_files_of l) held ≡ Ok (Crash files)
     pub accepted : IsInPlace files
@@ -178,7 +178,7 @@ module _ {S O : Type 0} (D : Shelf S) (E : Sink O) (held : Files) (s : S) (o : O
 
   -- After `dump` of a normal load: the text tells each word of the record's list, up to the done word
   -- or the first that cannot be followed, and each segment.
-  pub record HasDumped (l : LoadedValue) : Type 0 where
+  pub record HasDumped (l : LoadNamesValue) : Type 0 where
     pub files : LoadFiles
     pub read : reads (load_files_of l) held ≡ Ok (Normal files)
     pub list : List ℕ
@@ -189,7 +189,7 @@ module _ {S O : Type 0} (D : Shelf S) (E : Sink O) (held : Files) (s : S) (o : O
         (walk_text list fault ++ flat_map segment_line files.load_record.segments) (E.said o')
 
   -- After `dump` of a crash load: the text tells its head and each segment.
-  pub record HasDumpedCrash (l : LoadedValue) : Type 0 where
+  pub record HasDumpedCrash (l : LoadNamesValue) : Type 0 where
     pub files : CrashFiles
     pub read : reads (load_files_of l) held ≡ Ok (Crash files)
     pub put : FilesPut (D.files s) [] (D.files s')

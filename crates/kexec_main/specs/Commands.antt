@@ -4,7 +4,7 @@ use Rattle.list_checker.specs.declared.fault.ListFault.{ListFault}
 use Rattle.file_commands.specs.Taking.{refuse, by}
 use Rattle.file_commands.specs.Answers.{Command, command_of}
 use Rattle.kexec_words.specs.declared.faults.UsageWhy.{UsageWhy}
-use Rattle.kexec_words.specs.Values.{CommandValue, BootValue, ExecValue, LoadValue, LoadPanicValue, LoadedValue, TraceValue}
+use Rattle.kexec_words.specs.Values.{CommandValue, BootValue, ExecValue, LoadValue, LoadPanicValue, LoadNamesValue, TraceValue}
 use Rattle.kexec_words.specs.Values as words
 use Rattle.kexec_main.specs.declared.files.TakenLoad.{TakenLoad}
 use Rattle.kexec_main.specs.declared.status.Reason.{Reason}
@@ -32,10 +32,10 @@ load l = command_of (load_command_files l) loads
 abbrev pub load_panic : LoadPanicValue → Program LoadPanicCommand
 load_panic l = command_of (load_panic_files l) loads_panic
 
-abbrev pub check : LoadedValue → Program TakenLoad
+abbrev pub check : LoadNamesValue → Program TakenLoad
 check l = command_of (load_files_of l) checks
 
-abbrev pub dump : LoadedValue → Program TakenLoad
+abbrev pub dump : LoadNamesValue → Program TakenLoad
 dump l = command_of (load_files_of l) dumps
 
 abbrev pub exec : ExecValue → Program ExecInputs

@@ -2,7 +2,7 @@
 -- make (this project's own).
 use Rattle.std.specs.Prelude.{ℕ, List, [], Option, true}
 use Rattle.page_memory.specs.Contents.{Contents}
-use Rattle.memory_map.specs.Named.{Named}
+use Rattle.memory_map.specs.Maps.{MapValue}
 use Rattle.crash_headers.specs.declared.note.Note.{Note}
 use Rattle.file_commands.specs.Taking.{Take, ok, ◌>>=◌}
 use Rattle.kx_pages.specs.declared.image.ImageType.TheVariants.{Auto}
@@ -21,7 +21,7 @@ crash_request command notes files =
 -- what a crash load is made of: the memory, the memory map, and the request for a plan
 pub record CrashInputs : Type 0 where
   pub memory : Contents
-  pub map : Named
+  pub map : MapValue
   pub request : Asked
 
 -- what `load-panic` takes

@@ -6,9 +6,9 @@ use Rattle.page_pool.specs.File.{pool_reading}
 use Rattle.load_record.specs.File.{Record, record_reading}
 use Rattle.crash_headers.specs.declared.note.Note.{Note}
 use Rattle.crash_headers.specs.Notes.{notes_reading}
-use Rattle.memory_map.specs.Named.{Named}
+use Rattle.memory_map.specs.Maps.{MapValue}
 use Rattle.memory_map.specs.Text.{map_reading}
-use Rattle.kexec_words.specs.Values.{LoadedValue}
+use Rattle.kexec_words.specs.Values.{LoadNamesValue}
 use Rattle.file_commands.specs.Taking.{Take, ok, ◌>>=◌}
 use Rattle.file_commands.specs.Files.{from_reader, whole_file}
 use Rattle.kexec_main.specs.declared.files.TakenLoad.{TakenLoad}
@@ -38,7 +38,7 @@ pool_file name = do
   bytes ← whole_file text_limit name
   from_reader (λ e. Input (inputs.Pool e)) (pool_reading bytes)
 
-abbrev pub map_file : List ℕ → Take Reason Named
+abbrev pub map_file : List ℕ → Take Reason MapValue
 map_file name = do
   bytes ← whole_file text_limit name
   from_reader (λ e. Input (inputs.Map e)) (map_reading bytes)
@@ -80,5 +80,5 @@ load_files memory load_record = do
   ok (load_by m r)
 
 -- what `check` and `dump` take
-abbrev pub load_files_of : LoadedValue → Take Reason TakenLoad
+abbrev pub load_files_of : LoadNamesValue → Take Reason TakenLoad
 load_files_of l = load_files l.memory l.load_record

@@ -2,7 +2,7 @@
 -- project's own).
 use Rattle.std.specs.Prelude.{ℕ, ◌-◌, List, [], length, map, Option, Some, None, option_map, false}
 use Rattle.page_memory.specs.Contents.{Contents}
-use Rattle.memory_map.specs.Named.{Named}
+use Rattle.memory_map.specs.Maps.{MapValue}
 use Rattle.file_commands.specs.Taking.{File, Take, ok, ◌>>=◌}
 use Rattle.file_commands.specs.Files.{all_files, optional_file, whole_file}
 use Rattle.file_commands.specs.Calls.{file_of}
@@ -64,7 +64,7 @@ request_with image command files = record {
 pub record LoadInputs : Type 0 where
   pub memory : Contents
   pub pool : List ℕ
-  pub map : Option Named
+  pub map : Option MapValue
   pub request : Asked
 
 -- what `boot` and `load` take

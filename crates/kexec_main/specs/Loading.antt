@@ -3,7 +3,7 @@ use Rattle.std.specs.Prelude.{◌≡◌, ℕ, ◌≤◌, ◌<◌, List, length, 
 use Rattle.kx_pages.specs.declared.image.Wish.{Wish}
 use Rattle.page_memory.specs.Contents.{at}
 use Rattle.segments.specs.Values.{SegmentValue, need}
-use Rattle.memory_map.specs.Named.{Named}
+use Rattle.memory_map.specs.Maps.{MapValue}
 use Rattle.load_states.specs.Fillings.{IsSealed}
 use Rattle.load_states.specs.States.{Load}
 use Rattle.kexec_plan.specs.Requests.{Asked, Plan}
@@ -14,7 +14,7 @@ use Rattle.kexec_main.specs.declared.status.Reason.TheVariants as reasons
 use Rattle.kexec_main.specs.Inputs.{LoadInputs}
 
 -- the request has no plan, for this reason
-abbrev pub HasNoPlan : Asked → Option Named → Reason → Type 0
+abbrev pub HasNoPlan : Asked → Option MapValue → Reason → Type 0
 HasNoPlan request map (reasons.Plan fault) = plan request map ≡ Err fault
 HasNoPlan request map other = ⊥
 

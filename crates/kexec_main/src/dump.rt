@@ -3,7 +3,7 @@
 ghost use Rattle.std.specs.Prelude.{◌≡◌, ◌++◌, ◌∷◌, [], IfOk, OnOk, string_bytes};
 ghost use Rattle.std.specs.List.{flat_map};
 ghost use Rattle.file_commands.specs.Calls.{Makes, goods_of};
-ghost use Rattle.kexec_words.specs.Values.{loaded_value};
+ghost use Rattle.kexec_words.specs.Values.{load_names_value};
 ghost use Rattle.kexec_main.specs.Dump.{dumps, dumps_in_place, dumps_list, head_fault, head_text, lines_of, segment_line, walk_text, word_line, word_lines};
 ghost use Rattle.kexec_main.specs.Files.{load_files_of};
 
@@ -167,7 +167,7 @@ impl Command for DumpWords {
 
     ghost inputs = { λ f. f };
 
-    ghost takes = { λ d. load_files_of (loaded_value d.words) };
+    ghost takes = { λ d. load_files_of (load_names_value d.words) };
 
     ghost makes = { dumps };
 

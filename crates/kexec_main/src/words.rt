@@ -4,7 +4,7 @@ ghost use Rattle.std.specs.Prelude.{◌≡◌, ◌<◌, ◌^◌, ℕ, Some};
 ghost use Rattle.kexec_words.specs.Limits.{HasParts};
 ghost use Rattle.kexec_words.specs.Values.{inputs_value};
 
-use kexec_words::{Boot, Exec, Load, LoadPanic, Loaded, Trace};
+use kexec_words::{Boot, Exec, Load, LoadPanic, LoadNames, Trace};
 
 /// The words of `boot`.
 #[derive(Drop)]
@@ -31,13 +31,13 @@ pub(crate) struct LoadPanicWords {
 /// The words of `check`.
 #[derive(Drop)]
 pub(crate) struct CheckWords {
-    pub(crate) words: Loaded,
+    pub(crate) words: LoadNames,
 }
 
 /// The words of `dump`.
 #[derive(Drop)]
 pub(crate) struct DumpWords {
-    pub(crate) words: Loaded,
+    pub(crate) words: LoadNames,
 }
 
 /// The words of `exec`.

@@ -17,7 +17,7 @@ use Rattle.segments.specs.declared.fault.SegFault.{SegFault}
 use Rattle.segments.specs.declared.fault.SegFault.TheVariants.{OutsideReserved}
 use Rattle.segments.specs.Values.{SegmentValue, is_page_of_segment, want}
 use Rattle.segments.specs.Rules.{half_of_memory, leaves, misplaced, outside_reserved, refusal, shape_refusal}
-use Rattle.memory_map.specs.Named.{Named, reserved_area}
+use Rattle.memory_map.specs.Maps.{MapValue, reserved_area}
 use Rattle.bzimage.specs.Kernel.{kernel_reading}
 use Rattle.kexec_plan.specs.declared.fault.PlanFault.{PlanFault}
 use Rattle.kexec_plan.specs.declared.fault.PlanFault.TheVariants as faults
@@ -87,14 +87,14 @@ passed : (ss kept : List SegmentValue) (r : Option SegFault) → unless_refused 
 passed ss kept None e = (refl, ok_same {F = PlanFault} ss kept e)
 passed ss kept (Some f) e = cc
 
-tested_inside : (map : Named) (area : Run) (ss kept : List SegmentValue) → tested (Some map) (Crash area) ss ≡ Ok kept → AreInside area ss × (ss ≡ kept)
+tested_inside : (map : MapValue) (area : Run) (ss kept : List SegmentValue) → tested (Some map) (Crash area) ss ≡ Ok kept → AreInside area ss × (ss ≡ kept)
 unfolding tested first_refusal
 tested_inside map area ss kept e =
     let k = passed ss kept (refusal (ram_runs map) (Crash area) ss) e in
     (unrefused_inside (ram_runs map) area ss k.0, k.1)
 
 -- ---- the end of a plan tests its segments
-plain_inside : (map : Named) (area : Run) (ss : List SegmentValue) (start : Start) (p : Plan) → plain_plan (Some map) (Crash area) ss start ≡ Ok p → AreInside area p.segments
+plain_inside : (map : MapValue) (area : Run) (ss : List SegmentValue) (start : Start) (p : Plan) → plain_plan (Some map) (Crash area) ss start ≡ Ok p → AreInside area p.segments
 unfolding plain_plan
 plain_inside map area ss start p e =
     let a = bind_ok (tested (Some map) (Crash area) ss) (λ kept. Ok (record { segments = kept; start = start; regions = 0; digest = 0 })) p e in
@@ -102,7 +102,7 @@ plain_inside map area ss start p e =
     subst (λ (p : Plan). AreInside area p.segments) (ok_same {F = PlanFault} _ p a.2) (subst (AreInside area) t.1 t.0)
 
 -- the purgatory's segment keeps its place
-armed_inside : (map : Named) (area : Run) (ss : List SegmentValue) (start : Start) (l : Linkage) (s : Site) (p : Plan) → armed_plan (Some map) (Crash area) ss start l s ≡ Ok p → AreInside area p.segments
+armed_inside : (map : MapValue) (area : Run) (ss : List SegmentValue) (start : Start) (l : Linkage) (s : Site) (p : Plan) → armed_plan (Some map) (Crash area) ss start l s ≡ Ok p → AreInside area p.segments
 unfolding armed_plan
 armed_inside map area ss start l s p e =
     let a = bind_ok (tested (Some map) (Crash area) (ss ++ segment_at s l.bytes ∷ [])) (λ _. Ok (record { segments = ss ++ armed_segment l start ss s ∷ []; start = record { entry = l.symbols.start; rax = 0; rbx = 0; rsi = 0 }; regions = l.symbols.regions; digest = l.symbols.digest })) p e in
@@ -112,19 +112,19 @@ armed_inside map area ss start l s p e =
     let last = Each-right stays ss (segment_at s l.bytes ∷ []) t in
     subst (λ (p : Plan). AreInside area p.segments) (ok_same {F = PlanFault} _ p a.2) (Each-append stays ss (armed_segment l start ss s ∷ []) front (last.0, tt))
 
-linked_inside : (map : Named) (area : Run) (ss : List SegmentValue) (start : Start) (v : PurgatoryValue) (s : Site) (p : Plan) → linked_plan (Some map) (Crash area) ss start v s ≡ Ok p → AreInside area p.segments
+linked_inside : (map : MapValue) (area : Run) (ss : List SegmentValue) (start : Start) (v : PurgatoryValue) (s : Site) (p : Plan) → linked_plan (Some map) (Crash area) ss start v s ≡ Ok p → AreInside area p.segments
 unfolding linked_plan
 linked_inside map area ss start v s p e =
     let a = bind_ok (linked_at v s) (λ l. armed_plan (Some map) (Crash area) ss start l s) p e in
     armed_inside map area ss start a.0 s p a.2
 
-finished_inside : (map : Named) (area : Run) (ss : List SegmentValue) (start : Start) (v : Option PurgatoryValue) (s : Option Site) (p : Plan) → finished (Some map) (Crash area) ss start v s ≡ Ok p → AreInside area p.segments
+finished_inside : (map : MapValue) (area : Run) (ss : List SegmentValue) (start : Start) (v : Option PurgatoryValue) (s : Option Site) (p : Plan) → finished (Some map) (Crash area) ss start v s ≡ Ok p → AreInside area p.segments
 finished_inside map area ss start (Some v) (Some s) p e = linked_inside map area ss start v s p e
 finished_inside map area ss start (Some v) None p e = plain_inside map area ss start p e
 finished_inside map area ss start None s p e = plain_inside map area ss start p e
 
 -- ---- the plan of a bzImage ends so
-linux_inside : (ram : ℕ → Bool) (r : LinuxAsked) (file : Option (List ℕ)) (map : Named) (area : Run) (p : Plan) → linux_plan ram r file (Some map) (Crash area) ≡ Ok p → AreInside area p.segments
+linux_inside : (ram : ℕ → Bool) (r : LinuxAsked) (file : Option (List ℕ)) (map : MapValue) (area : Run) (p : Plan) → linux_plan ram r file (Some map) (Crash area) ≡ Ok p → AreInside area p.segments
 unfolding linux_plan linux_read linux_placed linux_headed linux_made
 linux_inside ram r file map area p e =
     let m = Some map in
@@ -142,14 +142,14 @@ has_area : (area : Option Run) (kind : Kind) → crash_kind area ≡ Ok kind →
 has_area None kind e = cc
 has_area (Some a) kind e = (a, refl, sym (ok_same {F = PlanFault} (Crash a) kind e))
 
-crash_form : (r : Asked) (map : Named) (format : Format) (kind : Kind) → r.crash ≡ true → kind_of r (Some map) format ≡ Ok kind → (format ≡ formats.Bzimage) × (crash_kind (reserved_area map) ≡ Ok kind)
+crash_form : (r : Asked) (map : MapValue) (format : Format) (kind : Kind) → r.crash ≡ true → kind_of r (Some map) format ≡ Ok kind → (format ≡ formats.Bzimage) × (crash_kind (reserved_area map) ≡ Ok kind)
 crash_form r map (formats.Raw at entry) kind crash e = let k = sym (ap (λ b. cond (not b) (Ok Normal) (Err faults.CrashNeedsBzimage)) crash) ∙ e in cc
 crash_form r map formats.Elf kind crash e = let k = sym (ap (λ b. cond (not b) (Ok Normal) (Err faults.CrashNeedsBzimage)) crash) ∙ e in cc
 crash_form r map formats.Multiboot kind crash e = let k = sym (ap (λ b. cond (not b) (Ok Normal) (Err faults.CrashNeedsBzimage)) crash) ∙ e in cc
 crash_form r map formats.Bzimage kind crash e = (refl, sym (ap (λ b. cond (not b) (Ok Normal) (crash_kind (reserved_area map))) crash) ∙ e)
 
 -- the map of a crash load that has a plan has an area, and each segment lies in it
-pub in_area : (r : Asked) (map : Named) (p : Plan) → r.crash ≡ true → plan r (Some map) ≡ Ok p → (area : Run) × (reserved_area map ≡ Some area) × AreInside area p.segments
+pub in_area : (r : Asked) (map : MapValue) (p : Plan) → r.crash ≡ true → plan r (Some map) ≡ Ok p → (area : Run) × (reserved_area map ≡ Some area) × AreInside area p.segments
 unfolding plan
 in_area r map p crash e =
     let m = Some map in

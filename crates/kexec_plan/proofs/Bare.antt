@@ -8,7 +8,7 @@ use Rattle.segments.specs.Rules.{IsBare}
 use Rattle.segments.specs.declared.fault.SegFault.{SegFault}
 use Rattle.segments.specs.declared.fault.Kind.{Kind}
 use Rattle.segments.proofs.Laws.{AreSegments-from_IsBare, IsBare-from_refusal}
-use Rattle.memory_map.specs.Named.{Named}
+use Rattle.memory_map.specs.Maps.{MapValue}
 use Rattle.purgatory_link.specs.Regions.{digest, others, region_table}
 use Rattle.purgatory_link.proofs.Placing.{length-digest, length-table}
 use Rattle.purgatory_link.proofs.Tying.{few_others}
@@ -28,12 +28,12 @@ not_refused : (ss segments : List SegmentValue) (o : Option SegFault) → unless
 not_refused ss segments None h = refl
 not_refused ss segments (Some fault) h = cc
 
-bare_by : (m : Option Named) (kind : Kind) (ss : List SegmentValue) → first_refusal m kind ss ≡ None → IsBare ss
+bare_by : (m : Option MapValue) (kind : Kind) (ss : List SegmentValue) → first_refusal m kind ss ≡ None → IsBare ss
 unfolding first_refusal
 bare_by None kind ss h = h
 bare_by (Some map) kind ss h = IsBare-from_refusal _ kind ss h
 
-pub tested_bare : (m : Option Named) (kind : Kind) (ss segments : List SegmentValue) → tested m kind ss ≡ Ok segments → IsBare ss
+pub tested_bare : (m : Option MapValue) (kind : Kind) (ss segments : List SegmentValue) → tested m kind ss ≡ Ok segments → IsBare ss
 unfolding tested
 tested_bare m kind ss segments h = bare_by m kind ss (not_refused ss segments (first_refusal m kind ss) h)
 
@@ -41,7 +41,7 @@ tested_same : (ss segments : List SegmentValue) (o : Option SegFault) → unless
 tested_same ss segments None h = ok_same ss segments h
 tested_same ss segments (Some fault) h = cc
 
-tested_are : (m : Option Named) (kind : Kind) (ss segments : List SegmentValue) → tested m kind ss ≡ Ok segments → ss ≡ segments
+tested_are : (m : Option MapValue) (kind : Kind) (ss segments : List SegmentValue) → tested m kind ss ≡ Ok segments → ss ≡ segments
 unfolding tested
 tested_are m kind ss segments h = tested_same ss segments (first_refusal m kind ss) h
 
@@ -75,30 +75,30 @@ armed_bare l start ss s h bare =
     subst IsBare (set_last ss (segment_at s l.bytes) (armed_segment l start ss s))
     (bare_set list (length ss) (segment_at s l.bytes) (armed l start table sum) bare (get_last ss (segment_at s l.bytes)) (length-armed l start table sum h wide (length-digest list (length ss))))
 
-armed_plan_bare : (m : Option Named) (kind : Kind) (ss : List SegmentValue) (start : Start) (l : Linkage) (s : Site) (p : Plan) → IsLinkage s l → armed_plan m kind ss start l s ≡ Ok p → IsBare p.segments
+armed_plan_bare : (m : Option MapValue) (kind : Kind) (ss : List SegmentValue) (start : Start) (l : Linkage) (s : Site) (p : Plan) → IsLinkage s l → armed_plan m kind ss start l s ≡ Ok p → IsBare p.segments
 unfolding armed_plan
 armed_plan_bare m kind ss start l s p is h =
     let a = bind_ok (tested m kind (ss ++ segment_at s l.bytes ∷ [])) (λ _. Ok (armed_as ss start l s)) p h in
     subst (λ (p : Plan). IsBare p.segments) (ok_same (armed_as ss start l s) p a.2)
     (armed_bare l start ss s is.symbols (tested_bare m kind (ss ++ segment_at s l.bytes ∷ []) a.0 a.1))
 
-linked_plan_bare : (m : Option Named) (kind : Kind) (ss : List SegmentValue) (start : Start) (o : PurgatoryValue) (s : Site) (p : Plan) → linked_plan m kind ss start o s ≡ Ok p → IsBare p.segments
+linked_plan_bare : (m : Option MapValue) (kind : Kind) (ss : List SegmentValue) (start : Start) (o : PurgatoryValue) (s : Site) (p : Plan) → linked_plan m kind ss start o s ≡ Ok p → IsBare p.segments
 unfolding linked_plan
 linked_plan_bare m kind ss start o s p h =
     let a = bind_ok (linked_at o s) (λ l. armed_plan m kind ss start l s) p h in
     armed_plan_bare m kind ss start a.0 s p (linkage_is o s a.0 a.1) a.2
 
-plain_plan_bare : (m : Option Named) (kind : Kind) (ss : List SegmentValue) (start : Start) (p : Plan) → plain_plan m kind ss start ≡ Ok p → IsBare p.segments
+plain_plan_bare : (m : Option MapValue) (kind : Kind) (ss : List SegmentValue) (start : Start) (p : Plan) → plain_plan m kind ss start ≡ Ok p → IsBare p.segments
 unfolding plain_plan
 plain_plan_bare m kind ss start p h =
     let a = bind_ok (tested m kind ss) (λ segments. Ok (plain_as segments start)) p h in
     subst (λ (p : Plan). IsBare p.segments) (ok_same (plain_as a.0 start) p a.2)
     (subst IsBare (tested_are m kind ss a.0 a.1) (tested_bare m kind ss a.0 a.1))
 
-finished_bare : (m : Option Named) (kind : Kind) (ss : List SegmentValue) (start : Start) (o : Option PurgatoryValue) (s : Option Site) (p : Plan) → finished m kind ss start o s ≡ Ok p → IsBare p.segments
+finished_bare : (m : Option MapValue) (kind : Kind) (ss : List SegmentValue) (start : Start) (o : Option PurgatoryValue) (s : Option Site) (p : Plan) → finished m kind ss start o s ≡ Ok p → IsBare p.segments
 finished_bare m kind ss start (Some o) (Some s) p h = linked_plan_bare m kind ss start o s p h
 finished_bare m kind ss start (Some o) None p h = plain_plan_bare m kind ss start p h
 finished_bare m kind ss start None s p h = plain_plan_bare m kind ss start p h
 
-pub planned_bare : (r : Asked) (m : Option Named) (p : Plan) → plan r m ≡ Ok p → IsBare p.segments
+pub planned_bare : (r : Asked) (m : Option MapValue) (p : Plan) → plan r m ≡ Ok p → IsBare p.segments
 planned_bare r m p h = plan_ends (λ (p : Plan). IsBare p.segments) finished_bare r m p h

@@ -5,7 +5,7 @@ use Rattle.kx_laws.specs.Results.{◌>>=◌, unless}
 use Rattle.kx_pages.specs.declared.image.Start.{Start}
 use Rattle.segments.specs.Values.{SegmentValue}
 use Rattle.segments.specs.declared.fault.Kind.{Kind}
-use Rattle.memory_map.specs.Named.{Named}
+use Rattle.memory_map.specs.Maps.{MapValue}
 use Rattle.bzimage.specs.Kernel.{Kernel, kernel_reading}
 use Rattle.kexec_plan.specs.declared.fault.PlanFault.{PlanFault}
 use Rattle.kexec_plan.specs.declared.places.Site.{Site}
@@ -30,7 +30,7 @@ use Rattle.kexec_plan.specs.Kernels.{elf_kernel, multiboot_kernel}
 use Rattle.kexec_plan.specs.Table.{headers_rule, information_rule}
 
 module _ (P : Plan → Type 0)
-    (end : (m : Option Named) (kind : Kind) (ss : List SegmentValue) (start : Start) (o : Option PurgatoryValue) (s : Option Site) (p : Plan) → finished m kind ss start o s ≡ Ok p → P p) where
+    (end : (m : Option MapValue) (kind : Kind) (ss : List SegmentValue) (start : Start) (o : Option PurgatoryValue) (s : Option Site) (p : Plan) → finished m kind ss start o s ≡ Ok p → P p) where
   abbrev Ends : Result Plan PlanFault → Type 0
   Ends r = (p : Plan) → r ≡ Ok p → P p
 
@@ -39,75 +39,75 @@ module _ (P : Plan → Type 0)
   next_ends (Ok x) f h = h x
   next_ends (Err e) f h = λ p i. cc
 
-  fixed_placed_ends : (ram : ℕ → Bool) (ss : List SegmentValue) (start : Start) (o : Option PurgatoryValue) (m : Option Named) (kind : Kind) → Ends (fixed_placed ram ss start o m kind)
+  fixed_placed_ends : (ram : ℕ → Bool) (ss : List SegmentValue) (start : Start) (o : Option PurgatoryValue) (m : Option MapValue) (kind : Kind) → Ends (fixed_placed ram ss start o m kind)
   unfolding fixed_placed
   fixed_placed_ends ram ss start o m kind =
       next_ends (placed_some ram (taken_by ss) (option_map (purgatory_rule (purgatory_most kind false)) o)) (λ site. finished m kind ss start o site) (λ site. end m kind ss start o site)
 
-  fixed_plan_ends : (ram : ℕ → Bool) (ss : List SegmentValue) (start : Start) (file : Option (List ℕ)) (m : Option Named) (kind : Kind) → Ends (fixed_plan ram ss start file m kind)
+  fixed_plan_ends : (ram : ℕ → Bool) (ss : List SegmentValue) (start : Start) (file : Option (List ℕ)) (m : Option MapValue) (kind : Kind) → Ends (fixed_plan ram ss start file m kind)
   unfolding fixed_plan
   fixed_plan_ends ram ss start file m kind =
       next_ends (some_purgatory file) (λ o. fixed_placed ram ss start o m kind) (λ o. fixed_placed_ends ram ss start o m kind)
 
-  elf_plan_ends : (ram : ℕ → Bool) (kernel : List ℕ) (file : Option (List ℕ)) (m : Option Named) (kind : Kind) → Ends (elf_plan ram kernel file m kind)
+  elf_plan_ends : (ram : ℕ → Bool) (kernel : List ℕ) (file : Option (List ℕ)) (m : Option MapValue) (kind : Kind) → Ends (elf_plan ram kernel file m kind)
   unfolding elf_plan
   elf_plan_ends ram kernel file m kind =
       next_ends (elf_kernel kernel) (λ (k : kernels.Kernel). fixed_plan ram k.list (start_at k.entry) file m kind) (λ k. fixed_plan_ends ram k.list (start_at k.entry) file m kind)
 
-  linux_made_ends : (k : Kernel) (r : LinuxAsked) (o : Option PurgatoryValue) (headers : Option (List ℕ)) (m : Option Named) (kind : Kind) (sites : LinuxPlaces) → Ends (linux_made k r o headers m kind sites)
+  linux_made_ends : (k : Kernel) (r : LinuxAsked) (o : Option PurgatoryValue) (headers : Option (List ℕ)) (m : Option MapValue) (kind : Kind) (sites : LinuxPlaces) → Ends (linux_made k r o headers m kind sites)
   unfolding linux_made
   linux_made_ends k r o headers m kind sites =
       next_ends (linux_parts k r headers (rows_of m kind) sites) (λ parts. finished m kind parts (linux_start sites) o sites.later.back.purgatory) (λ parts. end m kind parts (linux_start sites) o sites.later.back.purgatory)
 
-  linux_headed_ends : (k : Kernel) (r : LinuxAsked) (o : Option PurgatoryValue) (m : Option Named) (kind : Kind) (sites : LinuxPlaces) → Ends (linux_headed k r o m kind sites)
+  linux_headed_ends : (k : Kernel) (r : LinuxAsked) (o : Option PurgatoryValue) (m : Option MapValue) (kind : Kind) (sites : LinuxPlaces) → Ends (linux_headed k r o m kind sites)
   unfolding linux_headed
   linux_headed_ends k r o m kind sites =
       next_ends (some_headers m kind r.notes) (λ headers. linux_made k r o headers m kind sites) (λ headers. linux_made_ends k r o headers m kind sites)
 
-  linux_placed_ends : (ram : ℕ → Bool) (k : Kernel) (r : LinuxAsked) (o : Option PurgatoryValue) (m : Option Named) (kind : Kind) → Ends (linux_placed ram k r o m kind)
+  linux_placed_ends : (ram : ℕ → Bool) (k : Kernel) (r : LinuxAsked) (o : Option PurgatoryValue) (m : Option MapValue) (kind : Kind) → Ends (linux_placed ram k r o m kind)
   unfolding linux_placed
   linux_placed_ends ram k r o m kind =
       next_ends (linux_sites ram k r (option_map (headers_rule k) (headers_size m kind r.notes)) (option_map (purgatory_rule (purgatory_most kind k.above4g)) o)) (λ sites. linux_headed k r o m kind sites) (λ sites. linux_headed_ends k r o m kind sites)
 
-  linux_read_ends : (ram : ℕ → Bool) (k : Kernel) (r : LinuxAsked) (file : Option (List ℕ)) (m : Option Named) (kind : Kind) → Ends (linux_read ram k r file m kind)
+  linux_read_ends : (ram : ℕ → Bool) (k : Kernel) (r : LinuxAsked) (file : Option (List ℕ)) (m : Option MapValue) (kind : Kind) → Ends (linux_read ram k r file m kind)
   unfolding linux_read
   linux_read_ends ram k r file m kind =
       next_ends (some_purgatory file) (λ o. linux_placed ram k r o m kind) (λ o. linux_placed_ends ram k r o m kind)
 
-  linux_plan_ends : (ram : ℕ → Bool) (r : LinuxAsked) (file : Option (List ℕ)) (m : Option Named) (kind : Kind) → Ends (linux_plan ram r file m kind)
+  linux_plan_ends : (ram : ℕ → Bool) (r : LinuxAsked) (file : Option (List ℕ)) (m : Option MapValue) (kind : Kind) → Ends (linux_plan ram r file m kind)
   unfolding linux_plan
   linux_plan_ends ram r file m kind =
       next_ends (told_by of_bzimage (kernel_reading r.kernel)) (λ k. linux_read ram k r file m kind) (λ k. linux_read_ends ram k r file m kind)
 
-  multiboot_told_ends : (ram : ℕ → Bool) (l : Laid) (entry : ℕ) (command : List ℕ) (o : Option PurgatoryValue) (m : Option Named) (kind : Kind) → Ends (multiboot_told ram l entry command o m kind)
+  multiboot_told_ends : (ram : ℕ → Bool) (l : Laid) (entry : ℕ) (command : List ℕ) (o : Option PurgatoryValue) (m : Option MapValue) (kind : Kind) → Ends (multiboot_told ram l entry command o m kind)
   unfolding multiboot_told
   multiboot_told_ends ram l entry command o m kind =
       next_ends (back_sites ram l.taken (information_rule (rows_of m kind) command l.slots) (option_map (purgatory_rule (purgatory_most kind false)) o)) (λ (s : BackSites). finished m kind (multiboot_parts l s.parameters (rows_of m kind) command) (multiboot_start entry s.parameters) o s.purgatory)
       (λ s. end m kind (multiboot_parts l s.parameters (rows_of m kind) command) (multiboot_start entry s.parameters) o s.purgatory)
 
-  multiboot_laid_ends : (ram : ℕ → Bool) (k : kernels.Kernel) (r : MultibootAsked) (o : Option PurgatoryValue) (m : Option Named) (kind : Kind) → Ends (multiboot_laid ram k r o m kind)
+  multiboot_laid_ends : (ram : ℕ → Bool) (k : kernels.Kernel) (r : MultibootAsked) (o : Option PurgatoryValue) (m : Option MapValue) (kind : Kind) → Ends (multiboot_laid ram k r o m kind)
   unfolding multiboot_laid
   multiboot_laid_ends ram k r o m kind =
       next_ends (modules_onto ram (record { taken = taken_by k.list; list = k.list; slots = [] }) r.modules) (λ l. multiboot_told ram l k.entry (command_of r.command) o m kind) (λ l. multiboot_told_ends ram l k.entry (command_of r.command) o m kind)
 
-  multiboot_read_ends : (ram : ℕ → Bool) (k : kernels.Kernel) (r : MultibootAsked) (file : Option (List ℕ)) (m : Option Named) (kind : Kind) → Ends (multiboot_read ram k r file m kind)
+  multiboot_read_ends : (ram : ℕ → Bool) (k : kernels.Kernel) (r : MultibootAsked) (file : Option (List ℕ)) (m : Option MapValue) (kind : Kind) → Ends (multiboot_read ram k r file m kind)
   unfolding multiboot_read
   multiboot_read_ends ram k r file m kind =
       next_ends (some_purgatory file) (λ o. multiboot_laid ram k r o m kind) (λ o. multiboot_laid_ends ram k r o m kind)
 
-  multiboot_plan_ends : (ram : ℕ → Bool) (r : MultibootAsked) (file : Option (List ℕ)) (m : Option Named) (kind : Kind) → Ends (multiboot_plan ram r file m kind)
+  multiboot_plan_ends : (ram : ℕ → Bool) (r : MultibootAsked) (file : Option (List ℕ)) (m : Option MapValue) (kind : Kind) → Ends (multiboot_plan ram r file m kind)
   unfolding multiboot_plan
   multiboot_plan_ends ram r file m kind =
       next_ends (multiboot_kernel r.kernel) (λ k. multiboot_read ram k r file m kind) (λ k. multiboot_read_ends ram k r file m kind)
 
-  as_ends : (ram : ℕ → Bool) (r : Asked) (m : Option Named) (kind : Kind) (format : Format) → Ends (plan_as ram r m kind format)
+  as_ends : (ram : ℕ → Bool) (r : Asked) (m : Option MapValue) (kind : Kind) (format : Format) → Ends (plan_as ram r m kind format)
   as_ends ram r m kind (Raw at entry) = fixed_plan_ends ram (raw_segment at r.kernel ∷ []) (start_at entry) r.purgatory m kind
   as_ends ram r m kind Elf = elf_plan_ends ram r.kernel r.purgatory m kind
   as_ends ram r m kind Bzimage = linux_plan_ends ram (linux_of r) r.purgatory m kind
   as_ends ram r m kind Multiboot = multiboot_plan_ends ram (multiboot_of r) r.purgatory m kind
 
   -- every plan is one that was finished
-  pub plan_ends : (r : Asked) (m : Option Named) → Ends (plan r m)
+  pub plan_ends : (r : Asked) (m : Option MapValue) → Ends (plan r m)
   unfolding plan
   plan_ends r m =
       next_ends (format_of r) (λ format. kind_of r m format >>= λ kind. unless (option_map faults.Unused (unused_part r format)) >>= λ _. plan_as (searched m kind) r m kind format)

@@ -6,7 +6,7 @@ use Rattle.kx_laws.specs.Results.{◌>>=◌}
 use Rattle.kx_pages.specs.declared.image.Start.{Start}
 use Rattle.segments.specs.Values.{SegmentValue}
 use Rattle.segments.specs.declared.fault.Kind.{Kind}
-use Rattle.memory_map.specs.Named.{Named}
+use Rattle.memory_map.specs.Maps.{MapValue}
 use Rattle.purgatory_link.specs.Regions.{others, digest, region_table}
 use Rattle.kexec_plan.specs.declared.fault.PlanFault.{PlanFault}
 use Rattle.kexec_plan.specs.declared.places.Site.{Site}
@@ -17,7 +17,7 @@ use Rattle.kexec_plan.specs.Rules.{tested}
 use Rattle.kexec_plan.specs.Purgatory.{PurgatoryValue, Linkage, linked_at, armed}
 
 -- the plan of these segments, without a purgatory
-unfoldable pub plain_plan : Option Named → Kind → List SegmentValue → Start → Result Plan PlanFault
+unfoldable pub plain_plan : Option MapValue → Kind → List SegmentValue → Start → Result Plan PlanFault
 plain_plan map kind ss start = do
   segments ← tested map kind ss
   Ok (record { segments = segments; start = start; regions = 0; digest = 0 })
@@ -41,7 +41,7 @@ armed_segment l start ss s =
     segment_at s (armed_among (ss ++ segment_at s l.bytes ∷ []) (length ss) l start)
 
 -- the plan of these segments and of a linked purgatory behind them, which starts first
-unfoldable pub armed_plan : Option Named → Kind → List SegmentValue → Start → Linkage → Site
+unfoldable pub armed_plan : Option MapValue → Kind → List SegmentValue → Start → Linkage → Site
     → Result Plan PlanFault
 armed_plan map kind ss start l s = do
   _ ← tested map kind (ss ++ segment_at s l.bytes ∷ [])
@@ -52,14 +52,14 @@ armed_plan map kind ss start l s = do
     digest = l.symbols.digest;
   })
 
-unfoldable pub linked_plan : Option Named → Kind → List SegmentValue → Start → PurgatoryValue → Site
+unfoldable pub linked_plan : Option MapValue → Kind → List SegmentValue → Start → PurgatoryValue → Site
     → Result Plan PlanFault
 linked_plan map kind ss start p s = do
   l ← linked_at p s
   armed_plan map kind ss start l s
 
 -- the plan of these segments, and of the purgatory at its place
-abbrev pub finished : Option Named → Kind → List SegmentValue → Start → Option PurgatoryValue
+abbrev pub finished : Option MapValue → Kind → List SegmentValue → Start → Option PurgatoryValue
     → Option Site → Result Plan PlanFault
 finished map kind ss start (Some p) (Some s) = linked_plan map kind ss start p s
 finished map kind ss start (Some p) None = plain_plan map kind ss start

@@ -7,7 +7,7 @@ use Rattle.multiboot_image.specs.declared.header.Header.{Header}
 use Rattle.multiboot_image.specs.declared.fault.MbFault.{MbFault}
 use Rattle.multiboot_image.specs.declared.fault.MbFault.TheVariants as multiboot
 use Rattle.multiboot_image.specs.Header.{header_found}
-use Rattle.memory_map.specs.Named.{Named, reserved_area}
+use Rattle.memory_map.specs.Maps.{MapValue, reserved_area}
 use Rattle.kx_pages.specs.Spans.{Run}
 use Rattle.segments.specs.declared.fault.Kind.{Kind}
 use Rattle.segments.specs.declared.fault.Kind.TheVariants.{Normal, Crash}
@@ -78,11 +78,11 @@ abbrev pub crash_kind : Option Run → Result Kind PlanFault
 crash_kind None = Err faults.NoReserved
 crash_kind (Some area) = Ok (Crash area)
 
-abbrev pub area_of : Option Named → Option Run
+abbrev pub area_of : Option MapValue → Option Run
 area_of None = None
 area_of (Some map) = reserved_area map
 
-abbrev pub kind_of : Asked → Option Named → Format → Result Kind PlanFault
+abbrev pub kind_of : Asked → Option MapValue → Format → Result Kind PlanFault
 kind_of r map format =
     if not r.crash then Ok Normal
     else if not (is_bzimage format) then Err faults.CrashNeedsBzimage

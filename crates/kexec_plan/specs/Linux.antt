@@ -4,7 +4,7 @@ use Rattle.std.specs.Prelude.{ℕ, ◌+◌, ◌-◌, ◌/◌, ◌^◌, ◌<◌, 
 use Rattle.kx_laws.specs.Results.{◌>>=◌}
 use Rattle.kx_pages.specs.declared.image.Start.{Start}
 use Rattle.memory_map.specs.declared.row.Row.{Row}
-use Rattle.memory_map.specs.Named.{Named, crash_rows, core_ranges}
+use Rattle.memory_map.specs.Maps.{MapValue, crash_rows, core_ranges}
 use Rattle.segments.specs.declared.fault.Kind.{Kind}
 use Rattle.segments.specs.declared.fault.Kind.TheVariants.{Normal, Crash}
 use Rattle.segments.specs.Values.{SegmentValue}
@@ -106,13 +106,13 @@ initrd_told (Some s) None = None
 initrd_told None bytes = None
 
 -- the rows of the memory map for the kernel
-abbrev pub rows_of : Option Named → Kind → List Row
+abbrev pub rows_of : Option MapValue → Kind → List Row
 rows_of None kind = []
 rows_of (Some map) Normal = map.rows
 rows_of (Some map) (Crash area) = crash_rows map
 
 -- how many bytes the crash headers have, in a crash load, as a number of 64 bits
-abbrev pub headers_size : Option Named → Kind → List Note → Option ℕ
+abbrev pub headers_size : Option MapValue → Kind → List Note → Option ℕ
 headers_size None kind notes = None
 headers_size (Some map) Normal notes = None
 headers_size (Some map) (Crash area) notes =
@@ -123,7 +123,7 @@ abbrev pub made_headers : Result (List ℕ) PlanFault → Result (Option (List �
 made_headers (Ok bytes) = Ok (Some bytes)
 made_headers (Err e) = Err e
 
-unfoldable pub some_headers : Option Named → Kind → List Note → Result (Option (List ℕ)) PlanFault
+unfoldable pub some_headers : Option MapValue → Kind → List Note → Result (Option (List ℕ)) PlanFault
 some_headers None kind notes = Ok None
 some_headers (Some map) Normal notes = Ok None
 some_headers (Some map) (Crash area) notes =

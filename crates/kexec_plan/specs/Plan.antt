@@ -4,7 +4,7 @@ use Rattle.kx_laws.specs.Results.{◌>>=◌, unless}
 use Rattle.kx_pages.specs.declared.image.Start.{Start}
 use Rattle.segments.specs.Values.{SegmentValue}
 use Rattle.segments.specs.declared.fault.Kind.{Kind}
-use Rattle.memory_map.specs.Named.{Named}
+use Rattle.memory_map.specs.Maps.{MapValue}
 use Rattle.kexec_plan.specs.declared.fault.PlanFault.{PlanFault}
 use Rattle.kexec_plan.specs.declared.fault.PlanFault.TheVariants as faults
 use Rattle.kexec_plan.specs.declared.format.Format.{Format}
@@ -26,25 +26,25 @@ use Rattle.kexec_plan.specs.Linux.{LinuxPlaces, headers_size, some_headers, comm
 
 -- the plan of a kernel whose segments are known: the purgatory is placed beside them
 unfoldable pub fixed_placed : (ℕ → Bool) → List SegmentValue → Start → Option PurgatoryValue
-    → Option Named → Kind → Result Plan PlanFault
+    → Option MapValue → Kind → Result Plan PlanFault
 fixed_placed ram ss start purgatory map kind = do
   site ← placed_some ram (taken_by ss)
       (option_map (purgatory_rule (purgatory_most kind false)) purgatory)
   finished map kind ss start purgatory site
 
-unfoldable pub fixed_plan : (ℕ → Bool) → List SegmentValue → Start → Option (List ℕ) → Option Named
+unfoldable pub fixed_plan : (ℕ → Bool) → List SegmentValue → Start → Option (List ℕ) → Option MapValue
     → Kind → Result Plan PlanFault
 fixed_plan ram ss start file map kind = do
   purgatory ← some_purgatory file
   fixed_placed ram ss start purgatory map kind
 
 -- the plan of a raw kernel
-abbrev pub raw_plan : (ℕ → Bool) → Asked → Option Named → Kind → ℕ → ℕ → Result Plan PlanFault
+abbrev pub raw_plan : (ℕ → Bool) → Asked → Option MapValue → Kind → ℕ → ℕ → Result Plan PlanFault
 raw_plan ram r map kind at entry =
     fixed_plan ram (raw_segment at r.kernel ∷ []) (start_at entry) r.purgatory map kind
 
 -- the plan of an ELF executable
-unfoldable pub elf_plan : (ℕ → Bool) → List ℕ → Option (List ℕ) → Option Named → Kind
+unfoldable pub elf_plan : (ℕ → Bool) → List ℕ → Option (List ℕ) → Option MapValue → Kind
     → Result Plan PlanFault
 elf_plan ram file purgatory map kind = do
   kernel ← elf_kernel file
@@ -52,31 +52,31 @@ elf_plan ram file purgatory map kind = do
 
 -- the plan of a bzImage: it is read, the purgatory is read, the parts are placed, and made
 unfoldable pub linux_made : Kernel → LinuxAsked → Option PurgatoryValue → Option (List ℕ)
-    → Option Named → Kind → LinuxPlaces → Result Plan PlanFault
+    → Option MapValue → Kind → LinuxPlaces → Result Plan PlanFault
 linux_made image r purgatory headers map kind sites = do
   parts ← linux_parts image r headers (rows_of map kind) sites
   finished map kind parts (linux_start sites) purgatory sites.later.back.purgatory
 
-unfoldable pub linux_headed : Kernel → LinuxAsked → Option PurgatoryValue → Option Named → Kind
+unfoldable pub linux_headed : Kernel → LinuxAsked → Option PurgatoryValue → Option MapValue → Kind
     → LinuxPlaces → Result Plan PlanFault
 linux_headed image r purgatory map kind sites = do
   headers ← some_headers map kind r.notes
   linux_made image r purgatory headers map kind sites
 
 unfoldable pub linux_placed : (ℕ → Bool) → Kernel → LinuxAsked → Option PurgatoryValue
-    → Option Named → Kind → Result Plan PlanFault
+    → Option MapValue → Kind → Result Plan PlanFault
 linux_placed ram image r purgatory map kind = do
   sites ← linux_sites ram image r (option_map (headers_rule image) (headers_size map kind r.notes))
       (option_map (purgatory_rule (purgatory_most kind image.above4g)) purgatory)
   linux_headed image r purgatory map kind sites
 
-unfoldable pub linux_read : (ℕ → Bool) → Kernel → LinuxAsked → Option (List ℕ) → Option Named → Kind
+unfoldable pub linux_read : (ℕ → Bool) → Kernel → LinuxAsked → Option (List ℕ) → Option MapValue → Kind
     → Result Plan PlanFault
 linux_read ram image r file map kind = do
   purgatory ← some_purgatory file
   linux_placed ram image r purgatory map kind
 
-unfoldable pub linux_plan : (ℕ → Bool) → LinuxAsked → Option (List ℕ) → Option Named → Kind
+unfoldable pub linux_plan : (ℕ → Bool) → LinuxAsked → Option (List ℕ) → Option MapValue → Kind
     → Result Plan PlanFault
 linux_plan ram r file map kind = do
   image ← told_by of_bzimage (kernel_reading r.kernel)
@@ -85,7 +85,7 @@ linux_plan ram r file map kind = do
 -- the plan of a Multiboot kernel: it is read, the purgatory is read, the modules are placed, then the information and the
 -- purgatory
 unfoldable pub multiboot_told : (ℕ → Bool) → Laid → ℕ → List ℕ → Option PurgatoryValue
-    → Option Named → Kind → Result Plan PlanFault
+    → Option MapValue → Kind → Result Plan PlanFault
 multiboot_told ram l entry command purgatory map kind = do
   sites ← back_sites ram l.taken (information_rule (rows_of map kind) command l.slots)
       (option_map (purgatory_rule (purgatory_most kind false)) purgatory)
@@ -93,18 +93,18 @@ multiboot_told ram l entry command purgatory map kind = do
       (multiboot_start entry sites.parameters) purgatory sites.purgatory
 
 unfoldable pub multiboot_laid : (ℕ → Bool) → kernels.Kernel → MultibootAsked → Option PurgatoryValue
-    → Option Named → Kind → Result Plan PlanFault
+    → Option MapValue → Kind → Result Plan PlanFault
 multiboot_laid ram k r purgatory map kind = do
   l ← modules_onto ram (record { taken = taken_by k.list; list = k.list; slots = [] }) r.modules
   multiboot_told ram l k.entry (command_of r.command) purgatory map kind
 
 unfoldable pub multiboot_read : (ℕ → Bool) → kernels.Kernel → MultibootAsked → Option (List ℕ)
-    → Option Named → Kind → Result Plan PlanFault
+    → Option MapValue → Kind → Result Plan PlanFault
 multiboot_read ram k r file map kind = do
   purgatory ← some_purgatory file
   multiboot_laid ram k r purgatory map kind
 
-unfoldable pub multiboot_plan : (ℕ → Bool) → MultibootAsked → Option (List ℕ) → Option Named → Kind
+unfoldable pub multiboot_plan : (ℕ → Bool) → MultibootAsked → Option (List ℕ) → Option MapValue → Kind
     → Result Plan PlanFault
 multiboot_plan ram r file map kind = do
   k ← multiboot_kernel r.kernel
@@ -118,14 +118,14 @@ abbrev pub linux_of : Asked → LinuxAsked
 linux_of r = record { kernel = r.kernel; initrd = r.initrd; command = r.command; notes = r.notes }
 
 -- the plan of a kernel of this form
-abbrev pub plan_as : (ℕ → Bool) → Asked → Option Named → Kind → Format → Result Plan PlanFault
+abbrev pub plan_as : (ℕ → Bool) → Asked → Option MapValue → Kind → Format → Result Plan PlanFault
 plan_as ram r map kind (Raw at entry) = raw_plan ram r map kind at entry
 plan_as ram r map kind Elf = elf_plan ram r.kernel r.purgatory map kind
 plan_as ram r map kind Bzimage = linux_plan ram (linux_of r) r.purgatory map kind
 plan_as ram r map kind Multiboot = multiboot_plan ram (multiboot_of r) r.purgatory map kind
 
 -- the form of the kernel's file; whether it is loaded as a crash kernel; no part that it has no use for; its plan
-unfoldable pub plan : Asked → Option Named → Result Plan PlanFault
+unfoldable pub plan : Asked → Option MapValue → Result Plan PlanFault
 plan r map = do
   format ← format_of r
   kind ← kind_of r map format

@@ -4,7 +4,7 @@ use Rattle.std.specs.Borrow.{Bor}
 use Rattle.kx_pages.specs.declared.image.Start.{Start}
 use Rattle.segments.specs.Values.{SegmentValue}
 use Rattle.crash_headers.specs.declared.note.Note.{Note}
-use Rattle.memory_map.specs.Named.{Named}
+use Rattle.memory_map.specs.Maps.{MapValue}
 use Rattle.kx_pages.specs.declared.image.ImageType.{ImageType}
 use Rattle.kx_pages.specs.declared.image.ImageType.TheVariants as types
 use Rattle.kexec_plan.specs.Modules.{AskedModule}
@@ -63,5 +63,5 @@ abbrev pub needs_map : Asked → Bool
 needs_map r = r.crash || (is_some r.purgatory || not (is_raw r.image))
 
 -- there is a memory map where the request needs one
-abbrev pub IsMapped : Asked → Option Named → Type 0
+abbrev pub IsMapped : Asked → Option MapValue → Type 0
 IsMapped r map = needs_map r ≡ true → is_some map ≡ true

@@ -6,17 +6,17 @@ use Rattle.segments.specs.Rules.{bare_refusal, refusal}
 use Rattle.segments.specs.declared.fault.SegFault.{SegFault}
 use Rattle.segments.specs.declared.fault.Kind.{Kind}
 use Rattle.kx_pages.specs.Spans.{Run}
-use Rattle.memory_map.specs.Named.{Named, is_ram}
+use Rattle.memory_map.specs.Maps.{MapValue, is_ram}
 use Rattle.kexec_plan.specs.declared.fault.PlanFault.{PlanFault}
 use Rattle.kexec_plan.specs.declared.fault.PlanFault.TheVariants as faults
 use Rattle.elf_image.specs.Image.{runs}
 
 -- the maximal runs of the pages that are RAM
-unfoldable pub ram_runs : Named → List Run
+unfoldable pub ram_runs : MapValue → List Run
 ram_runs map = runs (is_ram map) 0 (2 ^ 34)
 
 -- the first refusal of the segments
-unfoldable pub first_refusal : Option Named → Kind → List SegmentValue → Option SegFault
+unfoldable pub first_refusal : Option MapValue → Kind → List SegmentValue → Option SegFault
 first_refusal None kind ss = bare_refusal ss
 first_refusal (Some map) kind ss = refusal (ram_runs map) kind ss
 
@@ -26,6 +26,6 @@ abbrev pub unless_refused : List SegmentValue → Option SegFault
 unless_refused ss None = Ok ss
 unless_refused ss (Some fault) = Err (faults.Segments fault)
 
-unfoldable pub tested : Option Named → Kind → List SegmentValue
+unfoldable pub tested : Option MapValue → Kind → List SegmentValue
     → Result (List SegmentValue) PlanFault
 tested map kind ss = unless_refused ss (first_refusal map kind ss)

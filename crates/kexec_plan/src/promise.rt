@@ -1,7 +1,7 @@
 //! What a plan promises: the new kernel's purgatory finds the regions as they were digested.
 
 ghost use Rattle.std.specs.Prelude.{◌≡◌, ℕ, List, Option, Ok};
-ghost use Rattle.memory_map.specs.Named.{Named};
+ghost use Rattle.memory_map.specs.Maps.{MapValue};
 ghost use Rattle.purgatory_link.specs.declared.region_test.RegionTest.TheVariants.{Same};
 ghost use Rattle.purgatory_link.specs.RegionTest.{test};
 ghost use Rattle.purgatory_link.specs.Tie.{HasWanted};
@@ -13,6 +13,6 @@ ghost use Rattle.kexec_plan.specs.Plan.{plan};
 /// segments has the regions whose digest the purgatory finds. The one premise is that the table of regions and the
 /// digest have no byte in common, since the symbols of a purgatory may overlap.
 pub fn planned_regions_are_same()
-    ensures { (r : Asked) (map : Option Named) (p : Plan) (M : ℕ → List ℕ)
+    ensures { (r : Asked) (map : Option MapValue) (p : Plan) (M : ℕ → List ℕ)
         → plan r map ≡ Ok p → HasTableApart p → HasWanted M p.segments → test M p.regions p.digest ≡ Same }
 {}
