@@ -1,6 +1,6 @@
 -- What nothing refuses is done; what lacks pages is refused for them.
 use Rattle.std.proofs.Common.{◌≡◌, true, ℕ, ◌<◌, ◌≤◌, List, Option, Some, None, Result, Ok, Err, refl, sym, ap, ◌∙◌, subst, inl, inr, arith}
-use Rattle.std.specs.Prelude.{◌⊎◌, Bool, false, length, IfSome}
+use Rattle.std.specs.Prelude.{◌⊎◌, Bool, false, length}
 use Rattle.kx_laws.proofs.Results.{ok_same}
 use Rattle.kx_edge.specs.Edge.{Files, Rose}
 use Rattle.kx_edge.specs.declared.edge.Shelf.{Ghosts as Shelf}
@@ -11,7 +11,7 @@ use Rattle.page_memory.specs.Memory.{Mem}
 use Rattle.segments.specs.Values.{need}
 use Rattle.list_checker.specs.declared.fault.ListFault.{ListFault}
 use Rattle.load_states.specs.States.{Checked, CrashLoad}
-use Rattle.file_commands.specs.Taking.{Refusal, by, too_long, reads}
+use Rattle.file_commands.specs.Taking.{Refusal, by, too_long}
 use Rattle.file_commands.specs.Answers.{Answer, MeetsTold, RefusesFor, Stands, done, memory, refused}
 use Rattle.file_commands.proofs.Meeting.{refuses, stands_told}
 use Rattle.kexec_words.specs.declared.faults.UsageWhy.{UsageWhy}
@@ -38,7 +38,7 @@ use Rattle.kexec_main.specs.Exec.{ExecInputs, executes_as, executes_by, is_not_k
 use Rattle.kexec_main.specs.Inputs.{LoadInputs}
 use Rattle.kexec_main.specs.Load.{LoadCommand, loads}
 use Rattle.kexec_main.specs.LoadPanic.{LoadPanicCommand, loads_panic}
-use Rattle.kexec_main.specs.Loading.{HasNoPlan, IsLoaded, IsTooFew, RefusesLoad}
+use Rattle.kexec_main.specs.Loading.{HasNoPlan, IsLoaded, RefusesLoad}
 use Rattle.kexec_main.specs.Outputs.{Made, HasNoFile, IsTooHeavy}
 use Rattle.kexec_main.specs.Runs.{after_runs, checked_with, wish_of}
 use Rattle.kexec_main.specs.Trace.{TraceInputs, traces}

@@ -1,5 +1,5 @@
 -- What stands after a command answered Done.
-use Rattle.std.proofs.Common.{◌≡◌, ◌∙◌, ℕ, List, [], ◌∷◌, true, Option, Some, None, Result, Ok, Err, ap, sym, subst, inl, inr}
+use Rattle.std.proofs.Common.{◌≡◌, ◌∙◌, ℕ, List, [], ◌∷◌, true, None, Result, Ok, ap, sym, subst, inl, inr}
 use Rattle.std.specs.Prelude.{map, unwrap_or, ◌⊎◌}
 use Rattle.kx_laws.proofs.Results.{ok_same}
 use Rattle.kx_edge.specs.Edge.{Files, Said}

@@ -1,5 +1,5 @@
 -- The runs of accepted lists end.
-use Rattle.std.proofs.Common.{◌≡◌, ◌∙◌, ℕ, ◌+◌, ◌^◌, ◌<◌, List, length, Option, Some, None, ap, sym, subst, arith}
+use Rattle.std.proofs.Common.{◌≡◌, ◌∙◌, ℕ, ◌+◌, ◌^◌, ◌<◌, length, Option, Some, None, ap, sym, subst, arith}
 use Rattle.kx_pages.specs.Lists.{Each, Has}
 use Rattle.kx_pages.specs.Modes.{swap_page}
 use Rattle.kx_pages.specs.declared.image.Mode.{Mode}
@@ -28,7 +28,7 @@ use Rattle.kexec_plan.specs.Requests.{Plan}
 use Rattle.kexec_plan.proofs.Bare.{planned_bare}
 use Rattle.kexec_main.specs.Inputs.{LoadInputs}
 use Rattle.kexec_main.specs.Loading.{IsLoaded}
-use Rattle.kexec_main.specs.Runs.{EndsAgain, HasMode, after_runs, wish_of}
+use Rattle.kexec_main.specs.Runs.{EndsAgain, HasMode, wish_of}
 use Rattle.kexec_main.proofs.Leaving.{has_mode}
 
 -- From a memory that reads as the first run left it the list's words are as they were, so that the second run ends too.

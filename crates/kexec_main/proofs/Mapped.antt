@@ -1,5 +1,5 @@
 -- A memory map is named where the plan needs one.
-use Rattle.std.proofs.Common.{◌≡◌, ◌∙◌, Bool, true, false, List, ℕ, Option, Some, None, Ok, Err, ap, refl, sym}
+use Rattle.std.proofs.Common.{◌≡◌, ◌∙◌, false, Option, Some, None, ap, refl, sym}
 use Rattle.std.specs.Prelude.{is_some, not, option_map, ◌||◌}
 use Rattle.kx_laws.proofs.Booleans.{or_false, or_true}
 use Rattle.kx_pages.specs.declared.image.ImageType.{ImageType}

@@ -1,5 +1,5 @@
 -- What `sample` answers, over every shelf.
-use Rattle.std.proofs.Common.{◌≡◌, ◌∙◌, ℕ, List, [], ◌∷◌, ◌++◌, Option, Some, None, Result, Ok, Err, refl, sym, ap, subst, inl, inr}
+use Rattle.std.proofs.Common.{◌≡◌, ◌∙◌, ℕ, List, [], ◌++◌, Option, Some, None, Result, Ok, Err, refl, sym, ap, subst, inl, inr}
 use Rattle.std.proofs.lemmas.List.{append-nil}
 use Rattle.kx_edge.specs.Edge.{Files, Said}
 use Rattle.kx_edge.specs.declared.edge.Shelf.{Ghosts as Shelf}
@@ -9,7 +9,7 @@ use Rattle.kx_pages.specs.declared.image.Start.{Start}
 use Rattle.page_memory.specs.Contents.{at}
 use Rattle.list_checker.specs.declared.fault.ListFault.{ListFault}
 use Rattle.load_states.specs.States.{Checked}
-use Rattle.file_commands.specs.Taking.{File, Refusal, Took, FailedAt, ok, reads}
+use Rattle.file_commands.specs.Taking.{File, Refusal, Took, FailedAt}
 use Rattle.file_commands.specs.Answers.{Answer, FilesPut, Meets, MeetsTold, PutAll, PutUpTo, Stands, done, not_accepted, unread, unwritten, unsaid, memory, refused}
 use Rattle.kx_laws.proofs.Results.{ok_same}
 use Rattle.sample_load.specs.Samples.{sample_segments, start_of}

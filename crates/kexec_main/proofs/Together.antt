@@ -1,5 +1,5 @@
 -- `load` and then `exec` on its two files do what `boot` does.
-use Rattle.std.proofs.Common.{◌≡◌, ◌∙◌, ℕ, Bool, List, length, Option, Some, None, Result, Ok, Err, ap, sym, subst, refl}
+use Rattle.std.proofs.Common.{◌≡◌, ◌∙◌, ◌++◌, ℕ, Bool, List, length, Option, Some, None, Ok, ap, sym, subst}
 use Rattle.kx_laws.specs.Results.{◌>>=◌}
 use Rattle.kx_laws.proofs.Options.{some_same}
 use Rattle.kx_laws.proofs.Results.{ok_same}
@@ -10,7 +10,7 @@ use Rattle.kx_pages.specs.declared.image.Start.{Start}
 use Rattle.kx_pages.specs.declared.image.Mode.{Mode}
 use Rattle.kx_pages.specs.declared.image.Wish.{Wish}
 use Rattle.page_memory.specs.Contents.{Contents, at}
-use Rattle.page_memory.specs.File.{file, reading}
+use Rattle.page_memory.specs.File.{reading}
 use Rattle.page_memory.specs.Memory.{Agree, Mem}
 use Rattle.page_memory.specs.declared.fault.MemFault.{MemFault}
 use Rattle.page_memory.proofs.OneFile.{file-agree}
@@ -28,18 +28,19 @@ use Rattle.file_commands.specs.Taking.{Refusal, file_at, ok, reads}
 use Rattle.file_commands.proofs.Steps.{reads_cases}
 use Rattle.kexec_words.specs.declared.commands.Runs.{Runs}
 use Rattle.kexec_words.specs.declared.commands.Runs.TheVariants.{Once, Twice}
-use Rattle.kexec_words.specs.Values.{BootValue, ExecValue, LoadValue, InputsValue}
+use Rattle.kexec_words.specs.Values.{BootValue, ExecValue, LoadValue}
 use Rattle.kexec_plan.specs.Requests.{Plan}
 use Rattle.kexec_plan.specs.Plan.{plan}
 use Rattle.kexec_plan.specs.declared.fault.PlanFault.{PlanFault}
 use Rattle.kexec_main.specs.declared.status.Reason.{Reason}
-use Rattle.kexec_main.specs.Boot.{BootInputs, boot_files}
+use Rattle.kexec_main.specs.Boot.{BootInputs}
 use Rattle.kexec_main.specs.Call.{HasBooted, HasExecuted, HasLoaded, NormalLoad, files_text}
 use Rattle.kexec_main.specs.Exec.{runs_asked, runs_of}
 use Rattle.kexec_main.specs.Inputs.{LoadInputs, load_inputs}
-use Rattle.kexec_main.specs.Load.{LoadCommand, load_command_files, load_wish, record_of_load}
+use Rattle.kexec_main.specs.Load.{LoadCommand, load_wish, record_of_load}
 use Rattle.kexec_main.specs.Outputs.{IsFileOf}
-use Rattle.kexec_main.specs.Runs.{after_runs, run_text, wish_of}
+use Rattle.kexec_main.specs.Runs.{after_runs, list_text, run_text, wish_of}
+use Rattle.kexec_main.specs.Texts.{load_lines, purgatory_line, ran_line}
 use Rattle.kexec_main.specs.Together.{AskTogether, LoadThenExecIsBoot, booted_text, is_twice}
 use Rattle.kexec_main.proofs.Reread.{exec_read, memory_found, record_found}
 
@@ -91,10 +92,13 @@ same_after None c d s = s.plain
 same_after (Some Once) c d s = s.once
 same_after (Some Twice) c d s = s.twice
 
+same_list : (c d : Checked) (start : Start) → IsSameCheck c d → d.load.image ≡ c.load.image → list_text d start ≡ list_text c start
+same_list c d start s image = λ i. load_lines (s.words i) (s.links i) (length (s.pairs i)) (image i) start
+
 same_text : (runs : Option Runs) (c d : Checked) (start : Start) (table digest : ℕ) → IsSameCheck c d → d.load.image ≡ c.load.image → run_text runs d start table digest ≡ run_text runs c start table digest
-same_text None c d start table digest s image = rw (s.words, s.links, s.pairs, image, s.plain) refl
-same_text (Some Once) c d start table digest s image = rw (s.words, s.links, s.pairs, image, s.once) refl
-same_text (Some Twice) c d start table digest s image = rw (s.words, s.links, s.pairs, image) refl
+same_text None c d start table digest s image = λ i. (same_list c d start s image i ++ ran_line (s.words i)) ++ purgatory_line (s.plain i) table digest
+same_text (Some Once) c d start table digest s image = λ i. (same_list c d start s image i ++ ran_line (s.words i)) ++ purgatory_line (s.once i) table digest
+same_text (Some Twice) c d start table digest s image = λ i. (same_list c d start s image i ++ ran_line (s.words i)) ++ ran_line (s.words i)
 
 module _ {S O : Type 0} (D : Shelf S) (E : Sink O) (held after : Files) (s t u s' t' u' : S) (o p q o' p' q' : O) (b : BootValue) (l : LoadValue) (e : ExecValue)
     (ask : AskTogether b l e) (boot : HasBooted D E held s o s' o' b) (load : HasLoaded D E held t p t' p' l) (exec : HasExecuted D E after u q u' q' e)

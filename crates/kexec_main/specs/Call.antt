@@ -1,5 +1,5 @@
 -- What the top call promises of each command, over files that are told (this project's own).
-use Rattle.std.specs.Prelude.{◌≡◌, ℕ, Bool, ◌≤◌, ◌<◌, List, [], ◌∷◌, ◌++◌, length, take, Option, Some, None, Result, Ok, Err, ◌⊎◌, false}
+use Rattle.std.specs.Prelude.{◌≡◌, ℕ, Bool, ◌≤◌, ◌<◌, List, [], ◌∷◌, ◌++◌, length, take, Option, Some, None, Ok, ◌⊎◌, false}
 use Rattle.std.specs.List.{flat_map}
 use Rattle.kx_pages.specs.Lists.{count}
 use Rattle.kx_pages.specs.Spans.{Run, in_span}

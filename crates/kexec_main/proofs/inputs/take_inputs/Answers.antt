@@ -1,4 +1,4 @@
-use Rattle.std.proofs.Common.{rules, ◌≡◌, ◌∙◌, Option, Some, None, Result, Ok, Err, ap, sym, refl}
+use Rattle.std.proofs.Common.{rules, ◌∙◌, ap, sym}
 use Rattle.std.specs.Prelude.{is_some, string_bytes}
 use Rattle.file_commands.proofs.Steps.{start, next, stopped, wanting, finished}
 use Rattle.kexec_words.specs.Values.{inputs_value}

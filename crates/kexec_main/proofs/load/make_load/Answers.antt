@@ -1,12 +1,10 @@
 use Rattle.std.proofs.Common.{rules, ◌≡◌, ◌∙◌, ◌++◌, ◌∷◌, [], Ok, Err, List, ap, inl, inr, map, refl}
-use Rattle.std.specs.Prelude.{string_bytes}
 use Rattle.std.proofs.lemmas.List.{map-append}
 use Rattle.page_memory.specs.Contents.{at}
-use Rattle.load_record.specs.File.{record_file}
 use Rattle.file_commands.specs.Taking.{File, by}
 use Rattle.file_commands.specs.Calls.{file_of, goods_of}
 use Rattle.file_commands.proofs.Made.{handed_on_as}
-use Rattle.kexec_main.specs.Load.{load_command, loads, record_of_load}
+use Rattle.kexec_main.specs.Load.{load_command, loads}
 use Rattle.kexec_main.specs.Loading.{RefusesLoad, plan_of}
 use Rattle.kexec_main.specs.Outputs.{HasNoFile}
 use Rattle.kexec_main.specs.Runs.{checked_with}

@@ -1,4 +1,4 @@
-use Rattle.std.proofs.Common.{rules, ◌≡◌, ◌∙◌, Ok, Err, ap, refl, sym}
+use Rattle.std.proofs.Common.{rules, ◌≡◌, ◌∙◌, Ok, Err, ap, refl}
 use Rattle.page_memory.specs.Contents.{at}
 use Rattle.relocate_machine.specs.Run.{run_of}
 use Rattle.file_commands.specs.Taking.{by}
