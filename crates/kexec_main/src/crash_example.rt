@@ -28,6 +28,10 @@ pub(crate) const NOTES: &[u8] = b"200000 400\n";
 pub(crate) const CRASH_TEXT: &[u8] =
     b"accepted crash pages 6\nstart entry 4000200 rax 0 rbx 0 rsi 5ffd000\n";
 
+/// The same after the run.
+pub(crate) const CRASH_RUN_TEXT: &[u8] =
+    b"accepted crash pages 6\nstart entry 4000200 rax 0 rbx 0 rsi 5ffd000\nran 1\n";
+
 // The fields of the setup header (Linux/x86 boot protocol, "The Real-Mode Kernel Header"), by their places: one sector of
 // setup, the signatures, version 2.12, the header's end, loaded high, relocatable by 2 MiB, the 64-bit entry, a command
 // of 2,047 bytes, the preferred address 16 MiB, and 12,288 bytes of memory.
@@ -46,14 +50,22 @@ const SETUP: [(usize, &[u8]); 12] = [
     (0x260, &[0, 0x30]),
 ];
 
+// Adds zeros up to this length.
+fn pad(file: &mut Vec<u8>, length: usize) -> Result<(), AllocError> {
+    for _ in file.len()..length {
+        file.push(0)?;
+    }
+    Ok(())
+}
+
 /// A Linux kernel whose protected-mode part, behind its two sectors, is these bytes.
 pub(crate) fn linux_kernel(alloc: Global, part: &[u8]) -> Result<Vec<u8>, AllocError> {
-    let mut file = vec![in alloc; 0u8; 1024]?;
+    let mut file = Vec::new(alloc);
     for (place, bytes) in SETUP {
-        for (i, byte) in bytes.iter().enumerate() {
-            file[place + i] = *byte;
-        }
+        pad(&mut file, place)?;
+        file.extend_from_slice(bytes)?;
     }
+    pad(&mut file, 1024)?;
     file.extend_from_slice(part)?;
     Ok(file)
 }

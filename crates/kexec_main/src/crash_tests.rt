@@ -1,22 +1,15 @@
 //! Crash loads: what `load-panic` leaves, and what each command makes of it.
 
 use crate::Status;
-use crate::crash_example::{CRASH_TEXT, LOAD_PANIC, crash_shelf, headers};
-use crate::first_example::{lacks, numbers, push_page, run};
+use crate::crash_example::{CRASH_RUN_TEXT, CRASH_TEXT, LOAD_PANIC, crash_shelf, headers};
+use crate::first_example::{lacks, memory_start, numbers, push_page, run};
 use kx_edge::{MemoryShelf, Shelf};
-use std::alloc::{AllocError, Global};
+use std::alloc::Global;
 use std::test::Fail;
 
 // The file of a memory of so many bytes.
 fn taken(alloc: Global, shelf: &mut MemoryShelf, name: &str) -> Result<Vec<u8>, Fail> {
     Ok(shelf.take(alloc, name, 100_000).ok().ok_or("a file")?)
-}
-
-// A page as a memory file has it: its number, then its bytes, then zeros.
-fn page(alloc: Global, number: u64, bytes: &[u8]) -> Result<Vec<u8>, AllocError> {
-    let mut file = Vec::new(alloc);
-    push_page(&mut file, number, bytes)?;
-    Ok(file)
 }
 
 // The page that was stale is the kernel's second one, and has zeros.
@@ -29,22 +22,19 @@ fn a_crash_load_writes_its_place_alone(rt: HostRuntime) -> Result<(), Fail> {
     assert_eq!(rt; sink.said(), CRASH_TEXT);
     let out = taken(alloc, &mut shelf, "o")?;
     assert_eq!(rt; out.len(), 16 + 6 * 4104);
-    assert!(rt; out.starts_with(b"KXMEM001\x06\0\0\0\0\0\0\0"));
-    let pages = [
-        (0, page(alloc, 2, b"outside")?),
-        (1, page(alloc, 0x4000, b"crash")?),
-        (2, page(alloc, 0x4005, b"inside")?),
-        (4, page(alloc, 0x5ffe, b"quiet elfcorehdr=98300K\0")?),
-        (5, page(alloc, 0x5fff, &headers(alloc)?)?),
-    ];
-    for (i, bytes) in pages {
-        let at = 16 + 4104 * i;
-        assert!(rt; out[at..].starts_with(&bytes), "page {i}");
-    }
-    let parameters = 16 + 4104 * 3;
-    assert!(rt; out[parameters..].starts_with(&numbers(alloc, &[0x5ffd])?));
-    let told = parameters + 8 + 0x228;
-    assert!(rt; out[told..].starts_with(&[0x00, 0xe0, 0xff, 0x05]));
+    let mut front = memory_start(alloc, 6)?;
+    push_page(&mut front, 2, b"outside")?;
+    push_page(&mut front, 0x4000, b"crash")?;
+    push_page(&mut front, 0x4005, b"inside")?;
+    assert!(rt; out.starts_with(&front));
+    let mut back = Vec::new(alloc);
+    push_page(&mut back, 0x5ffe, b"quiet elfcorehdr=98300K\0")?;
+    push_page(&mut back, 0x5fff, &headers(alloc)?)?;
+    assert!(rt; out.ends_with(&back));
+    let parameters = out.get(16 + 3 * 4104..).ok_or("a page")?;
+    assert!(rt; parameters.starts_with(&numbers(alloc, &[0x5ffd])?));
+    let command = parameters.get(8 + 0x228..).ok_or("a field")?;
+    assert!(rt; command.starts_with(&[0x00, 0xe0, 0xff, 0x05]));
     Ok(())
 }
 
@@ -65,9 +55,12 @@ fn a_crash_record_tells_its_kind_and_its_segments(rt: HostRuntime) -> Result<(),
     wanted.extend_from_slice(&headers(alloc)?)?;
     wanted.extend_from_slice(&numbers(alloc, &[0x5ff_d000, 0x2000, 4120])?)?;
     assert!(rt; record.starts_with(&wanted));
-    assert_eq!(rt; record.len(), wanted.len() + 4120);
+    assert_eq!(rt; record.len(), 4525);
     Ok(())
 }
+
+const DUMP_START: &[u8] =
+    b"0 done\nsegment 4000000 memsz 3000 bufsz 5 sha256 cdb2e0d0f873ce5326e87cf7dec48de8da3043cfc950a7eba05a059150e873f5\n";
 
 #[test]
 fn a_crash_load_is_checked_dumped_and_run(rt: HostRuntime) -> Result<(), Fail> {
@@ -89,9 +82,7 @@ fn a_crash_load_is_checked_dumped_and_run(rt: HostRuntime) -> Result<(), Fail> {
     );
     let (status, sink) = run(alloc, &["exec", "o", "r", "x"], &mut shelf, &[])?;
     assert_eq!(rt; status.code(), 0);
-    assert!(rt; sink.said().starts_with(CRASH_TEXT));
-    assert!(rt; sink.said().ends_with(b"\nran 1\n"));
-    assert_eq!(rt; sink.said().len(), CRASH_TEXT.len() + 6);
+    assert_eq!(rt; sink.said(), CRASH_RUN_TEXT);
     assert!(rt; taken(alloc, &mut shelf, "x")? == taken(alloc, &mut shelf, "o")?);
     let twice = ["exec", "--twice", "o", "r", "m2"];
     let (status, _) = run(alloc, &twice, &mut shelf, &[])?;
@@ -114,10 +105,10 @@ fn each_fault_of_a_crash_load_is_told(rt: HostRuntime) -> Result<(), Fail> {
     for (head, line) in HEADS {
         let mut shelf = crash_shelf(alloc, &[])?;
         run(alloc, &LOAD_PANIC, &mut shelf, &[])?;
-        let mut record = taken(alloc, &mut shelf, "r")?;
-        for (i, byte) in head.to_le_bytes().iter().enumerate() {
-            record[16 + i] = *byte;
-        }
+        let old = taken(alloc, &mut shelf, "r")?;
+        let mut record = b"KXREC001\x01\0\0\0\0\0\0\0".to_vec(alloc)?;
+        record.extend_from_slice(&head.to_le_bytes())?;
+        record.extend_from_slice(old.get(24..).ok_or("a record")?)?;
         shelf.put("r", &record).ok().ok_or("a put")?;
         for words in [
             ["check", "o", "r"].as_slice(),
