@@ -7,7 +7,7 @@ use std::alloc::{AllocError, Global};
 use std::test::Fail;
 
 /// The words, the exit status and the status, of commands that are refused: nothing is written or said.
-const REFUSALS: [(&str, u8, &str); 28] = [
+const REFUSALS: [(&str, u8, &str); 31] = [
     ("", 2, "Usage { why: Command }"),
     ("reboot m p o k", 2, "Usage { why: Command }"),
     ("boot m p o", 2, "Usage { why: Parse }"),
@@ -104,14 +104,29 @@ const REFUSALS: [(&str, u8, &str); 28] = [
         "Plan { fault: Segments { fault: NotRam { i: 0 } } }",
     ),
     (
+        "boot --map small --type raw --at 2000 m p o k",
+        8,
+        "Plan { fault: Segments { fault: NotRam { i: 0 } } }",
+    ),
+    (
         "boot --type raw --at 2000 m few o k",
         9,
         "NoPages { pool: 2, need: 3 }",
     ),
+    (
+        "boot --type raw --at 2000 m none-free o k",
+        9,
+        "NoPages { pool: 0, need: 3 }",
+    ),
+    (
+        "boot --kept 2 --type raw --at 2000 m four o pages",
+        9,
+        "NoPages { pool: 4, need: 5 }",
+    ),
 ];
 
 /// The list of the record, the name of the record and the fault that is told of it.
-const FAULTS: [(&[u64], &str, &str, &str); 15] = [
+const FAULTS: [(&[u64], &str, &str, &str); 14] = [
     (
         &[0x2003],
         "plain",
@@ -129,12 +144,6 @@ const FAULTS: [(&[u64], &str, &str, &str); 15] = [
         "plain",
         "ListFault { word: 1, why: LinkAgain }",
         "word 1: LinkAgain\n",
-    ),
-    (
-        &[0x2001; 512],
-        "plain",
-        "ListFault { word: 512, why: RunsOff }",
-        "word 512: RunsOff\n",
     ),
     (
         &[0x12008],
@@ -238,6 +247,10 @@ fn shelf(alloc: Global) -> Result<MemoryShelf, AllocError> {
         ("m", memory_start(alloc, 0)?),
         ("p", b"10-12\n".to_vec(alloc)?),
         ("few", b"10-11\n".to_vec(alloc)?),
+        ("four", b"10-13\n".to_vec(alloc)?),
+        ("none-free", Vec::new(alloc)),
+        ("pages", vec![in alloc; b'b'; 4097]?),
+        ("small", b"00000000-00001fff : System RAM\n".to_vec(alloc)?),
         ("k", b"abc".to_vec(alloc)?),
         ("f", b"00000000-01ffffff : System RAM\n".to_vec(alloc)?),
         ("long", long),
