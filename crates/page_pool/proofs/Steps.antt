@@ -22,6 +22,7 @@ pub drawn_pool : (xs : List ℕ) (n : ℕ) (m : tree.BTreeMap ℕ Bool) → IsPo
 drawn_pool xs n m h less = record {
   within = omega (arith, less);
   once = h.once;
+  low = h.low;
   have = h.have;
   few = h.few;
   filed = record { each = λ x f. omega (arith, h.filed.each x f, ap (count x) (take_more xs n 0 less), count-append x (take n xs) (get_or xs n 0 ∷ [])) };
@@ -44,6 +45,7 @@ pub marked_pool : (xs : List ℕ) (n : ℕ) (m k : tree.BTreeMap ℕ Bool) (p : 
 marked_pool xs n m k p b h new stays known = record {
   within = h.within;
   once = h.once;
+  low = h.low;
   have = record { each = λ x c. stays x (h.have.each x c) };
   few = h.few;
   filed = filed_more (take n xs) m k p b h.filed new known;

@@ -4,7 +4,8 @@ use Rattle.std.specs.List.{list_any}
 use Rattle.std.specs.Ordering.{nat_cmp}
 use Rattle.std.specs.FinMap as finite
 use Rattle.std.specs.BTreeMap as tree
-use Rattle.kx_pages.specs.Lists.{Distinct, count}
+use Rattle.kx_pages.specs.Lists.{Each, Distinct, count}
+use Rattle.kx_pages.specs.Numbers.{IsPage}
 
 abbrev pub marks_of : tree.BTreeMap ℕ Bool → finite.FinMap nat_cmp Bool
 marks_of m = finite.from_entries m.entries
@@ -21,6 +22,7 @@ pub record FiledAreAmong (xs : List ℕ) (m : tree.BTreeMap ℕ Bool) : Type 0 w
 pub record IsPool (xs : List ℕ) (next : ℕ) (m : tree.BTreeMap ℕ Bool) : Type 0 where
   pub within : next ≤ length xs
   pub once : Distinct xs
+  pub low : Each IsPage xs
   pub have : HaveMarks xs m
   pub few : length xs ≤ 262144
   pub filed : FiledAreAmong (take next xs) m
@@ -29,3 +31,4 @@ pub record IsPool (xs : List ℕ) (next : ℕ) (m : tree.BTreeMap ℕ Bool) : Ty
 pub record AreMarks (xs : List ℕ) (m : tree.BTreeMap ℕ Bool) : Type 0 where
   pub each : (q : ℕ) → tree.get nat_cmp m q ≡ cond (list_any (nat_eq q) xs) (Some false) None
   pub once : Distinct xs
+  pub low : Each IsPage xs

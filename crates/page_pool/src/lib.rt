@@ -6,13 +6,13 @@
 //! the start, so that only the calls that make a pool take memory.
 #![tactic(auto)]
 
-ghost use Rattle.std.specs.Prelude.{◌≡◌, ◌↔◌, ℕ, List, Some, ◌+◌, ◌<◌, ◌≤◌, ◌++◌, ◌∷◌, [], true, false, length, slice_index, unwrap_or, IfSome, IfNone, IsSome, IfOk, IfErr};
+ghost use Rattle.std.specs.Prelude.{◌≡◌, ◌↔◌, ℕ, List, Some, ◌+◌, ◌^◌, ◌<◌, ◌≤◌, ◌++◌, ◌∷◌, [], true, false, length, slice_index, unwrap_or, IfSome, IfNone, IsSome, IfOk, IfErr};
 ghost use Rattle.std.specs.Ordering.{nat_cmp};
 ghost use Rattle.std.specs.FinMap as finite;
 ghost use Rattle.std.specs.BTreeMap as tree;
 ghost use Rattle.kx_laws.specs.Results.{Gives};
 ghost use Rattle.kx_pages.specs.Lists.{Distinct, count};
-ghost use Rattle.page_pool.specs.Pages.{is_filed, marked};
+ghost use Rattle.page_pool.specs.Pages.{is_filed, marked, usable_of};
 ghost use Rattle.page_pool.specs.Marks.{marks_of};
 ghost use Rattle.page_pool.specs.declared.fault.PoolFault.TheVariants as faults;
 ghost use Rattle.page_pool.specs.File.{pool_reading, range_of, each_once, MarksOrRepeat, RepeatIsFirst};
@@ -43,7 +43,7 @@ pub struct Pool {
 }
 
 impl Model for Pool {
-    ghost use Rattle.std.specs.Prelude.{take, drop};
+    ghost use Rattle.std.specs.Prelude.{take, ◌^◌};
     ghost use Rattle.page_pool.specs.Pages.{Pages, pages_code};
     ghost use Rattle.page_pool.specs.Marks.{marks_of, IsPool};
 
@@ -52,8 +52,9 @@ impl Model for Pool {
     ghost coded = { pages_code };
 
     ghost view = { λ p. record {
-      left = drop p.next p.pages.items;
+      made = p.pages.items;
       drawn = take p.next p.pages.items;
+      limit = 2 ^ 46;
       marks = marks_of p.marks;
     } };
 
@@ -77,8 +78,10 @@ impl Pool {
     /// comes only where memory ran out.
     #[tactic(auto, unfolding(crate::specs::File::pool_reading))]
     pub fn read(alloc: Global, text: &[u8]) -> Result<Pool, PoolFault>
-        ensures exact { Gives faults.Memory (λ p. p.left) result (pool_reading text.now) }
+        ensures exact { Gives faults.Memory (λ p. p.made) result (pool_reading text.now) }
         ensures undrawn { IfOk result (λ p. p.drawn ≡ []) }
+        ensures limit { IfOk result (λ p. p.limit ≡ 2 ^ 46) }
+        ensures usable { IfOk result (λ p. usable_of p ≡ p.made) }
         ensures unfiled { IfOk result (λ p. (q : ℕ) → is_filed p q ≡ false) }
     {
         match pages_of(alloc, text) {
@@ -91,9 +94,12 @@ impl Pool {
     /// stands earlier too, exactly where one does; Memory only where memory ran out.
     pub fn new(alloc: Global, pages: Vec<Page>) -> Result<Pool, PoolFault>
         requires { length pages.items ≤ 262144 }
-        ensures exact { Gives faults.Memory (λ p. p.left) result (each_once pages.items) }
+        ensures exact { Gives faults.Memory (λ p. p.made) result (each_once pages.items) }
         ensures first { IfErr result (λ e. RepeatIsFirst pages.items e) }
-        ensures pages { IfOk result (λ p. (p.left ≡ pages.items) × (p.drawn ≡ [])) }
+        ensures made { IfOk result (λ p. p.made ≡ pages.items) }
+        ensures undrawn { IfOk result (λ p. p.drawn ≡ []) }
+        ensures limit { IfOk result (λ p. p.limit ≡ 2 ^ 46) }
+        ensures usable { IfOk result (λ p. usable_of p ≡ p.made) }
         ensures unfiled { IfOk result (λ p. (q : ℕ) → is_filed p q ≡ false) }
     {
         match marks_for(alloc, &pages) {
@@ -108,7 +114,9 @@ impl Pool {
 
     /// A pool with no page.
     pub fn empty(alloc: Global) -> Pool
-        ensures { result ≡ record { left = []; drawn = []; marks = finite.empty } }
+        ensures value { result
+            ≡ record { made = []; drawn = []; limit = 2 ^ 46; marks = finite.empty } }
+        ensures usable { usable_of result ≡ [] }
     {
         Pool {
             pages: Vec::new(alloc),
@@ -119,9 +127,10 @@ impl Pool {
 
     /// How many pages can be drawn. The other clauses tell what holds of every pool.
     pub fn left(&self) -> u64
-        ensures value { result ≡ length self.now.left }
-        ensures once { Distinct (self.now.drawn ++ self.now.left) }
-        ensures few { length self.now.drawn + length self.now.left ≤ 262144 }
+        ensures value { result ≡ length (usable_of self.now) }
+        ensures once { Distinct (self.now.drawn ++ usable_of self.now) }
+        ensures each_once { Distinct self.now.made }
+        ensures few { length self.now.drawn + length (usable_of self.now) ≤ 262144 }
         ensures filed_were_drawn { (q : ℕ) → is_filed self.now q ≡ true
             → 1 ≤ count q self.now.drawn }
     {
@@ -130,18 +139,17 @@ impl Pool {
 
     /// The page that the draw after `i` more draws gives.
     pub fn page(&self, i: u64) -> Page
-        requires { i < length self.now.left }
-        ensures { result ≡ slice_index self.now.left i }
+        requires { i < length (usable_of self.now) }
+        ensures { result ≡ slice_index (usable_of self.now) i }
     {
         self.pages[self.next + i as usize]
     }
 
     /// The next page. None exactly where none is left.
     pub fn draw(&mut self) -> Option<Page>
-        ensures some { IfSome result (λ q. (self.old.left ≡ q ∷ self.new.left)
-            × (self.new.drawn ≡ self.old.drawn ++ q ∷ [])
-            × (self.new.marks ≡ self.old.marks)) }
-        ensures none { IfNone result ((self.old.left ≡ []) × (self.new ≡ self.old)) }
+        ensures some { IfSome result (λ q. (usable_of self.old ≡ q ∷ usable_of self.new)
+            × (self.new ≡ record self.old { drawn = self.old.drawn ++ q ∷ [] })) }
+        ensures none { IfNone result ((usable_of self.old ≡ []) × (self.new ≡ self.old)) }
     {
         if self.next < self.pages.len() {
             let page = self.pages[self.next];
@@ -207,6 +215,8 @@ fn marks_for(alloc: Global, pages: &[Page]) -> Result<BTreeMap<Page, bool>, Pool
 {
     let mut marks = BTreeMap::new(alloc);
     for p in pages {
+        // A page's number is below 2^34, so it starts below the limit of a new pool.
+        let _number = p.number();
         if marks.contains_key(p) {
             return Err(PoolFault::Repeats { page: *p });
         }
