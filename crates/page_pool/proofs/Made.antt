@@ -1,5 +1,5 @@
 -- A table of marks, page by page.
-use Rattle.std.proofs.Common.{◌≡◌, ℕ, ◌+◌, ◌≤◌, List, [], ◌∷◌, ◌++◌, Bool, true, false, cond, refl, sym, ap, ◌∙◌, subst, Some, None, arith, length, ⊎_elim, inl, inr}
+use Rattle.std.proofs.Common.{◌≡◌, ℕ, ◌+◌, ◌≤◌, List, [], ◌∷◌, ◌++◌, Bool, true, false, cond, refl, sym, ap, ◌∙◌, subst, Some, None, arith, length, replicate, ⊎_elim, inl, inr}
 use Rattle.std.specs.Prelude.{◌≢◌, ◌⊎◌, ◌||◌, is_some, eqb, nat_eq, unwrap_or}
 use Rattle.std.specs.List.{list_any}
 use Rattle.std.specs.Ordering.{nat_cmp, is_eq}
@@ -14,6 +14,8 @@ use Rattle.kx_pages.specs.Lists.{count}
 use Rattle.kx_pages.specs.Numbers.{IsPage}
 use Rattle.kx_pages.proofs.Lists.{Each-append}
 use Rattle.kx_pages.proofs.Counting.{Distinct-push, Each-from_no_count}
+use Rattle.page_pool.specs.Pages.{usable_among}
+use Rattle.page_pool.proofs.Queueing.{queue_fresh}
 use Rattle.page_pool.specs.Marks.{marks_of, AreMarks, IsPool}
 
 apart : (k q : ℕ) → k ≢ q → is_eq (nat_cmp k q) ≡ false
@@ -71,14 +73,15 @@ marks_none m h = record { each = h; once = tt; low = tt }
 pub unmarked : (xs : List ℕ) (m : tree.BTreeMap ℕ Bool) → AreMarks xs m → (q : ℕ) → unwrap_or (finite.get (marks_of m) q) false ≡ false
 unmarked xs m h q = ap (λ o. unwrap_or o false) (get-from_entries nat_cmp_total m.entries q ∙ h.each q) ∙ value-fresh (list_any (nat_eq q) xs)
 
--- a pool of these pages
-pub pool_made : (xs : List ℕ) (m : tree.BTreeMap ℕ Bool) → length xs ≤ 262144 → AreMarks xs m → IsPool xs 0 m
-pool_made xs m few h = record {
-  within = omega arith;
+-- a pool of these pages, none of which is drawn or usable
+pub pool_made : (xs queue : List ℕ) (flags : List Bool) (limit : ℕ) (m : tree.BTreeMap ℕ Bool) → length xs ≤ 262144 → AreMarks xs m → length queue ≡ length xs → flags ≡ replicate (length xs) false → usable_among limit xs [] ≡ []
+    → IsPool xs queue flags 0 0 limit m
+pool_made xs queue flags limit m few h room unset none = record {
   once = h.once;
   low = h.low;
-  have = record { each = λ x c. ap is_some (h.each x) ∙ some-fresh (list_any (nat_eq x) xs) ∙ ⊎_elim (λ t. t.0) (λ t. absurd (omega (arith, t.1, c))) (count-any x xs) };
   few = few;
+  queued = queue_fresh xs queue flags limit room unset none;
+  have = record { each = λ x c. ap is_some (h.each x) ∙ some-fresh (list_any (nat_eq x) xs) ∙ ⊎_elim (λ t. t.0) (λ t. absurd (omega (arith, t.1, c))) (count-any x xs) };
   filed = record { each = λ x f. absurd (clash _ f (unmarked xs m h x)) };
 }
   where

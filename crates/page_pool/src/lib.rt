@@ -6,13 +6,14 @@
 //! the start, so that only the calls that make a pool take memory.
 #![tactic(auto)]
 
-ghost use Rattle.std.specs.Prelude.{◌≡◌, ◌↔◌, ℕ, List, Some, ◌+◌, ◌^◌, ◌<◌, ◌≤◌, ◌++◌, ◌∷◌, [], true, false, length, slice_index, unwrap_or, IfSome, IfNone, IsSome, IfOk, IfErr};
+ghost use Rattle.std.specs.Prelude.{◌≡◌, ◌↔◌, ℕ, List, Some, ◌+◌, ◌^◌, ◌%◌, ◌<◌, ◌≤◌, ◌++◌, ◌∷◌, [], true, false, length, slice_index, unwrap_or, IfSome, IfNone, IsSome, IfOk, IfErr};
 ghost use Rattle.std.specs.Ordering.{nat_cmp};
 ghost use Rattle.std.specs.FinMap as finite;
 ghost use Rattle.std.specs.BTreeMap as tree;
 ghost use Rattle.kx_laws.specs.Results.{Gives};
 ghost use Rattle.kx_pages.specs.Lists.{Distinct, count};
-ghost use Rattle.page_pool.specs.Pages.{is_filed, marked, usable_of};
+ghost use Rattle.page_pool.specs.Pages.{is_filed, marked, left_of, usable_of};
+ghost use Rattle.page_pool.specs.Queue.{is_waiting};
 ghost use Rattle.page_pool.specs.Marks.{marks_of};
 ghost use Rattle.page_pool.specs.declared.fault.PoolFault.TheVariants as faults;
 ghost use Rattle.page_pool.specs.File.{pool_reading, range_of, each_once, MarksOrRepeat, RepeatIsFirst};
@@ -25,7 +26,7 @@ mod tests;
 
 pub use fault::PoolFault;
 use file::pages_of;
-use kx_pages::Page;
+use kx_pages::{ADDRESS_LIMIT, Page};
 use std::alloc::Global;
 use std::collections::BTreeMap;
 use std::marker::Model;
@@ -38,13 +39,18 @@ pub const MOST_PAGES: u64 = 262144;
 #[derive(Drop)]
 pub struct Pool {
     pages: Vec<Page>,
+    queue: Vec<u32>,
     next: usize,
+    end: usize,
+    is_drawn: Vec<bool>,
+    limit: u64,
     marks: BTreeMap<Page, bool>,
 }
 
 impl Model for Pool {
-    ghost use Rattle.std.specs.Prelude.{take, ◌^◌};
+    ghost use Rattle.std.specs.Prelude.{take};
     ghost use Rattle.page_pool.specs.Pages.{Pages, pages_code};
+    ghost use Rattle.page_pool.specs.Queue.{pages_at};
     ghost use Rattle.page_pool.specs.Marks.{marks_of, IsPool};
 
     ghost Value = { Pages };
@@ -53,12 +59,13 @@ impl Model for Pool {
 
     ghost view = { λ p. record {
       made = p.pages.items;
-      drawn = take p.next p.pages.items;
-      limit = 2 ^ 46;
+      drawn = pages_at p.pages.items (take p.next p.queue.items);
+      limit = p.limit;
       marks = marks_of p.marks;
     } };
 
-    ghost invariant = { λ p. IsPool p.pages.items p.next p.marks };
+    ghost invariant = { λ p. IsPool p.pages.items p.queue.items p.is_drawn.items
+      p.next p.end p.limit p.marks };
 }
 
 /// A line names a first and a last page exactly where it has the form of a pool line: a number, or a number, `-` and a
@@ -102,14 +109,22 @@ impl Pool {
         ensures usable { IfOk result (λ p. usable_of p ≡ p.made) }
         ensures unfiled { IfOk result (λ p. (q : ℕ) → is_filed p q ≡ false) }
     {
-        match marks_for(alloc, &pages) {
-            Ok(marks) => Ok(Pool {
-                pages,
-                next: 0,
-                marks,
-            }),
-            Err(fault) => Err(fault),
-        }
+        let marks = match marks_for(alloc, &pages) {
+            Ok(marks) => marks,
+            Err(fault) => return Err(fault),
+        };
+        let queue = vec![in alloc; 0; pages.len()]?;
+        let is_drawn = vec![in alloc; false; pages.len()]?;
+        let none_usable = Pool {
+            pages,
+            queue,
+            next: 0,
+            end: 0,
+            is_drawn,
+            limit: 0,
+            marks,
+        };
+        Ok(none_usable.below(ADDRESS_LIMIT))
     }
 
     /// A pool with no page.
@@ -120,9 +135,32 @@ impl Pool {
     {
         Pool {
             pages: Vec::new(alloc),
+            queue: Vec::new(alloc),
             next: 0,
+            end: 0,
+            is_drawn: Vec::new(alloc),
+            limit: ADDRESS_LIMIT,
             marks: BTreeMap::new(alloc),
         }
+    }
+
+    /// The same pool with this limit: a multiple of 4,096, at most 2^46. From now on the usable pages are those that
+    /// start below it. No page is drawn, and no memory is taken. Pages that the limit before passed over are usable
+    /// again where this one is above them.
+    pub fn below(mut self, limit: u64) -> Pool
+        requires aligned { limit % 4096 ≡ 0 }
+        requires inside { limit ≤ 2 ^ 46 }
+        ensures { result ≡ record self { limit = limit } }
+    {
+        self.limit = limit;
+        self.end = self.next;
+        for place in 0..self.pages.len() {
+            if is_waiting(self.is_drawn[place], self.pages[place], limit) {
+                self.queue[self.end] = place as u32;
+                self.end += 1;
+            }
+        }
+        self
     }
 
     /// How many pages can be drawn. The other clauses tell what holds of every pool.
@@ -134,7 +172,14 @@ impl Pool {
         ensures filed_were_drawn { (q : ℕ) → is_filed self.now q ≡ true
             → 1 ≤ count q self.now.drawn }
     {
-        (self.pages.len() - self.next) as u64
+        (self.end - self.next) as u64
+    }
+
+    /// How many of the pages left are not usable.
+    pub fn unusable(&self) -> u64
+        ensures { result + length (usable_of self.now) ≡ length (left_of self.now) }
+    {
+        (self.pages.len() - self.end) as u64
     }
 
     /// The page that the draw after `i` more draws gives.
@@ -142,7 +187,7 @@ impl Pool {
         requires { i < length (usable_of self.now) }
         ensures { result ≡ slice_index (usable_of self.now) i }
     {
-        self.pages[self.next + i as usize]
+        self.pages[self.queue[self.next + i as usize] as usize]
     }
 
     /// The next page. None exactly where none is left.
@@ -151,10 +196,11 @@ impl Pool {
             × (self.new ≡ record self.old { drawn = self.old.drawn ++ q ∷ [] })) }
         ensures none { IfNone result ((usable_of self.old ≡ []) × (self.new ≡ self.old)) }
     {
-        if self.next < self.pages.len() {
-            let page = self.pages[self.next];
+        if self.next < self.end {
+            let place = self.queue[self.next] as usize;
+            self.is_drawn[place] = true;
             self.next += 1;
-            Some(page)
+            Some(self.pages[place])
         } else {
             None
         }
@@ -183,6 +229,13 @@ impl Pool {
             None
         }
     }
+}
+
+/// Whether the page is left, and starts below the limit.
+fn is_waiting(is_drawn: bool, p: Page, limit: u64) -> bool
+    ensures { result ≡ is_waiting limit is_drawn p }
+{
+    !is_drawn && p.address() < limit
 }
 
 /// Whether the page has a mark that says filed.
