@@ -1,6 +1,6 @@
 ghost use Rattle.std.specs.Prelude.{◌≤◌, length, IfOk};
 
-use crate::{ParamsFault, make};
+use crate::{ParamsFault, length, make};
 use bzimage::BzImage;
 use memory_map::Row;
 use std::alloc::Global;
@@ -54,14 +54,14 @@ fn the_first_fault_is_told(rt: HostRuntime) -> Result<(), Fail> {
         most: 20,
     };
     let table: [(usize, &[u8], Option<ParamsFault>); 9] = [
-        (128, b"quiet", None),
+        (1152, b"quiet", None),
         (0, b"", None),
         (
-            129,
+            1153,
             b"quiet",
-            Some(ParamsFault::TooManyRanges { rows: 129 }),
+            Some(ParamsFault::TooManyRanges { rows: 1153 }),
         ),
-        (129, b"\0", Some(ParamsFault::TooManyRanges { rows: 129 })),
+        (1153, b"\0", Some(ParamsFault::TooManyRanges { rows: 1153 })),
         (1, b"console=ttyS0 quiet ", None),
         (1, b"console=ttyS0 quiet  ", Some(long)),
         (1, b"\0console=ttyS0 quiet ", Some(long)),
@@ -155,12 +155,81 @@ fn a_full_page_is_made(rt: HostRuntime) -> Result<(), Fail> {
     Ok(())
 }
 
+// Rows 128 and 129 stand behind the command.
+#[test]
+fn rows_that_have_no_room_follow(rt: HostRuntime) -> Result<(), Fail> {
+    let alloc = rt.alloc();
+    let kernel = kernel(alloc, 115)?;
+    let mut rows = rows(alloc, 128)?;
+    rows.push(Row {
+        start: 0x1122_3344_5566,
+        size: 0x1000,
+        kind: 1,
+    })?;
+    rows.push(Row {
+        start: 0x7000,
+        size: 0x0102_0304_0506,
+        kind: 4,
+    })?;
+    let made = make(alloc, &kernel, &rows, b"k", 0x5000, None)?;
+    let table: [(usize, &[u8]); 12] = [
+        (0x1e8, &[128]),
+        (0x228, &[0, 0x60, 0, 0]),
+        (0x250, &[8, 0x60, 0, 0, 0, 0, 0, 0]),
+        (0xccc, &[2, 0, 0, 0, 0]),
+        (0x1000, &[b'k', 0, 0, 0, 0, 0, 0, 0]),
+        (0x1008, &[0; 8]),
+        (0x1010, &[1, 0, 0, 0, 40, 0, 0, 0]),
+        (0x1018, &[0x66, 0x55, 0x44, 0x33, 0x22, 0x11, 0, 0]),
+        (0x1020, &[0, 0x10, 0, 0, 0, 0, 0, 0, 1, 0, 0, 0]),
+        (0x102c, &[0, 0x70, 0, 0, 0, 0, 0, 0]),
+        (0x1034, &[6, 5, 4, 3, 2, 1, 0, 0]),
+        (0x103c, &[4, 0, 0, 0]),
+    ];
+    for (at, wanted) in table {
+        for (i, byte) in wanted.iter().enumerate() {
+            let found = made.get(at.saturating_add(i)).copied();
+            assert_eq!(rt; found, Some(*byte), "at {at:x} + {i}");
+        }
+    }
+    assert_eq!(rt; made.len(), 4160);
+    assert_eq!(rt; made.capacity(), 4160);
+    Ok(())
+}
+
+// With and without rows that have no room, and where 64 bits do not hold it.
+#[test]
+fn a_length_is_that_of_the_parameters(rt: HostRuntime) -> Result<(), Fail> {
+    let table = [
+        (0, 0, 4097),
+        (128, 1, 4098),
+        (130, 1, 4160),
+        (129, 7, 4140),
+        (129, 8, 4148),
+        (1152, 0, 24_600),
+        (1153, 0, 24_620),
+        (0, usize::MAX - 4098, u64::MAX - 1),
+        (0, usize::MAX - 4097, u64::MAX),
+        (0, usize::MAX, u64::MAX),
+        (usize::MAX, 0, u64::MAX),
+        (usize::MAX, usize::MAX, u64::MAX),
+    ];
+    for (rows, command, wanted) in table {
+        assert_eq!(rt;
+            length(rows, command),
+            wanted,
+            "{rows} rows, {command} bytes"
+        );
+    }
+    Ok(())
+}
+
 #[test]
 fn a_fault_says_what_was_wanted(rt: HostRuntime) -> Result<(), Fail> {
-    let text = format!(in rt.alloc(); "{}", ParamsFault::TooManyRanges { rows: 129 })?;
+    let text = format!(in rt.alloc(); "{}", ParamsFault::TooManyRanges { rows: 1153 })?;
     assert_eq!(rt;
         text.as_str(),
-        "the memory map has 129 rows for the kernel's zero page, which holds 128 or fewer"
+        "the memory map has 1153 rows, and the kernel is handed 1152 or fewer"
     );
     Ok(())
 }

@@ -53,7 +53,7 @@ pub(crate) fn remedy_of(status: &Status) -> Option<&'static str> {
         PlanFault::Link { fault } => link_remedy(fault),
         PlanFault::Params {
             fault: ParamsFault::TooManyRanges { .. },
-        } => Some("leave small ranges out of the map"),
+        } => Some("join ranges of the map that touch, or leave small ones out"),
         _ => None,
     }
 }
