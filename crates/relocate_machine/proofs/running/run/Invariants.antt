@@ -1,0 +1,15 @@
+use Rattle.std.proofs.Common.{◌≡◌, ◌-◌, ◌≤◌, false}
+use Rattle.relocate_machine.specs.declared.step.Outcome.TheVariants.{Running}
+use Rattle.relocate_machine.specs.Run.{run_of}
+use Rattle.relocate_machine.proofs.running.run.Given as goal
+
+-- k steps of the run left this
+abbrev pub invariant-loop-k : goal.invariant-loop-k
+invariant-loop-k l = record {
+  within : l.k ≤ l.limit;
+  running : l.machine.ended ≡ false;
+  so_far : run_of l.fn.memory l.head l.fn.mode l.k ≡ (record { machine = l.machine; memory = l.memory }, Running l.k);
+}
+
+abbrev pub decreases-loop-k : goal.decreases-loop-k
+decreases-loop-k l = l.limit - l.k
