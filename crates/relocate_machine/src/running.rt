@@ -46,11 +46,15 @@ pub fn run(memory: &mut Memory, head: u64, mode: Mode, limit: u64) -> Result<Out
     ensures stays { Stays memory.old memory.new }
 {
     let mut machine = Machine::start(head, mode);
+    let mut held_swap = None;
     let mut k = 0;
     while k < limit {
         let Reading { steps, word } = machine.read_words(memory, limit - k - 1);
         k += steps;
-        hold_all(memory, machine.writes_by(word))?;
+        let writes = machine.writes_by(word);
+        let swap = writes.swap;
+        hold_all(memory, writes, held_swap)?;
+        held_swap = swap;
         match machine.take(memory, word) {
             Step::Went => k += 1,
             Step::Ended => return Ok(Outcome::Done { steps: k + 1 }),
@@ -60,13 +64,17 @@ pub fn run(memory: &mut Memory, head: u64, mode: Mode, limit: u64) -> Result<Out
     Ok(Outcome::Running { limit })
 }
 
-// Holds these pages, and no other.
-fn hold_all(memory: &mut Memory, writes: Writes) -> Result<(), AllocError>
+// Holds these pages, and no other. The swap page is not looked for where it is known to be held.
+fn hold_all(memory: &mut Memory, writes: Writes, held_swap: Option<Page>) -> Result<(), AllocError>
+    requires held { IfSome held_swap (λ p. IsHeld memory.old p) }
     ensures held { OnOk result (AreHeld memory.new writes) }
     ensures same { IsHeldFor (IsWritten writes) memory.old memory.new }
 {
     hold_one(memory, writes.destination)?;
     hold_one(memory, writes.source)?;
+    if writes.swap == held_swap {
+        return Ok(());
+    }
     hold_one(memory, writes.swap)
 }
 

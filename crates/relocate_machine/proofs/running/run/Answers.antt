@@ -6,15 +6,15 @@ use Rattle.relocate_machine.specs.Run.{run_from}
 use Rattle.relocate_machine.proofs.Held.{writes_of-word}
 use Rattle.relocate_machine.proofs.More.{ends_after, goes_after, on_err}
 use Rattle.relocate_machine.proofs.Pages.{holds_written}
-use Rattle.relocate_machine.proofs.ReadSteps.{goes-runs, runs_on}
+use Rattle.relocate_machine.proofs.ReadSteps.{goes-runs, if_some-more, runs_on}
 use Rattle.relocate_machine.proofs.Runs.{step_of-runs}
 use Rattle.relocate_machine.proofs.Same.{next_word-same, step_of-same, writes_of-same}
-use Rattle.relocate_machine.proofs.Stays.{run_from-stays, stays_as, stays_then}
+use Rattle.relocate_machine.proofs.Stays.{run_from-stays, stays_as, stays_step, stays_then}
 use Rattle.relocate_machine.proofs.running.run.Goals as goal
 
 pub loop-k-init : goal.loop-k-init
 unfolding run_from
-loop-k-init c = rw c.start-machine.ensures (record { within = omega arith; running = refl; so_far = refl })
+loop-k-init c = rw c.start-machine.ensures (record { within = omega arith; held_swap = tt; running = refl; so_far = refl })
 
 pub take-requires-clause-running : goal.take-requires-clause-running
 take-requires-clause-running c = goes-runs c.read_words-steps.result.steps _ _ c.read_words-steps.ensures.run ∙ c.loop-k.invariant.running
@@ -27,7 +27,7 @@ take-requires-clause-word c =
 pub take-requires-clause-held : goal.take-requires-clause-held
 take-requires-clause-held c =
     let t : State = record { machine = c.read_words-steps.new.self; memory = c.loop-k.memory } in
-    let written = c.writes_by.ensures ∙ writes_of-word t c.read_words-steps.result.word c.read_words-steps.ensures.word in
+    let written = c.writes_by-writes.ensures ∙ writes_of-word t c.read_words-steps.result.word c.read_words-steps.ensures.word in
     subst (AreHeld c.hold_all.new.memory)
     (written ∙ sym (writes_of-same c.read_words-steps.new.self c.loop-k.memory c.hold_all.new.memory c.hold_all.ensures.same.reads))
     c.in_ok-hold_all.ensures.held
@@ -39,11 +39,12 @@ loop-k-preserved c =
     let t : State = record { machine = c.read_words-steps.new.self; memory = c.loop-k.memory } in
     let n = c.read_words-steps.result.steps in
     let so_far : run_from (c.loop-k.k + n) 0 s0 ≡ (t, Running (c.loop-k.k + n)) = runs_on c.loop-k.k n s0 s t c.loop-k.invariant.so_far c.read_words-steps.ensures.run in
-    let written = c.writes_by.ensures ∙ writes_of-word t c.read_words-steps.result.word c.read_words-steps.ensures.word in
+    let written = c.writes_by-writes.ensures ∙ writes_of-word t c.read_words-steps.result.word c.read_words-steps.ensures.word in
     let held : IsHeldFor (IsWritten (writes_of t)) c.loop-k.memory c.hold_all.new.memory = subst (λ w. IsHeldFor (IsWritten w) c.loop-k.memory c.hold_all.new.memory) written c.hold_all.ensures.same in
     let is = c.in-Went.ensures.exact ∙ step_of-same c.read_words-steps.new.self c.loop-k.memory c.hold_all.new.memory held in
     let runs = goes-runs n s t c.read_words-steps.ensures.run ∙ c.loop-k.invariant.running in
-    record { within = omega arith; running = step_of-runs _ _ is ∙ runs; so_far = goes_after (c.loop-k.k + n) s0 t _ so_far is }
+    let still_held = if_some-more c.writes_by-writes.result.swap c.in_ok-hold_all.ensures.held.2 (λ p is h. (stays_step _ _ _ c.in-Went.ensures.exact).held p h) in
+    record { within = omega arith; held_swap = still_held; running = step_of-runs _ _ is ∙ runs; so_far = goes_after (c.loop-k.k + n) s0 t _ so_far is }
 
 pub returns-in-Ended-clause-memory : goal.returns-in-Ended-clause-memory
 returns-in-Ended-clause-memory c =
@@ -52,7 +53,7 @@ returns-in-Ended-clause-memory c =
     let t : State = record { machine = c.read_words-steps.new.self; memory = c.loop-k.memory } in
     let n = c.read_words-steps.result.steps in
     let so_far : run_from (c.loop-k.k + n) 0 s0 ≡ (t, Running (c.loop-k.k + n)) = runs_on c.loop-k.k n s0 s t c.loop-k.invariant.so_far c.read_words-steps.ensures.run in
-    let written = c.writes_by.ensures ∙ writes_of-word t c.read_words-steps.result.word c.read_words-steps.ensures.word in
+    let written = c.writes_by-writes.ensures ∙ writes_of-word t c.read_words-steps.result.word c.read_words-steps.ensures.word in
     let held : IsHeldFor (IsWritten (writes_of t)) c.loop-k.memory c.hold_all.new.memory = subst (λ w. IsHeldFor (IsWritten w) c.loop-k.memory c.hold_all.new.memory) written c.hold_all.ensures.same in
     let is = c.in-Ended.ensures.exact ∙ step_of-same c.read_words-steps.new.self c.loop-k.memory c.hold_all.new.memory held in
     let more : c.args.limit ≡ c.loop-k.k + n + suc (c.args.limit - (c.loop-k.k + n + 1)) = omega arith in
@@ -65,7 +66,7 @@ returns-in-Ended-clause-outcome c =
     let t : State = record { machine = c.read_words-steps.new.self; memory = c.loop-k.memory } in
     let n = c.read_words-steps.result.steps in
     let so_far : run_from (c.loop-k.k + n) 0 s0 ≡ (t, Running (c.loop-k.k + n)) = runs_on c.loop-k.k n s0 s t c.loop-k.invariant.so_far c.read_words-steps.ensures.run in
-    let written = c.writes_by.ensures ∙ writes_of-word t c.read_words-steps.result.word c.read_words-steps.ensures.word in
+    let written = c.writes_by-writes.ensures ∙ writes_of-word t c.read_words-steps.result.word c.read_words-steps.ensures.word in
     let held : IsHeldFor (IsWritten (writes_of t)) c.loop-k.memory c.hold_all.new.memory = subst (λ w. IsHeldFor (IsWritten w) c.loop-k.memory c.hold_all.new.memory) written c.hold_all.ensures.same in
     let is = c.in-Ended.ensures.exact ∙ step_of-same c.read_words-steps.new.self c.loop-k.memory c.hold_all.new.memory held in
     let more : c.args.limit ≡ c.loop-k.k + n + suc (c.args.limit - (c.loop-k.k + n + 1)) = omega arith in
@@ -84,7 +85,7 @@ returns-in-Off-clause-memory c =
     let t : State = record { machine = c.read_words-steps.new.self; memory = c.loop-k.memory } in
     let n = c.read_words-steps.result.steps in
     let so_far : run_from (c.loop-k.k + n) 0 s0 ≡ (t, Running (c.loop-k.k + n)) = runs_on c.loop-k.k n s0 s t c.loop-k.invariant.so_far c.read_words-steps.ensures.run in
-    let written = c.writes_by.ensures ∙ writes_of-word t c.read_words-steps.result.word c.read_words-steps.ensures.word in
+    let written = c.writes_by-writes.ensures ∙ writes_of-word t c.read_words-steps.result.word c.read_words-steps.ensures.word in
     let held : IsHeldFor (IsWritten (writes_of t)) c.loop-k.memory c.hold_all.new.memory = subst (λ w. IsHeldFor (IsWritten w) c.loop-k.memory c.hold_all.new.memory) written c.hold_all.ensures.same in
     let is = c.in-Off.ensures.exact ∙ step_of-same c.read_words-steps.new.self c.loop-k.memory c.hold_all.new.memory held in
     let more : c.args.limit ≡ c.loop-k.k + n + suc (c.args.limit - (c.loop-k.k + n + 1)) = omega arith in
@@ -97,7 +98,7 @@ returns-in-Off-clause-outcome c =
     let t : State = record { machine = c.read_words-steps.new.self; memory = c.loop-k.memory } in
     let n = c.read_words-steps.result.steps in
     let so_far : run_from (c.loop-k.k + n) 0 s0 ≡ (t, Running (c.loop-k.k + n)) = runs_on c.loop-k.k n s0 s t c.loop-k.invariant.so_far c.read_words-steps.ensures.run in
-    let written = c.writes_by.ensures ∙ writes_of-word t c.read_words-steps.result.word c.read_words-steps.ensures.word in
+    let written = c.writes_by-writes.ensures ∙ writes_of-word t c.read_words-steps.result.word c.read_words-steps.ensures.word in
     let held : IsHeldFor (IsWritten (writes_of t)) c.loop-k.memory c.hold_all.new.memory = subst (λ w. IsHeldFor (IsWritten w) c.loop-k.memory c.hold_all.new.memory) written c.hold_all.ensures.same in
     let is = c.in-Off.ensures.exact ∙ step_of-same c.read_words-steps.new.self c.loop-k.memory c.hold_all.new.memory held in
     let more : c.args.limit ≡ c.loop-k.k + n + suc (c.args.limit - (c.loop-k.k + n + 1)) = omega arith in
@@ -134,7 +135,7 @@ returns-in_err-hold_all-clause-failed c =
     let t : State = record { machine = c.read_words-steps.new.self; memory = c.loop-k.memory } in
     let n = c.read_words-steps.result.steps in
     let so_far : run_from (c.loop-k.k + n) 0 s0 ≡ (t, Running (c.loop-k.k + n)) = runs_on c.loop-k.k n s0 s t c.loop-k.invariant.so_far c.read_words-steps.ensures.run in
-    let written = c.writes_by.ensures ∙ writes_of-word t c.read_words-steps.result.word c.read_words-steps.ensures.word in
+    let written = c.writes_by-writes.ensures ∙ writes_of-word t c.read_words-steps.result.word c.read_words-steps.ensures.word in
     let held : IsHeldFor (IsWritten (writes_of t)) c.loop-k.memory c.hold_all.new.memory = subst (λ w. IsHeldFor (IsWritten w) c.loop-k.memory c.hold_all.new.memory) written c.hold_all.ensures.same in
     on_err c.from_residual.result _ (c.loop-k.k + n, t, omega arith, so_far, held)
 
