@@ -7,12 +7,12 @@ use Rattle.clap.proofs.WalkLemmas.{both}
 use Rattle.kexec_words.specs.Found.{word_of, flag_of}
 use Rattle.kx_pages.specs.Numbers.{is_page_address}
 use Rattle.kexec_words.specs.Numbers.{number_of, if_passes, in_form, some_in_form, hex_of, page_address_of, steps_of, swap_of, head_of, limit_of, trace_numbers_from}
-use Rattle.kexec_words.specs.Values.{InputsValue, CrashInputsValue, ExecValue, CommandValue}
-use Rattle.kexec_words.specs.Values.{boot, load, load_panic, check, dump, exec, trace, sample}
-use Rattle.kexec_words.specs.Meaning.{has_same_name, files_of, crash_files_of, with_numbers, map_answer, image_from, needs_map, image_or_refusal, image_where, inputs_of, boot_by, boot_with, boot_in, load_by, load_with, load_in, with_map, load_panic_with, load_panic_in, crash_inputs_of, exec_of, exec_with, exec_in, trace_with, trace_in, trace_numbers_by, sample_by, sample_in, answer_where, answer_by, command_by_name, plan_numbers_by}
+use Rattle.kexec_words.specs.Values.{InputsValue, CrashInputsValue, ExecValue, MigrateValue, CommandValue}
+use Rattle.kexec_words.specs.Values.{boot, load, load_panic, check, dump, exec, trace, migrate, sample}
+use Rattle.kexec_words.specs.Meaning.{has_same_name, files_of, crash_files_of, with_numbers, map_answer, image_from, needs_map, image_or_refusal, image_where, inputs_of, boot_by, boot_with, boot_in, load_by, load_with, load_in, with_map, load_panic_with, load_panic_in, crash_inputs_of, exec_of, exec_with, exec_in, trace_with, trace_in, trace_numbers_by, migrate_of, migrate_with, migrate_in, sample_by, sample_in, answer_where, answer_by, command_by_name, plan_numbers_by}
 use Rattle.kexec_words.specs.Meaning.{Answers, load_names_in}
 use Rattle.kexec_words.specs.Values.{command_value}
-use Rattle.kexec_words.specs.Apps.{boot_app, load_app, load_panic_app, check_app, dump_app, exec_app, trace_app, sample_app}
+use Rattle.kexec_words.specs.Apps.{boot_app, load_app, load_panic_app, check_app, dump_app, exec_app, trace_app, migrate_app, sample_app}
 use Rattle.kexec_words.specs.declared.commands.Command.{Command}
 use Rattle.kexec_words.specs.declared.faults.WordsFault.{WordsFault}
 use Rattle.kexec_words.specs.Limits.{HasParts, IsWithinLimits, HasOutputsApart}
@@ -82,14 +82,14 @@ load_has i o q k n = mapped_has (load_by i o q k) (image_where i (has_same_name 
     (image_has i (has_same_name (o ∷ q ∷ []) (files_of i)) n)
 
 boot_keeps : (rows : List Row) → IfOk (boot_in rows) (λ b. Keeps (boot b))
-boot_keeps rows = numbers_has (plan_numbers_by (first_of (codes "kept") rows) rows) (boot_with (inputs_of rows) (word_of (codes "OUT") rows)) (λ _. Unit {0}) _
-    (anything (plan_numbers_by (first_of (codes "kept") rows) rows)) (λ n _. boot_has (inputs_of rows) (word_of (codes "OUT") rows) n)
+boot_keeps rows = numbers_has (plan_numbers_by (first_of (codes "kept") rows) rows) (λ n. boot_with (inputs_of n.below rows) (word_of (codes "OUT") rows) n) (λ _. Unit {0}) _
+    (anything (plan_numbers_by (first_of (codes "kept") rows) rows)) (λ n _. boot_has (inputs_of n.below rows) (word_of (codes "OUT") rows) n)
 
 load_keeps : (rows : List Row) → IfOk (load_in rows) (λ l. Keeps (load l))
 load_keeps rows = numbers_has (plan_numbers_by None rows)
-    (load_with (inputs_of rows) (word_of (codes "OUT") rows) (word_of (codes "RECORD") rows) (flag_of (codes "kept") rows)) (λ _. Unit {0}) _
+    (λ n. load_with (inputs_of n.below rows) (word_of (codes "OUT") rows) (word_of (codes "RECORD") rows) (flag_of (codes "kept") rows) n) (λ _. Unit {0}) _
     (anything (plan_numbers_by None rows))
-    (λ n _. load_has (inputs_of rows) (word_of (codes "OUT") rows) (word_of (codes "RECORD") rows) (flag_of (codes "kept") rows) n)
+    (λ n _. load_has (inputs_of n.below rows) (word_of (codes "OUT") rows) (word_of (codes "RECORD") rows) (flag_of (codes "kept") rows) n)
 
 -- ---- load-panic and exec
 
@@ -116,7 +116,7 @@ exec_has v = go (has_same_name (v.out ∷ []) (v.memory ∷ v.load_record ∷ []
     go true e = tt
     go false e = (tt, e)
 
--- ---- trace and sample
+-- ---- trace, migrate and sample
 
 passing_has : (test : ℕ → Bool) (o : Option ℕ) → IfSome (if_passes test o) (λ n. test n ≡ true)
 passing_has test None = tt
@@ -173,6 +173,13 @@ trace_keeps rows = numbers_has (trace_numbers_by rows) (trace_with (word_of (cod
     (swap_has (first_of (codes "swap") rows)) (limit_has (word_of (codes "LIMIT") rows)))
     (trace_has (word_of (codes "MEMORY") rows) (word_of (codes "OUT") rows))
 
+migrate_has : (v : MigrateValue) → IfOk (migrate_with v) (λ m. Keeps (migrate m))
+migrate_has v = go (has_same_name (v.out ∷ []) (v.load_record ∷ [])) refl
+  where
+    go : (x : Bool) → has_same_name (v.out ∷ []) (v.load_record ∷ []) ≡ x → IfOk (if x then Err why.SameName else Ok v) (λ m. Keeps (migrate m))
+    go true e = tt
+    go false e = (tt, e)
+
 sample_keeps : (rows : List Row) → IfOk (sample_in rows) (λ n. Keeps (sample n))
 sample_keeps rows =
     let two : 2 ≤ 10 = omega arith in
@@ -195,6 +202,7 @@ named_keeps (Some name.Check) words = said check check_app load_names_in words (
 named_keeps (Some name.Dump) words = said dump dump_app load_names_in words (λ rows. (tt, tt))
 named_keeps (Some name.Exec) words = said exec exec_app exec_in words (λ rows. exec_has (exec_of rows))
 named_keeps (Some name.Trace) words = said trace trace_app trace_in words trace_keeps
+named_keeps (Some name.Migrate) words = said migrate migrate_app migrate_in words (λ rows. migrate_has (migrate_of rows))
 named_keeps (Some name.Sample) words = said sample sample_app sample_in words sample_keeps
 
 -- a command that is answered keeps the limits

@@ -31,8 +31,9 @@ app_with name rules =
 -- the options of `boot` and `load`
 abbrev pub plan_options : List Rule
 plan_options =
-    option (codes "map") ∷ option (codes "type") ∷ option (codes "at") ∷ option (codes "entry")
-    ∷ option (codes "command") ∷ option (codes "initrd") ∷ option (codes "purgatory") ∷ []
+    option (codes "below") ∷ option (codes "map") ∷ option (codes "type") ∷ option (codes "at")
+    ∷ option (codes "entry") ∷ option (codes "command") ∷ option (codes "initrd")
+    ∷ option (codes "purgatory") ∷ []
 
 abbrev pub boot_app : App
 boot_app =
@@ -74,6 +75,9 @@ trace_app =
     app_with (codes "trace")
     (word (codes "MEMORY") ∷ word (codes "OUT") ∷ word (codes "HEAD") ∷ word (codes "LIMIT")
     ∷ option (codes "swap") ∷ [])
+
+abbrev pub migrate_app : App
+migrate_app = app_with (codes "migrate") (word (codes "RECORD") ∷ word (codes "OUT") ∷ [])
 
 abbrev pub sample_app : App
 sample_app = app_with (codes "sample") (word (codes "NUMBER") ∷ [])

@@ -1,7 +1,7 @@
 -- What callers may rely on in a command that is read (this project's own).
 use Rattle.std.specs.Prelude.{◌≡◌, ◌<◌, ◌≤◌, ◌^◌, ◌%◌, true, false, length, is_some, IfSome, [], ◌∷◌}
 use Rattle.kexec_words.specs.Values.{InputsValue, TraceValue, CommandValue}
-use Rattle.kexec_words.specs.Values.{boot, load, load_panic, check, dump, exec, trace, sample}
+use Rattle.kexec_words.specs.Values.{boot, load, load_panic, check, dump, exec, trace, migrate, sample}
 use Rattle.kexec_words.specs.Meaning.{needs_map, has_same_name, files_of, crash_files_of}
 use Rattle.kx_pages.specs.declared.image.ImageType.{ImageType}
 use Rattle.std.specs.Prelude.{Some}
@@ -22,6 +22,7 @@ IsWithinLimits (check l) = Unit {0}
 IsWithinLimits (dump l) = Unit {0}
 IsWithinLimits (exec e) = Unit {0}
 IsWithinLimits (trace t) = HasRange t
+IsWithinLimits (migrate m) = Unit {0}
 IsWithinLimits (sample n) = n < 10 ^ 18
 
 -- no output has the name of an input or of another output
@@ -34,4 +35,5 @@ HasOutputsApart (check l) = Unit {0}
 HasOutputsApart (dump l) = Unit {0}
 HasOutputsApart (exec e) = has_same_name (e.out ∷ []) (e.memory ∷ e.load_record ∷ []) ≡ false
 HasOutputsApart (trace t) = has_same_name (t.out ∷ []) (t.memory ∷ []) ≡ false
+HasOutputsApart (migrate m) = has_same_name (m.out ∷ []) (m.load_record ∷ []) ≡ false
 HasOutputsApart (sample n) = Unit {0}

@@ -4,11 +4,11 @@ use Rattle.std.specs.List.{list_any}
 use Rattle.std.specs.Str.{bytes_eq}
 use Rattle.clap.specs.Words.{App, Text, Row, first_of, fault_of, matches_of}
 use Rattle.clap.specs.Kinds.{Kinds}
-use Rattle.kexec_words.specs.Apps.{boot_app, load_app, load_panic_app, check_app, dump_app, exec_app, trace_app, sample_app}
+use Rattle.kexec_words.specs.Apps.{boot_app, load_app, load_panic_app, check_app, dump_app, exec_app, trace_app, migrate_app, sample_app}
 use Rattle.kexec_words.specs.Found.{word_of, words_of, flag_of}
 use Rattle.kexec_words.specs.Numbers.{plan_numbers_of, trace_numbers_of, sample_of}
-use Rattle.kexec_words.specs.Values.{InputsValue, BootValue, LoadValue, CrashInputsValue, LoadPanicValue, LoadNamesValue, ExecValue, TraceValue, CommandValue}
-use Rattle.kexec_words.specs.Values.{boot, load, load_panic, check, dump, exec, trace, sample}
+use Rattle.kexec_words.specs.Values.{InputsValue, BootValue, LoadValue, CrashInputsValue, LoadPanicValue, LoadNamesValue, ExecValue, TraceValue, MigrateValue, CommandValue}
+use Rattle.kexec_words.specs.Values.{boot, load, load_panic, check, dump, exec, trace, migrate, sample}
 use Rattle.kx_pages.specs.declared.image.ImageType.{ImageType}
 use Rattle.kx_pages.specs.declared.image.ImageType.TheVariants as image
 use Rattle.kexec_words.specs.declared.numbers.TypeWord.{TypeWord}
@@ -92,12 +92,14 @@ image_where i is_same n = if nat_lt 12 (length i.modules) then Err why.TooManyMo
 abbrev pub plan_numbers_by : Option Text → List Row → Result PlanNumbers Which
 plan_numbers_by kept rows =
     plan_numbers_of (first_of (codes "type") rows) kept (first_of (codes "at") rows)
-    (first_of (codes "entry") rows)
+    (first_of (codes "entry") rows) (first_of (codes "below") rows)
 
-abbrev pub inputs_of : List Row → InputsValue
-inputs_of rows = record {
+-- the first page past the limit of the pool is read among the numbers
+abbrev pub inputs_of : Option ℕ → List Row → InputsValue
+inputs_of below rows = record {
   memory = word_of (codes "MEMORY") rows;
   pool = word_of (codes "POOL") rows;
+  below = below;
   map = first_of (codes "map") rows;
   kernel = word_of (codes "KERNEL") rows;
   initrd = first_of (codes "initrd") rows;
@@ -115,7 +117,7 @@ boot_with i out n =
 
 abbrev pub boot_in : List Row → Result BootValue UsageWhy
 boot_in rows = with_numbers (plan_numbers_by (first_of (codes "kept") rows) rows)
-    (boot_with (inputs_of rows) (word_of (codes "OUT") rows))
+    (λ n. boot_with (inputs_of n.below rows) (word_of (codes "OUT") rows) n)
 
 abbrev pub load_by : InputsValue → Text → Text → Bool → ImageType → LoadValue
 load_by i out load_record kept image =
@@ -128,8 +130,8 @@ load_with i out load_record kept n =
 
 abbrev pub load_in : List Row → Result LoadValue UsageWhy
 load_in rows = with_numbers (plan_numbers_by None rows)
-    (load_with (inputs_of rows) (word_of (codes "OUT") rows) (word_of (codes "RECORD") rows)
-    (flag_of (codes "kept") rows))
+    (λ n. load_with (inputs_of n.below rows) (word_of (codes "OUT") rows)
+    (word_of (codes "RECORD") rows) (flag_of (codes "kept") rows) n)
 
 -- ---- load-panic
 
@@ -159,7 +161,7 @@ load_panic_in rows =
     load_panic_with (crash_inputs_of rows) (first_of (codes "map") rows)
     (word_of (codes "OUT") rows) (word_of (codes "RECORD") rows)
 
--- ---- check, dump, exec, trace, sample
+-- ---- check, dump, exec, trace, migrate, sample
 
 abbrev pub load_names_of : List Row → LoadNamesValue
 load_names_of rows =
@@ -198,6 +200,17 @@ trace_in rows =
     with_numbers (trace_numbers_by rows)
     (trace_with (word_of (codes "MEMORY") rows) (word_of (codes "OUT") rows))
 
+abbrev pub migrate_of : List Row → MigrateValue
+migrate_of rows =
+    record { load_record = word_of (codes "RECORD") rows; out = word_of (codes "OUT") rows }
+
+abbrev pub migrate_with : MigrateValue → Result MigrateValue UsageWhy
+migrate_with m = if has_same_name (m.out ∷ []) (m.load_record ∷ []) then Err why.SameName
+    else Ok m
+
+abbrev pub migrate_in : List Row → Result MigrateValue UsageWhy
+migrate_in rows = migrate_with (migrate_of rows)
+
 abbrev pub sample_by : List Row → Result ℕ Which
 sample_by rows = sample_of (word_of (codes "NUMBER") rows)
 
@@ -224,7 +237,8 @@ name_of t = if bytes_eq t (codes "boot") then Some name.Boot
     else (if bytes_eq t (codes "dump") then Some name.Dump
     else (if bytes_eq t (codes "exec") then Some name.Exec
     else (if bytes_eq t (codes "trace") then Some name.Trace
-    else (if bytes_eq t (codes "sample") then Some name.Sample else None)))))))
+    else (if bytes_eq t (codes "migrate") then Some name.Migrate
+    else (if bytes_eq t (codes "sample") then Some name.Sample else None))))))))
 
 abbrev pub command_by_name : Option Name → List Text → Result CommandValue UsageWhy
 command_by_name None words = Err why.Command
@@ -236,6 +250,8 @@ command_by_name (Some name.Check) words = map_answer check (answer_by check_app 
 command_by_name (Some name.Dump) words = map_answer dump (answer_by dump_app load_names_in words)
 command_by_name (Some name.Exec) words = map_answer exec (answer_by exec_app exec_in words)
 command_by_name (Some name.Trace) words = map_answer trace (answer_by trace_app trace_in words)
+command_by_name (Some name.Migrate) words =
+    map_answer migrate (answer_by migrate_app migrate_in words)
 command_by_name (Some name.Sample) words = map_answer sample (answer_by sample_app sample_in words)
 
 -- what the words after the program's name say, or the first reason to refuse them

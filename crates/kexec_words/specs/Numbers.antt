@@ -1,5 +1,5 @@
 -- Numbers and types in words (this project's own).
-use Rattle.std.specs.Prelude.{ℕ, ◌&&◌, ◌==◌, ◌%◌, ◌^◌, Bool, Option, Some, None, Result, Ok, Err, length, nat_lt, nat_le, codes, if◌then◌else◌}
+use Rattle.std.specs.Prelude.{ℕ, ◌&&◌, ◌==◌, ◌%◌, ◌/◌, ◌^◌, Bool, Option, Some, None, Result, Ok, Err, length, nat_lt, nat_le, codes, if◌then◌else◌, option_map}
 use Rattle.std.specs.List.{list_all}
 use Rattle.std.specs.Str.{bytes_eq}
 use Rattle.std.specs.Char.{digit_value}
@@ -35,6 +35,17 @@ if_passes test (Some n) = if test n then Some n else None
 -- the address of a page
 abbrev pub page_address_of : Text → Option ℕ
 page_address_of t = if_passes is_page_address (hex_of t)
+
+-- a limit of the pool's pages: a multiple of 4,096 up to 2 ^ 46
+abbrev pub is_pool_limit : ℕ → Bool
+is_pool_limit a = (a % 4096 == 0) && nat_le a (2 ^ 46)
+
+abbrev pub pool_limit_of : Text → Option ℕ
+pool_limit_of t = if_passes is_pool_limit (hex_of t)
+
+-- the first page past a limit; none past 2 ^ 46, below which all pages lie
+abbrev pub first_past : ℕ → Option ℕ
+first_past limit = if nat_lt limit (2 ^ 46) then Some (limit / 4096) else None
 
 -- the number of steps: 1 to 9 decimal digits, at most 100,000,000
 abbrev pub steps_of : Text → Option ℕ
@@ -78,6 +89,11 @@ kept_of = option_in_form which.Kept runs_of
 abbrev pub address_of : Which → Option Text → Result (Option ℕ) Which
 address_of w = option_in_form w hex_of
 
+-- --below, as the first page past it; none where no page lies past it
+abbrev pub below_of : Option Text → Result (Option ℕ) Which
+below_of None = Ok None
+below_of (Some t) = in_form which.Below (option_map first_past (pool_limit_of t))
+
 -- --swap
 abbrev pub swap_of : Option Text → Result (Option ℕ) Which
 swap_of = option_in_form which.Swap page_address_of
@@ -92,22 +108,23 @@ limit_of t = in_form which.Limit (steps_of t)
 abbrev pub sample_of : Text → Result ℕ Which
 sample_of t = in_form which.Number (number_of 10 18 t)
 
--- all four, or the first that has not its form
+-- all five, or the first that has not its form
 abbrev pub plan_numbers_from : Result TypeWord Which → Result (Option Runs) Which
-    → Result (Option ℕ) Which → Result (Option ℕ) Which
+    → Result (Option ℕ) Which → Result (Option ℕ) Which → Result (Option ℕ) Which
     → Result PlanNumbers Which
-plan_numbers_from (Err w) r a e = Err w
-plan_numbers_from (Ok k) (Err w) a e = Err w
-plan_numbers_from (Ok k) (Ok r) (Err w) e = Err w
-plan_numbers_from (Ok k) (Ok r) (Ok a) (Err w) = Err w
-plan_numbers_from (Ok k) (Ok r) (Ok a) (Ok e) =
-    Ok (record { kind = k; kept = r; at = a; entry = e })
+plan_numbers_from (Err w) r a e b = Err w
+plan_numbers_from (Ok k) (Err w) a e b = Err w
+plan_numbers_from (Ok k) (Ok r) (Err w) e b = Err w
+plan_numbers_from (Ok k) (Ok r) (Ok a) (Err w) b = Err w
+plan_numbers_from (Ok k) (Ok r) (Ok a) (Ok e) (Err w) = Err w
+plan_numbers_from (Ok k) (Ok r) (Ok a) (Ok e) (Ok b) =
+    Ok (record { kind = k; kept = r; at = a; entry = e; below = b })
 
-abbrev pub plan_numbers_of : Option Text → Option Text → Option Text → Option Text
+abbrev pub plan_numbers_of : Option Text → Option Text → Option Text → Option Text → Option Text
     → Result PlanNumbers Which
-plan_numbers_of kind kept at entry =
+plan_numbers_of kind kept at entry below =
     plan_numbers_from (type_of kind) (kept_of kept) (address_of which.At at)
-    (address_of which.Entry entry)
+    (address_of which.Entry entry) (below_of below)
 
 abbrev pub trace_numbers_from : Result (Option ℕ) Which → Result ℕ Which → Result ℕ Which
     → Result TraceNumbers Which

@@ -13,6 +13,7 @@ which_text which.«Type» = codes "--type"
 which_text which.Kept = codes "--kept"
 which_text which.At = codes "--at"
 which_text which.Entry = codes "--entry"
+which_text which.Below = codes "--below"
 which_text which.Swap = codes "--swap"
 which_text which.Head = codes "HEAD"
 which_text which.Limit = codes "LIMIT"
@@ -28,6 +29,7 @@ help_text (Some name.Check) = help.CHECK.now
 help_text (Some name.Dump) = help.DUMP.now
 help_text (Some name.Exec) = help.EXEC.now
 help_text (Some name.Trace) = help.TRACE.now
+help_text (Some name.Migrate) = help.MIGRATE.now
 help_text (Some name.Sample) = help.SAMPLE.now
 
 -- the command that the first word names

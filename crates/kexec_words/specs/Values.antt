@@ -11,6 +11,7 @@ use Rattle.kexec_words.specs.declared.commands.LoadPanic.{LoadPanic}
 use Rattle.kexec_words.specs.declared.commands.LoadNames.{LoadNames}
 use Rattle.kexec_words.specs.declared.commands.Exec.{Exec}
 use Rattle.kexec_words.specs.declared.commands.Trace.{Trace}
+use Rattle.kexec_words.specs.declared.commands.Migrate.{Migrate}
 use Rattle.kexec_words.specs.declared.commands.Command.{Command}
 use Rattle.kexec_words.specs.declared.commands.Command.TheVariants as code
 
@@ -18,6 +19,7 @@ use Rattle.kexec_words.specs.declared.commands.Command.TheVariants as code
 pub record InputsValue : Type 0 where
   pub memory : Text
   pub pool : Text
+  pub below : Option ℕ  -- the number of the first page that is not used
   pub map : Option Text
   pub kernel : Text
   pub initrd : Option Text
@@ -70,6 +72,10 @@ pub record TraceValue : Type 0 where
   pub limit : ℕ
   pub swap : Option ℕ
 
+pub record MigrateValue : Type 0 where
+  pub load_record : Text
+  pub out : Text
+
 pub data CommandValue : Type 0 where
   boot : BootValue → CommandValue
   load : LoadValue → CommandValue
@@ -78,6 +84,7 @@ pub data CommandValue : Type 0 where
   dump : LoadNamesValue → CommandValue
   exec : ExecValue → CommandValue
   trace : TraceValue → CommandValue
+  migrate : MigrateValue → CommandValue
   sample : ℕ → CommandValue
 
 -- ---- the values of the program's types
@@ -86,6 +93,7 @@ abbrev pub inputs_value : Inputs → InputsValue
 inputs_value i = record {
   memory = string_bytes i.memory;
   pool = string_bytes i.pool;
+  below = i.below;
   map = option_map string_bytes i.map;
   kernel = string_bytes i.kernel;
   initrd = option_map string_bytes i.initrd;
@@ -151,6 +159,9 @@ trace_value t = record {
   swap = t.swap;
 }
 
+abbrev pub migrate_value : Migrate → MigrateValue
+migrate_value m = record { load_record = string_bytes m.load_record; out = string_bytes m.out }
+
 -- a number is its own value
 abbrev pub number_value : ℕ → ℕ
 number_value n = n
@@ -163,4 +174,5 @@ command_value (code.Check l) = check (load_names_value l)
 command_value (code.Dump l) = dump (load_names_value l)
 command_value (code.Exec e) = exec (exec_value e)
 command_value (code.Trace t) = trace (trace_value t)
+command_value (code.Migrate m) = migrate (migrate_value m)
 command_value (code.Sample n) = sample n

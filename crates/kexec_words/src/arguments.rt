@@ -94,6 +94,11 @@ const ENTRY: Argument = Argument {
     form: Form::Value,
 };
 
+const BELOW: Argument = Argument {
+    id: "below",
+    form: Form::Value,
+};
+
 const COMMAND: Argument = Argument {
     id: "command",
     form: Form::Value,
@@ -124,12 +129,13 @@ const SWAP: Argument = Argument {
     form: Form::Value,
 };
 
-pub(crate) const BOOT: [Argument; 13] = [
-    MEMORY, POOL, OUT, KERNEL, MODULES, RUNS, MAP, TYPE, AT, ENTRY, COMMAND, INITRD, PURGATORY,
+pub(crate) const BOOT: [Argument; 14] = [
+    MEMORY, POOL, OUT, KERNEL, MODULES, RUNS, BELOW, MAP, TYPE, AT, ENTRY, COMMAND, INITRD,
+    PURGATORY,
 ];
 
-pub(crate) const LOAD: [Argument; 14] = [
-    MEMORY, POOL, OUT, RECORD, KERNEL, MODULES, KEPT, MAP, TYPE, AT, ENTRY, COMMAND, INITRD,
+pub(crate) const LOAD: [Argument; 15] = [
+    MEMORY, POOL, OUT, RECORD, KERNEL, MODULES, KEPT, BELOW, MAP, TYPE, AT, ENTRY, COMMAND, INITRD,
     PURGATORY,
 ];
 
@@ -142,5 +148,7 @@ pub(crate) const LOADED: [Argument; 2] = [MEMORY, RECORD];
 pub(crate) const EXEC: [Argument; 4] = [MEMORY, RECORD, OUT, TWICE];
 
 pub(crate) const TRACE: [Argument; 5] = [MEMORY, OUT, HEAD, LIMIT, SWAP];
+
+pub(crate) const MIGRATE: [Argument; 2] = [RECORD, OUT];
 
 pub(crate) const SAMPLE: [Argument; 1] = [NUMBER];

@@ -1,6 +1,6 @@
 //! The commands, as their words say.
 
-use kx_pages::ImageType;
+use kx_pages::{ImageType, Page};
 
 /// How often the list is run in kept mode: once, into the new kernel, or twice, and back into the old one.
 #[derive(Clone, Copy, Debug, PartialEq, Eq)]
@@ -18,6 +18,8 @@ pub struct Inputs {
     pub memory: String,
     /// The pool file.
     pub pool: String,
+    /// The first page of the pool that is not used, nor is any above it; none is a pool without a limit.
+    pub below: Option<Page>,
     /// The text of the memory map.
     pub map: Option<String>,
     /// The kernel.
@@ -127,6 +129,15 @@ pub struct Trace {
     pub swap: Option<u64>,
 }
 
+/// `migrate`: write a load record anew, in the version of today.
+#[derive(Drop)]
+pub struct Migrate {
+    /// The file of the load record.
+    pub load_record: String,
+    /// The file of the load record that is written.
+    pub out: String,
+}
+
 /// A command with all that its words say.
 #[derive(Drop)]
 pub enum Command {
@@ -144,6 +155,8 @@ pub enum Command {
     Exec(Exec),
     /// Run a list for some steps.
     Trace(Trace),
+    /// Write a load record anew, in the version of today.
+    Migrate(Migrate),
     /// Load and run a sample that is made from a number below 10^18.
     Sample { number: u64 },
 }

@@ -19,6 +19,8 @@ pub enum Which {
     At,
     /// `--entry`: 1 to 16 hexadecimal digits.
     Entry,
+    /// `--below`: 1 to 16 hexadecimal digits, a multiple of 4,096 up to 2^46.
+    Below,
     /// `--swap`: 1 to 16 hexadecimal digits, a multiple of 4,096 below 2^46.
     Swap,
     /// HEAD: 1 to 16 hexadecimal digits.
@@ -33,7 +35,7 @@ pub enum Which {
 #[derive(Clone, Copy, Debug, PartialEq, Eq, Error)]
 pub enum UsageWhy {
     /// There is no word, or the first one names no command.
-    #[error("the first word has to be a command: boot, load, load-panic, check, dump, exec, trace or sample")]
+    #[error("the first word has to be a command: boot, load, load-panic, check, dump, exec, trace, migrate or sample")]
     Command,
     /// The words after the first are not those that the command takes; asking for help is such a refusal.
     #[error("the words after the command are not the words and options that it takes")]
@@ -73,6 +75,8 @@ impl Which {
             Which::Type => "raw, elf, bzimage or multiboot",
             Which::Kept => "1 or 2",
             Which::At | Which::Entry | Which::Head => "a hexadecimal number of 1 to 16 digits",
+            Which::Below =>
+                "a limit of addresses: 1 to 16 hexadecimal digits, a multiple of 0x1000 up to 0x400000000000",
             Which::Swap =>
                 "the address of a page: 1 to 16 hexadecimal digits, a multiple of 0x1000 below 0x400000000000",
             Which::Limit => "a decimal number of 1 to 9 digits, at most 100000000",
@@ -119,6 +123,7 @@ impl Display for Which {
             Which::Kept => "--kept",
             Which::At => "--at",
             Which::Entry => "--entry",
+            Which::Below => "--below",
             Which::Swap => "--swap",
             Which::Head => "HEAD",
             Which::Limit => "LIMIT",

@@ -19,12 +19,14 @@ Commands:
   dump        print the words and the segments of a load record
   exec        check the list of a load record and run it
   trace       run a list for some steps, whether it is accepted or not
+  migrate     write a load record anew, as version 2
   sample      load and run what is made from a number
 
 Files:
   memory file  KXMEM001, the number of pages, and each page that is not all zero
   pool file    free pages, on each line a hexadecimal page number or first-last
-  load record  KXREC001, the head word, the start values and the segments
+  load record  KXREC002 or KXREC001, the head word, the start values and the
+               segments
   memory map   the text of /proc/iomem, which Linux gives whole to root alone
 
 Without its words, as in kexec boot, each command prints what it takes.
@@ -48,6 +50,9 @@ Options:
   --kept RUNS       load in kept mode and run the list 1 or 2 times: into the
                     new kernel, and for 2 back again; default: one run in plain
                     mode
+  --below ADDRESS   take only pages of the pool that lie below this address, a
+                    multiple of 0x1000 up to 0x400000000000; default: each page
+                    may be taken
   --map FILE        file to read: the memory map, as /proc/iomem prints it;
                     needed for each type but raw, and for --purgatory
   --type TYPE       raw, elf, bzimage or multiboot; default: what the file's own
@@ -85,6 +90,9 @@ Words:
 Options:
   --kept            load in kept mode, so that the list can be run a second
                     time, back into the old kernel; default: plain mode
+  --below ADDRESS   take only pages of the pool that lie below this address, a
+                    multiple of 0x1000 up to 0x400000000000; default: each page
+                    may be taken
   --map FILE        file to read: the memory map, as /proc/iomem prints it;
                     needed for each type but raw, and for --purgatory
   --type TYPE       raw, elf, bzimage or multiboot; default: what the file's own
@@ -195,10 +203,21 @@ Options:
                   multiple of 0x1000 below 0x400000000000; default: plain mode
 ";
 
+const MIGRATE: &str = "\
+Usage: kexec migrate RECORD OUT
+
+Reads a load record of version 1 or 2, and writes it as version 2, which has the
+SHA-256 of each segment.
+
+Words:
+  RECORD  load record to read
+  OUT     load record to write; not RECORD
+";
+
 const SAMPLE: &str = "\
 Usage: kexec sample NUMBER
 
-Not served yet. Makes a memory, a pool and segments from a number, loads and runs them, and
+Makes a memory, a pool and segments from a number, loads and runs them, and
 prints the SHA-256 of the memory after the run. It reads and writes no file.
 
 Words:
@@ -221,6 +240,7 @@ pub fn help_of(words: &[String]) -> &'static str
         Some(Name::Dump) => DUMP,
         Some(Name::Exec) => EXEC,
         Some(Name::Trace) => TRACE,
+        Some(Name::Migrate) => MIGRATE,
         Some(Name::Sample) => SAMPLE,
     }
 }

@@ -13,7 +13,7 @@ mod reading;
 mod unplanned;
 
 pub use commands::{
-    Boot, Command, CrashInputs, Exec, Inputs, Load, LoadNames, LoadPanic, Runs, Trace,
+    Boot, Command, CrashInputs, Exec, Inputs, Load, LoadNames, LoadPanic, Migrate, Runs, Trace,
 };
 pub use faults::{UsageWhy, Which, WordsFault};
 pub use help::help_of;

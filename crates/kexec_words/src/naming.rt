@@ -15,6 +15,7 @@ pub(crate) enum Name {
     Dump,
     Exec,
     Trace,
+    Migrate,
     Sample,
 }
 
@@ -35,6 +36,8 @@ pub(crate) fn name_of(word: &str) -> Option<Name>
         Some(Name::Exec)
     } else if word == "trace" {
         Some(Name::Trace)
+    } else if word == "migrate" {
+        Some(Name::Migrate)
     } else if word == "sample" {
         Some(Name::Sample)
     } else {

@@ -2,11 +2,11 @@
 
 ghost use Rattle.std.specs.Prelude.{◌≡◌, ◌≤◌, ◌<◌, ◌^◌};
 ghost use Rattle.kexec_words.specs.Found.{text_in};
-ghost use Rattle.kexec_words.specs.Numbers.{number_of, hex_of, type_of, kept_of, address_of, page_address_of, swap_of, head_of, limit_of, sample_of, plan_numbers_of, trace_numbers_of};
+ghost use Rattle.kexec_words.specs.Numbers.{number_of, hex_of, type_of, kept_of, address_of, pool_limit_of, first_past, below_of, page_address_of, swap_of, head_of, limit_of, sample_of, plan_numbers_of, trace_numbers_of};
 
 use crate::commands::Runs;
 use crate::faults::Which;
-use kx_pages::is_page_address;
+use kx_pages::{ADDRESS_LIMIT, PAGE_SIZE, Page, is_page_address};
 
 const HEX_DIGITS: usize = 16;
 
@@ -33,6 +33,7 @@ pub(crate) struct PlanNumbers {
     pub(crate) kept: Option<Runs>,
     pub(crate) at: Option<u64>,
     pub(crate) entry: Option<u64>,
+    pub(crate) below: Option<Page>,
 }
 
 // The numbers of `trace`.
@@ -110,6 +111,38 @@ fn address_in(text: Option<&str>, which: Which) -> Result<Option<u64>, Which>
     }
 }
 
+fn pool_limit_in(text: &str) -> Option<u64>
+    ensures { result ≡ pool_limit_of text.now }
+{
+    match hex_in(text) {
+        Some(limit) if limit.is_multiple_of(PAGE_SIZE) && limit <= ADDRESS_LIMIT => Some(limit),
+        _ => None,
+    }
+}
+
+// The first page past a limit. All pages lie below 2^46.
+fn first_past(limit: u64) -> Option<Page>
+    ensures { result ≡ first_past limit }
+{
+    if limit < ADDRESS_LIMIT {
+        Some(Page::from_address(limit))
+    } else {
+        None
+    }
+}
+
+fn below_in(text: Option<&str>) -> Result<Option<Page>, Which>
+    ensures { result ≡ below_of (text_in text.entry) }
+{
+    let Some(text) = text else {
+        return Ok(None);
+    };
+    match pool_limit_in(text) {
+        Some(limit) => Ok(first_past(limit)),
+        None => Err(Which::Below),
+    }
+}
+
 fn page_address_in(text: &str) -> Option<u64>
     ensures { result ≡ page_address_of text.now }
 {
@@ -165,20 +198,23 @@ pub(crate) fn plan_numbers(
     kept: Option<&str>,
     at: Option<&str>,
     entry: Option<&str>,
+    below: Option<&str>,
 ) -> Result<PlanNumbers, Which>
     ensures { result
         ≡ plan_numbers_of (text_in kind.entry) (text_in kept.entry) (text_in at.entry)
-        (text_in entry.entry) }
+        (text_in entry.entry) (text_in below.entry) }
 {
     let kind = type_in(kind)?;
     let kept = kept_in(kept)?;
     let at = address_in(at, Which::At)?;
     let entry = address_in(entry, Which::Entry)?;
+    let below = below_in(below)?;
     Ok(PlanNumbers {
         kind,
         kept,
         at,
         entry,
+        below,
     })
 }
 

@@ -14,17 +14,23 @@ use crate::naming::{is_input, is_repeated};
 use crate::numbers::{PlanNumbers, TypeWord, plan_numbers};
 use crate::parsing::{flag_in, matches_for, name_in, names_in, option_in, some_name_in};
 use clap::ArgMatches;
-use kx_pages::ImageType;
+use kx_pages::{ImageType, Page};
 use std::alloc::{AllocError, Global};
 
 const MOST_MODULES: usize = 12;
 
-fn inputs_in(alloc: Global, matches: &ArgMatches<'_>) -> Result<Inputs, AllocError>
-    ensures { IfOk result (λ i. inputs_value i ≡ inputs_of (rows_of (found_of matches.now))) }
+fn inputs_in(
+    alloc: Global,
+    matches: &ArgMatches<'_>,
+    below: Option<Page>,
+) -> Result<Inputs, AllocError>
+    ensures { IfOk result
+        (λ i. inputs_value i ≡ inputs_of below (rows_of (found_of matches.now))) }
 {
     Ok(Inputs {
         memory: name_in(alloc, matches, "MEMORY")?,
         pool: name_in(alloc, matches, "POOL")?,
+        below,
         map: some_name_in(alloc, matches, "map")?,
         kernel: name_in(alloc, matches, "KERNEL")?,
         initrd: some_name_in(alloc, matches, "initrd")?,
@@ -86,6 +92,7 @@ fn numbers_in(matches: &ArgMatches<'_>, kept: Option<&str>) -> Result<PlanNumber
         kept,
         option_in(matches, "at"),
         option_in(matches, "entry"),
+        option_in(matches, "below"),
     )
 }
 
@@ -93,11 +100,12 @@ fn boot_from(inputs: Inputs, out: String, numbers: PlanNumbers) -> Result<Boot, 
     ensures { Answers boot_value
         (boot_with (inputs_value inputs) (string_bytes out) numbers) result }
 {
+    let kept = numbers.kept;
     let image = image_for(&inputs, is_input(&inputs, &out), numbers)?;
     Ok(Boot {
         inputs,
         out,
-        kept: numbers.kept,
+        kept,
         image,
     })
 }
@@ -106,7 +114,7 @@ fn boot_found(alloc: Global, matches: &ArgMatches<'_>) -> Result<Boot, WordsFaul
     ensures { Answers boot_value (boot_in (rows_of (found_of matches.now))) result }
 {
     let numbers = numbers_in(matches, option_in(matches, "kept"))?;
-    let inputs = inputs_in(alloc, matches)?;
+    let inputs = inputs_in(alloc, matches, numbers.below)?;
     let out = name_in(alloc, matches, "OUT")?;
     boot_from(inputs, out, numbers)
 }
@@ -144,7 +152,7 @@ fn load_found(alloc: Global, matches: &ArgMatches<'_>) -> Result<Load, WordsFaul
     ensures { Answers load_value (load_in (rows_of (found_of matches.now))) result }
 {
     let numbers = numbers_in(matches, None)?;
-    let inputs = inputs_in(alloc, matches)?;
+    let inputs = inputs_in(alloc, matches, numbers.below)?;
     let out = name_in(alloc, matches, "OUT")?;
     let load_record = name_in(alloc, matches, "RECORD")?;
     load_from(inputs, out, load_record, flag_in(matches, "kept"), numbers)

@@ -10,7 +10,7 @@ use crate::faults::{UsageWhy, WordsFault};
 use crate::naming::{Name, name_of};
 use crate::planned::{read_boot, read_load};
 use crate::unplanned::{
-    read_check, read_dump, read_exec, read_load_panic, read_sample, read_trace,
+    read_check, read_dump, read_exec, read_load_panic, read_migrate, read_sample, read_trace,
 };
 use std::alloc::Global;
 
@@ -26,6 +26,7 @@ fn read_named(alloc: Global, name: Name, words: &[String]) -> Result<Command, Wo
         Name::Dump => Command::Dump(read_dump(alloc, words)?),
         Name::Exec => Command::Exec(read_exec(alloc, words)?),
         Name::Trace => Command::Trace(read_trace(alloc, words)?),
+        Name::Migrate => Command::Migrate(read_migrate(alloc, words)?),
         Name::Sample => Command::Sample {
             number: read_sample(alloc, words)?,
         },

@@ -1,7 +1,7 @@
 //! What no clause says: the meaning of the table, on words as people write them.
 
 use crate::{Command, Runs, UsageWhy, Which, WordsFault, help_of, read};
-use kx_pages::ImageType;
+use kx_pages::{ImageType, Page};
 use std::alloc::Global;
 use std::test::Fail;
 
@@ -41,6 +41,12 @@ fn refuses_in_the_order_of_the_reasons(rt: HostRuntime) -> Result<(), Fail> {
             "boot m p m k --entry 10000000000000000",
             number(Which::Entry),
         ),
+        (
+            "boot m p m k --below 100001 --entry x",
+            number(Which::Entry),
+        ),
+        ("boot m p m k --below 100001", number(Which::Below)),
+        ("boot m p m k --below 400000001000", number(Which::Below)),
         (
             "boot m p m k 1 2 3 4 5 6 7 8 9 10 11 12 13",
             Some(UsageWhy::TooManyModules),
@@ -86,6 +92,8 @@ fn refuses_words_of_each_command(rt: HostRuntime) -> Result<(), Fail> {
             number(Which::Limit),
         ),
         ("trace m m 2 100000000", Some(UsageWhy::SameName)),
+        ("migrate r o x", Some(UsageWhy::Parse)),
+        ("migrate r r", Some(UsageWhy::SameName)),
         ("sample 1234567890123456789", number(Which::Number)),
     ] {
         assert!(rt; why(alloc, line)? == want, "{line}");
@@ -98,13 +106,14 @@ fn reads_boot(rt: HostRuntime) -> Result<(), Fail> {
     let alloc = rt.alloc();
     let words = split(
         alloc,
-        "boot --map f m p --at=1F00 o k a --type raw b --kept 2 -- --at",
+        "boot --map f m p --at=1F00 o k a --type raw b --below 100000 --kept 2 -- --at",
     )?;
     let Ok(Command::Boot(boot)) = read(alloc, &words) else {
         return Err(Fail::from("refused"));
     };
     assert!(rt; boot.inputs.memory.as_str() == "m");
     assert!(rt; boot.inputs.pool.as_str() == "p");
+    assert!(rt; boot.inputs.below == Page::new(0x100));
     assert!(rt; boot.inputs.kernel.as_str() == "k");
     assert!(rt; boot.out.as_str() == "o");
     assert!(rt; boot.kept == Some(Runs::Twice));
@@ -120,6 +129,26 @@ fn reads_boot(rt: HostRuntime) -> Result<(), Fail> {
 }
 
 #[test]
+fn has_no_limit_where_all_pages_lie_below_it(rt: HostRuntime) -> Result<(), Fail> {
+    let alloc = rt.alloc();
+    for (line, want) in [
+        ("load m p o r k --map f", None),
+        ("load m p o r k --map f --below 400000000000", None),
+        (
+            "load m p o r k --map f --below 3ffffffff000",
+            Page::new(0x3_ffff_ffff),
+        ),
+        ("load m p o r k --map f --below 0", Page::new(0)),
+    ] {
+        let Ok(Command::Load(load)) = read(alloc, &split(alloc, line)?) else {
+            return Err(Fail::from("refused"));
+        };
+        assert!(rt; load.inputs.below == want, "{line}");
+    }
+    Ok(())
+}
+
+#[test]
 fn reads_each_command(rt: HostRuntime) -> Result<(), Fail> {
     let alloc = rt.alloc();
     for line in [
@@ -129,6 +158,7 @@ fn reads_each_command(rt: HostRuntime) -> Result<(), Fail> {
         "dump m r",
         "exec --twice m r o",
         "trace m o 20002 007",
+        "migrate r o",
         "sample 1",
     ] {
         assert!(rt; why(alloc, line)? == None, "{line}");
@@ -151,6 +181,7 @@ fn says_what_is_wrong_and_what_is_wanted(rt: HostRuntime) -> Result<(), Fail> {
         ("dump --help", "Usage: kexec dump "),
         ("exec", "Usage: kexec exec "),
         ("trace m", "Usage: kexec trace "),
+        ("migrate r", "Usage: kexec migrate "),
         ("sample x", "Usage: kexec sample "),
     ] {
         assert!(rt; help_of(&split(alloc, line)?).starts_with(usage), "{line}");

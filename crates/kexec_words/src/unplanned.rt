@@ -1,13 +1,13 @@
-//! The words of `load-panic`, `check`, `dump`, `exec`, `trace` and `sample`.
+//! The words of `load-panic`, `check`, `dump`, `exec`, `trace`, `migrate` and `sample`.
 
 ghost use Rattle.std.specs.Prelude.{◌≡◌, IfOk, map, option_map, string_bytes, codes};
 ghost use Rattle.clap.specs.Words.{rows_of, found_of};
-ghost use Rattle.kexec_words.specs.Apps.{load_panic_app, check_app, dump_app, exec_app, trace_app, sample_app};
-ghost use Rattle.kexec_words.specs.Meaning.{Answers, answer_by, crash_inputs_of, load_panic_with, load_panic_in, load_names_of, load_names_in, exec_of, exec_with, exec_in, trace_numbers_by, trace_with, trace_in, sample_by, sample_in};
-ghost use Rattle.kexec_words.specs.Values.{crash_inputs_value, load_panic_value, load_names_value, exec_value, trace_value, number_value};
+ghost use Rattle.kexec_words.specs.Apps.{load_panic_app, check_app, dump_app, exec_app, trace_app, migrate_app, sample_app};
+ghost use Rattle.kexec_words.specs.Meaning.{Answers, answer_by, crash_inputs_of, load_panic_with, load_panic_in, load_names_of, load_names_in, exec_of, exec_with, exec_in, trace_numbers_by, trace_with, trace_in, migrate_of, migrate_with, migrate_in, sample_by, sample_in};
+ghost use Rattle.kexec_words.specs.Values.{crash_inputs_value, load_panic_value, load_names_value, exec_value, trace_value, migrate_value, number_value};
 
-use crate::arguments::{EXEC, LOAD_PANIC, LOADED, SAMPLE, TRACE};
-use crate::commands::{CrashInputs, Exec, LoadNames, LoadPanic, Trace};
+use crate::arguments::{EXEC, LOAD_PANIC, LOADED, MIGRATE, SAMPLE, TRACE};
+use crate::commands::{CrashInputs, Exec, LoadNames, LoadPanic, Migrate, Trace};
 use crate::faults::{UsageWhy, Which, WordsFault};
 use crate::naming::is_repeated_for_crash;
 use crate::numbers::{TraceNumbers, sample_number, trace_numbers};
@@ -191,6 +191,42 @@ pub(crate) fn read_trace(alloc: Global, words: &[String]) -> Result<Trace, Words
 {
     let matches = matches_for(alloc, "trace", &TRACE, words)?;
     trace_found(alloc, &matches)
+}
+
+fn migrate_names(alloc: Global, matches: &ArgMatches<'_>) -> Result<Migrate, AllocError>
+    ensures { IfOk result (λ m. migrate_value m ≡ migrate_of (rows_of (found_of matches.now))) }
+{
+    Ok(Migrate {
+        load_record: name_in(alloc, matches, "RECORD")?,
+        out: name_in(alloc, matches, "OUT")?,
+    })
+}
+
+fn migrate_from(migrate: Migrate) -> Result<Migrate, WordsFault>
+    ensures { Answers migrate_value (migrate_with (migrate_value migrate)) result }
+{
+    if migrate.load_record == migrate.out {
+        return Err(WordsFault::Usage {
+            why: UsageWhy::SameName,
+        });
+    }
+    Ok(migrate)
+}
+
+fn migrate_found(alloc: Global, matches: &ArgMatches<'_>) -> Result<Migrate, WordsFault>
+    ensures { Answers migrate_value (migrate_in (rows_of (found_of matches.now))) result }
+{
+    let migrate = migrate_names(alloc, matches)?;
+    migrate_from(migrate)
+}
+
+// The words after `migrate`.
+pub(crate) fn read_migrate(alloc: Global, words: &[String]) -> Result<Migrate, WordsFault>
+    ensures { Answers migrate_value
+        (answer_by migrate_app migrate_in (map string_bytes words.now)) result }
+{
+    let matches = matches_for(alloc, "migrate", &MIGRATE, words)?;
+    migrate_found(alloc, &matches)
 }
 
 fn sample_number_in(matches: &ArgMatches<'_>) -> Result<u64, Which>

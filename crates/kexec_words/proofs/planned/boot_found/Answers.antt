@@ -10,12 +10,13 @@ use Rattle.kexec_words.proofs.Taken.{goes_on}
 use Rattle.kexec_words.proofs.planned.boot_found.Goals as goal
 
 found : (rows : List Row) (k : Option Text) (n : PlanNumbers) (i : InputsValue) (o : Text) (r : Result Boot WordsFault)
-    → Ok n ≡ plan_numbers_by k rows → k ≡ first_of (codes "kept") rows → i ≡ inputs_of rows → o ≡ word_of (codes "OUT") rows
+    → Ok n ≡ plan_numbers_by k rows → k ≡ first_of (codes "kept") rows → i ≡ inputs_of n.below rows → o ≡ word_of (codes "OUT") rows
     → Answers boot_value (boot_with i o n) r → Answers boot_value (boot_in rows) r
 found rows k n i o r numbers kept inputs out h =
-    let first : Answers boot_value (boot_with (inputs_of rows) o n) r = subst (λ x. Answers boot_value (boot_with x o n) r) inputs h in
-    let second : Answers boot_value (boot_with (inputs_of rows) (word_of (codes "OUT") rows) n) r = subst (λ x. Answers boot_value (boot_with (inputs_of rows) x n) r) out first in
-    goes_on boot_value (boot_with (inputs_of rows) (word_of (codes "OUT") rows)) (plan_numbers_by (first_of (codes "kept") rows) rows) n r
+    let first : Answers boot_value (boot_with (inputs_of n.below rows) o n) r = subst (λ x. Answers boot_value (boot_with x o n) r) inputs h in
+    let second : Answers boot_value (boot_with (inputs_of n.below rows) (word_of (codes "OUT") rows) n) r =
+    subst (λ x. Answers boot_value (boot_with (inputs_of n.below rows) x n) r) out first in
+    goes_on boot_value (λ n. boot_with (inputs_of n.below rows) (word_of (codes "OUT") rows) n) (plan_numbers_by (first_of (codes "kept") rows) rows) n r
     (numbers ∙ ap (λ x. plan_numbers_by x rows) kept) second
 
 pub returns : goal.returns
