@@ -1,4 +1,5 @@
-"""What attack-files and attack-devices attack: each command with small files, of which each is there or made here.
+"""What attack-files, attack-devices and refused-memory run: each command with small files, of which each is there or made
+here. A command or an option that the program does not know is left out, with a word.
 
 The files are those of examples/, and small kernels that are made by hand from the public standards: a bzImage (The
 Linux/x86 Boot Protocol), a Multiboot kernel (0.6.96), and a purgatory, where gcc and GNU ld are there.
@@ -8,6 +9,7 @@ import os
 import shutil
 import struct
 import subprocess
+import sys
 from dataclasses import dataclass, field
 
 import kexec_files as files
@@ -93,6 +95,8 @@ def load_cases(object_file):
     cases = [
         Case("boot", ["boot", *raw, *four], first, ["out"]),
         Case("boot-kept", ["boot", "--kept", "2", *raw, *four], back, ["out"]),
+        # page 0x200 is passed over, since it does not lie below the address 100000
+        Case("boot-below", ["boot", "--below", "100000", *raw, *four], first | {"pool": b"10\n200\n11-12\n2\n"}, ["out"]),
         Case("load", ["load", *raw, *five], first, ["out", "record"]),
         Case("load-kept", ["load", "--kept", *raw, *five], back, ["out", "record"]),
         Case("boot-elf", ["boot", "--map", "map", *four], elf, ["out"]),
@@ -110,28 +114,47 @@ def load_cases(object_file):
     return cases
 
 
-def case_after(name, words, case, folder, outputs=()):
-    """A command on the two files that a load made."""
-    made = loaded(case, folder)
-    return Case(name, words, {"loaded.kxmem": made["out"], "loaded.record": made["record"]}, list(outputs))
+# The commands on what a load made: the name of the case, its words, the load, and the outputs.
+BOTH = ["loaded.kxmem", "loaded.record"]
+AFTER = [
+    ("check", ["check", *BOTH], "load", []),
+    ("dump", ["dump", *BOTH], "load", []),
+    ("exec", ["exec", *BOTH, "out"], "load", ["out"]),
+    ("exec-twice", ["exec", "--twice", *BOTH, "out"], "load-kept", ["out"]),
+    ("check-panic", ["check", *BOTH], "load-panic", []),
+    ("dump-panic", ["dump", *BOTH], "load-panic", []),
+    ("exec-panic", ["exec", *BOTH, "out"], "load-panic", ["out"]),
+    ("trace", ["trace", "loaded.kxmem", "out", "11002", "1000"], "load", ["out"]),
+    ("migrate", ["migrate", "older.record", "out"], "load", ["out"]),
+    ("sample", ["sample", "1"], None, []),
+]
+
+
+def case_after(name, words, load, outputs, folder):
+    """A case of AFTER; of the files that the load made it has those that its words name."""
+    made = {}
+    if load:
+        written = loaded(load, folder)
+        made = {"loaded.kxmem": written["out"], "loaded.record": written["record"]}
+        made["older.record"] = files.without_digests(written["record"])
+    return Case(name, words, {file: made[file] for file in made if file in words}, outputs)
 
 
 def cases(folder, names):
     """The cases of these names; all where none is given."""
-    loads = load_cases(purgatory(folder))
-    by_name = {case.name: case for case in loads}
-    both = ["loaded.kxmem", "loaded.record"]
-    after = {
-        "check": lambda name: case_after(name, ["check", *both], by_name["load"], folder),
-        "dump": lambda name: case_after(name, ["dump", *both], by_name["load"], folder),
-        "exec": lambda name: case_after(name, ["exec", *both, "out"], by_name["load"], folder, ["out"]),
-        "exec-twice": lambda name: case_after(name, ["exec", "--twice", *both, "out"], by_name["load-kept"], folder, ["out"]),
-        "check-panic": lambda name: case_after(name, ["check", *both], by_name["load-panic"], folder),
-        "dump-panic": lambda name: case_after(name, ["dump", *both], by_name["load-panic"], folder),
-        "exec-panic": lambda name: case_after(name, ["exec", *both, "out"], by_name["load-panic"], folder, ["out"]),
-        "trace": lambda name: Case(name, ["trace", "loaded.kxmem", "out", "11002", "1000"],
-                                   {"loaded.kxmem": loaded(by_name["load"], folder)["out"]}, ["out"]),
-        "sample": lambda name: Case(name, ["sample", "1"]),
-    }
-    chosen = names or [*by_name, *after]
-    return [by_name[name] if name in by_name else after[name](name) for name in chosen]
+    by_name = {case.name: case for case in load_cases(purgatory(folder))}
+    words = {name: case.words for name, case in by_name.items()} | {row[0]: row[1] for row in AFTER}
+    rows = {name: row for name, *row in AFTER}
+    chosen = []
+    for name in names or words:
+        if name not in words:
+            sys.exit(f"there is no case {name}: {', '.join(words)}")
+        lacking = files.unknown(words[name])
+        if lacking:
+            print(f"{name}: left out, the program has no {lacking}", flush=True)
+        elif name in by_name:
+            chosen.append(by_name[name])
+        else:
+            told, load, outputs = rows[name]
+            chosen.append(case_after(name, told, by_name.get(load), outputs, folder))
+    return chosen

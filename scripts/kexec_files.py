@@ -38,20 +38,40 @@ def write_pool(file, first, count):
         out.write(f"{first:x}-{first + count - 1:x}\n")
 
 
+# The bytes of a segment's numbers in a load record, and of its digest, by the record's first eight bytes.
+NUMBERS = 24
+DIGESTS = {b"KXREC001": 0, b"KXREC002": 32}
+
+
+def segments_of(record):
+    """The segments of a load record, each as the bytes of its numbers and its own."""
+    if record[:8] not in DIGESTS:
+        sys.exit("this is no load record")
+    (count,) = struct.unpack_from("<Q", record, 88)
+    at = 96
+    for _ in range(count):
+        numbers = record[at : at + NUMBERS]
+        (size,) = struct.unpack_from("<Q", numbers, 16)
+        at += NUMBERS + DIGESTS[record[:8]]
+        yield numbers, record[at : at + size]
+        at += size
+
+
 def read_record(file):
     """The entry and the segments of a load record."""
-    with open(file, "rb") as record:
-        data = record.read()
-    if data[:8] != b"KXREC001":
-        sys.exit(f"{file} is no load record")
-    entry = struct.unpack_from("<Q", data, 40)[0]
-    (count,) = struct.unpack_from("<Q", data, 88)
-    segments, at = [], 96
-    for _ in range(count):
-        mem, memsz, size = struct.unpack_from("<QQQ", data, at)
-        segments.append(Segment(mem, memsz, data[at + 24 : at + 24 + size]))
-        at += 24 + size
+    with open(file, "rb") as opened:
+        record = opened.read()
+    (entry,) = struct.unpack_from("<Q", record, 40)
+    segments = []
+    for numbers, data in segments_of(record):
+        mem, memsz, _ = struct.unpack("<QQQ", numbers)
+        segments.append(Segment(mem, memsz, data))
     return entry, segments
+
+
+def without_digests(record):
+    """The load record in the older version, in which no segment has a digest."""
+    return b"KXREC001" + record[8:96] + b"".join(numbers + data for numbers, data in segments_of(record))
 
 
 def run(words, folder):
@@ -65,6 +85,14 @@ def build():
     status, said = run([], TOP)
     if status != 2:
         sys.exit(said)
+
+
+def unknown(words):
+    """What the program does not know of these words: the command or an option; None where it knows all."""
+    told = run([words[0], "--help"], TOP)[1]
+    if not told.startswith(f"Usage: kexec {words[0]} "):
+        return f"command {words[0]}"
+    return next((f"option {word}" for word in words if word.startswith("--") and word not in told), None)
 
 
 def tool(words, folder):
