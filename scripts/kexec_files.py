@@ -1,4 +1,5 @@
 """Files that the program reads and writes, for the scripts beside this one: docs/FORMATS.md has their formats."""
+import hashlib
 import os
 import struct
 import subprocess
@@ -38,20 +39,33 @@ def write_pool(file, first, count):
         out.write(f"{first:x}-{first + count - 1:x}\n")
 
 
-def read_record(file):
-    """The entry and the segments of a load record."""
+def record_parts(file):
+    """The 96 bytes of a load record's head, and its segments, of either version. A digest that differs ends the script."""
     with open(file, "rb") as record:
         data = record.read()
-    if data[:8] != b"KXREC001":
+    if data[:8] not in (b"KXREC001", b"KXREC002"):
         sys.exit(f"{file} is no load record")
-    entry = struct.unpack_from("<Q", data, 40)[0]
     (count,) = struct.unpack_from("<Q", data, 88)
     segments, at = [], 96
-    for _ in range(count):
+    for i in range(count):
         mem, memsz, size = struct.unpack_from("<QQQ", data, at)
-        segments.append(Segment(mem, memsz, data[at + 24 : at + 24 + size]))
-        at += 24 + size
-    return entry, segments
+        at += 24
+        digest = None
+        if data[:8] == b"KXREC002":
+            digest = data[at : at + 32]
+            at += 32
+        found = data[at : at + size]
+        if digest is not None and hashlib.sha256(found).digest() != digest:
+            sys.exit(f"{file}: the digest of segment {i} is another")
+        segments.append(Segment(mem, memsz, found))
+        at += size
+    return data[:96], segments
+
+
+def read_record(file):
+    """The entry and the segments of a load record."""
+    head, segments = record_parts(file)
+    return struct.unpack_from("<Q", head, 40)[0], segments
 
 
 def run(words, folder):
