@@ -1,4 +1,5 @@
 """Files that the program reads and writes, for the scripts beside this one: docs/FORMATS.md has their formats."""
+import hashlib
 import os
 import struct
 import subprocess
@@ -49,11 +50,16 @@ def segments_of(record):
         sys.exit("this is no load record")
     (count,) = struct.unpack_from("<Q", record, 88)
     at = 96
-    for _ in range(count):
+    for i in range(count):
         numbers = record[at : at + NUMBERS]
         (size,) = struct.unpack_from("<Q", numbers, 16)
-        at += NUMBERS + DIGESTS[record[:8]]
-        yield numbers, record[at : at + size]
+        at += NUMBERS
+        digest = record[at : at + DIGESTS[record[:8]]]
+        at += len(digest)
+        found = record[at : at + size]
+        if digest and hashlib.sha256(found).digest() != digest:
+            sys.exit(f"the digest of segment {i} is another")
+        yield numbers, found
         at += size
 
 

@@ -7,9 +7,10 @@ use std::test::Fail;
 
 /// The words, the file that is one byte too long, and the most bytes that it can have. The kernel, the initrd and the
 /// modules have 256 MiB together, half of which the files "half" and "rest" have each.
-const LIMITS: [(&str, &str, usize); 7] = [
+const LIMITS: [(&str, &str, usize); 8] = [
     ("boot --type raw --at 2000 x p o k", "x", 537_919_504),
-    ("check m x", "x", 268_435_936),
+    ("check m x", "x", 268_436_448),
+    ("load-panic --map f --notes x m o r k", "x", 1_048_576),
     ("boot --map x --type raw --at 2000 m p o k", "x", 1_048_576),
     ("boot --type raw --at 2000 m p o x", "x", 268_435_456),
     ("boot --map f --initrd x m p o half", "x", 134_217_728),

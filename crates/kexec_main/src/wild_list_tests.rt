@@ -32,6 +32,134 @@ fn shelf(
     Ok(shelf)
 }
 
+/// A list, its head word and its segment's address, what `check` says of it, and how a trace of so many steps comes out.
+const WILD: [(&[u64], u64, u64, &str, &str, &str); 12] = [
+    (
+        GOOD,
+        0x20002,
+        0x2000,
+        "accepted words 4 links 1 pairs 1\n",
+        "10",
+        "done 4\n",
+    ),
+    (GOOD, 4, 0x2000, "word 0: Missing 2000\n", "10", "done 1\n"),
+    (
+        GOOD,
+        0x2001,
+        0x2000,
+        "word 0: HeadKind\n",
+        "5",
+        "running 5\n",
+    ),
+    (GOOD, 0, 0x2000, "word 0: Flags\n", "5", "running 5\n"),
+    (
+        &[0x30008, 4],
+        0x20002,
+        0x2000,
+        "word 1: NoDestination\n",
+        "10",
+        "done 3\n",
+    ),
+    (
+        &[0x2001, 0x30008, 0x30008, 4],
+        0x20002,
+        0x2000,
+        "word 3: NotWanted\n",
+        "10",
+        "done 5\n",
+    ),
+    (
+        &[0x2001, 0x30008, 0x2001, 0x30008, 4],
+        0x20002,
+        0x2000,
+        "word 4: TwiceWritten\n",
+        "10",
+        "done 6\n",
+    ),
+    (
+        &[0x20001, 0x30008, 4],
+        0x20002,
+        0x20000,
+        "word 2: LinkSpoiled\n",
+        "5",
+        "running 5\n",
+    ),
+    (
+        &[0x2001, 0x21008, 4],
+        0x20002,
+        0x2000,
+        "word 2: ControlTouched\n",
+        "10",
+        "done 4\n",
+    ),
+    (
+        &[0x2001, 0x31008, 4],
+        0x20002,
+        0x2000,
+        "word 2: WrongBytes\n",
+        "10",
+        "done 4\n",
+    ),
+    (
+        &[0x2001, 4],
+        0x20002,
+        0x2000,
+        "word 2: Missing 2000\n",
+        "10",
+        "done 3\n",
+    ),
+    (
+        &[0x4000_0000_0001, 0x30008, 4],
+        0x20002,
+        0x2000,
+        "word 1: PastLimit\n",
+        "10",
+        "off 400000000000 after 2\n",
+    ),
+];
+
+// What `check` says of a list, and then what `trace` does.
+fn said_of(
+    alloc: Global,
+    words: &[u64],
+    head: u64,
+    segment: u64,
+    limit: &str,
+) -> Result<Vec<u8>, AllocError> {
+    let mut shelf = shelf(alloc, words, head, segment, None)?;
+    let (_, checked) = run(alloc, &["check", "m", "r"], &mut shelf, &[])?;
+    let head = format!(in alloc; "{head:x}")?;
+    let trace = ["trace", "m", "o", head.as_str(), limit];
+    let (_, traced) = run(alloc, &trace, &mut shelf, &[])?;
+    let mut said = checked.said().to_vec(alloc)?;
+    said.extend_from_slice(traced.said())?;
+    Ok(said)
+}
+
+#[test]
+fn each_wild_list_is_told_and_traced(rt: HostRuntime) -> Result<(), Fail> {
+    let alloc = rt.alloc();
+    for (words, head, segment, checked, limit, traced) in WILD {
+        let said = said_of(alloc, words, head, segment, limit)?;
+        let wanted = format!(in alloc; "{checked}{traced}")?;
+        assert!(rt; said.as_slice() == wanted.as_bytes(), "{wanted}");
+    }
+    Ok(())
+}
+
+// A page in which each of the 512 words is the same destination: there is no way on from its last slot.
+#[test]
+fn a_list_without_a_link_onward_runs_off(rt: HostRuntime) -> Result<(), Fail> {
+    let alloc = rt.alloc();
+    let words = vec![in alloc; 0x2001; 512]?;
+    let said = said_of(alloc, &words, 0x20002, 0x2000, "600")?;
+    assert_eq!(rt;
+        said.as_slice(),
+        b"word 512: RunsOff\nrunning 600\n".as_slice()
+    );
+    Ok(())
+}
+
 // The good list with context preserved, where the swap page is its source, and its control page.
 #[test]
 fn a_swap_page_that_is_in_use_is_told(rt: HostRuntime) -> Result<(), Fail> {

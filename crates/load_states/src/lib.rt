@@ -9,6 +9,8 @@
 mod accepted;
 mod crash;
 #[cfg(test)]
+mod exchange_tests;
+#[cfg(test)]
 mod fill_tests;
 mod filling;
 mod hold;
