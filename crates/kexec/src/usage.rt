@@ -140,5 +140,5 @@ pub(crate) fn print_help(rt: &impl Eprint, words: &[String]) {
         return;
     }
     let _ = rt.eprintln(help.lines().next().unwrap_or(""));
-    let _ = rt.eprintln("The word --help behind the command tells what it takes.");
+    let _ = rt.eprintln("The argument --help behind the command tells what it takes.");
 }

@@ -86,7 +86,7 @@ pub enum Status {
     #[error("{count} pages of the memory are not all zeros, and a memory file has at most 131072")]
     Heavy { count: u64 },
     /// `exec --twice` was given a record that is not in kept mode.
-    #[error("the record is in plain mode, and --twice needs one that was loaded with --kept")]
+    #[error("the load record is in plain mode, and --twice needs one that was loaded with --kept")]
     NotKept,
     /// There was not enough memory for the work.
     #[error("there is not enough memory for the work: free some and try again")]

@@ -8,7 +8,9 @@ ghost use Rattle.load_record.specs.Head.{head_fault, version_of};
 ghost use Rattle.load_record.specs.File.{IsWritable, record_reading, record_file, record_text, ruled};
 ghost use Rattle.kx_laws.specs.Cuts.{IsCutAt};
 
-use crate::body::{give_segments, put_in_front, put_segments, read_segments, room_of, take_segments};
+use crate::body::{
+    give_segments, put_in_front, put_segments, read_segments, room_of, take_segments,
+};
 use crate::fault::RecFault;
 use crate::head::Head;
 use crate::version::Version;
