@@ -2,9 +2,11 @@
 //! with ample memory.
 
 use crate::first_example::{
-    BOOT_TEXT, EXEC, LOAD, first_memory, memory_start, numbers, push_page, run, shelf,
+    BOOT, BOOT_TEXT, EXEC, LOAD, NO_PAGES, first_memory, memory_start, numbers, push_page, run,
+    shelf, words,
 };
-use kx_edge::{MemoryShelf, Shelf};
+use crate::kexec_in_memory;
+use kx_edge::{CalmShelf, MemoryShelf, MemorySink, Shelf};
 use std::alloc::{AllocError, Global};
 use std::test::Fail;
 
@@ -35,6 +37,25 @@ fn a_loaded_list_is_checked_dumped_traced_and_run(rt: HostRuntime) -> Result<(),
         assert_eq!(rt; sink.said(), text);
     }
     assert!(rt; shelf.take(alloc, "x", 20000)? == first_memory(alloc, true)?);
+    Ok(())
+}
+
+// Over files in memory alone, on the shelf that never fails.
+#[test]
+fn the_first_boot_is_done_in_memory(rt: HostRuntime) -> Result<(), Fail> {
+    let alloc = rt.alloc();
+    let mut files = Vec::new(alloc);
+    files.push((String::from_str(alloc, "m")?, NO_PAGES.to_vec(alloc)?))?;
+    files.push((String::from_str(alloc, "p")?, b"10-12\n".to_vec(alloc)?))?;
+    files.push((String::from_str(alloc, "k")?, b"abc".to_vec(alloc)?))?;
+    let mut shelf = CalmShelf::new(alloc, files);
+    shelf.reserve("o", 20000)?;
+    let mut sink = MemorySink::new(alloc, Vec::new(alloc));
+    sink.reserve(400)?;
+    let status = kexec_in_memory(alloc, &words(alloc, &BOOT)?, &mut shelf, &mut sink);
+    assert_eq!(rt; status.code(), 0);
+    assert_eq!(rt; sink.said(), BOOT_TEXT);
+    assert!(rt; shelf.take(alloc, "o", 20000)? == first_memory(alloc, true)?);
     Ok(())
 }
 

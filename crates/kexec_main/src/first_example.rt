@@ -29,8 +29,8 @@ pub(crate) fn split<'a>(alloc: Global, line: &'a str) -> Result<Vec<&'a str>, Al
     Ok(words)
 }
 
-// Words, made of these texts.
-fn words(alloc: Global, texts: &[&str]) -> Result<Vec<String>, AllocError> {
+/// Words, made of these texts.
+pub(crate) fn words(alloc: Global, texts: &[&str]) -> Result<Vec<String>, AllocError> {
     texts
         .iter()
         .map(|text| String::from_str(alloc, text))

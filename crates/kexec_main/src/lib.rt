@@ -11,10 +11,11 @@
 //! | `boot`, `load`, `load_panic`, `check`, `dump`, `exec`, `trace`, `sample` | a command each |
 //! | `laws` | what commands do together |
 //! | `status` | how a command ended, and why it may be refused |
-//! | `run` | the top call |
+//! | `run`, `calm` | the top call, and the same over files in memory |
 #![tactic(auto)]
 
 mod boot;
+mod calm;
 mod check;
 #[cfg(test)]
 mod crash_example;
@@ -56,5 +57,6 @@ mod trace;
 mod wild_list_tests;
 mod words;
 
+pub use calm::kexec_in_memory;
 pub use run::kexec;
 pub use status::{InputFault, Reason, Status};
