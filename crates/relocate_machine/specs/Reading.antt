@@ -32,7 +32,7 @@ IsRead page n p q =
     (s : State) → s.machine.first ≡ None → at s.memory (p.cursor / 4096) ≡ page
     → GoesOn n (standing s p) (standing s q)
 
--- the place is in the page of this address, or at its end
+-- the place is in the page of this address, or at its end, and moves to a page
 pub record IsIn (a : ℕ) (p : Place) : Type 0 where
   pub low : word_address a ≤ p.cursor
   pub high : p.cursor ≤ word_address a + 4096
