@@ -131,7 +131,7 @@ linux_inside ram r file map area p e =
     let kind = Crash area in
     let a = bind_ok (told_by of_bzimage (kernel_reading r.kernel)) (λ image. linux_read ram image r file m kind) p e in
     let b = bind_ok (some_purgatory file) (λ purgatory. linux_placed ram a.0 r purgatory m kind) p a.2 in
-    let c = bind_ok (linux_sites ram a.0 r (option_map (headers_rule a.0) (headers_size m kind r.notes)) (option_map (purgatory_rule (purgatory_most kind a.0.above4g)) b.0))
+    let c = bind_ok (linux_sites ram a.0 (rows_of m kind) r (option_map (headers_rule a.0) (headers_size m kind r.notes)) (option_map (purgatory_rule (purgatory_most kind a.0.above4g)) b.0))
     (λ sites. linux_headed a.0 r b.0 m kind sites) p b.2 in
     let d = bind_ok (some_headers m kind r.notes) (λ headers. linux_made a.0 r b.0 headers m kind c.0) p c.2 in
     let f = bind_ok (linux_parts a.0 r d.0 (rows_of m kind) c.0) (λ parts. finished m kind parts (linux_start c.0) b.0 c.0.later.back.purgatory) p d.2 in

@@ -10,4 +10,5 @@ pub mod Linkages
 pub mod Ways
 pub mod Bare
 pub mod Regions
+pub mod Parameters
 pub mod Area

@@ -67,7 +67,7 @@ module _ (P : Plan → Type 0)
   linux_placed_ends : (ram : ℕ → Bool) (k : Kernel) (r : LinuxAsked) (o : Option PurgatoryValue) (m : Option MapValue) (kind : Kind) → Ends (linux_placed ram k r o m kind)
   unfolding linux_placed
   linux_placed_ends ram k r o m kind =
-      next_ends (linux_sites ram k r (option_map (headers_rule k) (headers_size m kind r.notes)) (option_map (purgatory_rule (purgatory_most kind k.above4g)) o)) (λ sites. linux_headed k r o m kind sites) (λ sites. linux_headed_ends k r o m kind sites)
+      next_ends (linux_sites ram k (rows_of m kind) r (option_map (headers_rule k) (headers_size m kind r.notes)) (option_map (purgatory_rule (purgatory_most kind k.above4g)) o)) (λ sites. linux_headed k r o m kind sites) (λ sites. linux_headed_ends k r o m kind sites)
 
   linux_read_ends : (ram : ℕ → Bool) (k : Kernel) (r : LinuxAsked) (file : Option (List ℕ)) (m : Option MapValue) (kind : Kind) → Ends (linux_read ram k r file m kind)
   unfolding linux_read

@@ -71,20 +71,20 @@ told_command command None = command
 told_command command (Some s) = separated command ++ headers_word s.at
 
 -- where the crash headers lie, then the boot parameters and the purgatory, and the command that tells it
-unfoldable pub later_sites : (ℕ → Bool) → (ℕ → Bool) → Kernel → List ℕ → Option PlaceRule
-    → Option PlaceRule → Result LaterPlaces PlanFault
-later_sites ram taken k command headers_rule purgatory_rule = do
+unfoldable pub later_sites : (ℕ → Bool) → (ℕ → Bool) → Kernel → List Row → List ℕ
+    → Option PlaceRule → Option PlaceRule → Result LaterPlaces PlanFault
+later_sites ram taken k rows command headers_rule purgatory_rule = do
   headers ← placed_some ram taken headers_rule
   back ← back_sites ram (taking_some taken headers)
-      (parameters_rule k (told_command command headers)) purgatory_rule
+      (parameters_rule k rows (told_command command headers)) purgatory_rule
   Ok (record { headers = headers; command = told_command command headers; back = back })
 
--- where the parts lie
-unfoldable pub linux_sites : (ℕ → Bool) → Kernel → LinuxAsked → Option PlaceRule → Option PlaceRule
-    → Result LinuxPlaces PlanFault
-linux_sites ram k r headers_rule purgatory_rule = do
+-- where the parts lie, with these rows of the memory map
+unfoldable pub linux_sites : (ℕ → Bool) → Kernel → List Row → LinuxAsked → Option PlaceRule
+    → Option PlaceRule → Result LinuxPlaces PlanFault
+linux_sites ram k rows r headers_rule purgatory_rule = do
   front ← front_sites ram nothing k r
-  later ← later_sites ram (with_front nothing front) k (command_of r.command) headers_rule
+  later ← later_sites ram (with_front nothing front) k rows (command_of r.command) headers_rule
       purgatory_rule
   Ok (record { front = front; later = later })
 

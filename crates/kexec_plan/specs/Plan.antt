@@ -67,7 +67,8 @@ linux_headed image r purgatory map kind sites = do
 unfoldable pub linux_placed : (ℕ → Bool) → Kernel → LinuxAsked → Option PurgatoryValue
     → Option MapValue → Kind → Result Plan PlanFault
 linux_placed ram image r purgatory map kind = do
-  sites ← linux_sites ram image r (option_map (headers_rule image) (headers_size map kind r.notes))
+  sites ← linux_sites ram image (rows_of map kind) r
+      (option_map (headers_rule image) (headers_size map kind r.notes))
       (option_map (purgatory_rule (purgatory_most kind image.above4g)) purgatory)
   linux_headed image r purgatory map kind sites
 

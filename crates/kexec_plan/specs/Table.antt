@@ -1,12 +1,13 @@
 -- The table of places: for each part the least address, the alignment, the greatest address of its last byte, and
 -- whether the lowest or the highest place is taken (this project's own; the limits of a bzImage are those of the
 -- Linux/x86 boot protocol, "The Real-Mode Kernel Header").
-use Rattle.std.specs.Prelude.{ℕ, ◌+◌, ◌-◌, ◌^◌, Bool, List, length, max, min, if◌then◌else◌}
+use Rattle.std.specs.Prelude.{ℕ, ◌-◌, ◌^◌, Bool, List, length, max, min, if◌then◌else◌}
 use Rattle.hole_search.specs.declared.search.End.TheVariants.{Least, Greatest}
 use Rattle.memory_map.specs.declared.row.Row.{Row}
 use Rattle.multiboot_image.specs.Modules.{PlacedModule}
 use Rattle.multiboot_image.specs.Info.{info_size}
 use Rattle.bzimage.specs.Kernel.{Kernel}
+use Rattle.boot_params.specs.Params.{params_length}
 use Rattle.kexec_plan.specs.Modules.{AskedModule}
 use Rattle.kexec_plan.specs.declared.fault.Part.{Part}
 use Rattle.kexec_plan.specs.declared.fault.Part.TheVariants as parts
@@ -44,10 +45,11 @@ initrd_rule k initrd = highest parts.Initrd (length initrd) (initrd_most k)
 abbrev pub headers_rule : Kernel → ℕ → PlaceRule
 headers_rule k n = highest parts.Headers n (last_address k.above4g)
 
--- its boot parameters: the zero page, the command and a NUL
-abbrev pub parameters_rule : Kernel → List ℕ → PlaceRule
-parameters_rule k command =
-    highest parts.Parameters (4096 + length command + 1) (last_address k.above4g)
+-- its boot parameters: the length of what is made for these rows and this command, as a number of 64 bits
+abbrev pub parameters_rule : Kernel → List Row → List ℕ → PlaceRule
+parameters_rule k rows command =
+    highest parts.Parameters (min (2 ^ 64 - 1) (params_length (length rows) (length command)))
+    (last_address k.above4g)
 
 -- a module of a Multiboot kernel, so that the address behind its last page is below 4 GiB
 abbrev pub module_rule : AskedModule → PlaceRule

@@ -91,7 +91,8 @@ fn linux_placed(
 {
     let headers = some_headers_rule(image, map, kind, &request.notes);
     let rule = some_purgatory_rule(&purgatory, purgatory_most(kind, image.above4g));
-    let sites = match linux_sites(alloc, ram, image, &request, headers, rule) {
+    let rows = rows_of(map, kind);
+    let sites = match linux_sites(alloc, ram, image, rows, &request, headers, rule) {
         Ok(sites) => sites,
         Err(fault) => return Err(fault),
     };

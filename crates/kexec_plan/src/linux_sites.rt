@@ -14,6 +14,7 @@ use crate::places::{PlaceRule, Site, no_pages, place, place_some};
 use crate::table::{initrd_rule, kernel_rule, parameters_rule};
 use bzimage::BzImage;
 use kx_pages::PageSet;
+use memory_map::Row;
 use std::alloc::{AllocError, Global};
 use std::marker::Model;
 
@@ -180,12 +181,13 @@ fn told_command(alloc: Global, command: &[u8], headers: Option<Site>) -> Result<
 }
 
 // Places the crash headers, then boot parameters and purgatory.
-#[tactic(auto, unfolding(crate::specs::Linux::later_sites))]
+#[tactic(auto, unfolding(crate::specs::Linux::later_sites), using(crate::proofs::Parameters::parameters_low))]
 fn later_sites(
     alloc: Global,
     ram: &PageSet,
     taken: &mut PageSet,
     image: &BzImage,
+    rows: &[Row],
     command: &[u8],
     headers_rule: Option<PlaceRule>,
     purgatory_rule: Option<PlaceRule>,
@@ -197,15 +199,16 @@ fn later_sites(
     ensures low { IfOk result (λ s. s.back.parameters.at + 4096 < 2 ^ 46) }
     ensures purgatory { IfOk result (λ s. IsPlacedIf purgatory_rule s.back.purgatory) }
     ensures exact { Gives PlanFault.Memory (λ s. s) result
-        (later_sites (in_spans ram.now) (in_spans taken.old) image.now command.now headers_rule
-        purgatory_rule) }
+        (later_sites (in_spans ram.now) (in_spans taken.old) image.now rows.now command.now
+        headers_rule purgatory_rule) }
 {
     let headers = match place_some(ram, taken, headers_rule) {
         Ok(site) => site,
         Err(fault) => return Err(fault),
     };
     let command = told_command(alloc, command, headers)?;
-    match back_sites(ram, taken, parameters_rule(image, &command), purgatory_rule) {
+    let rule = parameters_rule(image, rows, &command);
+    match back_sites(ram, taken, rule, purgatory_rule) {
         Ok(back) => Ok(LaterSites {
             headers,
             command,
@@ -215,13 +218,14 @@ fn later_sites(
     }
 }
 
-/// Where the parts of a bzImage lie: kernel, initrd, crash headers, boot parameters and purgatory, each apart from those
-/// before.
+/// Where the parts of a bzImage lie: kernel, initrd, crash headers, boot parameters with these rows, and purgatory, each
+/// apart from those before.
 #[tactic(auto, unfolding(crate::specs::Linux::linux_sites))]
 pub(crate) fn linux_sites(
     alloc: Global,
     ram: &PageSet,
     image: &BzImage,
+    rows: &[Row],
     request: &LinuxRequest,
     headers_rule: Option<PlaceRule>,
     purgatory_rule: Option<PlaceRule>,
@@ -234,7 +238,8 @@ pub(crate) fn linux_sites(
     ensures low { IfOk result AreLow }
     ensures purgatory { IfOk result (λ s. IsPlacedIf purgatory_rule s.later.back.purgatory) }
     ensures exact { Gives PlanFault.Memory (λ s. s) result
-        (linux_sites (in_spans ram.now) image.now request.now headers_rule purgatory_rule) }
+        (linux_sites (in_spans ram.now) image.now rows.now request.now headers_rule
+        purgatory_rule) }
 {
     let mut taken = no_pages(alloc);
     let front = match front_sites(ram, &mut taken, image, request) {
@@ -247,6 +252,7 @@ pub(crate) fn linux_sites(
         ram,
         &mut taken,
         image,
+        rows,
         command,
         headers_rule,
         purgatory_rule,

@@ -1,6 +1,6 @@
 use crate::test_files::{
     LITTLE, RAW, RESERVED, SMALL, bzimage, bzimage_of, copy_of, fault, module, purgatory, put,
-    request, request_for,
+    request, request_for, with_rows,
 };
 use crate::{Part, PlanFault, Request};
 use boot_params::ParamsFault;
@@ -199,44 +199,51 @@ fn purgatories_are_read_and_linked(rt: HostRuntime) -> Result<(), Fail> {
     Ok(())
 }
 
-// The text of a map of so many rows: RAM, and page 0 reserved again and again.
-fn rows_of(alloc: Global, count: usize) -> Result<Vec<u8>, Fail> {
-    let mut text = Vec::from_slice(alloc, SMALL)?;
-    for _ in 1..count {
-        text.extend_from_slice(b"0-0 : Reserved\n")?;
-    }
-    Ok(text)
-}
-
 #[test]
 fn parameters_that_cannot_be_made_are_refused(rt: HostRuntime) -> Result<(), Fail> {
     let alloc = rt.alloc();
-    // The rows of the map, the command and the longest one that the kernel takes.
+    // How many rows the map has besides its first, the command and the longest one that the kernel takes.
     let long = ParamsFault::CommandTooLong { length: 5, most: 4 };
-    let rows: [(usize, &[u8], u8, Option<ParamsFault>); 5] = [
+    let rows: [(usize, &[u8], u8, Option<ParamsFault>); 4] = [
         (
-            200,
+            1152,
             b"quiet",
             4,
-            Some(ParamsFault::TooManyRanges { rows: 200 }),
+            Some(ParamsFault::TooManyRanges { rows: 1153 }),
         ),
+        (1151, b"quiet", 4, Some(long)),
+        (1151, b"quiet", 5, None),
         (
-            129,
-            b"quiet",
-            4,
-            Some(ParamsFault::TooManyRanges { rows: 129 }),
+            1151,
+            b"qu\0et",
+            5,
+            Some(ParamsFault::NulInCommand { at: 2 }),
         ),
-        (128, b"quiet", 4, Some(long)),
-        (128, b"quiet", 5, None),
-        (128, b"qu\0et", 5, Some(ParamsFault::NulInCommand { at: 2 })),
     ];
-    for (count, command, most, wanted) in rows {
+    for (more, command, most, wanted) in rows {
         let mut file = bzimage(alloc)?;
         put(&mut file, 0x238, &[most, 0]);
         let mut asked = request(alloc, ImageType::Bzimage, file);
         asked.command = copy_of(alloc, command)?;
-        let found = fault(alloc, asked, &rows_of(alloc, count)?)?;
+        let found = fault(alloc, asked, &with_rows(alloc, SMALL, more)?)?;
         assert_eq!(rt; found, wanted.map(|fault| PlanFault::Params { fault }));
+    }
+    Ok(())
+}
+
+#[test]
+fn rows_of_a_crash_kernel_are_counted_too(rt: HostRuntime) -> Result<(), Fail> {
+    let alloc = rt.alloc();
+    let many = ParamsFault::TooManyRanges { rows: 1153 };
+    // How many rows there are besides the area.
+    for (more, wanted) in [
+        (1152, Some(PlanFault::Params { fault: many })),
+        (1151, None),
+    ] {
+        let mut asked = request_for(alloc, ImageType::Bzimage)?;
+        asked.crash = true;
+        let found = fault(alloc, asked, &with_rows(alloc, RESERVED, more)?)?;
+        assert_eq!(rt; found, wanted);
     }
     Ok(())
 }

@@ -1,6 +1,6 @@
 //! The table of places.
 
-ghost use Rattle.std.specs.Prelude.{◌≡◌, ◌<◌, ◌≤◌, ◌^◌, length};
+ghost use Rattle.std.specs.Prelude.{◌≡◌, ◌≤◌};
 ghost use Rattle.bzimage.specs.Kernel.{IsSound};
 ghost use Rattle.kexec_plan.specs.Table.{last_address, highest, kernel_rule, initrd_rule, headers_rule, parameters_rule, module_rule, information_rule};
 
@@ -79,11 +79,10 @@ pub(crate) fn headers_rule(image: &BzImage, length: u64) -> PlaceRule
 }
 
 /// The boot parameters of a bzImage.
-pub(crate) fn parameters_rule(image: &BzImage, command: &[u8]) -> PlaceRule
-    requires { length command.now < 2 ^ 63 }
-    ensures { result ≡ parameters_rule image.now command.now }
+pub(crate) fn parameters_rule(image: &BzImage, rows: &[Row], command: &[u8]) -> PlaceRule
+    ensures { result ≡ parameters_rule image.now rows.now command.now }
 {
-    let length = PAGE_SIZE + command.len() as u64 + 1;
+    let length = boot_params::length(rows.len(), command.len());
     highest(Part::Parameters, length, last_address(image.above4g))
 }
 

@@ -144,6 +144,15 @@ pub(crate) fn purgatory(alloc: Global) -> Result<Vec<u8>, Fail> {
     file_of(alloc, 0x1000, &fields)
 }
 
+/// The map of this text, and page 0 reserved so many times.
+pub(crate) fn with_rows(alloc: Global, text: &[u8], more: usize) -> Result<Vec<u8>, Fail> {
+    let mut text = Vec::from_slice(alloc, text)?;
+    for _ in 0..more {
+        text.extend_from_slice(b"0-0 : Reserved\n")?;
+    }
+    Ok(text)
+}
+
 /// A request for a kernel of this type, without anything else.
 pub(crate) fn request(alloc: Global, image: ImageType, kernel: Vec<u8>) -> Request {
     Request {

@@ -1,6 +1,6 @@
 use crate::test_files::{
-    LITTLE, MACHINE, RAW, RESERVED, bzimage, bzimage_of, copy_of, module, places, planned,
-    purgatory, put, request, request_for, segment, stand,
+    LITTLE, MACHINE, RAW, RESERVED, SMALL, bzimage, bzimage_of, copy_of, module, places, planned,
+    purgatory, put, request, request_for, segment, stand, with_rows,
 };
 use crate::{Request, plan};
 use crash_headers::Note;
@@ -54,6 +54,30 @@ fn a_linux_kernel_is_placed_with_initrd_and_parameters(rt: HostRuntime) -> Resul
     ];
     for (at, bytes) in parameters {
         assert!(rt; stand(&planned, 2, at, bytes));
+    }
+    Ok(())
+}
+
+#[test]
+fn rows_without_room_in_the_zero_page_follow_the_command(rt: HostRuntime) -> Result<(), Fail> {
+    let alloc = rt.alloc();
+    let mut asked = request_for(alloc, ImageType::Bzimage)?;
+    asked.command = copy_of(alloc, b"quiet")?;
+    let planned = planned(alloc, asked, &with_rows(alloc, SMALL, 199)?)?;
+    let wanted = [(0x100_0000, 4 << 20), (0xfff_e000, 0x2000)];
+    assert!(rt; places(alloc, &planned)?.as_slice() == wanted.as_slice());
+    assert_eq!(rt; segment(&planned, 1).map(|s| s.bytes.len()), Some(5560));
+    // 128 rows in the page, the last of them, the address of the record, the command and 72 rows behind it.
+    let parameters: [(usize, &[u8]); 6] = [
+        (0x1e8, &[128]),
+        (0x250, &[8, 0xf0, 0xff, 0x0f, 0, 0, 0, 0]),
+        (0xcc4, &[1, 0, 0, 0, 0, 0, 0, 0, 2, 0, 0, 0, 0]),
+        (0x1000, b"quiet\0\0\0\0\0\0\0\0\0\0\0"),
+        (0x1010, &[1, 0, 0, 0, 0xa0, 5, 0, 0, 0, 0, 0, 0]),
+        (0x15ac, &[1, 0, 0, 0, 0, 0, 0, 0, 2, 0, 0, 0]),
+    ];
+    for (at, bytes) in parameters {
+        assert!(rt; stand(&planned, 1, at, bytes));
     }
     Ok(())
 }
