@@ -1,0 +1,50 @@
+"""The inputs of the measurements: memory files, raw kernels, pools and memory maps."""
+import struct
+
+PAGE = 4096
+
+
+def page_bytes(number):
+    """A page that is not all zeros, told by its number."""
+    return struct.pack("<Q", number * 2654435761 + 1) * (PAGE // 8)
+
+
+def write_memory(file, pages):
+    """A memory file of these pages, given in rising order."""
+    with open(file, "wb") as out:
+        out.write(b"KXMEM001" + struct.pack("<Q", len(pages)))
+        for number in pages:
+            out.write(struct.pack("<Q", number) + page_bytes(number))
+
+
+def write_kernel(file, pages):
+    """A raw kernel of so many pages, each of other bytes."""
+    with open(file, "wb") as out:
+        for number in range(pages):
+            out.write(page_bytes(number ^ 0x5A5A5A5A))
+
+
+def write_pool(file, pages):
+    with open(file, "w", encoding="ascii") as out:
+        out.writelines(f"{number:x}\n" for number in pages)
+
+
+def need(pages, segments=1):
+    """How many pool pages a plain load of so many segments takes."""
+    return pages + -(-(segments + pages) // 511) + 1
+
+
+def exchange_pool(pages, first):
+    """The pool in which each page but the first is loaded by an exchange with the page before it."""
+    pool, links = [0x10, 0x11, 0x12], 0x20
+    for k in range(1, pages):
+        if (k + 1) % 511 == 0:
+            pool.append(links)
+            links += 1
+        pool.append(first + k - 1)
+    return pool
+
+
+def write_map(file, last):
+    with open(file, "w", encoding="ascii") as out:
+        out.write(f"00001000-{last:08x} : System RAM\n")
