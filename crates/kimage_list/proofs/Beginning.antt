@@ -1,8 +1,8 @@
 -- A load for which all memory is taken, and the first pages that it takes.
-use Rattle.std.proofs.Common.{◌≡◌, ℕ, ◌+◌, ◌-◌, ◌<◌, ◌≤◌, List, [], ◌∷◌, ◌++◌, length, None, refl, sym, ap, ◌∙◌, subst, arith, append-nil, false}
+use Rattle.std.proofs.Common.{◌≡◌, ℕ, ◌+◌, ◌<◌, ◌≤◌, List, [], ◌∷◌, ◌++◌, length, None, refl, sym, ap, ◌∙◌, subst, arith, append-nil, false}
 use Rattle.std.specs.Prelude.{slice_index}
 use Rattle.page_memory.specs.Contents.{Contents, at}
-use Rattle.page_pool.specs.Pages.{Pages}
+use Rattle.page_pool.specs.Pages.{Pages, usable_of}
 use Rattle.kx_pages.specs.Lists.{Distinct, count, destinations}
 use Rattle.kx_pages.specs.Spans.{Run, AreApart, pages, in_spans}
 use Rattle.kx_pages.specs.declared.image.Wish.{Wish}
@@ -108,19 +108,19 @@ module _ (h : History) (list : OpenList) (n : ℕ) (asked : Wish) (k : IsPrepare
       (destination ∙ nothing_after)
 
 -- a load for which all memory is taken
-pub prepared : (M : Contents) (pool : Pages) (wanted : List Run) (segments : ℕ) (wish : Wish) (memory : Contents) (table : Slots) (n : ℕ) (list : OpenList) → n ≡ need_of wish segments (pages wanted) → n ≤ length pool.left
-    → ((q : ℕ) → at memory q ≡ at M q) → Distinct (pool.drawn ++ pool.left) → ((p : ℕ) → is_filed pool p ≡ false) → IsFresh wanted table → AreApart 0 wanted → AreHeld n pool.left memory → 1 ≤ segments
-    → list ≡ record { memory = memory; pool = pool; table = table; next = 0; entries = 0; head = 0 } → IsPrepared (load_begun (at M) pool.left wanted segments wish) list segments wish
+pub prepared : (M : Contents) (pool : Pages) (wanted : List Run) (segments : ℕ) (wish : Wish) (memory : Contents) (table : Slots) (n : ℕ) (list : OpenList) → n ≡ need_of wish segments (pages wanted) → n ≤ length (usable_of pool)
+    → ((q : ℕ) → at memory q ≡ at M q) → Distinct (pool.drawn ++ usable_of pool) → ((p : ℕ) → is_filed pool p ≡ false) → IsFresh wanted table → AreApart 0 wanted → AreHeld n (usable_of pool) memory → 1 ≤ segments
+    → list ≡ record { memory = memory; pool = pool; table = table; next = 0; entries = 0; head = 0 } → IsPrepared (load_begun (at M) (usable_of pool) wanted segments wish) list segments wish
 prepared M pool wanted segments wish memory table n list size enough same once unfiled fresh apart held some is =
     let need = need_of wish segments (pages wanted) in
-    let fits : need_of wish segments (pages wanted) ≤ length pool.left = omega (arith, size, enough) in
-    let single : (x : ℕ) → count x pool.left ≤ 1 = λ x. omega (arith, count-from_Distinct x (pool.drawn ++ pool.left) once, count-append x pool.drawn pool.left) in
-    let o = opens_under_way.0 (at M) (in_spans wanted) (λ p. None) (need_of wish segments (pages wanted)) pool.left (pages_in wanted) single (has-pages_in wanted) fits in
-    subst (λ l. IsPrepared (load_begun (at M) pool.left wanted segments wish) l segments wish) (sym is) (record {
+    let fits : need_of wish segments (pages wanted) ≤ length (usable_of pool) = omega (arith, size, enough) in
+    let single : (x : ℕ) → count x (usable_of pool) ≤ 1 = λ x. omega (arith, count-from_Distinct x (pool.drawn ++ usable_of pool) once, count-append x pool.drawn (usable_of pool)) in
+    let o = opens_under_way.0 (at M) (in_spans wanted) (λ p. None) (need_of wish segments (pages wanted)) (usable_of pool) (pages_in wanted) single (has-pages_in wanted) fits in
+    subst (λ l. IsPrepared (load_begun (at M) (usable_of pool) wanted segments wish) l segments wish) (sym is) (record {
       nothing = refl;
       segments = refl;
       wish = refl;
-      writes = opened (at M) (in_spans wanted) (λ p. None) (need_of wish segments (pages wanted)) memory pool table fits same once unfiled fresh.each (subst (λ m. AreHeld m pool.left memory) size held);
+      writes = opened (at M) (in_spans wanted) (λ p. None) (need_of wish segments (pages wanted)) memory pool table fits same once unfiled fresh.each (subst (λ m. AreHeld m (usable_of pool) memory) size held);
       under_way = o.0;
       apart = apart;
       some = some;

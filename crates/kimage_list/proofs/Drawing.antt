@@ -6,7 +6,7 @@ use Rattle.std.proofs.lemmas.Bool.Decides.{eqb_tells}
 use Rattle.std.specs.Ordering.{nat_cmp, is_eq}
 use Rattle.std.specs.Cmp.{nat_cmp_total, eq_by_cmp_equiv}
 use Rattle.std.specs.FinMap.{get, get-insert}
-use Rattle.page_pool.specs.Pages.{Pages, is_filed, marked}
+use Rattle.page_pool.specs.Pages.{Pages, is_filed, marked, usable_of}
 use Rattle.kimage_list.proofs.Lists.{eqb-self}
 use Rattle.kimage_list.proofs.Tables.{apart}
 use Rattle.kimage_list.specs.Load.{Loading, without, source_of, at_home, is_for, draw, taken}
@@ -77,8 +77,8 @@ source_of-at_home_other p q (r ∷ ps) n = go (eqb_tells r.0 q) (source_of-at_ho
     go (inr t) ih = rw t.0 (ap (cond (eqb r.0 p) (Some r.1)) ih)
 
 -- the next page is given
-pub tracks-given : (D : ℕ → Bool) (m : Loading) (pool pool' : Pages) (table : Slots) (q : ℕ) → Tracks D m pool table → pool.left ≡ q ∷ pool'.left → pool'.marks ≡ pool.marks
-    → Tracks D (loading pool'.left m.filed m.pairs m.spare) pool' table
+pub tracks-given : (D : ℕ → Bool) (m : Loading) (pool pool' : Pages) (table : Slots) (q : ℕ) → Tracks D m pool table → usable_of pool ≡ q ∷ usable_of pool' → pool'.marks ≡ pool.marks
+    → Tracks D (loading (usable_of pool') m.filed m.pairs m.spare) pool' table
 tracks-given D m pool pool' table q s l k = record {
   left = refl;
   filed = λ p. ap (λ x. unwrap_or (get x p) false) k ∙ s.filed p;
@@ -103,8 +103,8 @@ or_cond true c = refl
 or_cond false c = refl
 
 -- the next page is filed
-pub tracks-filed : (D : ℕ → Bool) (m : Loading) (pool pool' : Pages) (table : Slots) (q : ℕ) → Tracks D m pool table → pool.left ≡ q ∷ pool'.left → pool'.marks ≡ pool.marks
-    → Tracks D (loading pool'.left (q ∷ m.filed) m.pairs m.spare) (marked pool' q true) table
+pub tracks-filed : (D : ℕ → Bool) (m : Loading) (pool pool' : Pages) (table : Slots) (q : ℕ) → Tracks D m pool table → usable_of pool ≡ q ∷ usable_of pool' → pool'.marks ≡ pool.marks
+    → Tracks D (loading (usable_of pool') (q ∷ m.filed) m.pairs m.spare) (marked pool' q true) table
 tracks-filed D m pool pool' table q s l k = record {
   left = refl;
   filed = λ p. is_filed-marked pool' q p true ∙ or_cond (eqb q p) (is_filed pool' p) ∙ ap (λ b. eqb q p || b) (ap (λ x. unwrap_or (get x p) false) k ∙ s.filed p);
@@ -147,24 +147,24 @@ places-exchanged table table' q x o n k p = go (eqb_tells q p)
     go (inr t) = ap place_in (k p t.1)
 
 -- what drawing q gives where the loop tracks
-stepped : (D : ℕ → Bool) (r : Option ℕ) (l : Loading) (pool pool' : Pages) (table : Slots) (q : ℕ) (f : Fate) (h : Reaches D r l pool table) → pool.left ≡ q ∷ pool'.left
-    → f ≡ fate_of (is_for r q) (slot table q) → Step D r h.now.pairs h.now.spare h.now.filed q pool'.left f
+stepped : (D : ℕ → Bool) (r : Option ℕ) (l : Loading) (pool pool' : Pages) (table : Slots) (q : ℕ) (f : Fate) (h : Reaches D r l pool table) → usable_of pool ≡ q ∷ usable_of pool'
+    → f ≡ fate_of (is_for r q) (slot table q) → Step D r h.now.pairs h.now.spare h.now.filed q (usable_of pool') f
 stepped D r l pool pool' table q f h e g =
-    subst (Step D r h.now.pairs h.now.spare h.now.filed q pool'.left) (sym g)
-    (draw_step D r h.now.pairs h.now.spare h.now.filed q pool'.left (is_for r q) (slot table q) refl (h.tracks.wanted q) (h.tracks.loaded q))
+    subst (Step D r h.now.pairs h.now.spare h.now.filed q (usable_of pool')) (sym g)
+    (draw_step D r h.now.pairs h.now.spare h.now.filed q (usable_of pool') (is_for r q) (slot table q) refl (h.tracks.wanted q) (h.tracks.loaded q))
 
-before : (D : ℕ → Bool) (r : Option ℕ) (l : Loading) (pool pool' : Pages) (table : Slots) (q : ℕ) (h : Reaches D r l pool table) → pool.left ≡ q ∷ pool'.left
-    → draw D r l.pairs l.spare l.filed l.left ≡ draw D r h.now.pairs h.now.spare h.now.filed (q ∷ pool'.left)
+before : (D : ℕ → Bool) (r : Option ℕ) (l : Loading) (pool pool' : Pages) (table : Slots) (q : ℕ) (h : Reaches D r l pool table) → usable_of pool ≡ q ∷ usable_of pool'
+    → draw D r l.pairs l.spare l.filed l.left ≡ draw D r h.now.pairs h.now.spare h.now.filed (q ∷ usable_of pool')
 before D r l pool pool' table q h e = sym h.same ∙ ap (draw D r h.now.pairs h.now.spare h.now.filed) (sym h.tracks.left ∙ e)
 
 -- gives at a value of the definition that is known
 pub gives_at : (D : ℕ → Bool) (l : Loading) (o : Option (ℕ × Loading)) (t : ℕ × Loading) (x : TakenPage) (pool : Pages) (table table' : Slots) → o ≡ Some t → Took D l t x pool table table' → Gives D l o (Some x) pool table table'
 gives_at D l o t x pool table table' e k = subst (λ v. Gives D l v (Some x) pool table table') (sym e) k
 
-pub gives-given : (D : ℕ → Bool) (r : Option ℕ) (l : Loading) (pool pool' : Pages) (table now : Slots) (q : ℕ) → Reaches D r l pool now → now ≡ table → pool.left ≡ q ∷ pool'.left → pool'.marks ≡ pool.marks
+pub gives-given : (D : ℕ → Bool) (r : Option ℕ) (l : Loading) (pool pool' : Pages) (table now : Slots) (q : ℕ) → Reaches D r l pool now → now ≡ table → usable_of pool ≡ q ∷ usable_of pool' → pool'.marks ≡ pool.marks
     → Given ≡ fate_of (is_for r q) (slot now q) → Gives D l (draw D r l.pairs l.spare l.filed l.left) (Some (record { page = q; moved = None })) pool' table now
 gives-given D r l pool pool' table now q h e left marks f =
-    gives_at D l _ (q, loading pool'.left h.now.filed h.now.pairs h.now.spare) (record { page = q; moved = None }) pool' table now
+    gives_at D l _ (q, loading (usable_of pool') h.now.filed h.now.pairs h.now.spare) (record { page = q; moved = None }) pool' table now
     (before D r l pool pool' now q h left ∙ stepped D r l pool pool' now q Given h left f)
     (record {
       page = refl;
@@ -173,47 +173,48 @@ gives-given D r l pool pool' table now q h e left marks f =
       places = λ p. ap (λ t. place_in (slot t p)) e;
     })
 
-pub gives-exchanged : (D : ℕ → Bool) (r : Option ℕ) (l : Loading) (pool pool' : Pages) (table now table' : Slots) (q : ℕ) (x : PageSource) (y : TakenPage) → Reaches D r l pool now → now ≡ table → pool.left ≡ q ∷ pool'.left → pool'.marks ≡ pool.marks
+pub gives-exchanged : (D : ℕ → Bool) (r : Option ℕ) (l : Loading) (pool pool' : Pages) (table now table' : Slots) (q : ℕ) (x : PageSource) (y : TakenPage) → Reaches D r l pool now → now ≡ table → usable_of pool ≡ q ∷ usable_of pool' → pool'.marks ≡ pool.marks
     → Exchanged x ≡ fate_of (is_for r q) (slot now q) → y.page ≡ x.source → y.moved ≡ Some (record { page = q; place = x.place })
     → slot table' q ≡ Some (Some (record { source = q; place = x.place })) → ((p : ℕ) → q ≢ p → slot table' p ≡ slot now p)
     → Gives D l (draw D r l.pairs l.spare l.filed l.left) (Some y) pool' table table'
 gives-exchanged D r l pool pool' table now table' q x y h e left marks f page moved here others =
     let k = stepped D r l pool pool' now q (Exchanged x) h left f in
     let o = fate-exchanged (is_for r q) (slot now q) x (sym f) in
-    gives_at D l _ (x.source, loading pool'.left h.now.filed (at_home q h.now.pairs) h.now.spare) y pool' table table'
+    gives_at D l _ (x.source, loading (usable_of pool') h.now.filed (at_home q h.now.pairs) h.now.spare) y pool' table table'
     (before D r l pool pool' now q h left ∙ k.0)
     (record {
       page = page;
-      tracks = tracks-exchanged D (loading pool'.left h.now.filed h.now.pairs h.now.spare) pool' now table' q x (tracks-given D h.now pool pool' now q h.tracks left marks) o here others;
+      tracks = tracks-exchanged D (loading (usable_of pool') h.now.filed h.now.pairs h.now.spare) pool' now table' q x (tracks-given D h.now pool pool' now q h.tracks left marks) o here others;
       exchanged = subst (λ v. Pair v l.pairs (at_home q h.now.pairs) x.source table) (sym moved)
           (ap (source_of q) (sym h.pairs) ∙ k.1, ap (at_home q) h.pairs, ap (λ t. place_in (slot t q)) (sym e) ∙ ap place_in o);
       places = λ p. places-exchanged now table' q x o here others p ∙ ap (λ t. place_in (slot t p)) e;
     })
 
 -- drawing a page, and marking one, keep the pool's pages
-pub whole-drawn : (pool pool' : Pages) (q : ℕ) → pool.left ≡ q ∷ pool'.left → pool'.drawn ≡ pool.drawn ++ q ∷ [] → whole_pool pool' ≡ whole_pool pool
-whole-drawn pool pool' q left drawn =
-    ap (λ xs. xs ++ pool'.left) drawn ∙ append_assoc pool.drawn (q ∷ []) pool'.left ∙ ap (λ xs. pool.drawn ++ xs) (sym left)
+pub whole-drawn : (pool pool' : Pages) (q : ℕ) → usable_of pool ≡ q ∷ usable_of pool' → pool' ≡ record pool { drawn = pool.drawn ++ q ∷ [] } → whole_pool pool' ≡ whole_pool pool
+whole-drawn pool pool' q left new =
+    ap (λ (v : Pages). (v.drawn ++ usable_of pool', v.made, v.limit)) new
+    ∙ ap (λ (xs : List ℕ). (xs, pool.made, pool.limit)) (append_assoc pool.drawn (q ∷ []) (usable_of pool') ∙ ap (λ xs. pool.drawn ++ xs) (sym left))
 
 pub whole-marked : (pool pool' : Pages) (q : ℕ) (b : Bool) → pool' ≡ marked pool q b → whole_pool pool' ≡ whole_pool pool
 whole-marked pool pool' q b e = ap whole_pool e
 
-pub draws-filed : (r : Option ℕ) (pool pool' pool'' : Pages) (start : Pages) (table now : Slots) (q : ℕ) → Draws r start table pool now → pool.left ≡ q ∷ pool'.left → pool'.drawn ≡ pool.drawn ++ q ∷ [] → pool'.marks ≡ pool.marks
+pub draws-filed : (r : Option ℕ) (pool pool' pool'' : Pages) (start : Pages) (table now : Slots) (q : ℕ) → Draws r start table pool now → usable_of pool ≡ q ∷ usable_of pool' → pool' ≡ record pool { drawn = pool.drawn ++ q ∷ [] }
     → Filed ≡ fate_of (is_for r q) (slot now q) → pool'' ≡ marked pool' q true → Draws r start table pool'' now
-draws-filed r pool pool' pool'' start table now q d left drawn marks f e = record {
+draws-filed r pool pool' pool'' start table now q d left new f e = record {
   reaches = λ D l s.
       let h = d.reaches D l s in
       record {
-        now = loading pool'.left (q ∷ h.now.filed) h.now.pairs h.now.spare;
-        tracks = subst (λ v. Tracks D (loading pool'.left (q ∷ h.now.filed) h.now.pairs h.now.spare) v now) (sym e) (tracks-filed D h.now pool pool' now q h.tracks left marks);
+        now = loading (usable_of pool') (q ∷ h.now.filed) h.now.pairs h.now.spare;
+        tracks = subst (λ v. Tracks D (loading (usable_of pool') (q ∷ h.now.filed) h.now.pairs h.now.spare) v now) (sym e) (tracks-filed D h.now pool pool' now q h.tracks left (ap (λ v. v.marks) new));
         same = sym (stepped D r l pool pool' now q Filed h left f) ∙ sym (before D r l pool pool' now q h left);
         pairs = h.pairs;
       };
   same = d.same;
-  pages = whole-marked pool' pool'' q true e ∙ whole-drawn pool pool' q left drawn ∙ d.pages;
+  pages = whole-marked pool' pool'' q true e ∙ whole-drawn pool pool' q left new ∙ d.pages;
 }
 
-pub gives-none : (D : ℕ → Bool) (r : Option ℕ) (l : Loading) (pool pool' : Pages) (table now : Slots) → Reaches D r l pool now → pool.left ≡ [] → Gives D l (draw D r l.pairs l.spare l.filed l.left) None pool' table now
+pub gives-none : (D : ℕ → Bool) (r : Option ℕ) (l : Loading) (pool pool' : Pages) (table now : Slots) → Reaches D r l pool now → usable_of pool ≡ [] → Gives D l (draw D r l.pairs l.spare l.filed l.left) None pool' table now
 gives-none D r l pool pool' table now h e =
     let k : draw D r l.pairs l.spare l.filed l.left ≡ None = sym h.same ∙ ap (draw D r h.now.pairs h.now.spare h.now.filed) (sym h.tracks.left ∙ e) in
     subst (λ v. Gives D l v None pool' table now) (sym k) tt

@@ -21,6 +21,7 @@ pub mod Standings
 pub mod MakingRoom
 pub mod Awaiting
 pub mod Beginning
+pub mod DrawnPools
 pub mod WrittenLists
 pub mod Segmented
 pub mod Examples

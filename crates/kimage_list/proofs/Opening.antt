@@ -4,7 +4,7 @@ use Rattle.std.specs.Prelude.{◌≢◌, ◌⊎◌, eqb, slice_index, is_some}
 use Rattle.std.proofs.lemmas.Option.{none-some}
 use Rattle.std.proofs.lemmas.Bool.Decides.{eqb_tells}
 use Rattle.page_memory.specs.Contents.{Contents, at, IsHeld}
-use Rattle.page_pool.specs.Pages.{Pages, is_filed}
+use Rattle.page_pool.specs.Pages.{Pages, is_filed, usable_of}
 use Rattle.std.specs.List.{slice_get}
 use Rattle.std.specs.Prelude.{◌||◌}
 use Rattle.std.specs.Prelude.{◌^◌, Result, Ok, Err, OnOk, All}
@@ -37,8 +37,8 @@ at_first (suc n) (y ∷ xs) x c = go (eqb_tells y x) (at_first n xs x)
         (suc k.0, omega (arith, k.1), k.2)
 
 pub opened : (M : Mem) (D : ℕ → Bool) (W : Wants) (need : ℕ) (memory : Contents) (pool : Pages) (table : Slots)
-    → need ≤ length pool.left → ((q : ℕ) → at memory q ≡ M q) → Distinct (pool.drawn ++ pool.left) → ((p : ℕ) → is_filed pool p ≡ false) → ((p : ℕ) → slot table p ≡ fresh_slot (D p)) → AreHeld need pool.left memory
-    → Renders (initial M D W need pool.left) [] memory pool table 0 0
+    → need ≤ length (usable_of pool) → ((q : ℕ) → at memory q ≡ M q) → Distinct (pool.drawn ++ usable_of pool) → ((p : ℕ) → is_filed pool p ≡ false) → ((p : ℕ) → slot table p ≡ fresh_slot (D p)) → AreHeld need (usable_of pool) memory
+    → Renders (initial M D W need (usable_of pool)) [] memory pool table 0 0
 opened M D W need memory pool table enough same once unfiled fresh held = record {
   tracks = record {
     left = refl;
@@ -53,8 +53,8 @@ opened M D W need memory pool table enough same once unfiled fresh held = record
   homes = tt;
   once = λ x. omega (arith, single x);
   within = λ x. omega arith;
-  held = λ x c. let k = at_first need pool.left x c in subst (IsHeld memory) k.2 (held.held k.0 k.1);
-  below = λ x c. let k = at_first need pool.left x c in let h = held.below k.0 k.1 in omega (arith, h, k.2);
+  held = λ x c. let k = at_first need (usable_of pool) x c in subst (IsHeld memory) k.2 (held.held k.0 k.1);
+  below = λ x c. let k = at_first need (usable_of pool) x c in let h = held.below k.0 k.1 in omega (arith, h, k.2);
   list = tt;
   loaded = tt;
   others = λ x z. same x;
@@ -63,8 +63,8 @@ opened M D W need memory pool table enough same once unfiled fresh held = record
   many = refl;
 }
   where
-    single : (x : ℕ) → count x pool.left ≤ 1
-    single x = omega (arith, count-from_Distinct x (pool.drawn ++ pool.left) once, count-append x pool.drawn pool.left)
+    single : (x : ℕ) → count x (usable_of pool) ≤ 1
+    single x = omega (arith, count-from_Distinct x (pool.drawn ++ usable_of pool) once, count-append x pool.drawn (usable_of pool))
 
     is_fresh : (b : Bool) → b ≡ is_some (fresh_slot b)
     is_fresh true = refl

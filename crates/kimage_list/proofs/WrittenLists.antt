@@ -1,6 +1,6 @@
 -- The list of a load that was asked for all its pages.
-use Rattle.std.proofs.Common.{◌≡◌, ℕ, ◌+◌, ◌-◌, ◌≤◌, List, [], ◌∷◌, ◌++◌, length, Option, Some, None, refl, sym, ap, ◌∙◌, subst, arith, take, drop, length-append, true, false}
-use Rattle.std.specs.Prelude.{◌≢◌, ◌/◌, is_some, slice_index}
+use Rattle.std.proofs.Common.{◌≡◌, ℕ, ◌+◌, ◌≤◌, List, [], ◌∷◌, ◌++◌, length, Option, Some, None, refl, sym, ap, ◌∙◌, subst, arith, take, drop, length-append, true}
+use Rattle.std.specs.Prelude.{◌/◌, is_some, slice_index}
 use Rattle.std.proofs.lemmas.Bool.{false≢true}
 use Rattle.page_memory.specs.Contents.{at}
 use Rattle.std.proofs.lemmas.List.{take-append-drop}
@@ -10,13 +10,13 @@ use Rattle.kx_pages.specs.declared.image.Image.{Image}
 use Rattle.kx_pages.specs.Lists.{Has, has, count, sources}
 use Rattle.kx_pages.specs.Items.{code}
 use Rattle.kx_pages.specs.declared.item.Item.TheVariants.{Link}
-use Rattle.kimage_list.specs.Load.{pages_of, requests, loaded}
+use Rattle.kimage_list.specs.Load.{pages_of}
 use Rattle.kimage_list.specs.Laying.{items, source_pages, put_all, link_pages, laid, head_of, links_of, control_of, load_mode}
 use Rattle.kimage_list.specs.Tables.{slot, source_in}
 use Rattle.kimage_list.specs.Drafts.{Draft, HasLink, laid_by, HeadIs}
 use Rattle.kimage_list.specs.Calls.{IsWritten}
 use Rattle.kimage_list.specs.declared.written.Written.{Written}
-use Rattle.page_pool.specs.Pages.{is_filed}
+use Rattle.page_pool.specs.Pages.{is_filed, usable_of}
 use Rattle.kimage_list.specs.Writers.{History, Writer, StandsAt, IsAwaited, draft_of, is_wanted, need, pages_in}
 use Rattle.kimage_list.proofs.Lists.{keys, keys-append, keys-source_pages, keys-link_pages, put_all_other}
 use Rattle.kimage_list.proofs.Counting.{counted_fit}
@@ -68,7 +68,7 @@ module _ (h : History) (w : Writer) (s : StandsAt h w) (started_all : w.segments
   drawn_all : (s.loading.filed ≡ []) × (s.loading.left ≡ drop (need h) h.pool)
   drawn_all = all_drawn h.pool (pages_in h.wanted) (need h) (draft_of h s.loading s.inside.first s.inside.links) s.inside.under_way every taken_all
 
-  -- the pages in use are the first ones of the pool
+  -- the pages in use are the first usable ones of the pool
   in_use : (x : ℕ) → count x s.loading.spare + count x (sources s.loading.pairs) ≡ count x (take (need h) h.pool)
   in_use x =
       omega (arith, s.inside.under_way.counts.conserved x, ap (count x) drawn_all.0, ap (count x) drawn_all.1, count-append x (take (need h) h.pool) (drop (need h) h.pool), ap (count x) (take-append-drop (need h) h.pool))
@@ -102,7 +102,7 @@ module _ (h : History) (w : Writer) (s : StandsAt h w) (started_all : w.segments
         requests = s.requests;
         image = image ∙ same_image w.head (head_of h.wish s.loading) w.mode (load_mode h.wish s.loading) w.control (control_of s.loading) (head_is s.inside.links w.head s.inside.head has_link ∙ ap (λ ls. code (Link (slice_index ls 0))) (sym links_same)) s.mode s.control;
         memory = laid_there;
-        drawn = ap (λ v. v.left) pool ∙ s.left ∙ drawn_all.1;
+        usable = ap usable_of pool ∙ s.left ∙ drawn_all.1;
         in_use = in_use;
         unfiled = λ p. ap (λ v. is_filed v p) pool ∙ s.filed p ∙ ap (has p) drawn_all.0;
         once = s.inside.under_way.counts.once;

@@ -1,8 +1,8 @@
 -- What the writer's calls begin with, and what they leave (this project's own).
-use Rattle.std.specs.Prelude.{◌≡◌, ℕ, ◌+◌, ◌≤◌, ◌<◌, ◌^◌, List, [], take, drop, false, None, Some}
+use Rattle.std.specs.Prelude.{◌≡◌, ℕ, ◌+◌, ◌≤◌, ◌<◌, ◌^◌, List, [], ◌++◌, take, drop, false, None, Some}
 use Rattle.page_memory.specs.Contents.{at}
 use Rattle.page_memory.specs.Memory.{Mem}
-use Rattle.page_pool.specs.Pages.{is_filed}
+use Rattle.page_pool.specs.Pages.{Pages, is_filed, left_among, left_of, usable_of}
 use Rattle.kx_pages.specs.Lists.{count, sources}
 use Rattle.kx_pages.specs.Spans.{Run, AreApart}
 use Rattle.kx_pages.specs.declared.image.Wish.{Wish}
@@ -17,7 +17,7 @@ use Rattle.kimage_list.specs.Drafts.{Renders}
 use Rattle.kimage_list.specs.Counted.{UnderWay}
 use Rattle.kimage_list.specs.Writers.{History, Writer, is_wanted, need, pages_in, draft_of}
 
--- a load that is asked for these pages, and has no entry yet
+-- a load that is asked for these pages over a pool of these usable pages, and has no entry yet
 abbrev pub load_begun : Mem → List ℕ → List Run → ℕ → Wish → History
 load_begun M pool wanted segments wish =
     record {
@@ -30,7 +30,7 @@ load_begun M pool wanted segments wish =
       bytes = λ p. None;
     }
 
--- why a list is not begun: too few pages exactly where the pool has fewer than the load takes
+-- why a list is not begun: too few pages exactly where the pool has fewer usable ones than the load takes
 abbrev pub Refuses : BeginFault → ℕ → ℕ → Type 0
 Refuses (NoPages pool n) left need = (left < need) × (pool ≡ left) × (n ≡ need)
 Refuses Memory left need = need ≤ left
@@ -62,6 +62,15 @@ pub record IsPrepared (h : History) (list : OpenList) (n : ℕ) (asked : Wish) :
   pub apart : AreApart 0 h.wanted
   pub some : 1 ≤ h.segments
 
+-- Pool q is pool p after the first n of its usable pages were drawn: they are gone from the pages left, and the others
+-- stay in their order, also those that are not usable.
+pub record HasDrawn (n : ℕ) (p q : Pages) : Type 0 where
+  pub drawn : q.drawn ≡ p.drawn ++ take n (usable_of p)
+  pub usable : usable_of q ≡ drop n (usable_of p)
+  pub left : left_of q ≡ left_among (left_of p) (take n (usable_of p))
+  pub made : q.made ≡ p.made
+  pub limit : q.limit ≡ p.limit
+
 -- What a load leaves that was asked for all its pages.
 pub record IsWritten (h : History) (w : Written) : Type 0 where
   pub loading : Loading
@@ -70,12 +79,12 @@ pub record IsWritten (h : History) (w : Written) : Type 0 where
   pub image : w.image ≡ image_of h.wish loading
   -- the list over the link pages, the bytes given at the sources, and every other page as before
   pub memory : (p : ℕ) → at w.memory p ≡ laid h.before h.bytes h.wish h.entries loading p
-  -- the pool has left what follows its first pages, as many as the load takes, and these are the pages in use
-  pub drawn : w.pool.left ≡ drop (need h) h.pool
+  -- of the usable pages those are left that follow the first, as many as the load takes, and these are the pages in use
+  pub usable : usable_of w.pool ≡ drop (need h) h.pool
   pub in_use : (x : ℕ)
       → count x loading.spare + count x (sources loading.pairs) ≡ count x (take (need h) h.pool)
   pub unfiled : (p : ℕ) → is_filed w.pool p ≡ false
-  -- the pool's pages differ, and those in use have numbers below 2 ^ 34
+  -- the usable pages differ, and those in use have numbers below 2 ^ 34
   pub once : (x : ℕ) → count x h.pool ≤ 1
   pub below : (x : ℕ) → 1 ≤ count x (take (need h) h.pool) → x < 2 ^ 34
   -- memory agrees with what it was at every other page

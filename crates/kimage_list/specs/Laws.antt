@@ -65,8 +65,8 @@ OpensUnderWay =
     → length d.loading.spare + 1 + length all ≤ need
     → (t : ℕ × Loading) × CanTake d None t × UnderWay pool all need (first_taken d t))
 
--- The pages taken first, the control page, the swap page and the first link page, are the first pages of the pool that
--- are no destinations. D tells the destinations.
+-- The pages taken first, the control page, the swap page and the first link page, are the first usable pages of the pool
+-- that are no destinations. D tells the destinations.
 abbrev pub FirstPages : Type 0
 FirstPages =
     (D : ℕ → Bool) (wish : Wish) (e : Entry) (es : List Entry) (pool : List ℕ) (l : Loading)

@@ -53,7 +53,7 @@ requests wish es = replicate (first_count wish) None ++ requests_from 0 es
 
 -- where a load stands
 pub record Loading : Type 0 where
-  pub left : List ℕ  -- pool pages not yet drawn
+  pub left : List ℕ  -- usable pool pages not yet drawn
   pub filed : List ℕ  -- drawn destination pages, kept for their own requests
   pub pairs : List (ℕ × ℕ)  -- (destination, source) so far
   pub spare : List ℕ  -- pages taken for no destination so far
@@ -111,6 +111,6 @@ abbrev pub served : (ℕ → Bool) → List Request → Loading → Option Loadi
 served D [] l = Some l
 served D (r ∷ rs) l = elim (taken D r l) [ None ↦ None | Some t ↦ served D rs (given r t) ]
 
--- where a load of these entries stands that began with this pool
+-- where a load of these entries stands that began with a pool of these usable pages
 abbrev pub loaded : (ℕ → Bool) → Wish → List Entry → List ℕ → Option Loading
 loaded D wish es pool = served D (requests wish es) (begun pool)

@@ -1,6 +1,6 @@
 -- Where a pool and a table stand while a list is written (this project's own).
 use Rattle.std.specs.Prelude.{◌≡◌, ℕ, ◌+◌, ◌≤◌, List, ◌++◌, Bool, true, false, Option, Some, None, is_some}
-use Rattle.page_pool.specs.Pages.{Pages, is_filed}
+use Rattle.page_pool.specs.Pages.{Pages, is_filed, usable_of}
 use Rattle.kx_pages.specs.Lists.{has, count}
 use Rattle.kimage_list.specs.declared.table.PageSource.{PageSource}
 use Rattle.kimage_list.specs.declared.taking.MovedPage.{MovedPage}
@@ -12,7 +12,7 @@ use Rattle.kimage_list.specs.Tables.{Slots, slot, source_in, place_in}
 
 -- pool and table are those of a loading
 pub record Tracks (D : ℕ → Bool) (l : Loading) (pool : Pages) (table : Slots) : Type 0 where
-  pub left : pool.left ≡ l.left
+  pub left : usable_of pool ≡ l.left
   pub filed : (p : ℕ) → is_filed pool p ≡ has p l.filed
   pub wanted : (p : ℕ) → D p ≡ is_some (slot table p)
   pub loaded : (p : ℕ) → source_in (slot table p) ≡ source_of p l.pairs
@@ -57,9 +57,9 @@ pub record Reaches (D : ℕ → Bool) (r : Option ℕ) (l : Loading) (pool : Pag
       ≡ draw D r l.pairs l.spare l.filed l.left
   pub pairs : now.pairs ≡ l.pairs
 
--- all pages of a pool: those drawn, then those left
-abbrev pub whole_pool : Pages → List ℕ
-whole_pool pool = pool.drawn ++ pool.left
+-- what of a pool no draw changes: the pages drawn and then those usable, the pages that it was made of, and its limit
+abbrev pub whole_pool : Pages → List ℕ × List ℕ × ℕ
+whole_pool pool = (pool.drawn ++ usable_of pool, pool.made, pool.limit)
 
 -- the loop that draws
 pub record Draws (r : Option ℕ) (pool : Pages) (table : Slots) (pool' : Pages) (table' : Slots)

@@ -3,7 +3,7 @@ use Rattle.std.specs.Prelude.{◌≡◌, ℕ, zero, suc, ◌+◌, ◌≤◌, Lis
 use Rattle.std.specs.Coded.{Coded, code_by, coded×, coded_ℕ, coded_option}
 use Rattle.page_memory.specs.Contents.{Contents, contents_code, at}
 use Rattle.page_memory.specs.Memory.{Mem, Wants}
-use Rattle.page_pool.specs.Pages.{Pages, pages_code, is_filed}
+use Rattle.page_pool.specs.Pages.{Pages, pages_code, is_filed, usable_of}
 use Rattle.kx_pages.specs.Spans.{Run, in_spans, pages, AreApart}
 use Rattle.kx_pages.specs.Lists.{Each, Has, has, count, sources}
 use Rattle.kx_pages.specs.declared.image.Wish.{Wish}
@@ -21,7 +21,7 @@ use Rattle.kx_pages.specs.Needs.{first_count, need_of}
 -- What a load was asked for so far.
 pub record History : Type 0 where
   pub before : Mem  -- memory before it
-  pub pool : List ℕ  -- the pages that the pool had left before it
+  pub pool : List ℕ  -- the pool's usable pages before it
   pub wanted : List Run  -- the destination pages
   pub segments : ℕ
   pub wish : Wish
@@ -153,9 +153,9 @@ pub record IsOpen (h : History) (l : Loading) (w : Writer) : Type 0 where
 -- The writer stands where a load stands that was asked for this.
 pub record StandsAt (h : History) (w : Writer) : Type 0 where
   pub loading : Loading
-  -- pages left, pages filed, pairs, link pages are those of the requests so far
+  -- usable pages, pages filed, pairs, link pages are those of the requests so far
   pub requests : loaded (is_wanted h) h.wish h.entries h.pool ≡ Some loading
-  pub left : w.pool.left ≡ loading.left
+  pub left : usable_of w.pool ≡ loading.left
   pub filed : (p : ℕ) → is_filed w.pool p ≡ has p loading.filed
   -- memory is as it was, but for the list and the sources so far
   pub memory : (p : ℕ)

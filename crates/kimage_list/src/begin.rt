@@ -3,6 +3,7 @@
 ghost use Rattle.std.specs.Prelude.{◌≡◌, ℕ, ◌≤◌, ◌<◌, ◌+◌, ◌^◌, ◌||◌, length, slice_index, take, OnOk, IfOk, Some, None, cond};
 ghost use Rattle.std.specs.List.Sorted.{IsPermutation};
 ghost use Rattle.page_memory.specs.Contents.{at, IsHeld};
+ghost use Rattle.page_pool.specs.Pages.{usable_of};
 ghost use Rattle.kx_pages.specs.Spans.{AreApart, in_spans, in_span};
 ghost use Rattle.kimage_list.specs.Tables.{slot, fresh_slot};
 ghost use Rattle.kimage_list.specs.Beginning.{IsFresh, AreHeld};
@@ -13,7 +14,7 @@ use page_memory::Memory;
 use page_pool::Pool;
 use std::alloc::{AllocError, Global};
 
-/// All memory of a load: the table of the wanted pages, and the first pages of the pool.
+/// All memory of a load: the table of the wanted pages, and the first usable pages of the pool.
 pub fn prepare(
     alloc: Global,
     memory: &mut Memory,
@@ -21,9 +22,10 @@ pub fn prepare(
     wanted: &PageSet,
     need: u64,
 ) -> Result<Table, AllocError>
-    requires { need ≤ length pool.now.left }
+    requires { need ≤ length (usable_of pool.now) }
     ensures ready { IfOk result (λ table.
-        IsFresh wanted.now table × AreApart 0 wanted.now × AreHeld need pool.now.left memory.new) }
+        IsFresh wanted.now table × AreApart 0 wanted.now
+        × AreHeld need (usable_of pool.now) memory.new) }
     ensures same { (q : ℕ) → at memory.new q ≡ at memory.old q }
     ensures sets { memory.new.sets ≡ memory.old.sets }
     ensures stay { (q : ℕ) → IsHeld memory.old q → IsHeld memory.new q }
@@ -53,10 +55,10 @@ fn add_span(table: &mut Table, span: Span) -> Result<(), AllocError>
     Ok(())
 }
 
-// The first n pages of the pool, in rising order.
+// The first n usable pages of the pool, in rising order.
 fn first_in_order(alloc: Global, pool: &Pool, n: u64) -> Result<Vec<Page>, AllocError>
-    requires { n ≤ length pool.now.left }
-    ensures { IfOk result (λ pages. IsPermutation (take n pool.now.left) pages.items) }
+    requires { n ≤ length (usable_of pool.now) }
+    ensures { IfOk result (λ pages. IsPermutation (take n (usable_of pool.now)) pages.items) }
 {
     let mut pages = Vec::new(alloc);
     pages.reserve_exact(n as usize)?;
@@ -67,11 +69,11 @@ fn first_in_order(alloc: Global, pool: &Pool, n: u64) -> Result<Vec<Page>, Alloc
     Ok(pages)
 }
 
-// Holds the first n pages of the pool, in rising order: so the frames of those that were not held lie in the order in
-// which a memory file has them.
+// Holds the first n usable pages of the pool, in rising order: so the frames of those that were not held lie in the order
+// in which a memory file has them.
 fn hold_first(alloc: Global, memory: &mut Memory, pool: &Pool, n: u64) -> Result<(), AllocError>
-    requires { n ≤ length pool.now.left }
-    ensures held { OnOk result (AreHeld n pool.now.left memory.new) }
+    requires { n ≤ length (usable_of pool.now) }
+    ensures held { OnOk result (AreHeld n (usable_of pool.now) memory.new) }
     ensures same { (q : ℕ) → at memory.new q ≡ at memory.old q }
     ensures sets { memory.new.sets ≡ memory.old.sets }
     ensures stay { (q : ℕ) → IsHeld memory.old q → IsHeld memory.new q }

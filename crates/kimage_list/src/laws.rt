@@ -40,8 +40,8 @@ pub fn pages_are_kept()
     ensures { (h : History) (w : Writer) (s : StandsAt h w) → KeepsPages h s.loading }
 {}
 
-/// The control page is the first page of the pool that is not wanted, the swap page the second, and the first link page
-/// the next one.
+/// The control page is the first usable page of the pool that is not wanted, the swap page the second, and the first link
+/// page the next one.
 pub fn first_pages_are_not_wanted()
     ensures { FirstPages }
 {}

@@ -123,7 +123,7 @@ fn refuses_a_pool_that_is_one_page_short(rt: HostRuntime) -> Result<(), Fail> {
     let text = format!(in rt.alloc(); "{}", refused.why)?;
     assert_eq!(rt;
         text.as_str(),
-        "the pool has 3 pages left and the load takes 4: give the pool more pages"
+        "the pool has 3 usable pages left and the load takes 4: give the pool more pages"
     );
     Ok(())
 }

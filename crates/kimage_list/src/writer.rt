@@ -2,7 +2,7 @@
 
 ghost use Rattle.std.specs.Prelude.{◌≡◌, ◌≢◌, ℕ, ◌<◌, ◌≤◌, ◌+◌, ◌^◌, ◌∷◌, [], length, take, drop, None, Some, IfOk, IfErr, false};
 ghost use Rattle.page_memory.specs.Contents.{at, IsHeld, page_of};
-ghost use Rattle.page_pool.specs.Pages.{is_filed};
+ghost use Rattle.page_pool.specs.Pages.{Pages, is_filed, usable_of};
 ghost use Rattle.kx_pages.specs.Lists.{count, sources};
 ghost use Rattle.kx_pages.specs.Spans.{pages};
 ghost use Rattle.kx_pages.specs.Needs.{need_of};
@@ -10,7 +10,7 @@ ghost use Rattle.kimage_list.specs.Laying.{image_of, laid};
 ghost use Rattle.kimage_list.specs.Tables.{slot};
 ghost use Rattle.kimage_list.specs.Tracking.{whole_pool};
 ghost use Rattle.kimage_list.specs.Writers.{History, StandsAt, IsAwaited, with_destination, with_source, need};
-ghost use Rattle.kimage_list.specs.Calls.{load_begun, Refuses, IsPrepared, IsWritten};
+ghost use Rattle.kimage_list.specs.Calls.{load_begun, Refuses, IsPrepared, IsWritten, HasDrawn};
 
 use crate::begin::prepare;
 use crate::open_list::OpenList;
@@ -49,7 +49,7 @@ impl Model for ListWriter {
 
 impl ListWriter {
     /// Begins a load of the pages `wanted`, in so many segments: the control page and, with context preserved, the swap
-    /// page are taken. Refuses where the pool has fewer pages left than the load takes, or for want of memory; memory
+    /// page are taken. Refuses where the pool has fewer usable pages than the load takes, or for want of memory; memory
     /// then reads as before, and the pool is as it was. 1 to 16 segments, at most 65,536 pages (this project's own
     /// limits; kexec_load(2) has KEXEC_SEGMENT_MAX), and nothing filed.
     pub fn begin(
@@ -65,12 +65,12 @@ impl ListWriter {
         requires pages { pages wanted.now ≤ 65536 }
         requires unfiled { (p : ℕ) → is_filed pool p ≡ false }
         ensures begun { IfOk result (λ w.
-            StandsAt (load_begun (at memory) pool.left wanted.now segments wish) w) }
+            StandsAt (load_begun (at memory) (usable_of pool) wanted.now segments wish) w) }
         ensures pages { IfOk result (λ w. whole_pool w.pool ≡ whole_pool pool) }
         ensures enough { IfOk result (λ _.
-            need_of wish segments (pages wanted.now) ≤ length pool.left) }
+            need_of wish segments (pages wanted.now) ≤ length (usable_of pool)) }
         ensures why { IfErr result (λ r.
-            Refuses r.why (length pool.left) (need_of wish segments (pages wanted.now))) }
+            Refuses r.why (length (usable_of pool)) (need_of wish segments (pages wanted.now))) }
         ensures pool_back { IfErr result (λ r. r.pool ≡ pool) }
         ensures memory_back { IfErr result (λ r. (q : ℕ) → at r.memory q ≡ at memory q) }
         ensures sets_back { IfErr result (λ r. r.memory.sets ≡ memory.sets) }
@@ -126,11 +126,14 @@ impl ListWriter {
         }
     }
 
-    /// Ends the list with the done word. All destination entries were written, and every wanted page is loaded.
+    /// Ends the list with the done word. All destination entries were written, and every wanted page is loaded. Of the
+    /// pool the load has drawn the first usable pages, and no other.
     pub fn finish(self) -> Written
         requires segments { self.segments_left ≡ 0 }
         requires loaded { (d : ℕ) → IsAwaited self d → ⊥ }
         ensures written { (h : History) → StandsAt h self → IsWritten h result }
+        ensures drawn { (h : History) (p : Pages) → StandsAt h self → h.pool ≡ usable_of p
+            → whole_pool self.pool ≡ whole_pool p → HasDrawn (need h) p result.pool }
         ensures pages { whole_pool result.pool ≡ whole_pool self.pool }
     {
         let ListWriter {

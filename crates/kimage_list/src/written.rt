@@ -10,7 +10,7 @@ use thiserror::Error;
 pub struct Written {
     /// The memory in which the list and the bytes of the new kernel's pages lie.
     pub memory: Memory,
-    /// The pages that the load has not drawn. None is filed.
+    /// The pool without the pages that the load has drawn: those that are not usable stay in it. None is filed.
     pub pool: Pool,
     /// What running the list takes.
     pub image: Image,
@@ -22,8 +22,8 @@ pub enum BeginFault {
     /// There is no memory for the table of the wanted pages, or for the pages that the load sets.
     #[error("out of memory")]
     Memory,
-    /// The pool has `pool` pages left, and the load takes `need`, which is more.
-    #[error("the pool has {pool} pages left and the load takes {need}: give the pool more pages")]
+    /// The pool has `pool` usable pages left, and the load takes `need`, which is more.
+    #[error("the pool has {pool} usable pages left and the load takes {need}: give the pool more pages")]
     NoPages { pool: u64, need: u64 },
 }
 

@@ -1,12 +1,13 @@
 -- A load of segments that is written whole.
-use Rattle.std.proofs.Common.{◌≡◌, ℕ, ◌+◌, ◌≤◌, List, Option, Some, None, refl, sym, ap, ◌∙◌, subst, arith, take, drop, Bool, true, false, cond, ◌++◌, append_assoc}
-use Rattle.std.proofs.lemmas.List.{append_cancel_right, take-append-drop, take_all}
+use Rattle.std.proofs.Common.{◌≡◌, ℕ, ◌+◌, ◌≤◌, List, Option, Some, None, refl, sym, ap, ◌∙◌, subst, arith, take, drop, Bool, true, false, cond}
+use Rattle.std.proofs.lemmas.List.{take_all}
 use Rattle.kx_pages.specs.Lists.{Has, has, count, sources}
 use Rattle.kx_pages.specs.Spans.{in_spans}
 use Rattle.kx_pages.specs.declared.image.Wish.{Wish}
 use Rattle.kx_pages.specs.declared.image.Image.{Image}
 use Rattle.page_memory.specs.Contents.{at}
 use Rattle.page_memory.specs.Memory.{Mem}
+use Rattle.page_pool.specs.Pages.{usable_of}
 use Rattle.segments.specs.Values.{is_destination, want, pages, need}
 use Rattle.segments.proofs.Laws.{Has-from_is_destination, Has-from_want}
 use Rattle.kimage_list.specs.Load.{pages_of, starts, loaded}
@@ -16,6 +17,7 @@ use Rattle.kimage_list.specs.Writers as writers
 use Rattle.kimage_list.specs.Calls.{IsWritten}
 use Rattle.kimage_list.specs.declared.written.Written.{Written}
 use Rattle.kimage_list.proofs.Awaiting.{awaited_exactly}
+use Rattle.kimage_list.proofs.DrawnPools.{has_drawn}
 use Rattle.list_checker.specs.Walk.{IsAccepted}
 use Rattle.load_states.specs.Loads.{entries_of, loading_of, memory_of}
 use Rattle.load_states.specs.Fillings.{Fill, FillsFrom, IsSealed, left}
@@ -23,12 +25,6 @@ use Rattle.load_states.proofs.LaidPlan.{pages_of-entries_of, load_is_accepted}
 use Rattle.load_states.proofs.FillSteps.{span_pages, need_same, starts-entries_of}
 use Rattle.kx_pages.proofs.Lists.{has-from_Has}
 use Rattle.kx_pages.specs.Modes.{swap_page}
-
--- what is drawn where what is left are the pages from number n on
-drawn_first : (n : ℕ) (pool before drawn left : List ℕ) → left ≡ drop n pool → drawn ++ left ≡ before ++ pool → drawn ≡ before ++ take n pool
-drawn_first n pool before drawn left rest e =
-    append_cancel_right drawn (before ++ take n pool) (drop n pool)
-    (ap (λ xs. drawn ++ xs) (sym rest) ∙ e ∙ ap (λ xs. before ++ xs) (sym (take-append-drop n pool)) ∙ sym (append_assoc before (take n pool) (drop n pool)))
 
 module _ (M : Mem) (pool : List ℕ) (wish : Wish) (f : Fill) (k : FillsFrom M pool wish f) (done : left f ≡ 0) where
   all : take f.written f.segments ≡ f.segments
@@ -76,6 +72,7 @@ module _ (M : Mem) (pool : List ℕ) (wish : Wish) (f : Fill) (k : FillsFrom M p
       let used : (x : ℕ) → count x l.spare + count x (sources l.pairs) ≡ count x (take (need wish f.segments) pool) = λ x. w.in_use x ∙ ap (λ n. count x (take n pool)) need_is in
       let a = load_is_accepted M wish f.segments pool l k.good w.once (λ x n. w.below x (subst (λ m. 1 ≤ m) (w.in_use x) n)) requests in
       let P : Mem → Image → Type 0 = λ N i. IsAccepted N (want f.segments) i.head i.control (swap_page i.mode) (list_of wish (entries_of f.segments) l) in
+      let usable : usable_of r.pool ≡ drop (need wish f.segments) pool = w.usable ∙ ap (λ n. drop n pool) need_is in
       let laid : at r.memory ≡ memory_of M wish f.segments l = λ i p. w.memory p i in
       record {
         loading = l;
@@ -84,10 +81,10 @@ module _ (M : Mem) (pool : List ℕ) (wish : Wish) (f : Fill) (k : FillsFrom M p
         image = w.image;
         memory = w.memory;
         segments = refl;
-        left = w.drawn ∙ ap (λ n. drop n pool) need_is;
+        usable = usable;
         in_use = used;
         unfiled = w.unfiled;
-        drawn = λ before e. drawn_first (need wish f.segments) pool before r.pool.drawn r.pool.left (w.drawn ∙ ap (λ n. drop n pool) need_is) e;
+        drawn = λ p from whole. has_drawn (need wish f.segments) p r.pool (usable ∙ ap (drop (need wish f.segments)) from) whole;
         others = λ p z. w.others p (ap (λ n. count p (take n pool)) need_is ∙ z);
         accepted = subst (λ N. P N r.image) (sym laid) (subst (P (memory_of M wish f.segments l)) (sym w.image) a);
       }

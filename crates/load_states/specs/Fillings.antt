@@ -1,16 +1,17 @@
 -- A load of segments while they are written (this project's own).
-use Rattle.std.specs.Prelude.{◌≡◌, ℕ, ◌+◌, ◌-◌, ◌≤◌, List, ◌++◌, length, take, drop, cond, false, Some, None, refl}
+use Rattle.std.specs.Prelude.{◌≡◌, ℕ, ◌+◌, ◌-◌, ◌≤◌, List, length, take, drop, cond, false, Some, None, refl}
 use Rattle.std.specs.Coded.{Coded, code_by, coded×, coded_ℕ, coded_list}
 use Rattle.kx_pages.specs.Lists.{has, count, sources}
 use Rattle.kx_pages.specs.Spans.{in_spans}
 use Rattle.kx_pages.specs.declared.image.Wish.{Wish}
 use Rattle.page_memory.specs.Contents.{at}
 use Rattle.page_memory.specs.Memory.{Mem}
-use Rattle.page_pool.specs.Pages.{is_filed}
+use Rattle.page_pool.specs.Pages.{Pages, is_filed, usable_of}
 use Rattle.kimage_list.specs.Load.{Loading, Entry, pages_of}
 use Rattle.kimage_list.specs.Laying.{image_of, list_of}
 use Rattle.kimage_list.specs.Writers.{Writer, writer_code, StandsAt}
 use Rattle.kimage_list.specs.Tracking.{whole_pool}
+use Rattle.kimage_list.specs.Calls.{HasDrawn}
 use Rattle.kimage_list.specs.Writers as writers
 use Rattle.segments.specs.Values.{SegmentValue, is_destination, want, need}
 use Rattle.segments.proofs.Laws.{AreSegments}
@@ -36,8 +37,8 @@ fill_code =
 abbrev pub left : Fill → ℕ
 left f = length f.segments - f.written
 
--- The writer stands behind these entries of a load of the segments, which began with memory M and a pool of these pages,
--- and each destination so far was given what it is to have.
+-- The writer stands behind these entries of a load of the segments, which began with memory M and a pool of these usable
+-- pages, and each destination so far was given what it is to have.
 pub record Fills (M : Mem) (pool : List ℕ) (wish : Wish) (ss : List SegmentValue) (es : List Entry)
     (w : Writer) : Type 0 where
   pub load : writers.History
@@ -56,7 +57,7 @@ pub record FillsFrom (M : Mem) (pool : List ℕ) (wish : Wish) (f : Fill) : Type
   pub within : f.written ≤ length f.segments
   pub fills : Fills M pool wish f.segments (entries_of (take f.written f.segments)) f.writer
 
--- What a load of the segments is that is written whole.
+-- What a load of the segments is that is written whole, over a pool of these usable pages.
 pub record IsSealed (M : Mem) (pool : List ℕ) (wish : Wish) (ss : List SegmentValue) (r : Load)
     : Type 0 where
   pub loading : Loading
@@ -65,14 +66,14 @@ pub record IsSealed (M : Mem) (pool : List ℕ) (wish : Wish) (ss : List Segment
   pub image : r.image ≡ image_of wish loading
   pub memory : (p : ℕ) → at r.memory p ≡ memory_of M wish ss loading p
   pub segments : r.segments ≡ ss
-  -- the pool has left what follows its first pages, as many as the load takes: these are the pages in use
-  pub left : r.pool.left ≡ drop (need wish ss) pool
+  -- of the usable pages those are left that follow the first, as many as the load takes: these are the pages in use
+  pub usable : usable_of r.pool ≡ drop (need wish ss) pool
   pub in_use : (x : ℕ)
       → count x loading.spare + count x (sources loading.pairs) ≡ count x (take (need wish ss) pool)
   pub unfiled : (p : ℕ) → is_filed r.pool p ≡ false
-  -- the pages drawn are those drawn before the load, and then its first pages
-  pub drawn : (before : List ℕ) → whole_pool r.pool ≡ before ++ pool
-      → r.pool.drawn ≡ before ++ take (need wish ss) pool
+  -- of the pool before the load, p, exactly these pages were drawn
+  pub drawn : (p : Pages) → pool ≡ usable_of p → whole_pool r.pool ≡ whole_pool p
+      → HasDrawn (need wish ss) p r.pool
   -- memory agrees with what it was at every other page
   pub others : (p : ℕ) → count p (take (need wish ss) pool) ≡ 0 → at r.memory p ≡ M p
   -- the list is accepted for the segments

@@ -16,11 +16,11 @@ entries_of [] = []
 entries_of (s ∷ ss) =
     Start (s.mem / 4096) ∷ page_entries (s.mem / 4096) (page_count s) ++ entries_of ss
 
--- where a load of segments stands that has written all entries, over a pool of these pages
+-- where a load of segments stands that has written all entries, over a pool of these usable pages
 abbrev pub loading_of : Wish → List SegmentValue → List ℕ → Option Loading
 loading_of wish ss pool = loaded (is_destination ss) wish (entries_of ss) pool
 
--- A load of the segments comes to its end over a pool of these pages exactly where they are as many as it takes.
+-- A load of the segments comes to its end over a pool of these usable pages exactly where they are as many as it takes.
 abbrev pub LoadsExactly : Wish → List SegmentValue → List ℕ → Type 0
 LoadsExactly wish ss pool = IsSome (loading_of wish ss pool) ↔ (need wish ss ≤ length pool)
 

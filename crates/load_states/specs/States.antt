@@ -1,5 +1,5 @@
 -- What clauses see of the states from a load to its run (this project's own).
-use Rattle.std.specs.Prelude.{◌≡◌, ℕ, List, [], Option, unwrap_or, map, refl}
+use Rattle.std.specs.Prelude.{◌≡◌, ℕ, ◌^◌, List, [], Option, unwrap_or, map, refl}
 use Rattle.std.proofs.Common.{ap}
 use Rattle.std.specs.FinMap.{empty}
 use Rattle.std.specs.Coded.{Coded, code_by, coded×, coded_ℕ, coded_list, coded_option}
@@ -19,9 +19,9 @@ pub record Load : Type 0 where
   pub image : Image
   pub segments : List SegmentValue
 
--- the pool of a list that was read from files: no page is left, drawn or filed
+-- the pool of a list that was read from files: it was made of no page
 abbrev pub no_pages : Pages
-no_pages = record { left = []; drawn = []; marks = empty }
+no_pages = record { made = []; drawn = []; limit = 2 ^ 46; marks = empty }
 
 -- a load and what is told of its list: how many words its walk has, how many link pages, and its pairs
 pub record Checked : Type 0 where

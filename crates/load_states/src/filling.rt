@@ -6,7 +6,7 @@ ghost use Rattle.kx_pages.specs.Spans.{AreApart, in_spans};
 ghost use Rattle.kx_pages.specs.declared.image.Wish.{Wish as WishOf};
 ghost use Rattle.page_memory.specs.Contents.{at, IsHeld};
 ghost use Rattle.page_memory.specs.Memory.{Mem};
-ghost use Rattle.page_pool.specs.Pages.{is_filed};
+ghost use Rattle.page_pool.specs.Pages.{is_filed, usable_of};
 ghost use Rattle.kimage_list.specs.Load.{Entry, Move, pages_of};
 ghost use Rattle.kimage_list.specs.Tracking.{whole_pool};
 ghost use Rattle.kimage_list.specs.Writers.{destination_after};
@@ -65,9 +65,9 @@ impl Model for Filling {
 }
 
 impl Filling {
-    /// Begins a load of the segments. Refuses where the pool has fewer pages left than the load takes, or for want of
-    /// memory: nothing has changed then, but that more pages may be held. Nothing is filed. With so many pages, and with
-    /// no fewer, the rules of taking pages bring a load of the segments to its end.
+    /// Begins a load of the segments. Refuses where the pool has fewer usable pages than the load takes, or for want of
+    /// memory: nothing has changed then, but that more pages may be held. Nothing is filed. With so many usable pages,
+    /// and with no fewer, the rules of taking pages bring a load of the segments to its end.
     pub fn begin(
         alloc: Global,
         memory: Memory,
@@ -76,12 +76,12 @@ impl Filling {
         wish: Wish,
     ) -> Result<Filling, BeginBack>
         requires unfiled { (p : ℕ) → is_filed pool p ≡ false }
-        ensures begun { IfOk result (λ f. FillsFrom (at memory) pool.left wish f) }
+        ensures begun { IfOk result (λ f. FillsFrom (at memory) (usable_of pool) wish f) }
         ensures segments { IfOk result (λ f. (f.segments ≡ segments) × (f.written ≡ 0)) }
-        ensures enough { IfOk result (λ _. need wish segments ≤ length pool.left) }
+        ensures enough { IfOk result (λ _. need wish segments ≤ length (usable_of pool)) }
         ensures pages { IfOk result (λ f. whole_pool f.writer.pool ≡ whole_pool pool) }
-        ensures exactly { LoadsExactly wish segments pool.left }
-        ensures why { IfErr result (λ r. Refuses r.why (length pool.left) (need wish segments)) }
+        ensures exactly { LoadsExactly wish segments (usable_of pool) }
+        ensures why { IfErr result (λ r. Refuses r.why (length (usable_of pool)) (need wish segments)) }
         ensures pool_back { IfErr result (λ r. r.pool ≡ pool) }
         ensures segments_back { IfErr result (λ r. r.segments ≡ segments) }
         ensures memory_back { IfErr result (λ r. (q : ℕ) → at r.memory q ≡ at memory q) }

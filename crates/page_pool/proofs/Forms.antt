@@ -1,10 +1,10 @@
 -- The reader takes exactly the lines of the grammar.
-use Rattle.std.proofs.Common.{◌≡◌, ℕ, List, [], ◌∷◌, ◌++◌, refl, sym, ap, ◌∙◌, Some, None, Option, inl, inr}
-use Rattle.std.specs.Prelude.{◌⊎◌, ◌↔◌, unwrap_or}
+use Rattle.std.proofs.Common.{◌≡◌, ℕ, List, refl, ap, ◌∙◌, Some, None, Option, inl, inr}
+use Rattle.std.specs.Prelude.{◌↔◌, unwrap_or}
 use Rattle.text_lines.specs.Lines.{cut, number}
 use Rattle.text_lines.proofs.Cutting.{cut_parts, cut_behind, cut_nowhere, number_has_no}
 use Rattle.page_pool.specs.File.{both, range_by, range_of}
-use Rattle.page_pool.specs.Grammar.{IsRangeLine, IsPageLine, IsPoolLine}
+use Rattle.page_pool.specs.Grammar.{IsPoolLine}
 
 same_range : (x y : ℕ × ℕ) → ◌≡◌ {A = Option (ℕ × ℕ)} (Some x) (Some y) → x ≡ y
 same_range x y h = ap (λ o. unwrap_or {T = ℕ × ℕ} o x) h

@@ -1,10 +1,8 @@
 -- A table of marks, page by page.
-use Rattle.std.proofs.Common.{◌≡◌, ℕ, ◌+◌, ◌≤◌, List, [], ◌∷◌, ◌++◌, Bool, true, false, cond, refl, sym, ap, ◌∙◌, subst, Some, None, arith, length, ⊎_elim, inl, inr}
+use Rattle.std.proofs.Common.{◌≡◌, ℕ, ◌+◌, ◌≤◌, List, [], ◌∷◌, ◌++◌, Bool, true, false, cond, refl, sym, ap, ◌∙◌, subst, Some, None, arith, length, replicate, ⊎_elim, inl, inr}
 use Rattle.std.specs.Prelude.{◌≢◌, ◌⊎◌, ◌||◌, is_some, eqb, nat_eq, unwrap_or}
 use Rattle.std.specs.List.{list_any}
 use Rattle.std.specs.Ordering.{nat_cmp, is_eq}
-use Rattle.std.specs.declared.cmp.Ordering.{Ordering}
-use Rattle.std.specs.declared.cmp.Ordering.TheVariants.{Less, Equal, Greater}
 use Rattle.std.specs.Cmp.{nat_cmp_total, eq_by_cmp_equiv}
 use Rattle.std.specs.BTreeMap as tree
 use Rattle.std.specs.FinMap as finite
@@ -13,7 +11,11 @@ use Rattle.std.proofs.lemmas.List.Folds.{list_any-append}
 use Rattle.std.proofs.lemmas.Bool.Decides.{eqb_tells}
 use Rattle.kx_laws.proofs.Booleans.{is_eq-false, or_true, or_false}
 use Rattle.kx_pages.specs.Lists.{count}
+use Rattle.kx_pages.specs.Numbers.{IsPage}
+use Rattle.kx_pages.proofs.Lists.{Each-append}
 use Rattle.kx_pages.proofs.Counting.{Distinct-push, Each-from_no_count}
+use Rattle.page_pool.specs.Pages.{usable_among}
+use Rattle.page_pool.proofs.Queueing.{queue_fresh}
 use Rattle.page_pool.specs.Marks.{marks_of, AreMarks, IsPool}
 
 apart : (k q : ℕ) → k ≢ q → is_eq (nat_cmp k q) ≡ false
@@ -43,12 +45,12 @@ value-fresh true = refl
 value-fresh false = refl
 
 -- one more page
-pub marks_more : (xs ys : List ℕ) (k : ℕ) (m n : tree.BTreeMap ℕ Bool) (b : Bool) → ys ≡ xs ++ k ∷ [] → AreMarks xs m → b ≡ is_some (tree.get nat_cmp m k) → b ≡ false
+pub marks_more : (xs ys : List ℕ) (k : ℕ) → IsPage k → (m n : tree.BTreeMap ℕ Bool) (b : Bool) → ys ≡ xs ++ k ∷ [] → AreMarks xs m → b ≡ is_some (tree.get nat_cmp m k) → b ≡ false
     → ((q : ℕ) → tree.get nat_cmp n q ≡ cond (is_eq (nat_cmp k q)) (Some false) (tree.get nat_cmp m q)) → AreMarks ys n
-marks_more xs ys k m n b e h f g u =
+marks_more xs ys k page m n b e h f g u =
     let fresh : list_any (nat_eq k) xs ≡ false = sym (some-fresh (list_any (nat_eq k) xs)) ∙ sym (ap is_some (h.each k)) ∙ sym f ∙ g in
     let none : count k xs ≡ 0 = ⊎_elim (λ t. absurd (clash (list_any (nat_eq k) xs) t.0 fresh)) (λ t. t.1) (count-any k xs) in
-    subst (λ zs. AreMarks zs n) (sym e) (record { each = λ q. go q (eqb_tells q k); once = Distinct-push xs k h.once (Each-from_no_count k xs none) })
+    subst (λ zs. AreMarks zs n) (sym e) (record { each = λ q. go q (eqb_tells q k); once = Distinct-push xs k h.once (Each-from_no_count k xs none); low = Each-append IsPage xs (k ∷ []) h.low (page, tt) })
   where
     clash : (b : Bool) → b ≡ true → b ≡ false → ⊥
     clash true p q = cc
@@ -66,18 +68,20 @@ marks_more xs ys k m n b e h f g u =
         u q ∙ ap (λ c. cond c (Some false) (tree.get nat_cmp m q)) y ∙ h.each q ∙ sym (ap (λ c. cond c (Some false) None) (more q ∙ ap (λ c. list_any (nat_eq q) xs || (c || false)) t.0 ∙ or_false (list_any (nat_eq q) xs)))
 
 pub marks_none : (m : tree.BTreeMap ℕ Bool) → ((q : ℕ) → tree.get nat_cmp m q ≡ None) → AreMarks [] m
-marks_none m h = record { each = h; once = tt }
+marks_none m h = record { each = h; once = tt; low = tt }
 
 pub unmarked : (xs : List ℕ) (m : tree.BTreeMap ℕ Bool) → AreMarks xs m → (q : ℕ) → unwrap_or (finite.get (marks_of m) q) false ≡ false
 unmarked xs m h q = ap (λ o. unwrap_or o false) (get-from_entries nat_cmp_total m.entries q ∙ h.each q) ∙ value-fresh (list_any (nat_eq q) xs)
 
--- a pool of these pages
-pub pool_made : (xs : List ℕ) (m : tree.BTreeMap ℕ Bool) → length xs ≤ 262144 → AreMarks xs m → IsPool xs 0 m
-pool_made xs m few h = record {
-  within = omega arith;
+-- a pool of these pages, none of which is drawn or usable
+pub pool_made : (xs queue : List ℕ) (flags : List Bool) (limit : ℕ) (m : tree.BTreeMap ℕ Bool) → length xs ≤ 262144 → AreMarks xs m → length queue ≡ length xs → flags ≡ replicate (length xs) false → usable_among limit xs [] ≡ []
+    → IsPool xs queue flags 0 0 limit m
+pool_made xs queue flags limit m few h room unset none = record {
   once = h.once;
-  have = record { each = λ x c. ap is_some (h.each x) ∙ some-fresh (list_any (nat_eq x) xs) ∙ ⊎_elim (λ t. t.0) (λ t. absurd (omega (arith, t.1, c))) (count-any x xs) };
+  low = h.low;
   few = few;
+  queued = queue_fresh xs queue flags limit room unset none;
+  have = record { each = λ x c. ap is_some (h.each x) ∙ some-fresh (list_any (nat_eq x) xs) ∙ ⊎_elim (λ t. t.0) (λ t. absurd (omega (arith, t.1, c))) (count-any x xs) };
   filed = record { each = λ x f. absurd (clash _ f (unmarked xs m h x)) };
 }
   where

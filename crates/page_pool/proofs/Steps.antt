@@ -1,6 +1,6 @@
 -- Each change of a pool leaves a pool.
 use Rattle.std.proofs.Common.{◌≡◌, ℕ, ◌+◌, ◌<◌, ◌≤◌, List, [], ◌∷◌, Bool, true, false, cond, refl, sym, ap, ◌∙◌, subst, Some, arith, take, length, ⊎_elim}
-use Rattle.std.specs.Prelude.{IsSome, is_some, get_or, nat_eq, unwrap_or}
+use Rattle.std.specs.Prelude.{IsSome, is_some, get_or, nat_eq, unwrap_or, set}
 use Rattle.std.specs.List.{list_any}
 use Rattle.std.specs.Ordering.{nat_cmp, is_eq}
 use Rattle.std.specs.declared.cmp.Ordering.{Ordering}
@@ -15,16 +15,33 @@ use Rattle.kx_pages.specs.Lists.{count}
 use Rattle.kx_pages.proofs.Counting.{count-append}
 use Rattle.page_pool.specs.Repeats.{IsFirstRepeat}
 use Rattle.page_pool.specs.Marks.{marks_of, FiledAreAmong, AreMarks, IsPool}
+use Rattle.page_pool.specs.Queue.{pages_at, IsQueue}
+use Rattle.page_pool.proofs.Left.{usable_undrawn}
+use Rattle.page_pool.proofs.Queueing.{queue_drawn, gone_more, gone_among, count_among}
 use Rattle.page_pool.proofs.Made.{marks_none, pool_made, count-any, some-fresh}
 
 -- a draw
-pub drawn_pool : (xs : List ℕ) (n : ℕ) (m : tree.BTreeMap ℕ Bool) → IsPool xs n m → n < length xs → IsPool xs (n + 1) m
-drawn_pool xs n m h less = record {
-  within = omega (arith, less);
+pub drawn_pool : (xs queue : List ℕ) (flags : List Bool) (next stop limit : ℕ) (m : tree.BTreeMap ℕ Bool) → IsPool xs queue flags next stop limit m → next < stop
+    → IsPool xs queue (set flags (get_or queue next 0) true) (next + 1) stop limit m
+drawn_pool xs queue flags next stop limit m h less = record {
   once = h.once;
-  have = h.have;
+  low = h.low;
   few = h.few;
-  filed = record { each = λ x f. omega (arith, h.filed.each x f, ap (count x) (take_more xs n 0 less), count-append x (take n xs) (get_or xs n 0 ∷ [])) };
+  queued = queue_drawn xs queue flags next stop limit h.once h.queued less;
+  have = h.have;
+  filed = record { each = λ x f. omega (arith, h.filed.each x f, ap (count x) (gone_more xs queue flags next stop limit h.once h.queued less), count-append x (pages_at xs (take next queue)) (get_or xs (get_or queue next 0) 0 ∷ [])) };
+}
+
+-- another limit
+pub pool_below : (xs queue to : List ℕ) (flags : List Bool) (next stop until limit other : ℕ) (m : tree.BTreeMap ℕ Bool) → IsPool xs queue flags next stop limit m → IsQueue xs to flags next until other xs → take next to ≡ take next queue
+    → IsPool xs to flags next until other m
+pool_below xs queue to flags next stop until limit other m h lined same = record {
+  once = h.once;
+  low = h.low;
+  few = h.few;
+  queued = lined;
+  have = h.have;
+  filed = subst (λ ps. FiledAreAmong (pages_at xs ps) m) (sym same) h.filed;
 }
 
 equal : (r : Ordering) → is_eq r ≡ true → r ≡ Equal
@@ -40,18 +57,24 @@ filed_more xs m n p b old new known = record { each = λ x f. go x _ refl (sym (
     go x false e f = old.each x f
 
 -- a mark
-pub marked_pool : (xs : List ℕ) (n : ℕ) (m k : tree.BTreeMap ℕ Bool) (p : ℕ) (b : Bool) → IsPool xs n m → marks_of k ≡ finite.insert (marks_of m) p b → ((q : ℕ) → IsSome (tree.get nat_cmp m q) → IsSome (tree.get nat_cmp k q)) → (b ≡ true → 1 ≤ count p (take n xs)) → IsPool xs n k
-marked_pool xs n m k p b h new stays known = record {
-  within = h.within;
+pub marked_pool : (xs queue : List ℕ) (flags : List Bool) (next stop limit : ℕ) (m k : tree.BTreeMap ℕ Bool) (p : ℕ) (b : Bool) → IsPool xs queue flags next stop limit m → marks_of k ≡ finite.insert (marks_of m) p b
+    → ((q : ℕ) → IsSome (tree.get nat_cmp m q) → IsSome (tree.get nat_cmp k q)) → (b ≡ true → 1 ≤ count p (pages_at xs (take next queue))) → IsPool xs queue flags next stop limit k
+marked_pool xs queue flags next stop limit m k p b h new stays known = record {
   once = h.once;
-  have = record { each = λ x c. stays x (h.have.each x c) };
+  low = h.low;
   few = h.few;
-  filed = filed_more (take n xs) m k p b h.filed new known;
+  queued = h.queued;
+  have = record { each = λ x c. stays x (h.have.each x c) };
+  filed = filed_more (pages_at xs (take next queue)) m k p b h.filed new known;
 }
 
+-- a drawn page has a mark
+pub drawn_has_mark : (xs queue : List ℕ) (flags : List Bool) (next stop limit : ℕ) (m : tree.BTreeMap ℕ Bool) (p : ℕ) → IsPool xs queue flags next stop limit m → 1 ≤ count p (pages_at xs (take next queue)) → IsSome (tree.get nat_cmp m p)
+drawn_has_mark xs queue flags next stop limit m p h c = h.have.each p (count_among xs (pages_at xs (take next queue)) p (gone_among xs queue flags next stop limit xs h.queued) c)
+
 -- no page
-pub empty_pool : (m : tree.BTreeMap ℕ Bool) → m.entries ≡ [] → IsPool [] 0 m
-empty_pool m none = pool_made [] m (omega arith) (marks_none m (λ q. rw none refl))
+pub empty_pool : (m : tree.BTreeMap ℕ Bool) (limit : ℕ) → m.entries ≡ [] → IsPool [] [] [] 0 0 limit m
+empty_pool m limit none = pool_made [] [] [] limit m (omega arith) (marks_none m (λ q. rw none refl)) refl refl (usable_undrawn limit [])
 
 pub empty_marks : (m : tree.BTreeMap ℕ Bool) → m.entries ≡ [] → marks_of m ≡ finite.empty
 empty_marks m none = rw none refl

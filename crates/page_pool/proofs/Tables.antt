@@ -1,14 +1,12 @@
 -- What a table of marks has at a page, as a finite map.
-use Rattle.std.proofs.Common.{◌≡◌, ℕ, ◌+◌, ◌≤◌, List, [], ◌∷◌, ◌++◌, Bool, true, false, cond, refl, sym, ap, ◌∙◌, Some, Option, arith, take, drop}
+use Rattle.std.proofs.Common.{◌≡◌, ℕ, Bool, true, false, cond, refl, sym, ap, ◌∙◌, Some, Option}
 use Rattle.std.specs.Ordering.{nat_cmp}
 use Rattle.std.specs.Cmp.{nat_cmp_total, eq_by_cmp_equiv}
 use Rattle.std.specs.Map.{lookup}
 use Rattle.std.specs.BTreeMap.{is_at, BTreeMap}
 use Rattle.std.specs.BTreeMap as tree
 use Rattle.std.specs.Prelude.{IsSome}
-use Rattle.std.proofs.lemmas.List.{take-append-drop}
 use Rattle.std.specs.FinMap.{insert, same_map, get-from_entries, get-insert, nat_cmp-IsAntisymmetric}
-use Rattle.kx_pages.specs.Lists.{count}
 use Rattle.page_pool.specs.Marks.{marks_of}
 
 -- n has v at k, and at each other key what m has

@@ -4,7 +4,9 @@ use Rattle.std.specs.List.{list_any}
 use Rattle.std.specs.Ordering.{nat_cmp}
 use Rattle.std.specs.FinMap as finite
 use Rattle.std.specs.BTreeMap as tree
-use Rattle.kx_pages.specs.Lists.{Distinct, count}
+use Rattle.kx_pages.specs.Lists.{Each, Distinct, count}
+use Rattle.kx_pages.specs.Numbers.{IsPage}
+use Rattle.page_pool.specs.Queue.{IsQueue, pages_at}
 
 abbrev pub marks_of : tree.BTreeMap ℕ Bool → finite.FinMap nat_cmp Bool
 marks_of m = finite.from_entries m.entries
@@ -17,15 +19,17 @@ pub record HaveMarks (xs : List ℕ) (m : tree.BTreeMap ℕ Bool) : Type 0 where
 pub record FiledAreAmong (xs : List ℕ) (m : tree.BTreeMap ℕ Bool) : Type 0 where
   pub each : (x : ℕ) → unwrap_or (finite.get (marks_of m) x) false ≡ true → 1 ≤ count x xs
 
--- what each pool is: its pages, how many are drawn, and its marks
-pub record IsPool (xs : List ℕ) (next : ℕ) (m : tree.BTreeMap ℕ Bool) : Type 0 where
-  pub within : next ≤ length xs
+-- what each pool is: its pages, the queue of those drawn and those to draw, and its marks
+pub record IsPool (xs queue : List ℕ) (flags : List Bool) (next stop limit : ℕ) (m : tree.BTreeMap ℕ Bool) : Type 0 where
   pub once : Distinct xs
-  pub have : HaveMarks xs m
+  pub low : Each IsPage xs
   pub few : length xs ≤ 262144
-  pub filed : FiledAreAmong (take next xs) m
+  pub queued : IsQueue xs queue flags next stop limit xs
+  pub have : HaveMarks xs m
+  pub filed : FiledAreAmong (pages_at xs (take next queue)) m
 
 -- a table of these pages, none of them filed
 pub record AreMarks (xs : List ℕ) (m : tree.BTreeMap ℕ Bool) : Type 0 where
   pub each : (q : ℕ) → tree.get nat_cmp m q ≡ cond (list_any (nat_eq q) xs) (Some false) None
   pub once : Distinct xs
+  pub low : Each IsPage xs

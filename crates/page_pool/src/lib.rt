@@ -6,13 +6,14 @@
 //! the start, so that only the calls that make a pool take memory.
 #![tactic(auto)]
 
-ghost use Rattle.std.specs.Prelude.{◌≡◌, ◌↔◌, ℕ, List, Some, ◌+◌, ◌<◌, ◌≤◌, ◌++◌, ◌∷◌, [], true, false, length, slice_index, unwrap_or, IfSome, IfNone, IsSome, IfOk, IfErr};
+ghost use Rattle.std.specs.Prelude.{◌≡◌, ◌↔◌, ℕ, List, Some, ◌+◌, ◌^◌, ◌%◌, ◌<◌, ◌≤◌, ◌++◌, ◌∷◌, [], true, false, length, slice_index, unwrap_or, IfSome, IfNone, IsSome, IfOk, IfErr};
 ghost use Rattle.std.specs.Ordering.{nat_cmp};
 ghost use Rattle.std.specs.FinMap as finite;
 ghost use Rattle.std.specs.BTreeMap as tree;
 ghost use Rattle.kx_laws.specs.Results.{Gives};
 ghost use Rattle.kx_pages.specs.Lists.{Distinct, count};
-ghost use Rattle.page_pool.specs.Pages.{is_filed, marked};
+ghost use Rattle.page_pool.specs.Pages.{is_filed, marked, left_of, usable_of};
+ghost use Rattle.page_pool.specs.Queue.{is_waiting};
 ghost use Rattle.page_pool.specs.Marks.{marks_of};
 ghost use Rattle.page_pool.specs.declared.fault.PoolFault.TheVariants as faults;
 ghost use Rattle.page_pool.specs.File.{pool_reading, range_of, each_once, MarksOrRepeat, RepeatIsFirst};
@@ -25,7 +26,7 @@ mod tests;
 
 pub use fault::PoolFault;
 use file::pages_of;
-use kx_pages::Page;
+use kx_pages::{ADDRESS_LIMIT, Page};
 use std::alloc::Global;
 use std::collections::BTreeMap;
 use std::marker::Model;
@@ -38,13 +39,18 @@ pub const MOST_PAGES: u64 = 262144;
 #[derive(Drop)]
 pub struct Pool {
     pages: Vec<Page>,
+    queue: Vec<u32>,
     next: usize,
+    end: usize,
+    is_drawn: Vec<bool>,
+    limit: u64,
     marks: BTreeMap<Page, bool>,
 }
 
 impl Model for Pool {
-    ghost use Rattle.std.specs.Prelude.{take, drop};
+    ghost use Rattle.std.specs.Prelude.{take};
     ghost use Rattle.page_pool.specs.Pages.{Pages, pages_code};
+    ghost use Rattle.page_pool.specs.Queue.{pages_at};
     ghost use Rattle.page_pool.specs.Marks.{marks_of, IsPool};
 
     ghost Value = { Pages };
@@ -52,12 +58,14 @@ impl Model for Pool {
     ghost coded = { pages_code };
 
     ghost view = { λ p. record {
-      left = drop p.next p.pages.items;
-      drawn = take p.next p.pages.items;
+      made = p.pages.items;
+      drawn = pages_at p.pages.items (take p.next p.queue.items);
+      limit = p.limit;
       marks = marks_of p.marks;
     } };
 
-    ghost invariant = { λ p. IsPool p.pages.items p.next p.marks };
+    ghost invariant = { λ p. IsPool p.pages.items p.queue.items p.is_drawn.items
+      p.next p.end p.limit p.marks };
 }
 
 /// A line names a first and a last page exactly where it has the form of a pool line: a number, or a number, `-` and a
@@ -77,8 +85,10 @@ impl Pool {
     /// comes only where memory ran out.
     #[tactic(auto, unfolding(crate::specs::File::pool_reading))]
     pub fn read(alloc: Global, text: &[u8]) -> Result<Pool, PoolFault>
-        ensures exact { Gives faults.Memory (λ p. p.left) result (pool_reading text.now) }
+        ensures exact { Gives faults.Memory (λ p. p.made) result (pool_reading text.now) }
         ensures undrawn { IfOk result (λ p. p.drawn ≡ []) }
+        ensures limit { IfOk result (λ p. p.limit ≡ 2 ^ 46) }
+        ensures usable { IfOk result (λ p. usable_of p ≡ p.made) }
         ensures unfiled { IfOk result (λ p. (q : ℕ) → is_filed p q ≡ false) }
     {
         match pages_of(alloc, text) {
@@ -91,62 +101,106 @@ impl Pool {
     /// stands earlier too, exactly where one does; Memory only where memory ran out.
     pub fn new(alloc: Global, pages: Vec<Page>) -> Result<Pool, PoolFault>
         requires { length pages.items ≤ 262144 }
-        ensures exact { Gives faults.Memory (λ p. p.left) result (each_once pages.items) }
+        ensures exact { Gives faults.Memory (λ p. p.made) result (each_once pages.items) }
         ensures first { IfErr result (λ e. RepeatIsFirst pages.items e) }
-        ensures pages { IfOk result (λ p. (p.left ≡ pages.items) × (p.drawn ≡ [])) }
+        ensures made { IfOk result (λ p. p.made ≡ pages.items) }
+        ensures undrawn { IfOk result (λ p. p.drawn ≡ []) }
+        ensures limit { IfOk result (λ p. p.limit ≡ 2 ^ 46) }
+        ensures usable { IfOk result (λ p. usable_of p ≡ p.made) }
         ensures unfiled { IfOk result (λ p. (q : ℕ) → is_filed p q ≡ false) }
     {
-        match marks_for(alloc, &pages) {
-            Ok(marks) => Ok(Pool {
-                pages,
-                next: 0,
-                marks,
-            }),
-            Err(fault) => Err(fault),
-        }
+        let marks = match marks_for(alloc, &pages) {
+            Ok(marks) => marks,
+            Err(fault) => return Err(fault),
+        };
+        let queue = vec![in alloc; 0; pages.len()]?;
+        let is_drawn = vec![in alloc; false; pages.len()]?;
+        let none_usable = Pool {
+            pages,
+            queue,
+            next: 0,
+            end: 0,
+            is_drawn,
+            limit: 0,
+            marks,
+        };
+        Ok(none_usable.below(ADDRESS_LIMIT))
     }
 
     /// A pool with no page.
     pub fn empty(alloc: Global) -> Pool
-        ensures { result ≡ record { left = []; drawn = []; marks = finite.empty } }
+        ensures value { result
+            ≡ record { made = []; drawn = []; limit = 2 ^ 46; marks = finite.empty } }
+        ensures usable { usable_of result ≡ [] }
     {
         Pool {
             pages: Vec::new(alloc),
+            queue: Vec::new(alloc),
             next: 0,
+            end: 0,
+            is_drawn: Vec::new(alloc),
+            limit: ADDRESS_LIMIT,
             marks: BTreeMap::new(alloc),
         }
     }
 
+    /// The same pool with this limit: a multiple of 4,096, at most 2^46. From now on the usable pages are those that
+    /// start below it. No page is drawn, and no memory is taken. Pages that the limit before passed over are usable
+    /// again where this one is above them.
+    pub fn below(mut self, limit: u64) -> Pool
+        requires aligned { limit % 4096 ≡ 0 }
+        requires inside { limit ≤ 2 ^ 46 }
+        ensures { result ≡ record self { limit = limit } }
+    {
+        self.limit = limit;
+        self.end = self.next;
+        for place in 0..self.pages.len() {
+            if is_waiting(self.is_drawn[place], self.pages[place], limit) {
+                self.queue[self.end] = place as u32;
+                self.end += 1;
+            }
+        }
+        self
+    }
+
     /// How many pages can be drawn. The other clauses tell what holds of every pool.
     pub fn left(&self) -> u64
-        ensures value { result ≡ length self.now.left }
-        ensures once { Distinct (self.now.drawn ++ self.now.left) }
-        ensures few { length self.now.drawn + length self.now.left ≤ 262144 }
+        ensures value { result ≡ length (usable_of self.now) }
+        ensures once { Distinct (self.now.drawn ++ usable_of self.now) }
+        ensures each_once { Distinct self.now.made }
+        ensures few { length self.now.drawn + length (usable_of self.now) ≤ 262144 }
         ensures filed_were_drawn { (q : ℕ) → is_filed self.now q ≡ true
             → 1 ≤ count q self.now.drawn }
     {
-        (self.pages.len() - self.next) as u64
+        (self.end - self.next) as u64
+    }
+
+    /// How many of the pages left are not usable.
+    pub fn unusable(&self) -> u64
+        ensures { result + length (usable_of self.now) ≡ length (left_of self.now) }
+    {
+        (self.pages.len() - self.end) as u64
     }
 
     /// The page that the draw after `i` more draws gives.
     pub fn page(&self, i: u64) -> Page
-        requires { i < length self.now.left }
-        ensures { result ≡ slice_index self.now.left i }
+        requires { i < length (usable_of self.now) }
+        ensures { result ≡ slice_index (usable_of self.now) i }
     {
-        self.pages[self.next + i as usize]
+        self.pages[self.queue[self.next + i as usize] as usize]
     }
 
     /// The next page. None exactly where none is left.
     pub fn draw(&mut self) -> Option<Page>
-        ensures some { IfSome result (λ q. (self.old.left ≡ q ∷ self.new.left)
-            × (self.new.drawn ≡ self.old.drawn ++ q ∷ [])
-            × (self.new.marks ≡ self.old.marks)) }
-        ensures none { IfNone result ((self.old.left ≡ []) × (self.new ≡ self.old)) }
+        ensures some { IfSome result (λ q. (usable_of self.old ≡ q ∷ usable_of self.new)
+            × (self.new ≡ record self.old { drawn = self.old.drawn ++ q ∷ [] })) }
+        ensures none { IfNone result ((usable_of self.old ≡ []) × (self.new ≡ self.old)) }
     {
-        if self.next < self.pages.len() {
-            let page = self.pages[self.next];
+        if self.next < self.end {
+            let place = self.queue[self.next] as usize;
+            self.is_drawn[place] = true;
             self.next += 1;
-            Some(page)
+            Some(self.pages[place])
         } else {
             None
         }
@@ -175,6 +229,13 @@ impl Pool {
             None
         }
     }
+}
+
+/// Whether the page is left, and starts below the limit.
+fn is_waiting(is_drawn: bool, p: Page, limit: u64) -> bool
+    ensures { result ≡ is_waiting limit is_drawn p }
+{
+    !is_drawn && p.address() < limit
 }
 
 /// Whether the page has a mark that says filed.
@@ -207,6 +268,8 @@ fn marks_for(alloc: Global, pages: &[Page]) -> Result<BTreeMap<Page, bool>, Pool
 {
     let mut marks = BTreeMap::new(alloc);
     for p in pages {
+        // A page's number is below 2^34, so it starts below the limit of a new pool.
+        let _number = p.number();
         if marks.contains_key(p) {
             return Err(PoolFault::Repeats { page: *p });
         }

@@ -6,20 +6,20 @@ use Rattle.kimage_list.proofs.Drawing.{gives-given, gives-exchanged, gives-none,
 pub returns-in-Given-clause-gives : goal.returns-in-Given-clause-gives
 returns-in-Given-clause-gives c = λ D l s.
     let e = c.in-Some.ensures.some in
-    gives-given D c.args.wanted.now l c.loop-q.pool c.draw.new.self c.args.table.now c.loop-q.table c.in-Some.q (c.loop-q.invariant.reaches D l s) c.loop-q.invariant.same e.0 e.2 c.in-Given.ensures
+    gives-given D c.args.wanted.now l c.loop-q.pool c.draw.new.self c.args.table.now c.loop-q.table c.in-Some.q (c.loop-q.invariant.reaches D l s) c.loop-q.invariant.same e.0 (ap (λ v. v.marks) e.1) c.in-Given.ensures
 
 pub file-requires : goal.file-requires
-file-requires c = drawn_once c.in-Some.q c.loop-q.pool.drawn c.draw.new.self.drawn c.in-Some.ensures.some.1
+file-requires c = drawn_once c.in-Some.q c.loop-q.pool.drawn c.draw.new.self.drawn (ap (λ v. v.drawn) c.in-Some.ensures.some.1)
 
 pub loop-q-preserved : goal.loop-q-preserved
 loop-q-preserved c =
     let e = c.in-Some.ensures.some in
-    draws-filed c.args.wanted.now c.loop-q.pool c.draw.new.self c.file.new.self c.args.pool.now c.args.table.now c.loop-q.table c.in-Some.q c.loop-q.invariant e.0 e.1 e.2 c.in-Filed.ensures c.file.ensures
+    draws-filed c.args.wanted.now c.loop-q.pool c.draw.new.self c.file.new.self c.args.pool.now c.args.table.now c.loop-q.table c.in-Some.q c.loop-q.invariant e.0 e.1 c.in-Filed.ensures c.file.ensures
 
 pub returns-in-Exchanged-clause-gives : goal.returns-in-Exchanged-clause-gives
 returns-in-Exchanged-clause-gives c = λ D l s.
     let e = c.in-Some.ensures.some in
-    gives-exchanged D c.args.wanted.now l c.loop-q.pool c.draw.new.self c.args.table.now c.loop-q.table c.exchange.new.table c.in-Some.q c.in-Exchanged.loaded c.exchange.result (c.loop-q.invariant.reaches D l s) c.loop-q.invariant.same e.0 e.2 c.in-Exchanged.ensures
+    gives-exchanged D c.args.wanted.now l c.loop-q.pool c.draw.new.self c.args.table.now c.loop-q.table c.exchange.new.table c.in-Some.q c.in-Exchanged.loaded c.exchange.result (c.loop-q.invariant.reaches D l s) c.loop-q.invariant.same e.0 (ap (λ v. v.marks) e.1) c.in-Exchanged.ensures
     c.exchange.ensures.page c.exchange.ensures.moved c.exchange.ensures.here c.exchange.ensures.others
 
 pub returns-clause-gives : goal.returns-clause-gives

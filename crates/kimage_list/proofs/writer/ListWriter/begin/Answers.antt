@@ -1,5 +1,6 @@
 use Rattle.std.proofs.Common.{◌∙◌, ap, arith}
 use Rattle.page_memory.specs.Contents.{at}
+use Rattle.page_pool.specs.Pages.{usable_of}
 use Rattle.kimage_list.specs.Calls.{load_begun}
 use Rattle.kimage_list.proofs.Beginning.{prepared}
 use Rattle.kimage_list.proofs.writer.ListWriter.begin.Goals as goal
@@ -10,7 +11,7 @@ open-requires c =
     let a = c.args in
     let n = c.pages_needed-need.ensures ∙ ap (need_of c.args.wish c.args.segments) c.total.ensures.sum in
     let r = c.in-Ok.ensures.ready in (
-      load_begun (at a.memory) a.pool.left a.wanted.now a.segments a.wish,
+      load_begun (at a.memory) (usable_of a.pool) a.wanted.now a.segments a.wish,
       prepared a.memory a.pool a.wanted.now a.segments a.wish c.prepare.new.memory c.in-Ok.table c.pages_needed-need.result c.new.result n
           (omega (arith, c.if-left-need.false, c.left-left.ensures.value)) (λ q. c.in-Ok.ensures.same q) c.left-left.ensures.once c.requires.unfiled r.0 r.1 r.2 c.requires.some c.new.ensures,
     )
@@ -20,5 +21,5 @@ returns-in-Ok-clause-begun c =
     let a = c.args in
     let n = c.pages_needed-need.ensures ∙ ap (need_of c.args.wish c.args.segments) c.total.ensures.sum in
     let r = c.in-Ok.ensures.ready in
-    c.open.ensures.stands (load_begun (at a.memory) a.pool.left a.wanted.now a.segments a.wish) (prepared a.memory a.pool a.wanted.now a.segments a.wish c.prepare.new.memory c.in-Ok.table c.pages_needed-need.result c.new.result n
+    c.open.ensures.stands (load_begun (at a.memory) (usable_of a.pool) a.wanted.now a.segments a.wish) (prepared a.memory a.pool a.wanted.now a.segments a.wish c.prepare.new.memory c.in-Ok.table c.pages_needed-need.result c.new.result n
     (omega (arith, c.if-left-need.false, c.left-left.ensures.value)) (λ q. c.in-Ok.ensures.same q) c.left-left.ensures.once c.requires.unfiled r.0 r.1 r.2 c.requires.some c.new.ensures)

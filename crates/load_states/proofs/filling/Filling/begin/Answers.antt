@@ -1,5 +1,6 @@
 use Rattle.std.proofs.Common.{length, subst, arith, ◌++◌}
 use Rattle.page_memory.specs.Contents.{at}
+use Rattle.page_pool.specs.Pages.{usable_of}
 use Rattle.kimage_list.specs.Calls.{Refuses}
 use Rattle.segments.proofs.Laws.{AreSegments-from_IsBare}
 use Rattle.load_states.proofs.FillSteps.{filling_begun, span_pages, need_same}
@@ -21,12 +22,12 @@ begin-begun-requires-clause-pages c =
 pub returns-in-Ok-clause-begun : goal.returns-in-Ok-clause-begun
 returns-in-Ok-clause-begun c =
     let k = AreSegments-from_IsBare c.args.segments c.count-count.ensures.valid in
-    filling_begun c.args.memory c.args.pool.left c.pages_of.result.now c.args.wish c.args.segments c.count-count.result c.in-Ok.writer k c.count-count.ensures.value c.pages_of.ensures.pages c.in-Ok.ensures.begun
+    filling_begun c.args.memory (usable_of c.args.pool) c.pages_of.result.now c.args.wish c.args.segments c.count-count.result c.in-Ok.writer k c.count-count.ensures.value c.pages_of.ensures.pages c.in-Ok.ensures.begun
 
 pub invariant_of-result : goal.invariant_of-result
 invariant_of-result c =
     let k = AreSegments-from_IsBare c.args.segments c.count-count.ensures.valid in
-    (at c.args.memory, c.args.pool.left, c.args.wish, filling_begun c.args.memory c.args.pool.left c.pages_of.result.now c.args.wish c.args.segments c.count-count.result c.in-Ok.writer k c.count-count.ensures.value c.pages_of.ensures.pages c.in-Ok.ensures.begun)
+    (at c.args.memory, usable_of c.args.pool, c.args.wish, filling_begun c.args.memory (usable_of c.args.pool) c.pages_of.result.now c.args.wish c.args.segments c.count-count.result c.in-Ok.writer k c.count-count.ensures.value c.pages_of.ensures.pages c.in-Ok.ensures.begun)
 
 pub returns-in-Ok-clause-enough : goal.returns-in-Ok-clause-enough
 returns-in-Ok-clause-enough c =
@@ -38,14 +39,14 @@ pub returns-in-Err-clause-why : goal.returns-in-Err-clause-why
 returns-in-Err-clause-why c =
     let k = AreSegments-from_IsBare c.args.segments c.count-count.ensures.valid in
     let e = need_same c.args.wish c.args.segments c.count-count.result _ c.count-count.ensures.value (span_pages c.args.segments c.pages_of.result.now k c.pages_of.ensures.apart c.pages_of.ensures.pages) in
-    subst (Refuses c.in-Err.refused.why (length c.args.pool.left)) e c.in-Err.ensures.why
+    subst (Refuses c.in-Err.refused.why (length (usable_of c.args.pool))) e c.in-Err.ensures.why
 
 pub returns-in-Ok-clause-exactly : goal.returns-in-Ok-clause-exactly
 returns-in-Ok-clause-exactly c =
-    loads_exactly c.args.wish c.args.segments c.args.pool.left (AreSegments-from_IsBare c.args.segments c.count-count.ensures.valid)
-    (λ x. omega (arith, count-from_Distinct x (c.args.pool.drawn ++ c.args.pool.left) c.left-left.ensures.once, count-append x c.args.pool.drawn c.args.pool.left))
+    loads_exactly c.args.wish c.args.segments (usable_of c.args.pool) (AreSegments-from_IsBare c.args.segments c.count-count.ensures.valid)
+    (λ x. omega (arith, count-from_Distinct x (c.args.pool.drawn ++ usable_of c.args.pool) c.left-left.ensures.once, count-append x c.args.pool.drawn (usable_of c.args.pool)))
 
 pub returns-in-Err-clause-exactly : goal.returns-in-Err-clause-exactly
 returns-in-Err-clause-exactly c =
-    loads_exactly c.args.wish c.args.segments c.args.pool.left (AreSegments-from_IsBare c.args.segments c.count-count.ensures.valid)
-    (λ x. omega (arith, count-from_Distinct x (c.args.pool.drawn ++ c.args.pool.left) c.left-left.ensures.once, count-append x c.args.pool.drawn c.args.pool.left))
+    loads_exactly c.args.wish c.args.segments (usable_of c.args.pool) (AreSegments-from_IsBare c.args.segments c.count-count.ensures.valid)
+    (λ x. omega (arith, count-from_Distinct x (c.args.pool.drawn ++ usable_of c.args.pool) c.left-left.ensures.once, count-append x c.args.pool.drawn (usable_of c.args.pool)))
