@@ -1,7 +1,6 @@
 -- The head of a record's file: what its numbers are where it has no fault, and how it is read and written.
 use Rattle.std.proofs.Common.{◌≡◌, ℕ, ◌%◌, ◌^◌, ◌<◌, ◌≤◌, List, ◌++◌, length, take, drop, Bool, true, false, cond, refl, sym, ap, ◌∙◌, arith, Ok, Err, Option, Some, None}
-use Rattle.std.specs.Prelude.{not, nat_lt, nat_eq, ◌==◌, ◌&&◌}
-use Rattle.std.specs.List.{starts_with}
+use Rattle.std.specs.Prelude.{not, nat_lt, ◌==◌, ◌&&◌, ◌||◌}
 use Rattle.std.proofs.lemmas.Bool.Decides.{nat_tests}
 use Rattle.std.proofs.lemmas.Bool.{or_parts}
 use Rattle.std.proofs.lemmas.List.{length-append}
@@ -16,7 +15,9 @@ use Rattle.kx_pages.specs.Numbers.{is_page_address}
 use Rattle.load_record.specs.declared.fault.RecFault.{RecFault}
 use Rattle.load_record.specs.declared.fault.RecFault.TheVariants as faults
 use Rattle.load_record.specs.declared.head.Head.{Head}
-use Rattle.load_record.specs.Head.{magic, head_format, head_text, head_fault, IsInRange, is_bad_mode, is_bad_page}
+use Rattle.load_record.specs.declared.version.Version.{Version}
+use Rattle.load_record.specs.declared.version.Version.TheVariants.{First, Second}
+use Rattle.load_record.specs.Head.{magic, has_magic, version_of, head_format, head_text, head_fault, IsInRange, is_bad_mode, is_bad_page}
 use Rattle.load_record.specs.File.{head_read, head_tested}
 
 pub head_is : IsFormat 96 head_format
@@ -91,28 +92,55 @@ pub no_fault_of : (h : Head) → nat_lt 1 h.kind ≡ false → is_bad_mode h ≡
 unfolding head_fault
 no_fault_of h a b c d e = rw (a, b, c, d, e) refl
 
-pub head_size : (h : Head) → length (head_text h) ≡ 96
-unfolding head_text
-head_size h = length-written 96 head_format h (blank 96 magic) head_is (length-blank 96 magic (omega arith))
+magic_size : (v : Version) → length (magic v) ≡ 8
+magic_size First = refl
+magic_size Second = refl
 
-pub begins : (h : Head) → head_text h ≡ magic ++ drop 8 (head_text h)
+pub magic_within : (v : Version) → length (magic v) ≤ 96
+magic_within v = omega (arith, magic_size v)
+
+magic_bytes : (v : Version) → AreBytes (magic v)
+magic_bytes First = AreBytes-from_test (magic First) refl
+magic_bytes Second = AreBytes-from_test (magic Second) refl
+
+pub head_size : (v : Version) (h : Head) → length (head_text v h) ≡ 96
 unfolding head_text
-begins h = blank_begins 96 head_format h magic head_is refl (omega arith)
+head_size v h = length-written 96 head_format h (blank 96 (magic v)) head_is (length-blank 96 (magic v) (magic_within v))
+
+begins : (v : Version) (h : Head) → head_text v h ≡ magic v ++ drop 8 (head_text v h)
+unfolding head_text
+begins First h = blank_begins 96 head_format h (magic First) head_is refl (omega arith)
+begins Second h = blank_begins 96 head_format h (magic Second) head_is refl (omega arith)
+
+-- a file that was written is of the version that it was written in
+pub version_again : (v : Version) (h : Head) (rest : List ℕ) → version_of (head_text v h ++ rest) ≡ v
+version_again First h rest = ap (λ l. version_of (l ++ rest)) (begins First h)
+version_again Second h rest = ap (λ l. version_of (l ++ rest)) (begins Second h)
+
+magic_again : (v : Version) (h : Head) (rest : List ℕ) → (has_magic First (head_text v h ++ rest) || has_magic Second (head_text v h ++ rest)) ≡ true
+magic_again First h rest = ap (λ l. has_magic First (l ++ rest) || has_magic Second (l ++ rest)) (begins First h)
+magic_again Second h rest = ap (λ l. has_magic First (l ++ rest) || has_magic Second (l ++ rest)) (begins Second h)
 
 -- a head that was written is read
-pub in_range_text : (h : Head) (rest : List ℕ) → IsInRange h → read head_format (take 96 (head_text h ++ rest)) ≡ h
+pub in_range_text : (v : Version) (h : Head) (rest : List ℕ) → IsInRange h → read head_format (take 96 (head_text v h ++ rest)) ≡ h
 unfolding head_text
-in_range_text h rest r =
-    front_read 96 head_format h (blank 96 magic) rest head_is refl r (length-blank 96 magic (omega arith)) (AreBytes-blank 96 magic (AreBytes-from_test magic refl))
+in_range_text v h rest r =
+    front_read 96 head_format h (blank 96 (magic v)) rest head_is refl r (length-blank 96 (magic v) (magic_within v)) (AreBytes-blank 96 (magic v) (magic_bytes v))
 
 -- a head that was read is written as it was
-pub head_spelled : (ys : List ℕ) → AreBytes ys → length ys ≡ 96 → ys ≡ magic ++ drop 8 ys → head_text (read head_format ys) ≡ ys
+pub head_spelled : (v : Version) (ys : List ℕ) → AreBytes ys → length ys ≡ 96 → ys ≡ magic v ++ drop 8 ys → head_text v (read head_format ys) ≡ ys
 unfolding head_text
-head_spelled ys small all begins = blank_spelled 96 head_format magic ys head_is refl (omega arith) all small begins
+head_spelled First ys small all begins = blank_spelled 96 head_format (magic First) ys head_is refl (omega arith) all small begins
+head_spelled Second ys small all begins = blank_spelled 96 head_format (magic Second) ys head_is refl (omega arith) all small begins
+
+-- bytes that begin with either magic begin with that of their version
+either_magic : (bytes : List ℕ) (b : Bool) → has_magic First bytes ≡ b → (b || has_magic Second bytes) ≡ true → has_magic (cond b First Second) bytes ≡ true
+either_magic bytes true first some = first
+either_magic bytes false first some = some
 
 -- what a head that was read and tested is
 pub record IsHeadOf (bytes : List ℕ) (h : Head) : Type 0 where
-  pub begins : starts_with nat_eq bytes magic ≡ true
+  pub begins : has_magic (version_of bytes) bytes ≡ true
   pub long : 96 ≤ length bytes
   pub is : h ≡ read head_format (take 96 bytes)
   pub good : head_fault h ≡ None
@@ -127,10 +155,10 @@ head_found bytes h e =
     let a = bind_ok (head_read bytes) (λ h. unless (head_fault h) >>= λ _. Ok h) h e in
     let b = bind_ok (unless (head_fault a.0)) (λ _. Ok a.0) h a.2 in
     let same : a.0 ≡ h = ok_same a.0 h b.2 in
-    let c = guard_ok (not (starts_with nat_eq bytes magic)) _ _ a.0 a.1 in
+    let c = guard_ok (not (has_magic First bytes || has_magic Second bytes)) _ _ a.0 a.1 in
     let d = guard_ok (nat_lt (length bytes) 96) _ _ a.0 c.1 in
     record {
-      begins = not_false (starts_with nat_eq bytes magic) c.0;
+      begins = either_magic bytes (has_magic First bytes) refl (not_false (has_magic First bytes || has_magic Second bytes) c.0);
       long = not_less (length bytes) 96 d.0;
       is = sym same ∙ sym (ok_same _ a.0 d.1);
       good = ap head_fault (sym same) ∙ unless_ok (head_fault a.0) b.0 b.1;
@@ -139,25 +167,27 @@ head_found bytes h e =
     not_less : (n k : ℕ) → nat_lt n k ≡ false → k ≤ n
     not_less n k h = grind (arith, nat_tests)
 
--- the first bytes of bytes that begin with the magic begin with it too
-pub magic_first : (bytes : List ℕ) → bytes ≡ magic ++ drop 8 bytes → take 96 bytes ≡ magic ++ drop 8 (take 96 bytes)
-magic_first bytes e =
-    let front : take 96 bytes ≡ magic ++ take 88 (drop 8 bytes) = ap (take 96) e in
-    front ∙ ap (λ l. magic ++ l) (sym (ap (drop 8) front))
+-- the first bytes of bytes that begin with a magic begin with it too
+pub magic_first : (v : Version) (bytes : List ℕ) → bytes ≡ magic v ++ drop 8 bytes → take 96 bytes ≡ magic v ++ drop 8 (take 96 bytes)
+magic_first First bytes e =
+    let front : take 96 bytes ≡ magic First ++ take 88 (drop 8 bytes) = ap (take 96) e in
+    front ∙ ap (λ l. magic First ++ l) (sym (ap (drop 8) front))
+magic_first Second bytes e =
+    let front : take 96 bytes ≡ magic Second ++ take 88 (drop 8 bytes) = ap (take 96) e in
+    front ∙ ap (λ l. magic Second ++ l) (sym (ap (drop 8) front))
 
-pub head_tested_text : (h : Head) (rest : List ℕ) → IsInRange h → head_fault h ≡ None → head_tested (head_text h ++ rest) ≡ Ok h
+pub head_tested_text : (v : Version) (h : Head) (rest : List ℕ) → IsInRange h → head_fault h ≡ None → head_tested (head_text v h ++ rest) ≡ Ok h
 unfolding head_tested head_read
-head_tested_text h rest r none =
-    let text = head_text h ++ rest in
-    let size = head_size h in
-    let all = length-append (head_text h) rest in
+head_tested_text v h rest r none =
+    let text = head_text v h ++ rest in
+    let size = head_size v h in
+    let all = length-append (head_text v h) rest in
     let long : nat_lt (length text) 96 ≡ false = grind (arith, nat_tests) in
-    let starts : starts_with nat_eq text magic ≡ true = ap (λ l. starts_with nat_eq (l ++ rest) magic) (begins h) in
-    ap (λ b. cond (not b) (Err faults.BadMagic) (cond (nat_lt (length text) 96) (Err (faults.Truncated (length text))) (Ok (read head_format (take 96 text)))) >>= λ h. unless (head_fault h) >>= λ _. Ok h) starts
+    ap (λ b. cond (not b) (Err faults.BadMagic) (cond (nat_lt (length text) 96) (Err (faults.Truncated (length text))) (Ok (read head_format (take 96 text)))) >>= λ h. unless (head_fault h) >>= λ _. Ok h) (magic_again v h rest)
     ∙ ap (λ b. cond b (Err (faults.Truncated (length text))) (Ok (read head_format (take 96 text))) >>= λ h. unless (head_fault h) >>= λ _. Ok h) long
-    ∙ ap (λ h. unless (head_fault h) >>= λ _. Ok h) (in_range_text h rest r)
+    ∙ ap (λ h. unless (head_fault h) >>= λ _. Ok h) (in_range_text v h rest r)
     ∙ ap (λ o. unless o >>= λ _. Ok h) none
 
-pub behind_head : (h : Head) (rest : List ℕ) → drop 96 (head_text h ++ rest) ≡ rest
+pub behind_head : (v : Version) (h : Head) (rest : List ℕ) → drop 96 (head_text v h ++ rest) ≡ rest
 unfolding head_text
-behind_head h rest = front_dropped 96 head_format h (blank 96 magic) rest head_is (length-blank 96 magic (omega arith))
+behind_head v h rest = front_dropped 96 head_format h (blank 96 (magic v)) rest head_is (length-blank 96 (magic v) (magic_within v))

@@ -1,4 +1,4 @@
--- A record has one file, and a file is read as one record. Crates above cite these.
+-- A record has one file of each version, and a file is read as one record. Crates above cite these.
 use Rattle.std.proofs.Common.{◌≡◌, ℕ, ◌*◌, ◌/◌, ◌%◌, ◌^◌, ◌<◌, ◌≤◌, List, ◌++◌, length, take, drop, Bool, true, false, cond, refl, sym, ap, ◌∙◌, subst, arith, Ok, Option, Some, None}
 use Rattle.std.specs.Prelude.{not, nat_lt, ◌==◌, ◌&&◌, ◌||◌}
 use Rattle.std.specs.List.{flat_map}
@@ -18,10 +18,12 @@ use Rattle.segments.specs.Rules.{bare_refusal}
 use Rattle.segments.proofs.Laws.{AreSegments-from_IsBare}
 use Rattle.segments.specs.declared.fault.SegFault.{SegFault}
 use Rattle.load_record.specs.declared.head.Head.{Head}
-use Rattle.load_record.specs.Head.{magic, head_text, head_fault, IsInRange}
-use Rattle.load_record.specs.File.{Record, HasPages, IsWritable, mode_number, swap_address, head_of_record, record_of, segment_text, record_file, head_tested, segments_read, ruled, record_reading}
-use Rattle.load_record.proofs.Heads.{IsGood, good_head, no_fault_of, head_spelled, head_found, magic_first, head_tested_text, behind_head}
-use Rattle.load_record.proofs.Bodies.{segments_spelled, segments_back, segment_ranges}
+use Rattle.load_record.specs.declared.version.Version.{Version}
+use Rattle.load_record.specs.declared.version.Version.TheVariants.{First, Second}
+use Rattle.load_record.specs.Head.{magic, has_magic, version_of, head_text, head_fault, IsInRange}
+use Rattle.load_record.specs.File.{Record, HasPages, IsWritable, mode_number, swap_address, head_of_record, record_of, segment_text, record_text, head_tested, segments_tested, ruled, record_reading}
+use Rattle.load_record.proofs.Heads.{IsGood, good_head, no_fault_of, head_spelled, head_found, magic_first, version_again, head_tested_text, behind_head}
+use Rattle.load_record.proofs.Bodies.{tested_spelled, tested_back, segment_ranges}
 
 -- what each LoadRecord is that can be written
 pub record IsRecord (r : Record) : Type 0 where
@@ -69,29 +71,35 @@ writable_by k m swap control e plain none_there =
 pub record_of-writable : (h : Head) (ss : List SegmentValue) → IsGood h → IsWritable (record_of h ss)
 record_of-writable h ss g e = writable_by h.kind h.mode h.swap h.control e g.plain g.no_control
 
--- a file that was read is written as it was
-pub file_found : (bytes : List ℕ) (h : Head) (ss : List SegmentValue) → AreBytes bytes → head_tested bytes ≡ Ok h → segments_read (length bytes) h.segments (drop 96 bytes) ≡ Ok ss → record_file (record_of h ss) ≡ bytes
-unfolding record_file
+-- a file that was read is how its version spells what was read
+pub file_found : (bytes : List ℕ) (h : Head) (ss : List SegmentValue) → AreBytes bytes → head_tested bytes ≡ Ok h → segments_tested (version_of bytes) (length bytes) h.segments (drop 96 bytes) ≡ Ok ss → record_text (version_of bytes) (record_of h ss) ≡ bytes
+unfolding record_text
 file_found bytes h ss small e f =
+    let v = version_of bytes in
     let found = head_found bytes h e in
     let good = good_head h found.good in
-    let parts = segments_spelled (length bytes) h.segments (drop 96 bytes) ss (AreBytes-drop 96 bytes small) f in
+    let parts = tested_spelled v (length bytes) h.segments (drop 96 bytes) ss (AreBytes-drop 96 bytes small) f in
     let long : length (take 96 bytes) ≡ 96 = omega (arith, length-take 96 bytes, found.long) in
-    let head : head_text h ≡ take 96 bytes = ap head_text found.is ∙ head_spelled (take 96 bytes) (AreBytes-take 96 bytes small) long (magic_first bytes (begins_with bytes magic found.begins)) in
-    ap (λ x. head_text x ++ flat_map segment_text ss) (head_of_record-of h ss good parts.0)
-    ∙ ap (λ l. l ++ flat_map segment_text ss) head
+    let head : head_text v h ≡ take 96 bytes = ap (head_text v) found.is ∙ head_spelled v (take 96 bytes) (AreBytes-take 96 bytes small) long (magic_first v bytes (magic_there bytes v found.begins)) in
+    ap (λ x. head_text v x ++ flat_map (segment_text v) ss) (head_of_record-of h ss good parts.0)
+    ∙ ap (λ l. l ++ flat_map (segment_text v) ss) head
     ∙ ap (λ l. take 96 bytes ++ l) parts.1
     ∙ take-append-drop 96 bytes
+  where
+    magic_there : (bytes : List ℕ) (v : Version) → has_magic v bytes ≡ true → bytes ≡ magic v ++ drop 8 bytes
+    magic_there bytes First h = begins_with bytes (magic First) h
+    magic_there bytes Second h = begins_with bytes (magic Second) h
 
 -- what record_reading gave
-pub reading_found : (bytes : List ℕ) (r : Record) → AreBytes bytes → record_reading bytes ≡ Ok r → (record_file r ≡ bytes) × IsWritable r
+pub reading_found : (bytes : List ℕ) (r : Record) → AreBytes bytes → record_reading bytes ≡ Ok r → (record_text (version_of bytes) r ≡ bytes) × IsWritable r
 unfolding record_reading
 reading_found bytes r small e =
-    let a = bind_ok (head_tested bytes) (λ h. segments_read (length bytes) h.segments (drop 96 bytes) >>= λ ss. ruled h ss (bare_refusal ss)) r e in
-    let b = bind_ok (segments_read (length bytes) a.0.segments (drop 96 bytes)) (λ ss. ruled a.0 ss (bare_refusal ss)) r a.2 in
+    let v = version_of bytes in
+    let a = bind_ok (head_tested bytes) (λ h. segments_tested v (length bytes) h.segments (drop 96 bytes) >>= λ ss. ruled h ss (bare_refusal ss)) r e in
+    let b = bind_ok (segments_tested v (length bytes) a.0.segments (drop 96 bytes)) (λ ss. ruled a.0 ss (bare_refusal ss)) r a.2 in
     let same : record_of a.0 b.0 ≡ r = ruled_ok a.0 b.0 (bare_refusal b.0) r b.2 in
     let good = good_head a.0 (head_found bytes a.0 a.1).good in
-    subst (λ (r : Record). (record_file r ≡ bytes) × IsWritable r) same (file_found bytes a.0 b.0 small a.1 b.1, record_of-writable a.0 b.0 good)
+    subst (λ (r : Record). (record_text v r ≡ bytes) × IsWritable r) same (file_found bytes a.0 b.0 small a.1 b.1, record_of-writable a.0 b.0 good)
   where
     ruled_ok : (h : Head) (ss : List SegmentValue) (o : Option SegFault) (r : Record) → ruled h ss o ≡ Ok r → record_of h ss ≡ r
     ruled_ok h ss None r e = ok_same (record_of h ss) r e
@@ -157,17 +165,18 @@ record_of-head r =
       segments = r.segments;
     }
 
--- a file that was written is read as it was
-pub reading_file : (r : Record) → IsRecord r → record_reading (record_file r) ≡ Ok r
-unfolding record_reading record_file
-reading_file r x =
+-- how a version spells a record is read as this record
+pub reading_text : (v : Version) (r : Record) → IsRecord r → record_reading (record_text v r) ≡ Ok r
+unfolding record_reading record_text
+reading_text v r x =
     let h = head_of_record r in
-    let body = flat_map segment_text r.segments in
-    let text = head_text h ++ body in
+    let body = flat_map (segment_text v) r.segments in
+    let text = head_text v h ++ body in
     let ss = AreSegments-from_IsBare r.segments x.pages.bare in
-    let parts = segments_back (length text) r.segments (segment_ranges r.segments ss.placed ss.fit) in
-    ap (λ x. x >>= λ h. segments_read (length text) h.segments (drop 96 text) >>= λ ss. ruled h ss (bare_refusal ss)) (head_tested_text h body x.range (no_fault r x))
-    ∙ ap (λ l. segments_read (length text) (length r.segments) l >>= λ ss. ruled h ss (bare_refusal ss)) (behind_head h body)
+    let parts = tested_back v (length text) r.segments (segment_ranges r.segments ss.placed ss.fit) in
+    ap (λ x. x >>= λ h. segments_tested (version_of text) (length text) h.segments (drop 96 text) >>= λ ss. ruled h ss (bare_refusal ss)) (head_tested_text v h body x.range (no_fault r x))
+    ∙ ap (λ u. segments_tested u (length text) (length r.segments) (drop 96 text) >>= λ ss. ruled h ss (bare_refusal ss)) (version_again v h body)
+    ∙ ap (λ l. segments_tested v (length text) (length r.segments) l >>= λ ss. ruled h ss (bare_refusal ss)) (behind_head v h body)
     ∙ ap (λ x. x >>= λ ss. ruled h ss (bare_refusal ss)) parts
     ∙ ap (λ o. ruled h r.segments o) x.pages.bare
     ∙ ap Ok (record_of-head r)

@@ -1,17 +1,22 @@
 //! The segments in a record's file.
 
-ghost use Rattle.std.specs.Prelude.{◌≡◌, ◌+◌, ◌<◌, ◌≤◌, ◌++◌, take, drop, length, IfOk, OnOk};
+ghost use Rattle.std.specs.Prelude.{◌≡◌, ◌↔◌, ◌+◌, ◌-◌, ◌<◌, ◌≤◌, ◌++◌, take, drop, length, IfOk, OnOk, IsSome, IfSome, Some, None, if◌then◌else◌};
 ghost use Rattle.std.specs.List.{flat_map};
+ghost use Rattle.std.specs.Option.{option_or};
+ghost use Rattle.sha2.specs.Sha256.{sha256};
 ghost use Rattle.kx_fields.specs.Fields.{zeros};
 ghost use Rattle.kx_fields.specs.Formats.{read, written};
 ghost use Rattle.kx_laws.specs.Results.{Gives};
-ghost use Rattle.load_record.specs.File.{segment_format, segment_of, segment_at, segments_read, segment_text, record_file};
+ghost use Rattle.load_record.specs.declared.version.Version.TheVariants.{Second};
+ghost use Rattle.load_record.specs.File.{digest_size, file_segment, head_of_segment, is_wrong, record_file, segment_at, segment_format, segment_of, segment_text, segments_kept, segments_tested, without_wrong};
 ghost use Rattle.kx_laws.specs.Cuts.{IsCutAt};
 
 use crate::fault::RecFault;
 use crate::load::LoadRecord;
+use crate::version::Version;
 use kx_fields::Block;
 use segments::{Segment, Segments};
+use sha2::{Digest, Sha256};
 use std::alloc::{AllocError, Global};
 
 /// The head of a segment, before its bytes.
@@ -74,51 +79,86 @@ fn copy_of(alloc: Global, bytes: &[u8]) -> Result<Vec<u8>, AllocError>
     Ok(copy)
 }
 
-// The head of a segment, its bytes, and what follows it. Its own head stands apart from the bytes behind it, and the file
-// has `total` bytes.
+// The head of a segment, where it and the digest behind it are whole.
+fn head_in(version: Version, own: &[u8]) -> Option<SegmentHead>
+    ensures found { IsSome result ↔ (24 + digest_size version ≤ length own.now) }
+    ensures value { IfSome result (λ h. h ≡ read segment_format (take 24 own.now)) }
+{
+    if own.len() < version.front_size() {
+        return None;
+    }
+    let block = Block::<24>::cut(own, 0)?;
+    Some(SegmentHead::numbers(&block))
+}
+
+// The head of a segment, whether its digest is wrong, its bytes, and what follows it. Its own head and digest stand apart
+// from the bytes behind them, and the file has `total` bytes.
 fn cut_segment<'a>(
+    version: Version,
     total: u64,
     own: &[u8],
     behind: &'a [u8],
-) -> Result<(SegmentHead, &'a [u8], &'a [u8]), RecFault>
-    requires apart { IsCutAt 24 own.now behind.now }
-    ensures exact { Gives RecFault.Memory (λ x. (segment_of x.0 x.1.now, x.2.now)) result
-        (segment_at total (own.now ++ behind.now)) }
-    ensures place { IfOk result (λ x. x.1.now ≡ take x.0.bufsz behind.now) }
-    ensures inside { IfOk result (λ x. x.0.bufsz + length x.2.now ≡ length behind.now) }
+) -> Result<(SegmentHead, bool, &'a [u8], &'a [u8]), RecFault>
+    requires apart { IsCutAt (24 + digest_size version) own.now behind.now }
+    ensures exact { Gives RecFault.Memory
+        (λ x. (file_segment x.0 (drop 24 own.now) x.2.now, x.3.now)) result
+        (segment_at version total (own.now ++ behind.now)) }
+    ensures digest { IfOk result (λ x. x.1 ≡ is_wrong version (drop 24 own.now) x.2.now) }
+    ensures place { IfOk result (λ x. x.2.now ≡ take x.0.bufsz behind.now) }
+    ensures inside { IfOk result (λ x. x.0.bufsz + length x.3.now ≡ length behind.now) }
 {
-    let head = match Block::<24>::cut(own, 0) {
-        Some(block) => SegmentHead::numbers(&block),
+    let head = match head_in(version, own) {
+        Some(head) => head,
         None => return Err(RecFault::Truncated { at: total }),
     };
     if head.bufsz > behind.len() as u64 {
         return Err(RecFault::Truncated { at: total });
     }
+    let (_, digest) = own.split_at(24);
     let (bytes, after) = behind.split_at(head.bufsz as usize);
-    Ok((head, bytes, after))
+    Ok((head, version.is_wrong(digest, bytes), bytes, after))
 }
 
-// The segments that the bytes spell, so many, and nothing after them: the last bytes of a file that has `total`.
+// The least number of a segment with a wrong digest, once segment `number` was looked at too.
+fn least_wrong(before: Option<u64>, number: u64, is_wrong: bool) -> Option<u64>
+    ensures { result ≡ option_or before (if is_wrong then Some number else None) }
+{
+    match before {
+        Some(least) => Some(least),
+        None if is_wrong => Some(number),
+        None => None,
+    }
+}
+
+// The segments that the bytes spell, from number `first` on to `count`, and nothing after them: the last bytes of a file
+// that has `total`. Beside them the least number of a segment with a wrong digest: `before`, where a segment before
+// them has one.
 fn copied_segments(
     alloc: Global,
+    version: Version,
     total: u64,
+    before: Option<u64>,
+    first: u64,
     count: u64,
     bytes: &[u8],
-) -> Result<Vec<Segment>, RecFault>
+) -> Result<(Vec<Segment>, Option<u64>), RecFault>
     requires last { length bytes.now ≤ total }
+    requires order { first ≤ count }
     requires few { count ≤ 16 }
-    ensures { Gives RecFault.Memory (λ v. v.items) result
-        (segments_read total count bytes.now) }
+    ensures { Gives RecFault.Memory (λ x. (x.0.items, x.1)) result
+        (segments_kept version total first before (count - first) bytes.now) }
 {
     let mut rest = bytes;
+    let mut wrong = before;
     let mut list = Vec::new(alloc);
-    list.reserve_exact(count as usize)?;
-    for _ in 0..count {
-        let (own, behind) = rest.split_at(rest.len().min(24));
-        let (head, bytes, after) = match cut_segment(total, own, behind) {
+    list.reserve_exact((count - first) as usize)?;
+    for number in first..count {
+        let (own, behind) = rest.split_at(rest.len().min(version.front_size()));
+        let (head, is_wrong, bytes, after) = match cut_segment(version, total, own, behind) {
             Ok(cut) => cut,
             Err(fault) => return Err(fault),
         };
+        wrong = least_wrong(wrong, number, is_wrong);
         list.push(head.segment(copy_of(alloc, bytes)?))?;
         rest = after;
     }
@@ -127,42 +167,63 @@ fn copied_segments(
             at: total - rest.len() as u64,
         });
     }
-    Ok(list)
+    Ok((list, wrong))
 }
 
-/// The segments that follow the head of a whole file, so many, and nothing after them.
-pub fn read_segments(alloc: Global, count: u64, file: &[u8]) -> Result<Vec<Segment>, RecFault>
+// The segments, if none of them has a wrong digest.
+fn without_wrong(list: Vec<Segment>, wrong: Option<u64>) -> Result<Vec<Segment>, RecFault>
+    ensures { Gives RecFault.Memory (λ v. v.items) result (without_wrong list.items wrong) }
+{
+    match wrong {
+        None => Ok(list),
+        Some(segment) => Err(RecFault::WrongDigest { segment }),
+    }
+}
+
+/// The segments that follow the head of a whole file, so many, with nothing after them and no wrong digest.
+pub fn read_segments(
+    alloc: Global,
+    version: Version,
+    count: u64,
+    file: &[u8],
+) -> Result<Vec<Segment>, RecFault>
     requires whole { 96 ≤ length file.now }
     requires few { count ≤ 16 }
     ensures { Gives RecFault.Memory (λ v. v.items) result
-        (segments_read (length file.now) count (drop 96 file.now)) }
+        (segments_tested version (length file.now) count (drop 96 file.now)) }
 {
     let (_, body) = file.split_at(96);
-    copied_segments(alloc, file.len() as u64, count, body)
+    match copied_segments(alloc, version, file.len() as u64, None, 0, count, body) {
+        Ok((list, wrong)) => without_wrong(list, wrong),
+        Err(fault) => Err(fault),
+    }
 }
 
-/// The segments that the bytes spell, so many, and nothing after them: the last bytes of a file that has `total`. Those
-/// behind the first segment's own head are handed in: the first segment, mostly by far the largest, keeps their buffer.
+/// The segments that the bytes spell, so many, with nothing after them and no wrong digest: the last bytes of a file that
+/// has `total`. Those behind the first segment's own head and digest are handed in: the first segment, mostly by far the
+/// largest, keeps their buffer.
 pub fn take_segments(
     alloc: Global,
+    version: Version,
     total: u64,
     count: u64,
     own: &[u8],
     mut rest: Vec<u8>,
 ) -> Result<Vec<Segment>, RecFault>
-    requires apart { IsCutAt 24 own.now rest.items }
+    requires apart { IsCutAt (24 + digest_size version) own.now rest.items }
     requires last { length own.now + length rest.items ≤ total }
     requires some { 0 < count }
     requires few { count ≤ 16 }
     ensures { Gives RecFault.Memory (λ v. v.items) result
-        (segments_read total count (own.now ++ rest.items)) }
+        (segments_tested version total count (own.now ++ rest.items)) }
 {
-    let (head, _, after) = match cut_segment(total, own, &rest) {
+    let (head, is_wrong, _, after) = match cut_segment(version, total, own, &rest) {
         Ok(cut) => cut,
         Err(fault) => return Err(fault),
     };
-    let mut others = match copied_segments(alloc, total, count - 1, after) {
-        Ok(others) => others,
+    let before = least_wrong(None, 0, is_wrong);
+    let (mut others, wrong) = match copied_segments(alloc, version, total, before, 1, count, after) {
+        Ok(read) => read,
         Err(fault) => return Err(fault),
     };
     let mut list = Vec::new(alloc);
@@ -170,13 +231,12 @@ pub fn take_segments(
     rest.truncate(head.bufsz as usize);
     list.push(head.segment(rest))?;
     list.append(&mut others)?;
-    Ok(list)
+    without_wrong(list, wrong)
 }
 
-// What stands before the bytes of a segment.
-#[tactic(auto, unfolding(crate::specs::File::segment_text))]
+// The three numbers that stand before the bytes of a segment.
 fn head_of(segment: &Segment) -> Block<24>
-    ensures value { result ++ segment.now.bytes ≡ segment_text segment.now }
+    ensures value { result ≡ written segment_format (head_of_segment segment.now) (zeros 24) }
     ensures length { length result ≡ 24 }
 {
     let head = SegmentHead {
@@ -189,16 +249,19 @@ fn head_of(segment: &Segment) -> Block<24>
 
 // Puts one segment behind the bytes.
 fn put_segment(out: &mut Vec<u8>, segment: &Segment) -> Result<(), AllocError>
-    ensures { OnOk result (out.new.items ≡ out.old.items ++ segment_text segment.now) }
+    ensures { OnOk result
+        (out.new.items ≡ out.old.items ++ segment_text Second segment.now) }
 {
     out.extend_from_slice(head_of(segment).bytes())?;
+    out.extend_from_slice(&Sha256::digest(&segment.bytes))?;
     out.extend_from_slice(&segment.bytes)?;
     Ok(())
 }
 
 /// Puts the segments behind the bytes.
 pub fn put_segments(out: &mut Vec<u8>, segments: &Segments) -> Result<(), AllocError>
-    ensures { OnOk result (out.new.items ≡ out.old.items ++ flat_map segment_text segments.now) }
+    ensures { OnOk result
+        (out.new.items ≡ out.old.items ++ flat_map (segment_text Second) segments.now) }
 {
     for i in 0..segments.count() {
         put_segment(out, segments.segment(i))?;
@@ -206,16 +269,32 @@ pub fn put_segments(out: &mut Vec<u8>, segments: &Segments) -> Result<(), AllocE
     Ok(())
 }
 
+/// The first bytes and then the others, in the buffer of the others. These are moved once, and not at all where there
+/// are no first bytes.
+pub fn put_in_front(first: &[u8], mut others: Vec<u8>) -> Result<Vec<u8>, AllocError>
+    ensures { IfOk result (λ v. v.items ≡ first.now ++ others.items) }
+{
+    if first.is_empty() {
+        return Ok(others);
+    }
+    others.reserve_exact(first.len())?;
+    others.extend_from_slice(first)?;
+    others.rotate_right(first.len());
+    Ok(others)
+}
+
 // The bytes and then the segment, in the segment's buffer, which gets room for `room` bytes.
 fn put_before(bytes: &[u8], segment: Segment, room: usize) -> Result<Vec<u8>, AllocError>
-    ensures { IfOk result (λ v. v.items ≡ bytes.now ++ segment_text segment) }
+    ensures { IfOk result (λ v. v.items ≡ bytes.now ++ segment_text Second segment) }
 {
     let head = head_of(&segment);
+    let digest = Sha256::digest(&segment.bytes);
     let mut out = segment.bytes;
     out.reserve_exact(room.saturating_sub(out.len()))?;
     out.extend_from_slice(bytes)?;
     out.extend_from_slice(head.bytes())?;
-    out.rotate_right(bytes.len() + 24);
+    out.extend_from_slice(&digest)?;
+    out.rotate_right(bytes.len() + Version::Second.front_size());
     Ok(out)
 }
 
@@ -226,7 +305,7 @@ pub fn give_segments(
     room: usize,
 ) -> Result<Vec<u8>, AllocError>
     requires { 0 < length list.items }
-    ensures { IfOk result (λ v. v.items ≡ bytes.now ++ flat_map segment_text list.items) }
+    ensures { IfOk result (λ v. v.items ≡ bytes.now ++ flat_map (segment_text Second) list.items) }
 {
     let first = list.remove(0);
     let mut out = put_before(bytes, first, room)?;
@@ -243,7 +322,7 @@ pub fn room_of(of: &LoadRecord) -> usize
     let segments = &of.segments;
     let mut room = 96;
     for i in 0..segments.count() {
-        room += 24 + segments.segment(i).bytes.len();
+        room += Version::Second.front_size() + segments.segment(i).bytes.len();
     }
     room
 }

@@ -4,19 +4,22 @@ ghost use Rattle.std.specs.Prelude.{◌≡◌, ◌<◌, ◌≤◌, ◌++◌, len
 ghost use Rattle.kx_fields.specs.Fields.{AreBytes};
 ghost use Rattle.kx_laws.specs.Results.{Gives};
 ghost use Rattle.segments.specs.Rules.{bare_refusal};
-ghost use Rattle.load_record.specs.Head.{head_fault};
-ghost use Rattle.load_record.specs.File.{IsWritable, record_reading, record_file, ruled};
+ghost use Rattle.load_record.specs.Head.{head_fault, version_of};
+ghost use Rattle.load_record.specs.File.{IsWritable, record_reading, record_file, record_text, ruled};
 ghost use Rattle.kx_laws.specs.Cuts.{IsCutAt};
 
-use crate::body::{give_segments, put_segments, read_segments, room_of, take_segments};
+use crate::body::{give_segments, put_in_front, put_segments, read_segments, room_of, take_segments};
 use crate::fault::RecFault;
 use crate::head::Head;
+use crate::version::Version;
 use kx_pages::{Image, Start};
 use segments::{Segment, Segments};
 use std::alloc::{AllocError, Global};
 
-/// How many bytes of a record's file stand before those of its first segment: the head's 96, and the segment's own 24.
-pub const FIRST_BYTES: usize = 120;
+/// How many bytes of a record's file of version 2 stand before those of its first segment: the head's 96, the 24 of the
+/// segment's own head, and the 32 of its digest. A file of version 1 has no digest, so that its segment's bytes begin 32
+/// bytes earlier. Both are cut here, since the version is not known before a file is read.
+pub const FIRST_BYTES: usize = 152;
 
 /// A load record. This project's own.
 #[derive(Drop)]
@@ -36,19 +39,19 @@ pub struct LoadRecord {
 }
 
 impl LoadRecord {
-    /// The record that a file spells, or the first fault of the bytes.
+    /// The record that a file of either version spells, or the first fault of the bytes.
     pub fn read(alloc: Global, bytes: &[u8]) -> Result<LoadRecord, RecFault>
         // What it is, or the first fault.
         ensures exact { Gives RecFault.Memory (λ r. r) result (record_reading bytes.now) }
-        // The bytes are the file of what was read.
-        ensures found { IfOk result (λ r. record_file r ≡ bytes.now) }
+        // The bytes are how their version spells what was read.
+        ensures found { IfOk result (λ r. record_text (version_of bytes.now) r ≡ bytes.now) }
         ensures writable { IfOk result IsWritable }
     {
         let head = match Head::read_tested(bytes) {
             Ok(head) => head,
             Err(fault) => return Err(fault),
         };
-        let list = match read_segments(alloc, head.segments, bytes) {
+        let list = match read_segments(alloc, Version::of(bytes), head.segments, bytes) {
             Ok(list) => list,
             Err(fault) => return Err(fault),
         };
@@ -56,30 +59,35 @@ impl LoadRecord {
     }
 
     /// As `read`, of a file that is handed in, its first `FIRST_BYTES` bytes apart from the others: the buffer of the
-    /// others becomes that of the first segment's bytes, so that these are neither copied nor moved. A file that is
-    /// shorter has no others.
+    /// others becomes that of the first segment's bytes. Of a file of version 2 these are neither copied nor moved. Of
+    /// one of version 1 they are moved once inside that buffer, which makes room for the 32 bytes of them that stand
+    /// among the first ones. A file that is shorter has no others.
     pub fn from_file(alloc: Global, front: &[u8], rest: Vec<u8>) -> Result<LoadRecord, RecFault>
-        requires apart { IsCutAt 120 front.now rest.items }
+        requires apart { IsCutAt 152 front.now rest.items }
         ensures exact { Gives RecFault.Memory (λ r. r) result
             (record_reading (front.now ++ rest.items)) }
-        ensures found { IfOk result (λ r. record_file r ≡ front.now ++ rest.items) }
+        ensures found { IfOk result
+            (λ r. record_text (version_of (front.now ++ rest.items)) r ≡ front.now ++ rest.items) }
         ensures writable { IfOk result IsWritable }
     {
         let head = match Head::read_tested(front) {
             Ok(head) => head,
             Err(fault) => return Err(fault),
         };
+        let version = Version::of(front);
         let total = total_of(front, &rest);
-        let (_, own) = front.split_at(96);
-        let list = match take_segments(alloc, total, head.segments, own, rest) {
+        let (_, body) = front.split_at(96);
+        let (own, first) = body.split_at(body.len().min(version.front_size()));
+        let behind = put_in_front(first, rest)?;
+        let list = match take_segments(alloc, version, total, head.segments, own, behind) {
             Ok(list) => list,
             Err(fault) => return Err(fault),
         };
         record_with(alloc, head, list)
     }
 
-    /// The file of the record. A crash record is plain, and its control page is page 0, as in each record that was
-    /// read.
+    /// The file of the record, of version 2. A crash record is plain, and its control page is page 0, as in each record
+    /// that was read.
     pub fn write(&self, alloc: Global) -> Result<Vec<u8>, AllocError>
         requires { IsWritable self.now }
         ensures file { IfOk result (λ v. v.items ≡ record_file self.now) }
@@ -112,7 +120,7 @@ impl LoadRecord {
 
 // How many bytes a file has that is handed in in two parts.
 fn total_of(front: &[u8], rest: &[u8]) -> u64
-    requires { length front.now ≤ 120 }
+    requires { length front.now ≤ 152 }
     ensures value { result ≡ length (front.now ++ rest.now) }
     // As their type says. A caller that has handed them on knows it no more.
     ensures bytes { AreBytes (front.now ++ rest.now) }

@@ -1,7 +1,8 @@
 use Rattle.std.proofs.Common.{◌≡◌, ◌++◌, drop}
 use Rattle.std.specs.List.{flat_map}
+use Rattle.load_record.specs.declared.version.Version.TheVariants.{Second}
 use Rattle.load_record.specs.File.{segment_text}
 use Rattle.load_record.proofs.body.put_segments.Given as goal
 
 abbrev pub invariant-loop-i : goal.invariant-loop-i
-invariant-loop-i l = l.out.items ++ flat_map segment_text (drop l.i l.segments) ≡ l.fn.out.items ++ flat_map segment_text l.segments
+invariant-loop-i l = l.out.items ++ flat_map (segment_text Second) (drop l.i l.segments) ≡ l.fn.out.items ++ flat_map (segment_text Second) l.segments

@@ -1,9 +1,13 @@
-use Rattle.std.proofs.Common.{◌≡◌, ◌++◌, sym, ◌∙◌, subst, Ok}
+use Rattle.std.proofs.Common.{◌≡◌, ℕ, ◌+◌, ◌≤◌, ◌++◌, min, length, drop, take, sym, ap, ◌∙◌, subst, Ok, arith}
+use Rattle.std.proofs.lemmas.List.{length-append, length-drop}
+use Rattle.kx_laws.specs.Cuts.{IsCutAt}
 use Rattle.kx_laws.specs.Results.{Gives}
 use Rattle.load_record.specs.declared.fault.RecFault.TheVariants.{Memory}
-use Rattle.load_record.specs.File.{Record, head_tested}
+use Rattle.load_record.specs.declared.version.Version.{Version}
+use Rattle.load_record.specs.declared.version.Version.TheVariants.{First, Second}
+use Rattle.load_record.specs.File.{Record, digest_size, head_tested}
 use Rattle.load_record.proofs.Heads.{good_head, head_found}
-use Rattle.load_record.proofs.InTwo.{head_in_two, behind_in_two}
+use Rattle.load_record.proofs.InTwo.{head_in_two, version_in_two, behind_in_two, cut_in_two}
 use Rattle.load_record.proofs.Reading.{head_fails, segments_fail, reading_ruled, given_found, given_writable}
 use Rattle.load_record.proofs.load.LoadRecord.from_file.Goals as goal
 
@@ -20,12 +24,37 @@ take_segments-requires-clause-some c = (good_head c.in-Ok.head (head_found c.arg
 pub take_segments-requires-clause-few : goal.take_segments-requires-clause-few
 take_segments-requires-clause-few c = (good_head c.in-Ok.head (head_found c.args.front.now c.in-Ok.head (sym c.in-Ok.ensures.value)).good).few
 
+pub take_segments-requires-clause-apart : goal.take_segments-requires-clause-apart
+take_segments-requires-clause-apart c =
+    let long = (head_found c.args.front.now c.in-Ok.head (sym c.in-Ok.ensures.value)).long in
+    let body = drop 96 c.args.front.now in
+    let front_is : c.split_at.result.1.now ≡ body = c.split_at.ensures.back in
+    let least : c.min.result ≡ min (length body) (24 + digest_size c.of-version.result) = rw front_is at (c.min.ensures ∙ ap (min (length c.split_at.result.1.now)) c.front_size.ensures) in
+    rw c.in_ok-behind.ensures
+    (cut_in_two (24 + digest_size c.of-version.result) c.args.front.now c.args.rest.items _ _ c.min.result c.requires.apart long (within c.of-version.result) least (rw front_is at c.split_at-2.ensures.front) (rw front_is at c.split_at-2.ensures.back))
+  where
+    within : (v : Version) → 24 + digest_size v ≤ 56
+    within First = omega arith
+    within Second = omega arith
+
+pub take_segments-requires-clause-last : goal.take_segments-requires-clause-last
+take_segments-requires-clause-last c =
+    let long = (head_found c.args.front.now c.in-Ok.head (sym c.in-Ok.ensures.value)).long in
+    let front_is = c.split_at.ensures.back in
+    let body = behind_in_two c.args.front.now c.args.rest.items c.split_at-2.result.0.now c.split_at-2.result.1.now c.min.result long (rw front_is at c.split_at-2.ensures.front) (rw front_is at c.split_at-2.ensures.back) in
+    let all : length (c.split_at-2.result.0.now ++ c.in_ok-behind.behind.items) ≡ length (drop 96 (c.args.front.now ++ c.args.rest.items)) = ap (λ l. length (c.split_at-2.result.0.now ++ l)) c.in_ok-behind.ensures ∙ ap length body in
+    let total : c.total_of-total.result ≡ length (c.args.front.now ++ c.args.rest.items) = rw c.deref.ensures.value at c.total_of-total.ensures.value in
+    omega (arith, all, total, length-append c.split_at-2.result.0.now c.in_ok-behind.behind.items, length-drop 96 (c.args.front.now ++ c.args.rest.items))
+
 pub returns-in-Err-take_segments-clause-exact : goal.returns-in-Err-take_segments-clause-exact
 returns-in-Err-take_segments-clause-exact c =
     let file = c.args.front.now ++ c.args.rest.items in
+    let long = (head_found c.args.front.now c.in-Ok.head (sym c.in-Ok.ensures.value)).long in
     let head : Ok c.in-Ok.head ≡ head_tested file = c.in-Ok.ensures.value ∙ head_in_two c.args.front.now c.args.rest.items c.requires.apart in
-    let body = behind_in_two c.args.front.now c.args.rest.items c.split_at.result.1.now (head_found c.args.front.now c.in-Ok.head (sym c.in-Ok.ensures.value)).long c.split_at.ensures.back in
-    segments_fail file c.in-Ok.head c.in-Err-take_segments.fault head (rw (body, c.total_of-total.ensures.value, c.deref.ensures.value) at c.in-Err-take_segments.ensures)
+    let version = c.of-version.ensures ∙ version_in_two c.args.front.now c.args.rest.items long in
+    let front_is = c.split_at.ensures.back in
+    let body = behind_in_two c.args.front.now c.args.rest.items c.split_at-2.result.0.now c.split_at-2.result.1.now c.min.result long (rw front_is at c.split_at-2.ensures.front) (rw front_is at c.split_at-2.ensures.back) in
+    segments_fail file c.in-Ok.head c.in-Err-take_segments.fault head (rw (version, c.in_ok-behind.ensures, body, c.total_of-total.ensures.value, c.deref.ensures.value) at c.in-Err-take_segments.ensures)
 
 pub record_with-requires : goal.record_with-requires
 record_with-requires c = (head_found c.args.front.now c.in-Ok.head (sym c.in-Ok.ensures.value)).good
@@ -33,9 +62,12 @@ record_with-requires c = (head_found c.args.front.now c.in-Ok.head (sym c.in-Ok.
 pub returns-clause-exact : goal.returns-clause-exact
 returns-clause-exact c =
     let file = c.args.front.now ++ c.args.rest.items in
+    let long = (head_found c.args.front.now c.in-Ok.head (sym c.in-Ok.ensures.value)).long in
     let head : Ok c.in-Ok.head ≡ head_tested file = c.in-Ok.ensures.value ∙ head_in_two c.args.front.now c.args.rest.items c.requires.apart in
-    let body = behind_in_two c.args.front.now c.args.rest.items c.split_at.result.1.now (head_found c.args.front.now c.in-Ok.head (sym c.in-Ok.ensures.value)).long c.split_at.ensures.back in
-    subst (λ d. Gives Memory (λ (r : Record). r) c.record_with.result d) (sym (reading_ruled file c.in-Ok.head c.in-Ok-take_segments.list.items head (rw (body, c.total_of-total.ensures.value, c.deref.ensures.value) at c.in-Ok-take_segments.ensures))) c.record_with.ensures
+    let version = c.of-version.ensures ∙ version_in_two c.args.front.now c.args.rest.items long in
+    let front_is = c.split_at.ensures.back in
+    let body = behind_in_two c.args.front.now c.args.rest.items c.split_at-2.result.0.now c.split_at-2.result.1.now c.min.result long (rw front_is at c.split_at-2.ensures.front) (rw front_is at c.split_at-2.ensures.back) in
+    subst (λ d. Gives Memory (λ (r : Record). r) c.record_with.result d) (sym (reading_ruled file c.in-Ok.head c.in-Ok-take_segments.list.items head (rw (version, c.in_ok-behind.ensures, body, c.total_of-total.ensures.value, c.deref.ensures.value) at c.in-Ok-take_segments.ensures))) c.record_with.ensures
 
 pub returns-clause-found : goal.returns-clause-found
 returns-clause-found c = given_found (c.args.front.now ++ c.args.rest.items) c.record_with.result (rw c.deref.ensures.value at c.total_of-total.ensures.bytes) (returns-clause-exact c)

@@ -16,14 +16,14 @@ pub read_segments-requires-clause-few : goal.read_segments-requires-clause-few
 read_segments-requires-clause-few c = (good_head c.in-Ok.head (head_found c.args.bytes.now c.in-Ok.head (sym c.in-Ok.ensures.value)).good).few
 
 pub returns-in-Err-read_segments-clause-exact : goal.returns-in-Err-read_segments-clause-exact
-returns-in-Err-read_segments-clause-exact c = segments_fail c.args.bytes.now c.in-Ok.head c.in-Err-read_segments.fault c.in-Ok.ensures.value c.in-Err-read_segments.ensures
+returns-in-Err-read_segments-clause-exact c = segments_fail c.args.bytes.now c.in-Ok.head c.in-Err-read_segments.fault c.in-Ok.ensures.value (rw c.of.ensures at c.in-Err-read_segments.ensures)
 
 pub record_with-requires : goal.record_with-requires
 record_with-requires c = (head_found c.args.bytes.now c.in-Ok.head (sym c.in-Ok.ensures.value)).good
 
 pub returns-clause-exact : goal.returns-clause-exact
 returns-clause-exact c =
-    subst (λ d. Gives Memory (λ (r : Record). r) c.record_with.result d) (sym (reading_ruled c.args.bytes.now c.in-Ok.head c.in-Ok-read_segments.list.items c.in-Ok.ensures.value c.in-Ok-read_segments.ensures)) c.record_with.ensures
+    subst (λ d. Gives Memory (λ (r : Record). r) c.record_with.result d) (sym (reading_ruled c.args.bytes.now c.in-Ok.head c.in-Ok-read_segments.list.items c.in-Ok.ensures.value (rw c.of.ensures at c.in-Ok-read_segments.ensures))) c.record_with.ensures
 
 pub returns-clause-found : goal.returns-clause-found
 returns-clause-found c = given_found c.args.bytes.now c.record_with.result c.read_tested.ensures.bytes (returns-clause-exact c)
