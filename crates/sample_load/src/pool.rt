@@ -1,7 +1,7 @@
 //! The pool of a sample.
 
 ghost use Rattle.std.specs.Prelude.{◌≡◌, ℕ, ◌<◌, ◌≤◌, false, IfOk};
-ghost use Rattle.page_pool.specs.Pages.{is_filed};
+ghost use Rattle.page_pool.specs.Pages.{is_filed, usable_of};
 ghost use Rattle.sample_load.specs.Samples.{pool_page, pool_pages, sample_pool};
 
 use crate::{FIRST_PAGE, PAGE_COUNT};
@@ -34,10 +34,10 @@ fn pool_pages(alloc: Global, count: u64) -> Result<Vec<Page>, AllocError>
     Ok(pages)
 }
 
-// A pool of so many of these pages. None of them stands in it twice.
+// A pool of so many of these pages. None of them stands in it twice, and each is usable.
 fn pool_of(alloc: Global, count: u64) -> Result<Pool, AllocError>
     requires { count ≤ 16384 }
-    ensures pages { IfOk result (λ p. p.left ≡ pool_pages count) }
+    ensures pages { IfOk result (λ p. usable_of p ≡ pool_pages count) }
     ensures unfiled { IfOk result (λ p. (q : ℕ) → is_filed p q ≡ false) }
 {
     let pages = pool_pages(alloc, count)?;
@@ -52,7 +52,7 @@ fn pool_of(alloc: Global, count: u64) -> Result<Pool, AllocError>
 
 /// The pool of each sample.
 pub(crate) fn sample_pool(alloc: Global) -> Result<Pool, AllocError>
-    ensures pages { IfOk result (λ p. p.left ≡ sample_pool) }
+    ensures pages { IfOk result (λ p. usable_of p ≡ sample_pool) }
     ensures unfiled { IfOk result (λ p. (q : ℕ) → is_filed p q ≡ false) }
 {
     pool_of(alloc, PAGE_COUNT)

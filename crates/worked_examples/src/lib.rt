@@ -37,8 +37,8 @@ pub use lists::{
 };
 pub use loads::{
     kernel_without_bytes, last_slot_links_on, list_fills_its_link_page, loaded_page_is_exchanged,
-    one_page_kernel, pool_is_a_page_short, pool_pages_are_their_own_destinations,
-    two_pages_with_context_preserved,
+    one_page_kernel, pages_past_the_limit_are_passed_over, pool_is_a_page_short,
+    pool_pages_are_their_own_destinations, two_pages_with_context_preserved,
 };
 pub use maps::{map_with_a_crash_area, spoiled_maps};
 pub use records::{record_of_one_page, spoiled_records};

@@ -6,10 +6,11 @@ ghost use Rattle.std.specs.Option.{option_map};
 ghost use Rattle.kx_pages.specs.declared.image.Wish.TheVariants.{Plain, Kept};
 ghost use Rattle.kx_pages.specs.declared.image.Mode.TheVariants as mode;
 ghost use Rattle.page_memory.specs.Memory.{Mem};
+ghost use Rattle.page_pool.specs.Pages.{left_among, usable_among};
 ghost use Rattle.segments.specs.Values.{is_destination};
 ghost use Rattle.kimage_list.specs.Load.{Start, Move, begun, requests, taken};
 ghost use Rattle.load_states.specs.Loads.{entries_of, loading_of};
-ghost use Rattle.worked_examples.specs.Kernels.{three_bytes, two_pages, no_bytes, zeros};
+ghost use Rattle.worked_examples.specs.Kernels.{three_bytes, two_pages, no_bytes, pages_at, zeros};
 ghost use Rattle.worked_examples.specs.Loads.{words_of, image_laid, page_laid};
 
 /// A kernel of three bytes at page 2, with a pool of pages 10, 11 and 12: the control page, the link page, the source.
@@ -95,6 +96,28 @@ pub fn loaded_page_is_exchanged()
 pub fn pool_is_a_page_short()
     ensures short { loading_of Plain (two_pages 2) (0x10 ∷ 0x11 ∷ 0x12 ∷ []) ≡ None }
     ensures short_kept { loading_of Kept (two_pages 2) (0x10 ∷ 0x11 ∷ 0x12 ∷ 0x13 ∷ []) ≡ None }
+{}
+
+/// Pages are usable that start below 100000. Page 200 does not, so the load over the pool 10, 200, 11, 12, 2 is that over
+/// the other pages, and page 200 is left. So is page 300 passed over, though it is the destination.
+pub fn pages_past_the_limit_are_passed_over()
+    ensures usable { usable_among 0x10_0000 (0x10 ∷ 0x200 ∷ 0x11 ∷ 0x12 ∷ 2 ∷ []) []
+        ≡ 0x10 ∷ 0x11 ∷ 0x12 ∷ 2 ∷ [] }
+    ensures words { words_of Plain (two_pages 2)
+        (usable_among 0x10_0000 (0x10 ∷ 0x200 ∷ 0x11 ∷ 0x12 ∷ 2 ∷ []) [])
+        ≡ Some (0x11002 ∷ 0x2001 ∷ 0x2008 ∷ 0x12008 ∷ 4 ∷ []) }
+    ensures left { left_among (0x10 ∷ 0x200 ∷ 0x11 ∷ 0x12 ∷ 2 ∷ [])
+        (0x10 ∷ 0x11 ∷ 0x12 ∷ 2 ∷ []) ≡ 0x200 ∷ [] }
+    ensures short { loading_of Plain (two_pages 2)
+        (usable_among 0x10_0000 (0x10 ∷ 0x200 ∷ 0x11 ∷ 0x12 ∷ []) []) ≡ None }
+    ensures destination { loading_of Plain (pages_at 0x300 1 ∷ [])
+        (usable_among 0x10_0000 (0x300 ∷ 0x10 ∷ 0x11 ∷ 0x12 ∷ []) [])
+        ≡ Some (record {
+          left = [];
+          filed = [];
+          pairs = (0x300, 0x12) ∷ [];
+          spare = 0x10 ∷ 0x11 ∷ [];
+        }) }
 {}
 
 /// With context preserved the swap page is drawn after the control page. Page 2 is drawn last, and is exchanged.
