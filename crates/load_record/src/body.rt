@@ -222,7 +222,9 @@ pub fn take_segments(
         Err(fault) => return Err(fault),
     };
     let before = least_wrong(None, 0, is_wrong);
-    let (mut others, wrong) = match copied_segments(alloc, version, total, before, 1, count, after) {
+    let (mut others, wrong) = match copied_segments(
+        alloc, version, total, before, 1, count, after,
+    ) {
         Ok(read) => read,
         Err(fault) => return Err(fault),
     };

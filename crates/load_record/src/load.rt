@@ -8,7 +8,9 @@ ghost use Rattle.load_record.specs.Head.{head_fault, version_of};
 ghost use Rattle.load_record.specs.File.{IsWritable, record_reading, record_file, record_text, ruled};
 ghost use Rattle.kx_laws.specs.Cuts.{IsCutAt};
 
-use crate::body::{give_segments, put_in_front, put_segments, read_segments, room_of, take_segments};
+use crate::body::{
+    give_segments, put_in_front, put_segments, read_segments, room_of, take_segments,
+};
 use crate::fault::RecFault;
 use crate::head::Head;
 use crate::version::Version;
@@ -60,8 +62,8 @@ impl LoadRecord {
 
     /// As `read`, of a file that is handed in, its first `FIRST_BYTES` bytes apart from the others: the buffer of the
     /// others becomes that of the first segment's bytes. Of a file of version 2 these are neither copied nor moved. Of
-    /// one of version 1 they are moved once inside that buffer, which makes room for the 32 bytes of them that stand
-    /// among the first ones. A file that is shorter has no others.
+    /// one of version 1 they are moved once inside that buffer, which grows by the 32 bytes of them that stand among the
+    /// first ones. A file that is shorter has no others.
     pub fn from_file(alloc: Global, front: &[u8], rest: Vec<u8>) -> Result<LoadRecord, RecFault>
         requires apart { IsCutAt 152 front.now rest.items }
         ensures exact { Gives RecFault.Memory (λ r. r) result

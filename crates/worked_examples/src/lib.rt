@@ -41,7 +41,7 @@ pub use loads::{
     pool_pages_are_their_own_destinations, two_pages_with_context_preserved,
 };
 pub use maps::{map_with_a_crash_area, spoiled_maps};
-pub use records::{record_of_one_page, spoiled_records};
+pub use records::{changed_bytes, record_of_one_page, spoiled_records};
 pub use runs::{
     destination_flag_comes_first, exchanged_list_runs, first_page_first_runs, kept_list_runs,
     last_page_first_runs, off_past_the_limit, one_page_runs, round_and_round, run_without_a_source,

@@ -3,25 +3,36 @@
 ghost use Rattle.std.specs.Prelude.{◌≡◌, ◌++◌, ◌∷◌, [], Ok, Err, length, take, drop, codes};
 ghost use Rattle.byteorder.specs.Endian.{little_bytes};
 ghost use Rattle.segments.specs.declared.fault.SegFault.TheVariants as segment_faults;
-ghost use Rattle.load_record.specs.File.{record_file, record_reading};
+ghost use Rattle.load_record.specs.File.{record_file, record_reading, record_text};
+ghost use Rattle.load_record.specs.declared.version.Version.TheVariants.{First};
 ghost use Rattle.load_record.specs.declared.fault.RecFault.TheVariants as faults;
-ghost use Rattle.worked_examples.specs.Records.{three_bytes_record, three_bytes_file, kept_record};
+ghost use Rattle.worked_examples.specs.Records.{kept_record, three_bytes_file, three_bytes_first, three_bytes_record};
 
-/// The record of a kernel of three bytes has 123 bytes, and is read as it was written; so is one with context preserved.
+/// The record of a kernel of three bytes has 155 bytes, and is read as it was written; so is one with context preserved.
+/// Version 1 spells it in 123 bytes, which are read as the same record.
 pub fn record_of_one_page()
     ensures bytes { record_file three_bytes_record ≡ three_bytes_file }
-    ensures length { length three_bytes_file ≡ 123 }
+    ensures length { length three_bytes_file ≡ 155 }
     ensures read { record_reading three_bytes_file ≡ Ok three_bytes_record }
+    ensures first_bytes { record_text First three_bytes_record ≡ three_bytes_first }
+    ensures first_length { length three_bytes_first ≡ 123 }
+    ensures first_read { record_reading three_bytes_first ≡ Ok three_bytes_record }
     ensures kept { record_reading (record_file kept_record) ≡ Ok kept_record }
 {}
 
-/// The first refusal of a record: cut short in the head or in the segment, longer, with another magic, kind, mode, page or
-/// number of segments.
+/// The first refusal of a record: cut short in the head, in the digest or in the segment, longer, with another magic, kind,
+/// mode, page or number of segments.
 pub fn spoiled_records()
-    ensures shorter { record_reading (take 122 three_bytes_file) ≡ Err (faults.Truncated 122) }
+    ensures shorter { record_reading (take 154 three_bytes_file) ≡ Err (faults.Truncated 154) }
+    ensures short_digest { record_reading (take 151 three_bytes_file)
+        ≡ Err (faults.Truncated 151) }
     ensures short_head { record_reading (take 95 three_bytes_file) ≡ Err (faults.Truncated 95) }
-    ensures longer { record_reading (three_bytes_file ++ 0 ∷ []) ≡ Err (faults.Trailing 123) }
-    ensures magic { record_reading (codes "KXREC009" ++ drop 8 three_bytes_file)
+    ensures longer { record_reading (three_bytes_file ++ 0 ∷ []) ≡ Err (faults.Trailing 155) }
+    ensures first_shorter { record_reading (take 122 three_bytes_first)
+        ≡ Err (faults.Truncated 122) }
+    ensures first_longer { record_reading (three_bytes_first ++ 0 ∷ [])
+        ≡ Err (faults.Trailing 123) }
+    ensures magic { record_reading (codes "KXREC003" ++ drop 8 three_bytes_file)
         ≡ Err faults.BadMagic }
     ensures kind { record_reading
         (take 8 three_bytes_file ++ (little_bytes 4 2 ++ drop 12 three_bytes_file))
@@ -44,4 +55,19 @@ pub fn spoiled_records()
     ensures bad_address { record_reading
         (take 96 three_bytes_file ++ (little_bytes 8 0x2001 ++ drop 104 three_bytes_file))
         ≡ Err (faults.Segments (segment_faults.BadAddress 0)) }
+{}
+
+/// A segment whose bytes have another digest is refused before the rules and after trailing bytes.
+pub fn changed_bytes()
+    ensures last_byte { record_reading (take 154 three_bytes_file ++ codes "d")
+        ≡ Err (faults.WrongDigest 0) }
+    ensures digest { record_reading
+        (take 120 three_bytes_file ++ 0xbb ∷ drop 121 three_bytes_file)
+        ≡ Err (faults.WrongDigest 0) }
+    ensures before_the_rules { record_reading
+        (take 96 three_bytes_file
+        ++ (little_bytes 8 0x2001 ++ (take 50 (drop 104 three_bytes_file) ++ codes "d")))
+        ≡ Err (faults.WrongDigest 0) }
+    ensures after_the_end { record_reading (take 154 three_bytes_file ++ codes "de")
+        ≡ Err (faults.Trailing 155) }
 {}

@@ -1,7 +1,7 @@
 use Rattle.std.proofs.Common.{◌+◌, ◌<◌, ◌≤◌, length, rules, false, refl, inl, inr}
 use Rattle.std.proofs.lemmas.Bool.{cases_lt, both_ways}
 use Rattle.load_record.specs.File.{digest_size}
-use Rattle.load_record.proofs.Tables.{digest_size_of, segment_short, segment_cut, segment_got}
+use Rattle.load_record.proofs.Tables.{segment_short, segment_cut, segment_got}
 use Rattle.load_record.proofs.body.cut_segment.Goals as goal
 
 pub returns-in-None-clause-exact : goal.returns-in-None-clause-exact

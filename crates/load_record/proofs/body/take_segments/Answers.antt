@@ -1,7 +1,7 @@
-use Rattle.std.proofs.Common.{◌≡◌, ◌-◌, ◌++◌, suc, [], ◌∷◌, take, drop, cond, Some, None, Ok, arith, sym, ap, ◌∙◌, subst}
+use Rattle.std.proofs.Common.{◌≡◌, ◌-◌, ◌++◌, suc, [], ◌∷◌, take, drop, cond, Some, None, arith, sym, ap, ◌∙◌, subst}
 use Rattle.kx_laws.specs.Results.{Gives}
 use Rattle.load_record.specs.declared.fault.RecFault.TheVariants.{Memory}
-use Rattle.load_record.specs.File.{file_segment, segment_of, segments_kept, without_wrong}
+use Rattle.load_record.specs.File.{file_segment, segment_of, without_wrong}
 use Rattle.load_record.proofs.Walking.{first_fails, others_fail, others_read}
 use Rattle.load_record.proofs.body.take_segments.Goals as goal
 

@@ -1,6 +1,5 @@
-use Rattle.std.proofs.Common.{◌≡◌, ℕ, ◌+◌, ◌≤◌, ◌++◌, min, length, drop, take, sym, ap, ◌∙◌, subst, Ok, arith}
+use Rattle.std.proofs.Common.{◌≡◌, ◌+◌, ◌≤◌, ◌++◌, min, length, drop, sym, ap, ◌∙◌, subst, Ok, arith}
 use Rattle.std.proofs.lemmas.List.{length-append, length-drop}
-use Rattle.kx_laws.specs.Cuts.{IsCutAt}
 use Rattle.kx_laws.specs.Results.{Gives}
 use Rattle.load_record.specs.declared.fault.RecFault.TheVariants.{Memory}
 use Rattle.load_record.specs.declared.version.Version.{Version}
