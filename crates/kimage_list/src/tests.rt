@@ -1,6 +1,6 @@
 //! The worked examples of loads with one segment.
 
-ghost use Rattle.std.specs.Prelude.{◌≡◌, ℕ, ◌+◌, ◌≤◌, ◌<◌, ◌^◌, false, IfOk};
+ghost use Rattle.std.specs.Prelude.{◌≡◌, ℕ, ◌+◌, ◌%◌, ◌≤◌, ◌<◌, ◌^◌, false, IfOk};
 ghost use Rattle.page_pool.specs.Pages.{is_filed};
 ghost use Rattle.kx_pages.specs.Spans.{in_span, in_spans, pages};
 
@@ -54,20 +54,48 @@ fn load(
     Ok(writer.finish())
 }
 
-// The same, of pages from page 2 on, over a pool of these pages.
+// The same, of so many pages from page `first` on, which are also the wanted ones.
+fn load_from(
+    alloc: Global,
+    pool: Pool,
+    first: u64,
+    count: u64,
+    wish: Wish,
+) -> Result<Result<Written, BeginRefused>, Fail>
+    requires { (q : ℕ) → is_filed pool q ≡ false }
+{
+    let page = Page::new(first).ok_or("a page")?;
+    let mut wanted = PageSet::new(alloc);
+    wanted.add(Span::new(first, count).ok_or("a span")?)?;
+    if wanted.total() > 65536 {
+        return Err("at most 65,536 pages".into());
+    }
+    Ok(load(alloc, pool, &wanted, page, count, wish))
+}
+
+// A load of so many pages from page 2 on, over a pool of these pages.
 fn load_over(
     alloc: Global,
     numbers: &[u64],
     count: u64,
     wish: Wish,
 ) -> Result<Result<Written, BeginRefused>, Fail> {
-    let first = Page::new(2).ok_or("a page")?;
-    let mut wanted = PageSet::new(alloc);
-    wanted.add(Span::new(2, count).ok_or("a span")?)?;
-    if wanted.total() > 65536 {
-        return Err("at most 65,536 pages".into());
-    }
-    Ok(load(alloc, pool_of(alloc, numbers)?, &wanted, first, count, wish))
+    load_from(alloc, pool_of(alloc, numbers)?, 2, count, wish)
+}
+
+// A plain load of so many pages from page `first` on, over a pool of these pages with this limit.
+fn load_below(
+    alloc: Global,
+    numbers: &[u64],
+    limit: u64,
+    first: u64,
+    count: u64,
+) -> Result<Result<Written, BeginRefused>, Fail>
+    requires aligned { limit % 4096 ≡ 0 }
+    requires inside { limit ≤ 2 ^ 46 }
+{
+    let pool = pool_of(alloc, numbers)?.below(limit);
+    load_from(alloc, pool, first, count, Wish::Plain)
 }
 
 #[test]
@@ -146,5 +174,75 @@ fn takes_a_second_link_page_for_511_pages(rt: HostRuntime) -> Result<(), Fail> {
     assert_eq!(rt; two.memory.word(0x1001ff8), 0x1200002);
     assert_eq!(rt; two.memory.word(0x1200000), 0x1201008);
     assert_eq!(rt; two.memory.word(0x1200008), 4);
+    Ok(())
+}
+
+/// Pages are usable that start below this address.
+const LIMIT: u64 = 0x10_0000;
+
+// Page 0x200 is no destination, page 0x300 is the only one; neither is usable.
+#[test]
+fn passes_over_pages_that_are_not_usable(rt: HostRuntime) -> Result<(), Fail> {
+    let no_destination: &[u64] = &[0x10, 0x200, 0x11, 0x12, 2];
+    let the_destination: &[u64] = &[0x300, 0x10, 0x11, 0x12];
+    for (numbers, first, count, words, letter, passed) in [
+        (
+            no_destination,
+            2,
+            2,
+            [0x2001, 0x2008, 0x12008, 4],
+            0x62,
+            0x200,
+        ),
+        (
+            the_destination,
+            0x300,
+            1,
+            [0x30_0001, 0x12008, 4, 0],
+            0x61,
+            0x300,
+        ),
+    ] {
+        let Written {
+            memory,
+            pool,
+            image,
+        } = load_below(rt.alloc(), numbers, LIMIT, first, count)?
+            .ok()
+            .ok_or("a list")?;
+        assert_eq!(rt; image.control.number(), 0x10);
+        assert_eq!(rt; image.head, 0x11002);
+        assert_eq!(rt; memory.word(0x11000), words[0]);
+        assert_eq!(rt; memory.word(0x11008), words[1]);
+        assert_eq!(rt; memory.word(0x11010), words[2]);
+        assert_eq!(rt; memory.word(0x11018), words[3]);
+        assert_eq!(rt; memory.word(0x12000), letter);
+        assert_eq!(rt; pool.left(), 0);
+        let mut rest = pool.below(0x4000_0000_0000);
+        assert_eq!(rt; rest.draw().map(|p| p.number()), Some(passed));
+        assert_eq!(rt; rest.left(), 0);
+    }
+    Ok(())
+}
+
+#[test]
+fn counts_usable_pages_alone(rt: HostRuntime) -> Result<(), Fail> {
+    let no_destination: &[u64] = &[0x10, 0x200, 0x11, 0x12];
+    let the_destination: &[u64] = &[0x300, 0x10, 0x11];
+    for (numbers, first, count, pool, need) in [
+        (no_destination, 2, 2, 3, 4),
+        (the_destination, 0x300, 1, 2, 3),
+    ] {
+        let refused = load_below(rt.alloc(), numbers, LIMIT, first, count)?
+            .err()
+            .ok_or("a refusal")?;
+        assert_eq!(rt; refused.why, BeginFault::NoPages { pool, need });
+        assert_eq!(rt; refused.pool.left(), pool);
+        assert_eq!(rt; refused.pool.unusable(), 1);
+    }
+    let refused = load_below(rt.alloc(), no_destination, 0, 2, 1)?
+        .err()
+        .ok_or("a refusal")?;
+    assert_eq!(rt; refused.why, BeginFault::NoPages { pool: 0, need: 3 });
     Ok(())
 }
