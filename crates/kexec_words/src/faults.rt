@@ -35,10 +35,10 @@ pub enum Which {
 #[derive(Clone, Copy, Debug, PartialEq, Eq, Error)]
 pub enum UsageWhy {
     /// There is no word, or the first one names no command.
-    #[error("the first word has to be a command: boot, load, load-panic, check, dump, exec, trace, migrate or sample")]
+    #[error("the first argument has to be a command: boot, load, load-panic, check, dump, exec, trace, migrate or sample")]
     Command,
     /// The words after the first are not those that the command takes; asking for help is such a refusal.
-    #[error("the words after the command are not the words and options that it takes")]
+    #[error("the arguments after the command are not those that it takes")]
     Parse,
     /// A number or a type has not its form.
     #[error("{which} is not {form}", form = .which.form())]
@@ -61,7 +61,7 @@ pub enum UsageWhy {
 #[derive(Clone, Copy, Debug, PartialEq, Eq, Error)]
 pub enum WordsFault {
     /// Memory is wanting.
-    #[error("memory is wanting")]
+    #[error("out of memory")]
     Memory,
     /// The words are refused.
     #[error("{why}")]

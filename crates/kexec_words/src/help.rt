@@ -6,7 +6,7 @@ ghost use Rattle.kexec_words.specs.Texts.{first_name, help_text};
 use crate::naming::{Name, name_of};
 
 const COMMANDS: &str = "\
-Usage: kexec COMMAND [OPTIONS] WORDS..
+Usage: kexec COMMAND [OPTIONS] ARGUMENTS..
 
 Loads a new kernel into a memory that a file holds, as kexec_load(2) and the
 kernel's kexec core do, checks the list of page moves, and runs it.
@@ -29,7 +29,7 @@ Files:
                segments
   memory map   the text of /proc/iomem, which Linux gives whole to root alone
 
-Without its words, as in kexec boot, each command prints what it takes.
+Without its arguments, as in kexec boot, each command prints what it takes.
 ";
 
 const BOOT: &str = "\
@@ -38,7 +38,7 @@ Usage: kexec boot [OPTIONS] MEMORY POOL OUT KERNEL [MODULES]..
 Loads a kernel, checks the list of page moves, runs it, and writes the memory
 after the last run.
 
-Words:
+Arguments:
   MEMORY   memory file to read: the memory before the load
   POOL     pool file to read: the free pages in the order of their use, on each
            line a hexadecimal page number or first-last
@@ -47,9 +47,8 @@ Words:
   MODULES  files to read: Multiboot modules, at most 12
 
 Options:
-  --kept RUNS       load in kept mode and run the list 1 or 2 times: into the
-                    new kernel, and for 2 back again; default: one run in plain
-                    mode
+  --kept RUNS       preserve context and run the list 1 or 2 times: into the new
+                    kernel, and for 2 back again; default: one run in plain mode
   --below ADDRESS   take only pages of the pool that lie below this address, a
                     multiple of 0x1000 up to 0x400000000000; default: each page
                     may be taken
@@ -68,8 +67,7 @@ Options:
 
 ADDRESS is a hexadecimal number of 1 to 16 digits, without 0x. OUT is none of
 the files that are read. An option is given at most once, as --at 2000 or
---at=2000, anywhere before a word --, after which each word is one of the words
-above.
+--at=2000, anywhere before an argument --, behind which nothing is an option.
 ";
 
 const LOAD: &str = "\
@@ -78,7 +76,7 @@ Usage: kexec load [OPTIONS] MEMORY POOL OUT RECORD KERNEL [MODULES]..
 Loads a kernel, checks the list of page moves, and writes the memory after the
 load and the load record, which check, dump and exec read.
 
-Words:
+Arguments:
   MEMORY   memory file to read: the memory before the load
   POOL     pool file to read: the free pages in the order of their use, on each
            line a hexadecimal page number or first-last
@@ -88,8 +86,8 @@ Words:
   MODULES  files to read: Multiboot modules, at most 12
 
 Options:
-  --kept            load in kept mode, so that the list can be run a second
-                    time, back into the old kernel; default: plain mode
+  --kept            preserve context, so that the list can be run a second time,
+                    back into the old kernel; default: plain mode
   --below ADDRESS   take only pages of the pool that lie below this address, a
                     multiple of 0x1000 up to 0x400000000000; default: each page
                     may be taken
@@ -108,8 +106,8 @@ Options:
 
 ADDRESS is a hexadecimal number of 1 to 16 digits, without 0x. OUT and RECORD
 are two files, and none of those that are read. An option is given at most once,
-as --at 2000 or --at=2000, anywhere before a word --, after which each word is
-one of the words above.
+as --at 2000 or --at=2000, anywhere before an argument --, behind which nothing
+is an option.
 ";
 
 const LOAD_PANIC: &str = "\
@@ -119,7 +117,7 @@ Loads a crash kernel, a bzImage, into the area that the memory map names Crash
 kernel, and writes the memory after the load and the load record, which check,
 dump and exec read.
 
-Words:
+Arguments:
   MEMORY  memory file to read: the memory before the load
   OUT     memory file to write: the memory after the load
   RECORD  load record to write
@@ -141,8 +139,8 @@ Users add memmap=0x9e000@0x1000 to its command, and memmap=4K$0xADDRESS with the
 address of the headers.
 
 OUT and RECORD are two files, and none of those that are read. An option is
-given at most once, as --map FILE or --map=FILE, anywhere before a word --,
-after which each word is one of the words above.
+given at most once, as --map FILE or --map=FILE, anywhere before an argument
+--, behind which nothing is an option.
 ";
 
 const CHECK: &str = "\
@@ -151,7 +149,7 @@ Usage: kexec check MEMORY RECORD
 Says whether the list of a load record is accepted in a memory, or the first
 word with a fault. It writes no file.
 
-Words:
+Arguments:
   MEMORY  memory file to read: the memory after the load
   RECORD  load record to read
 ";
@@ -162,7 +160,7 @@ Usage: kexec dump MEMORY RECORD
 Prints the words of a load record's list and its segments, with the SHA-256 of
 each. It writes no file.
 
-Words:
+Arguments:
   MEMORY  memory file to read: the memory after the load
   RECORD  load record to read
 ";
@@ -173,7 +171,7 @@ Usage: kexec exec [--twice] MEMORY RECORD OUT
 Checks the list of a load record in a memory, runs it, and writes the memory
 after the last run.
 
-Words:
+Arguments:
   MEMORY  memory file to read: the memory after the load
   RECORD  load record to read
   OUT     memory file to write: the memory after the last run; none of the files
@@ -181,7 +179,7 @@ Words:
 
 Options:
   --twice  run the list a second time, back into the old kernel, which needs a
-           load in kept mode; default: one run
+           load with context preserved; default: one run
 ";
 
 const TRACE: &str = "\
@@ -190,7 +188,7 @@ Usage: kexec trace [--swap ADDRESS] MEMORY OUT HEAD LIMIT
 Runs a list from its head word on, whether it is accepted or not, says how it
 ended, and writes the memory after the steps.
 
-Words:
+Arguments:
   MEMORY  memory file to read: the memory before the first step
   OUT     memory file to write: the memory after the last step; not MEMORY
   HEAD    the head word of the list: a hexadecimal number of 1 to 16 digits,
@@ -198,9 +196,10 @@ Words:
   LIMIT   the most steps: a decimal number of 1 to 9 digits, at most 100000000
 
 Options:
-  --swap ADDRESS  the address of the swap page, for the moves of kept mode: a
-                  hexadecimal number of 1 to 16 digits, without 0x, that is a
-                  multiple of 0x1000 below 0x400000000000; default: plain mode
+  --swap ADDRESS  the address of the swap page, for moves with context
+                  preserved: a hexadecimal number of 1 to 16 digits, without 0x,
+                  that is a multiple of 0x1000 below 0x400000000000; default:
+                  plain mode
 ";
 
 const MIGRATE: &str = "\
@@ -209,7 +208,7 @@ Usage: kexec migrate RECORD OUT
 Reads a load record of version 1 or 2, and writes it as version 2, which has the
 SHA-256 of each segment.
 
-Words:
+Arguments:
   RECORD  load record to read
   OUT     load record to write; not RECORD
 ";
@@ -220,7 +219,7 @@ Usage: kexec sample NUMBER
 Makes a memory, a pool and segments from a number, loads and runs them, and
 prints the SHA-256 of the memory after the run. It reads and writes no file.
 
-Words:
+Arguments:
   NUMBER  the number to begin with: a decimal number of 1 to 18 digits
 ";
 
