@@ -47,9 +47,8 @@ Arguments:
   MODULES  files to read: Multiboot modules, at most 12
 
 Options:
-  --kept RUNS       preserve context and run the list 1 or 2 times: into the
-                    new kernel, and for 2 back again; default: one run in plain
-                    mode
+  --kept RUNS       preserve context and run the list 1 or 2 times: into the new
+                    kernel, and for 2 back again; default: one run in plain mode
   --below ADDRESS   take only pages of the pool that lie below this address, a
                     multiple of 0x1000 up to 0x400000000000; default: each page
                     may be taken
@@ -87,8 +86,8 @@ Arguments:
   MODULES  files to read: Multiboot modules, at most 12
 
 Options:
-  --kept            preserve context, so that the list can be run a second
-                    time, back into the old kernel; default: plain mode
+  --kept            preserve context, so that the list can be run a second time,
+                    back into the old kernel; default: plain mode
   --below ADDRESS   take only pages of the pool that lie below this address, a
                     multiple of 0x1000 up to 0x400000000000; default: each page
                     may be taken
@@ -198,9 +197,9 @@ Arguments:
 
 Options:
   --swap ADDRESS  the address of the swap page, for moves with context
-                  preserved: a hexadecimal number of 1 to 16 digits, without
-                  0x, that is a multiple of 0x1000 below 0x400000000000;
-                  default: plain mode
+                  preserved: a hexadecimal number of 1 to 16 digits, without 0x,
+                  that is a multiple of 0x1000 below 0x400000000000; default:
+                  plain mode
 ";
 
 const MIGRATE: &str = "\
