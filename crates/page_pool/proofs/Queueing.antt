@@ -1,11 +1,11 @@
 -- Each change of a queue leaves a queue.
-use Rattle.std.proofs.Common.{◌≡◌, ℕ, zero, suc, ◌+◌, ◌-◌, ◌<◌, ◌≤◌, ◌^◌, ◌++◌, ◌&&◌, ◌||◌, List, [], ◌∷◌, take, drop, length, get_or, cond, Bool, true, false, refl, sym, ap, ◌∙◌, subst, arith, inl, inr, length-append, append_assoc, append-nil, map, replicate}
-use Rattle.std.specs.Prelude.{not, ◌≢◌, ◌⊎◌, eqb, set}
+use Rattle.std.proofs.Common.{◌≡◌, ℕ, zero, suc, ◌+◌, ◌-◌, ◌<◌, ◌≤◌, ◌++◌, ◌||◌, List, [], ◌∷◌, take, drop, length, get_or, cond, Bool, true, false, refl, sym, ap, ◌∙◌, subst, arith, inl, inr, length-append, append_assoc, append-nil, replicate}
+use Rattle.std.specs.Prelude.{◌≢◌, ◌⊎◌, eqb, set}
 use Rattle.std.proofs.lemmas.Bool.{ne_eqb, cases_eq, cases_Bool}
-use Rattle.std.proofs.lemmas.List.{take-append-drop, take-take, take_more, take_more_set, take-set-le, drop_more, map-append, length-map, length-take-le, length-drop, length-set, length-replicate, get_or-replicate, get_or-take, get_or-drop, get_or-map, get_or-set_same, get_or-set_other, get_or_default, append_cancel_left}
+use Rattle.std.proofs.lemmas.List.{take-append-drop, take-take, take_more, take_more_set, take-set-le, drop_more, map-append, length-map, length-take-le, length-drop, length-set, length-replicate, get_or-replicate, get_or-take, get_or-drop, get_or-map, get_or-set_same, get_or-set_other, append_cancel_left}
 use Rattle.kx_laws.proofs.Booleans.{or_true, or_false}
 use Rattle.kx_pages.specs.Lists.{Each, Has, has, Distinct, count}
-use Rattle.kx_pages.proofs.Lists.{Each-map, Each-at, Each-append, Each-take, Each-left, Each-from_Has, Each-from_has_not, Has-from_has, has-from_Has}
+use Rattle.kx_pages.proofs.Lists.{Each-at, Each-append, Each-take, Each-from_has_not, Has-from_has}
 use Rattle.kx_pages.proofs.Counting.{Distinct-push, count-from_Has, count-from_has_not}
 use Rattle.page_pool.specs.Pages.{left_among, usable_among}
 use Rattle.page_pool.specs.Queue.{pages_at, is_waiting, IsQueue}
@@ -171,8 +171,8 @@ module _ (xs queue : List ℕ) (flags : List Bool) (next stop limit : ℕ) where
     place_at i l =
         let b = stop_length xs h in
         Each-at (λ j. j < length xs) (take stop queue) (get_or queue (next + i) 0) h.places
-            (subst (λ p. Has p (take stop queue)) (get_or-take stop queue (next + i) 0 (omega (arith, b, l)))
-              (Has-get_or (take stop queue) (next + i) (omega (arith, b, l, h.room, h.within, length-take-le stop queue (omega (arith, h.within, h.room))))))
+        (subst (λ p. Has p (take stop queue)) (get_or-take stop queue (next + i) 0 (omega (arith, b, l)))
+        (Has-get_or (take stop queue) (next + i) (omega (arith, b, l, h.room, h.within, length-take-le stop queue (omega (arith, h.within, h.room))))))
 
     pub page_at : (i : ℕ) → i < length (usable_among limit xs gone) → get_or (usable_among limit xs gone) i 0 ≡ get_or xs (get_or queue (next + i) 0) 0
     page_at i l =

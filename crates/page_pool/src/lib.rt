@@ -1,9 +1,11 @@
 //! The pool of free pages that a load draws from, and the drawn pages that are filed.
 //!
 //! A load draws its pages in the pool's order, as the kernel's kexec core takes free pages from its page allocator. A
-//! drawn page that is some segment's destination is filed until its own request comes. The pages of a pool differ, and
-//! those left and those drawn are together at most 262,144 (this project's own limit). A pool has one mark a page from
-//! the start, so that only the calls that make a pool take memory.
+//! pool has a limit, as the kernel passes over pages past an architecture's limit on source memory: a page is usable
+//! where its address is below the limit. Usable pages alone are drawn; the others stay in the pool, and are drawn in
+//! their turn where the limit is raised. A drawn page that is some segment's destination is filed until its own request
+//! comes. The pages of a pool differ, and they are at most 262,144 (this project's own limit). A pool has room for all
+//! that it keeps of a page from the start, so that only the calls that make a pool take memory.
 #![tactic(auto)]
 
 ghost use Rattle.std.specs.Prelude.{◌≡◌, ◌↔◌, ℕ, List, Some, ◌+◌, ◌^◌, ◌%◌, ◌<◌, ◌≤◌, ◌++◌, ◌∷◌, [], true, false, length, slice_index, unwrap_or, IfSome, IfNone, IsSome, IfOk, IfErr};
@@ -34,14 +36,17 @@ use std::marker::Model;
 /// The most pages of a pool, 1 GiB in all (this project's own limit).
 pub const MOST_PAGES: u64 = 262144;
 
-/// Pages to draw, in order, and which of the drawn pages are filed. Contracts see the pages left and the pages drawn
-/// since the pool was made, both in order, and a mark for each page.
+/// Pages to draw, in order, and which of the drawn pages are filed. Contracts see the pages that the pool was made of
+/// and those drawn since, both in order, the limit, and a mark for each page. The pages left are those not drawn, and
+/// the usable ones are those of them whose address is below the limit.
 #[derive(Drop)]
 pub struct Pool {
     pages: Vec<Page>,
+    // The places in `pages` of the drawn pages, up to `next`, and of the usable pages left, from there up to `end`.
     queue: Vec<u32>,
     next: usize,
     end: usize,
+    // Whether the page at this place was drawn, so that a new limit asks no search.
     is_drawn: Vec<bool>,
     limit: u64,
     marks: BTreeMap<Page, bool>,
@@ -65,7 +70,7 @@ impl Model for Pool {
     } };
 
     ghost invariant = { λ p. IsPool p.pages.items p.queue.items p.is_drawn.items
-      p.next p.end p.limit p.marks };
+        p.next p.end p.limit p.marks };
 }
 
 /// A line names a first and a last page exactly where it has the form of a pool line: a number, or a number, `-` and a
@@ -77,7 +82,8 @@ pub fn ranges_are_pool_lines()
 
 impl Pool {
     /// The pool of a pool file (this project's own format): a text of lines, each a page number, or `first-last` with
-    /// both included, in hexadecimal. The pages are drawn in the order of the text.
+    /// both included, in hexadecimal. The pages are drawn in the order of the text. The limit is 2^46, so that each
+    /// page is usable.
     ///
     /// The first fault is answered. Line after line it is BadLine where the line has not this form, Backwards where
     /// its last page is below its first, PastLimit where its last page is 2^34 or more, TooMany where the pages up to
@@ -97,8 +103,8 @@ impl Pool {
         }
     }
 
-    /// A pool of these pages, at most 262,144, to be drawn in this order. Repeats with the first page of the list that
-    /// stands earlier too, exactly where one does; Memory only where memory ran out.
+    /// A pool of these pages, at most 262,144, to be drawn in this order, with the limit 2^46. Repeats with the first
+    /// page of the list that stands earlier too, exactly where one does; Memory only where memory ran out.
     pub fn new(alloc: Global, pages: Vec<Page>) -> Result<Pool, PoolFault>
         requires { length pages.items ≤ 262144 }
         ensures exact { Gives faults.Memory (λ p. p.made) result (each_once pages.items) }
@@ -127,7 +133,7 @@ impl Pool {
         Ok(none_usable.below(ADDRESS_LIMIT))
     }
 
-    /// A pool with no page.
+    /// A pool with no page, and the limit 2^46.
     pub fn empty(alloc: Global) -> Pool
         ensures value { result
             ≡ record { made = []; drawn = []; limit = 2 ^ 46; marks = finite.empty } }
@@ -144,9 +150,9 @@ impl Pool {
         }
     }
 
-    /// The same pool with this limit: a multiple of 4,096, at most 2^46. From now on the usable pages are those that
-    /// start below it. No page is drawn, and no memory is taken. Pages that the limit before passed over are usable
-    /// again where this one is above them.
+    /// The same pool with this limit, a multiple of 4,096 and at most 2^46: the pages left whose address is below it
+    /// are usable. No page is drawn, and no memory is taken. A limit may follow draws and other limits: where it is
+    /// higher than the one before, pages that were passed over are drawn in their turn.
     pub fn below(mut self, limit: u64) -> Pool
         requires aligned { limit % 4096 ≡ 0 }
         requires inside { limit ≤ 2 ^ 46 }
@@ -163,7 +169,7 @@ impl Pool {
         self
     }
 
-    /// How many pages can be drawn. The other clauses tell what holds of every pool.
+    /// How many pages can be drawn: the usable ones. The other clauses tell what holds of every pool.
     pub fn left(&self) -> u64
         ensures value { result ≡ length (usable_of self.now) }
         ensures once { Distinct (self.now.drawn ++ usable_of self.now) }
@@ -175,7 +181,7 @@ impl Pool {
         (self.end - self.next) as u64
     }
 
-    /// How many of the pages left are not usable.
+    /// How many of the pages left are not usable, as their address is the limit or above it.
     pub fn unusable(&self) -> u64
         ensures { result + length (usable_of self.now) ≡ length (left_of self.now) }
     {
@@ -190,7 +196,7 @@ impl Pool {
         self.pages[self.queue[self.next + i as usize] as usize]
     }
 
-    /// The next page. None exactly where none is left.
+    /// The first usable page, which leaves the pool. None exactly where no usable page is left.
     pub fn draw(&mut self) -> Option<Page>
         ensures some { IfSome result (λ q. (usable_of self.old ≡ q ∷ usable_of self.new)
             × (self.new ≡ record self.old { drawn = self.old.drawn ++ q ∷ [] })) }
@@ -231,7 +237,7 @@ impl Pool {
     }
 }
 
-/// Whether the page is left, and starts below the limit.
+/// Whether the page is left, and its address is below the limit.
 fn is_waiting(is_drawn: bool, p: Page, limit: u64) -> bool
     ensures { result ≡ is_waiting limit is_drawn p }
 {
@@ -268,7 +274,7 @@ fn marks_for(alloc: Global, pages: &[Page]) -> Result<BTreeMap<Page, bool>, Pool
 {
     let mut marks = BTreeMap::new(alloc);
     for p in pages {
-        // A page's number is below 2^34, so it starts below the limit of a new pool.
+        // A page's number is below 2^34, so its address is below the limit of a new pool.
         let _number = p.number();
         if marks.contains_key(p) {
             return Err(PoolFault::Repeats { page: *p });

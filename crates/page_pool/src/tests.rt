@@ -9,6 +9,40 @@ fn count(alloc: Global, text: &[u8]) -> Option<u64> {
     Pool::read(alloc, text).ok().map(|pool| pool.left())
 }
 
+/// The pool of this text with this limit.
+fn limited(alloc: Global, text: &[u8], limit: u64) -> Option<Pool> {
+    match Pool::read(alloc, text) {
+        Ok(pool) if limit.is_multiple_of(0x1000) && limit <= ADDRESS_LIMIT => Some(pool.below(
+            limit,
+        )),
+        _ => None,
+    }
+}
+
+/// Whether the next draws give these pages.
+fn draws(pool: &mut Pool, pages: &[u64]) -> bool {
+    let mut same = true;
+    for page in pages {
+        same = same && pool.draw().map(|p| p.number()) == Some(*page);
+    }
+    same
+}
+
+/// Whether the pool of this text gives just these pages below the limit, and passes over so many.
+fn gives(alloc: Global, text: &[u8], limit: u64, pages: &[u64], unusable: u64) -> bool {
+    match limited(alloc, text, limit) {
+        Some(mut pool) => {
+            pool.left() == pages.len() as u64
+                && pool.unusable() == unusable
+                && draws(&mut pool, pages)
+                && pool.draw().is_none()
+                && pool.left() == 0
+                && pool.unusable() == unusable
+        }
+        None => false,
+    }
+}
+
 #[test]
 fn draws_in_the_order_of_the_text(rt: HostRuntime) -> Result<(), Fail> {
     let mut pool = Pool::read(rt.alloc(), b"10-12\n3Fffffffe")?;
@@ -70,5 +104,32 @@ fn says_what_is_wrong(rt: HostRuntime) -> Result<(), Fail> {
         PoolFault::Repeats { page }.to_string(rt.alloc())?.as_str(),
         "page 0x3a stands twice in the pool, and each page may stand once"
     );
+    Ok(())
+}
+
+#[test]
+fn passes_over_pages_that_are_not_usable(rt: HostRuntime) {
+    let alloc = rt.alloc();
+    let five = b"10\n200\n11\n12\n2";
+    assert!(rt; gives(alloc, five, 0x10_0000, &[0x10, 0x11, 0x12, 2], 1));
+    assert!(rt; gives(alloc, b"10\n200\n11-12", 0x10_0000, &[0x10, 0x11, 0x12], 1));
+    assert!(rt; gives(alloc, five, 0, &[], 5));
+    assert!(rt; gives(alloc, five, ADDRESS_LIMIT, &[0x10, 0x200, 0x11, 0x12, 2], 0));
+    assert!(rt; gives(alloc, b"101\n100\nff", 0x10_0000, &[0xff], 2));
+    assert!(rt; gives(alloc, b"", 0x10_0000, &[], 0));
+}
+
+#[test]
+fn gives_the_passed_pages_once_the_limit_is_raised(rt: HostRuntime) -> Result<(), Fail> {
+    let mut pool = limited(rt.alloc(), b"10\n200\n11\n300\n12", 0x10_0000).ok_or("a pool")?;
+    assert!(rt; draws(&mut pool, &[0x10, 0x11]));
+    let mut pool = pool.below(0x20_1000);
+    assert_eq!(rt; pool.left(), 2);
+    assert_eq!(rt; pool.unusable(), 1);
+    assert!(rt; draws(&mut pool, &[0x200]));
+    let mut pool = pool.below(ADDRESS_LIMIT);
+    assert_eq!(rt; pool.unusable(), 0);
+    assert!(rt; draws(&mut pool, &[0x300, 0x12]));
+    assert!(rt; pool.draw().is_none());
     Ok(())
 }

@@ -1,4 +1,4 @@
-use Rattle.std.proofs.Common.{◌≡◌, take, length}
+use Rattle.std.proofs.Common.{◌≡◌, take}
 use Rattle.page_pool.specs.Queue.{IsQueue}
 use Rattle.page_pool.proofs.Pool.below.Given as goal
 

@@ -1,4 +1,4 @@
-use Rattle.std.proofs.Common.{◌≡◌, ℕ, ◌+◌, ◌<◌, List, ◌∷◌, ◌++◌, [], take, length, get_or, Bool, true, arith, ap, sym, subst, ◌∙◌, refl}
+use Rattle.std.proofs.Common.{◌≡◌, ℕ, ◌+◌, List, ◌∷◌, ◌++◌, [], take, get_or, true, arith, ap, sym, subst, ◌∙◌, refl}
 use Rattle.std.specs.Prelude.{set}
 use Rattle.std.proofs.lemmas.List.{get_or_read}
 use Rattle.page_pool.specs.Pages.{Pages, usable_of, usable_among}
@@ -25,8 +25,7 @@ returns-then-self-clause-some c =
     let is : q ≡ get_or xs (get_or i.queue.items i.next 0) 0 = page ∙ ap (λ p. get_or xs p 0) place in
     let gone : List ℕ = pages_at xs (take i.next i.queue.items) in
     let now : List ℕ → Pages = λ ys. record { made = xs; drawn = ys; limit = i.limit; marks = marks_of i.marks } in
-    let push : Pages → Pages = λ v. record v { drawn = v.drawn ++ q ∷ [] } in
-    (
+    let push : Pages → Pages = λ v. record v { drawn = v.drawn ++ q ∷ [] } in (
       sym (ap usable_of c.self.view_is) ∙ usable_split xs i.queue.items i.is_drawn.items i.next i.end i.limit c.self.invariant.once h c.if-self.true ∙ ap (λ p. p ∷ usable_among i.limit xs (pages_at xs (take (i.next + 1) i.queue.items))) (sym is),
       ap now (gone_more xs i.queue.items i.is_drawn.items i.next i.end i.limit c.self.invariant.once h c.if-self.true ∙ ap (λ p. gone ++ p ∷ []) (sym is)) ∙ ap push c.self.view_is,
     )

@@ -1,4 +1,4 @@
-use Rattle.std.proofs.Common.{[], ◌≡◌, ◌∙◌, ◌^◌, ap, arith, refl}
+use Rattle.std.proofs.Common.{[], ◌^◌, refl}
 use Rattle.page_pool.proofs.Steps.{empty_pool, empty_marks}
 use Rattle.page_pool.proofs.Left.{usable_undrawn}
 use Rattle.page_pool.proofs.Queueing.{pages_at-none}

@@ -1,4 +1,4 @@
-use Rattle.std.proofs.Common.{ap, arith, subst, ◌≤◌}
+use Rattle.std.proofs.Common.{ap, arith}
 use Rattle.kx_pages.specs.Lists.{count}
 use Rattle.page_pool.proofs.Steps.{marked_pool, drawn_has_mark}
 use Rattle.page_pool.proofs.Pool.file.Goals as goal

@@ -1,4 +1,4 @@
-use Rattle.std.proofs.Common.{◌≡◌, ◌+◌, ◌++◌, ◌∙◌, arith, ap, sym, subst, length, take}
+use Rattle.std.proofs.Common.{◌+◌, ◌++◌, ◌∙◌, arith, ap, sym, subst, length, take}
 use Rattle.kx_pages.specs.Lists.{Distinct}
 use Rattle.page_pool.specs.Pages.{usable_of}
 use Rattle.page_pool.specs.Queue.{pages_at}
