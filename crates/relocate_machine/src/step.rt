@@ -1,15 +1,14 @@
 //! The machine, step by step.
 
-ghost use Rattle.std.specs.Prelude.{◌≡◌, ℕ, ◌+◌, ◌*◌, ◌/◌, ◌%◌, ◌<◌, ◌≤◌, ◌^◌, IsTrue, false, Some, IsNone, IfSome, IfOk, OnOk, OnErr};
-ghost use Rattle.page_memory.specs.Contents.{IsHeld};
-ghost use Rattle.relocate_machine.specs.Machine.{State, start_of, start_at, next_word, past_word, after_word, after_move, step_of};
-ghost use Rattle.relocate_machine.specs.Writes.{AreHeld, HoldsWrites, IsHeldFor, IsSameBut, IsWritten, Stays, move_writes, word_writes, writes_of};
-ghost use Rattle.relocate_machine.specs.Run.{HeldFrom, HoldsWritten, IsCutShort, run_of};
+ghost use Rattle.std.specs.Prelude.{◌≡◌, ℕ, ◌+◌, ◌-◌, ◌*◌, ◌/◌, ◌%◌, ◌<◌, ◌≤◌, ◌^◌, false, Some, IsNone, IfSome};
+ghost use Rattle.relocate_machine.specs.Machine.{State, start_of, next_word, past_word, after_word, after_move, step_of};
+ghost use Rattle.relocate_machine.specs.Writes.{AreHeld, HoldsWrites, IsSameBut, move_writes, word_writes, writes_by, writes_of};
+ghost use Rattle.relocate_machine.specs.Reading.{GoesOn, IsPageAt};
 
+use crate::reading::{PageReading, Place, read_page};
 use crate::word::{WordKind, address, first_bit};
 use kx_pages::{ADDRESS_LIMIT, Mode, PAGE_SIZE, Page};
 use page_memory::Memory;
-use std::alloc::AllocError;
 use std::marker::Model;
 
 /// What a step did. This project's own.
@@ -45,6 +44,13 @@ pub struct Writes {
     pub source: Option<Page>,
     /// The swap page.
     pub swap: Option<Page>,
+}
+
+// Steps whose words only read, and the word to handle after them, or the address at which there is none.
+#[derive(Drop)]
+pub(crate) struct Reading {
+    pub(crate) steps: u64,
+    pub(crate) word: Result<u64, u64>,
 }
 
 const NO_WRITES: Writes = Writes {
@@ -99,7 +105,14 @@ impl Machine {
     pub fn writes(&self, memory: &Memory) -> Writes
         ensures { result ≡ writes_of record { machine = self.now; memory = memory.now } }
     {
-        match fetch(self.first, self.cursor, memory) {
+        self.writes_by(fetch(self.first, self.cursor, memory))
+    }
+
+    // The pages that the step writes which handles this word, or is off at this address.
+    pub(crate) fn writes_by(&self, word: Result<u64, u64>) -> Writes
+        ensures { result ≡ writes_by self.now word }
+    {
+        match word {
             Ok(word) => match first_bit(word) {
                 WordKind::Source => self.move_writes(address(word)),
                 _ => NO_WRITES,
@@ -132,7 +145,6 @@ impl Machine {
     /// One step: the word to handle is the head word at first, later the one that memory now has at the cursor, which
     /// then goes on by 8. The machine has not ended, and the pages that the step writes are held. After `Off` nothing
     /// has changed.
-    #[tactic(auto, unfolding(crate::specs::Machine::step_of))]
     pub fn step(&mut self, memory: &mut Memory) -> Step
         requires running { self.old.ended ≡ false }
         requires held { HoldsWrites record { machine = self.old; memory = memory.old } }
@@ -141,7 +153,22 @@ impl Machine {
         ensures others { let old : State = record { machine = self.old; memory = memory.old } in
             IsSameBut (writes_of old) memory.old memory.new }
     {
-        let word = match fetch(self.first, self.cursor, memory) {
+        let word = fetch(self.first, self.cursor, memory);
+        self.take(memory, word)
+    }
+
+    // One step, of which the word to handle, or the address at which there is none, is known.
+    #[tactic(auto, unfolding(crate::specs::Machine::step_of))]
+    pub(crate) fn take(&mut self, memory: &mut Memory, word: Result<u64, u64>) -> Step
+        requires running { self.old.ended ≡ false }
+        requires word { word ≡ next_word self.old.first self.old.cursor memory.old }
+        requires held { HoldsWrites record { machine = self.old; memory = memory.old } }
+        ensures exact { let old : State = record { machine = self.old; memory = memory.old } in
+            (record { machine = self.new; memory = memory.new }, result) ≡ step_of old }
+        ensures others { let old : State = record { machine = self.old; memory = memory.old } in
+            IsSameBut (writes_of old) memory.old memory.new }
+    {
+        let word = match word {
             Ok(word) => word,
             Err(address) => return Step::Off { address },
         };
@@ -203,6 +230,42 @@ impl Machine {
             None => self.cursor += 8,
         }
     }
+
+    // Takes at most `most` steps, whose words are of the page at the cursor and only read: the page is looked up once.
+    // How many steps these were, and the word to handle after them.
+    pub(crate) fn read_words(&mut self, memory: &Memory, most: u64) -> Reading
+        ensures steps { result.steps ≤ most }
+        ensures word { result.word ≡ next_word self.new.first self.new.cursor memory.now }
+        ensures run { GoesOn result.steps record { machine = self.old; memory = memory.now }
+            record { machine = self.new; memory = memory.now } }
+    {
+        let Some(page) = self.page(memory) else {
+            let word = fetch(self.first, self.cursor, memory);
+            return Reading { steps: 0, word };
+        };
+        let from = Place {
+            cursor: self.cursor,
+            destination: self.destination,
+        };
+        let PageReading { steps, at, word } = read_page(page, from, most);
+        self.cursor = at.cursor;
+        self.destination = at.destination;
+        let word = match word {
+            Some(word) => Ok(word),
+            None => fetch(None, at.cursor, memory),
+        };
+        Reading { steps, word }
+    }
+
+    // The page at the cursor, where it is held and the word to handle is one of it.
+    fn page<'a>(&self, memory: &'a Memory) -> Option<&'a [u8]>
+        ensures { IfSome result (λ p. IsPageAt self.now memory.now p.now) }
+    {
+        if self.first.is_some() || self.cursor >= ADDRESS_LIMIT {
+            return None;
+        }
+        memory.page(page_of(self.cursor))
+    }
 }
 
 // The word to handle, or the address at which there is none.
@@ -233,70 +296,5 @@ fn move_page(memory: &mut Memory, mode: Mode, d: Page, s: Page)
     match mode {
         Mode::Plain => memory.copy(d, s),
         Mode::Kept { swap } => memory.swap(d, s, swap),
-    }
-}
-
-/// Runs a list by at most `limit` steps. The pages that these steps write are held. It takes no memory.
-///
-/// Done exactly where the run ends within `limit` steps; otherwise off exactly where it is off before `limit` steps
-/// were taken; otherwise running.
-pub fn run_held(memory: &mut Memory, head: u64, mode: Mode, limit: u64) -> Outcome
-    requires { HeldFrom limit (start_at memory.old head mode) }
-    ensures memory { memory.new ≡ (run_of memory.old head mode limit).0.memory }
-    ensures outcome { result ≡ (run_of memory.old head mode limit).1 }
-    ensures stays { Stays memory.old memory.new }
-{
-    let mut machine = Machine::start(head, mode);
-    for k in 0..limit {
-        match machine.step(memory) {
-            Step::Went => {}
-            Step::Ended => return Outcome::Done { steps: k + 1 },
-            Step::Off { address } => return Outcome::Off { address, steps: k },
-        }
-    }
-    Outcome::Running { limit }
-}
-
-/// Runs a list by at most `limit` steps as `run_held` does, and holds each page before it is written, and no other: the
-/// pages held are those that were and those that the steps wrote. After want of memory the memory is as some number of
-/// steps below `limit` left it, but that pages which the next step writes may be held besides.
-pub fn run(memory: &mut Memory, head: u64, mode: Mode, limit: u64) -> Result<Outcome, AllocError>
-    ensures outcome { IfOk result (λ o. o ≡ (run_of memory.old head mode limit).1) }
-    ensures memory { OnOk result (memory.new ≡ (run_of memory.old head mode limit).0.memory) }
-    ensures held { OnOk result (HoldsWritten limit (start_at memory.old head mode) memory.new) }
-    ensures failed { OnErr result (IsCutShort limit (start_at memory.old head mode) memory.new) }
-    ensures stays { Stays memory.old memory.new }
-{
-    let mut machine = Machine::start(head, mode);
-    for k in 0..limit {
-        let writes = machine.writes(memory);
-        hold_all(memory, writes)?;
-        match machine.step(memory) {
-            Step::Went => {}
-            Step::Ended => return Ok(Outcome::Done { steps: k + 1 }),
-            Step::Off { address } => return Ok(Outcome::Off { address, steps: k }),
-        }
-    }
-    Ok(Outcome::Running { limit })
-}
-
-// Holds these pages, and no other.
-fn hold_all(memory: &mut Memory, writes: Writes) -> Result<(), AllocError>
-    ensures held { OnOk result (AreHeld memory.new writes) }
-    ensures same { IsHeldFor (IsWritten writes) memory.old memory.new }
-{
-    hold_one(memory, writes.destination)?;
-    hold_one(memory, writes.source)?;
-    hold_one(memory, writes.swap)
-}
-
-// Holds the page, where there is one, and no other.
-fn hold_one(memory: &mut Memory, page: Option<Page>) -> Result<(), AllocError>
-    ensures held { OnOk result (IfSome page (λ p. IsHeld memory.new p)) }
-    ensures same { IsHeldFor (λ q. page ≡ Some q) memory.old memory.new }
-{
-    match page {
-        Some(p) => memory.hold(p),
-        None => Ok(()),
     }
 }

@@ -17,14 +17,19 @@ fn put(memory: &mut Memory, number: u64, bytes: &[u8]) -> Result<(), Fail> {
     Ok(())
 }
 
+// The bytes of these words.
+fn bytes_of(rt: &HostRuntime, words: &[u64]) -> Result<Vec<u8>, Fail> {
+    let mut bytes = Vec::new(rt.alloc());
+    for word in words {
+        bytes.extend_from_slice(&word.to_le_bytes())?;
+    }
+    Ok(bytes)
+}
+
 // A memory with these words in page 20 (hexadecimal), and `b` in page 30.
 fn memory_with(rt: &HostRuntime, words: &[u64]) -> Result<Memory, Fail> {
-    let mut list = Vec::new(rt.alloc());
-    for word in words {
-        list.extend_from_slice(&word.to_le_bytes())?;
-    }
     let mut memory = Memory::empty(rt.alloc());
-    put(&mut memory, 0x20, &list)?;
+    put(&mut memory, 0x20, &bytes_of(rt, words)?)?;
     put(&mut memory, 0x30, b"b")?;
     Ok(memory)
 }
@@ -127,6 +132,93 @@ fn a_kept_move_exchanges_two_pages(rt: HostRuntime) -> Result<(), Fail> {
     assert!(rt; memory.equals(page(2)?, b"b"));
     assert!(rt; memory.equals(page(0x30)?, b"a"));
     assert!(rt; memory.equals(page(0x22)?, b"b"));
+    Ok(())
+}
+
+#[test]
+fn a_list_goes_on_in_the_next_page(rt: HostRuntime) -> Result<(), Fail> {
+    let mut words = [0; 512];
+    words[511] = 0x2001;
+    let mut memory = memory_with(&rt, &words)?;
+    put(&mut memory, 0x21, &bytes_of(&rt, &[0, 0x30008, 4])?)?;
+    let outcome = run(&mut memory, 0x20002, Mode::Plain, 1000)?;
+    assert_eq!(rt; outcome, Outcome::Done { steps: 516 });
+    assert!(rt; memory.equals(page(2)?, b"b"));
+    // the page behind it is not held and reads as zeros, so the run goes on through it
+    let off = trace(&rt, &words, 5000)?;
+    assert_eq!(rt; off, Outcome::Running { limit: 5000 });
+    Ok(())
+}
+
+#[test]
+fn a_done_word_is_the_last_of_a_page(rt: HostRuntime) -> Result<(), Fail> {
+    let mut words = [0; 512];
+    words[511] = 4;
+    assert_eq!(rt; trace(&rt, &words, 512)?, Outcome::Running { limit: 512 });
+    assert_eq!(rt; trace(&rt, &words, 513)?, Outcome::Done { steps: 513 });
+    assert_eq!(rt; trace(&rt, &words, 1000)?, Outcome::Done { steps: 513 });
+    Ok(())
+}
+
+#[test]
+fn a_link_to_the_own_page_goes_back_to_its_start(rt: HostRuntime) -> Result<(), Fail> {
+    // the second time around, the destination is a page on
+    let mut memory = memory_with(&rt, &[0x30008, 0x20002])?;
+    let outcome = run(&mut memory, 0x20002, Mode::Plain, 7)?;
+    assert_eq!(rt; outcome, Outcome::Running { limit: 7 });
+    for number in [0, 1, 2] {
+        assert!(rt; memory.equals(page(number)?, b"b"));
+    }
+    assert!(rt; !memory.held(page(3)?));
+    Ok(())
+}
+
+#[test]
+fn a_limit_is_met_inside_a_page(rt: HostRuntime) -> Result<(), Fail> {
+    let words = [0x2001, 0x3001, 0x30008, 4];
+    for (limit, held) in [(0, false), (1, false), (2, false), (3, false), (4, true)] {
+        let mut memory = memory_with(&rt, &words)?;
+        let outcome = run(&mut memory, 0x20002, Mode::Plain, limit)?;
+        assert_eq!(rt; outcome, Outcome::Running { limit });
+        assert_eq!(rt; memory.held(page(3)?), held);
+        assert!(rt; !memory.held(page(2)?));
+    }
+    Ok(())
+}
+
+#[test]
+fn a_list_that_is_moved_over_is_read_as_it_is_then(rt: HostRuntime) -> Result<(), Fail> {
+    let later = bytes_of(&rt, &[0, 0, 0x2001, 0x30008, 4])?;
+    let modes = [Mode::Plain, Mode::Kept { swap: page(0x22)? }];
+    for mode in modes {
+        let mut memory = memory_with(&rt, &[0x20001, 0x21008, 0x9001, 0x30008, 4])?;
+        put(&mut memory, 0x21, &later)?;
+        let outcome = run(&mut memory, 0x20002, mode, 10)?;
+        assert_eq!(rt; outcome, Outcome::Done { steps: 6 });
+        assert!(rt; memory.equals(page(2)?, b"b"));
+        assert!(rt; !memory.held(page(9)?));
+    }
+    Ok(())
+}
+
+#[test]
+fn kept_moves_follow_each_other(rt: HostRuntime) -> Result<(), Fail> {
+    let mut memory = memory_with(&rt, &[0x2001, 0x30008, 0x31008, 0x2001, 0x31008, 4])?;
+    put(&mut memory, 2, b"a")?;
+    put(&mut memory, 0x31, b"c")?;
+    let mode = Mode::Kept { swap: page(0x22)? };
+    let outcome = run(&mut memory, 0x20002, mode, 10)?;
+    assert_eq!(rt; outcome, Outcome::Done { steps: 7 });
+    // b goes to page 2 and a to 30, c to page 3 and its zeros to 31, then those to 2 and b to 31
+    for (number, bytes) in [
+        (0x30, b"a"),
+        (3, b"c"),
+        (2, b"\0"),
+        (0x31, b"b"),
+        (0x22, b"\0"),
+    ] {
+        assert!(rt; memory.equals(page(number)?, bytes));
+    }
     Ok(())
 }
 

@@ -1,8 +1,0 @@
-use Rattle.std.proofs.Common.{◌≡◌, false}
-use Rattle.relocate_machine.specs.declared.step.Outcome.TheVariants.{Running}
-use Rattle.relocate_machine.specs.Run.{run_of}
-use Rattle.relocate_machine.proofs.step.run.Given as goal
-
--- k steps of the run left this
-abbrev pub invariant-loop-k : goal.invariant-loop-k
-invariant-loop-k l = (l.machine.ended ≡ false) × (run_of l.fn.memory l.head l.fn.mode l.k ≡ (record { machine = l.machine; memory = l.memory }, Running l.k))
