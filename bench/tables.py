@@ -1,0 +1,165 @@
+"""Runs of the program and of what it is compared with, and the tables that tell of them."""
+import contextlib
+import os
+import resource
+import shutil
+import subprocess
+import sys
+import time
+
+TOP = os.path.dirname(os.path.dirname(os.path.realpath(__file__)))
+sys.path.append(f"{TOP}/scripts")
+import kexec_files
+
+KEXEC = f"{TOP}/kexec"
+MIB = 1 << 20
+RUNS = 3
+# what ./kexec asks the C library for
+HUGE_PAGES = ["env", "GLIBC_TUNABLES=glibc.malloc.hugetlb=1"]
+# what is touched before the runs of a command: more than a command and its outputs take
+TOUCHED = 2 << 30
+
+
+def one_run(words, folder):
+    """Runs the words once: wall time in seconds, the part of it in the program itself, and peak resident memory in bytes."""
+    with open(f"{folder}/said", "wb") as said:
+        start = time.perf_counter()
+        child = subprocess.Popen(words, cwd=folder, stdin=subprocess.DEVNULL, stdout=said, stderr=subprocess.STDOUT)
+        _, status, used = os.wait4(child.pid, 0)
+        took = time.perf_counter() - start
+    child.returncode = os.waitstatus_to_exitcode(status)
+    if child.returncode:
+        with open(f"{folder}/said", encoding="utf-8", errors="replace") as said:
+            sys.exit(f"bench: '{' '.join(words)}' ended with status {child.returncode}: {said.read(2000)}")
+    return took, used.ru_utime, used.ru_maxrss * 1024
+
+
+def touch_memory():
+    """Touches memory and gives it back, in a process of its own, whose memory is not counted as that of what is measured.
+    The host of a virtual machine may have taken back what was free, and whoever touches it first would pay for that."""
+    touch = f"import mmap\nmemory = mmap.mmap(-1, {TOUCHED})\nfor at in range(0, {TOUCHED}, 4096): memory[at] = 1"
+    subprocess.run([sys.executable, "-c", touch], check=True)
+
+
+def best(words, folder, outputs):
+    """The best of some runs, none of which finds its outputs there: to empty an old file takes the system its own time."""
+    touch_memory()
+    runs = []
+    for _ in range(RUNS):
+        for file in outputs:
+            with contextlib.suppress(FileNotFoundError):
+                os.remove(f"{folder}/{file}")
+        runs.append(one_run(words, folder))
+    return min(run[0] for run in runs), min(run[1] for run in runs), max(run[2] for run in runs)
+
+
+def build(folder, source, variable, compiler, *flags):
+    """Builds a program to compare with, or answers None where its compiler, which the variable can name, is not there."""
+    program = f"{folder}/{source.replace('.', '-')}-program"
+    compiler = os.environ.get(variable, compiler)
+    if not shutil.which(compiler):
+        print(f"bench: there is no {compiler}, so nothing is measured beside {source}", file=sys.stderr)
+        return None
+    if subprocess.run([compiler, *flags, "-o", program, f"{TOP}/bench/{source}"]).returncode:
+        sys.exit(f"bench: {source} was not built")
+    return program
+
+
+def yardstick(folder, inputs, outputs, digested=()):
+    """The same bytes read and written by dd, and the digests by sha256sum: seconds, the best of three."""
+    total = 0.0
+    for file in inputs:
+        total += best(["dd", f"if={file}", "of=/dev/null", "bs=64K", "status=none"], folder, [])[0]
+    for file in outputs:
+        total += best(["dd", f"if={file}", "of=copied", "bs=64K", "status=none"], folder, ["copied"])[0]
+        os.remove(f"{folder}/copied")
+    for file in digested:
+        total += best(["sha256sum", file], folder, [])[0]
+    return total
+
+
+def remove(folder, *files):
+    for file in files:
+        os.remove(f"{folder}/{file}")
+
+
+class Table:
+    """The measured rows, printed as they come."""
+
+    def __init__(self, folder):
+        self.folder = folder
+        self.bare = build(folder, "bare.c", "CC", "cc", "-O2")
+        print(
+            "| What | Time, s | Own, s | Yardstick, s | Time to yardstick | Own to yardstick | Bare, s | Time to bare | Growth "
+            "| Peak, MiB | Held, MiB | Peak to held |"
+        )
+        print("|---|---|---|---|---|---|---|---|---|---|---|---|", flush=True)
+
+    def knows(self, words):
+        """Whether the program has this command and its options; what it lacks is said."""
+        lacking = kexec_files.unknown(words)
+        if lacking:
+            print(f"bench: a row is left out, since the program has no {lacking}", file=sys.stderr)
+        return not lacking
+
+    def bare_time(self, kind, pages, head, inputs, out):
+        """The time of bare.c over the same bytes, its buffers in huge pages as those of the program are; None without it."""
+        if not self.bare:
+            return None
+        size = os.path.getsize(f"{self.folder}/{out}")
+        words = [*HUGE_PAGES, self.bare, kind, "bare-out", str(size), str(pages), str(head), *inputs]
+        took = best(words, self.folder, ["bare-out"])[0]
+        os.remove(f"{self.folder}/bare-out")
+        return took
+
+    def add(self, what, words, inputs, outputs, moments, digested=(), before=None, bare=None, program=(KEXEC,)):
+        """Measures a command. Each moment is a list of files whose bytes are held together: a memory's, a kernel's or a
+        record's, once each, and twice only where a file is made beside what it is made of. `bare` has what bare_time
+        takes."""
+        took, own, peak = best([*program, *words], self.folder, outputs)
+        beside = yardstick(self.folder, inputs, outputs, digested)
+        held = max(sum(os.path.getsize(f"{self.folder}/{it}") for it in moment) for moment in moments)
+        beside_cells = f"{beside:.3f} | {took / beside:.1f} | {own / beside:.1f}" if beside else " |  | "
+        growth = f"{took / before:.2f}" if before else ""
+        of_held = f"{peak / held:.2f}" if held >= MIB else ""
+        least_work = self.bare_time(*bare) if bare else None
+        bare_cells = f"{least_work:.3f} | {took / least_work:.1f}" if least_work else " | "
+        # the system counts the pages of this script, which starts the process, as the process's own
+        script = resource.getrusage(resource.RUSAGE_SELF).ru_maxrss * 1024
+        most = f"{peak / MIB:.0f}" if peak > script else f"below {script / MIB:.0f}"
+        print(
+            f"| {what} | {took:.3f} | {own:.3f} | {beside_cells} | {bare_cells} | {growth} "
+            f"| {most} | {held / MIB:.0f} | {of_held} |",
+            flush=True,
+        )
+        return took
+
+
+class Traces:
+    """The measured rows of trace, each beside plain.rs, printed as they come."""
+
+    def __init__(self, folder):
+        self.folder = folder
+        self.plain = build(folder, "plain.rs", "RUSTC", "rustc", "--edition", "2021", "-O")
+        print("\n| Trace | Time, s | Plain, s | Time to plain | Each, ns | Plain each, ns | Each to plain |")
+        print("|---|---|---|---|---|---|---|", flush=True)
+
+    def measure(self, words, limit, more, count):
+        """The time, and the nanoseconds that the processor spends in the program for each of so many steps or moves: what a
+        run takes more than one of a single step."""
+        took, own, _ = best([*words, str(limit), *more], self.folder, ["out"])
+        single = best([*words, "1", *more], self.folder, ["out"])[1]
+        return took, (own - single) / count * 1e9
+
+    def add(self, what, memory, head, limit, count, swap=None):
+        """Measures a run of `limit` steps over a memory file, in which there are so many of what is told of."""
+        words = [memory, "out", head]
+        took, each = self.measure([KEXEC, "trace", *(["--swap", swap] if swap else []), *words], limit, [], count)
+        cells = f"| | {each:.1f} | |"
+        if self.plain:
+            plain, plain_each = self.measure([*HUGE_PAGES, self.plain, *words], limit, [swap] if swap else [], count)
+            # a small run takes no time that the system tells
+            ratio = f"{each / plain_each:.2f}" if plain_each > 0 else ""
+            cells = f"{plain:.3f} | {took / plain:.2f} | {each:.1f} | {plain_each:.1f} | {ratio}"
+        print(f"| {what} | {took:.3f} | {cells} |", flush=True)
+        remove(self.folder, "out")
