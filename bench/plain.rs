@@ -29,11 +29,17 @@ impl Memory {
             let number = u64::from_le_bytes(number.try_into().unwrap());
             (number, Box::new(page.try_into().unwrap()))
         });
-        Memory { pages: pages.collect() }
+        Memory {
+            pages: pages.collect(),
+        }
     }
 
     fn file(&self) -> Vec<u8> {
-        let stored: Vec<_> = self.pages.iter().filter(|(_, page)| page[..] != ZEROS[..]).collect();
+        let stored: Vec<_> = self
+            .pages
+            .iter()
+            .filter(|(_, page)| page[..] != ZEROS[..])
+            .collect();
         let mut file = Vec::with_capacity(HEAD + stored.len() * SLOT);
         file.extend(b"KXMEM001");
         file.extend((stored.len() as u64).to_le_bytes());
@@ -50,12 +56,19 @@ impl Memory {
 
     fn word(&self, address: u64) -> u64 {
         let place = address as usize % PAGE;
-        u64::from_le_bytes(self.page(address / PAGE as u64)[place..place + 8].try_into().unwrap())
+        u64::from_le_bytes(
+            self.page(address / PAGE as u64)[place..place + 8]
+                .try_into()
+                .unwrap(),
+        )
     }
 
     fn copy(&mut self, destination: u64, source: u64) {
         let page = *self.page(source);
-        **self.pages.entry(destination).or_insert_with(|| Box::new(ZEROS)) = page;
+        **self
+            .pages
+            .entry(destination)
+            .or_insert_with(|| Box::new(ZEROS)) = page;
     }
 }
 
@@ -77,7 +90,10 @@ fn run(memory: &mut Memory, head: u64, limit: u64, swap: Option<u64>) -> String 
         } else if word & 4 != 0 {
             return format!("done {}\n", steps + 1);
         } else if word & 8 != 0 {
-            if let Some(off) = [address, destination].into_iter().find(|it| *it >= ADDRESS_LIMIT) {
+            if let Some(off) = [address, destination]
+                .into_iter()
+                .find(|it| *it >= ADDRESS_LIMIT)
+            {
                 return format!("off {off:x} after {steps}\n");
             }
             let (to, from) = (destination / PAGE as u64, address / PAGE as u64);
@@ -104,7 +120,12 @@ fn main() {
     let hexadecimal = |word: &String| u64::from_str_radix(word, 16).unwrap();
     let mut memory = Memory::read(&fs::read(&words[0]).unwrap());
     let swap = words.get(4).map(|word| hexadecimal(word) / PAGE as u64);
-    let outcome = run(&mut memory, hexadecimal(&words[2]), words[3].parse().unwrap(), swap);
+    let outcome = run(
+        &mut memory,
+        hexadecimal(&words[2]),
+        words[3].parse().unwrap(),
+        swap,
+    );
     fs::write(&words[1], memory.file()).unwrap();
     print!("{outcome}");
 }
