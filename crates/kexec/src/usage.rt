@@ -13,6 +13,7 @@ fn name_of(which: Which) -> &'static str {
         Which::Kept => "--kept",
         Which::At => "--at",
         Which::Entry => "--entry",
+        Which::Below => "--below",
         Which::Swap => "--swap",
         Which::Head => "HEAD",
         Which::Limit => "LIMIT",
