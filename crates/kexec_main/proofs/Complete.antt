@@ -15,7 +15,7 @@ use Rattle.file_commands.specs.Taking.{Refusal, by, too_long}
 use Rattle.file_commands.specs.Answers.{Answer, MeetsTold, RefusesFor, Stands, done, memory, refused}
 use Rattle.file_commands.proofs.Meeting.{refuses, stands_told}
 use Rattle.kexec_words.specs.declared.faults.UsageWhy.{UsageWhy}
-use Rattle.kexec_words.specs.Values.{CommandValue, BootValue, ExecValue, LoadPanicValue, LoadValue, LoadNamesValue, TraceValue}
+use Rattle.kexec_words.specs.Values.{CommandValue, BootValue, ExecValue, LoadPanicValue, LoadValue, LoadNamesValue, MigrateValue, TraceValue}
 use Rattle.kexec_words.specs.Values as words
 use Rattle.kexec_plan.specs.Requests.{Plan}
 use Rattle.kexec_plan.specs.Plan.{plan}
@@ -29,7 +29,7 @@ use Rattle.kexec_main.specs.declared.status.Reason.TheVariants as reasons
 use Rattle.kexec_main.specs.Boot.{BootInputs, boots}
 use Rattle.kexec_main.specs.Call.{CanExec, CanLoad, CanLoadPanic, IsAccepted, IsInOrder, HasTooFew, LacksPages}
 use Rattle.kexec_main.specs.Check.{checks, checks_list_as, checks_place_as}
-use Rattle.kexec_main.specs.Commands.{Holds, boot, load, load_panic, check, dump, exec, sample, trace}
+use Rattle.kexec_main.specs.Commands.{Holds, boot, load, load_panic, check, dump, exec, migrate, sample, trace}
 use Rattle.kexec_main.specs.CrashExec.{executes_place_as}
 use Rattle.kexec_main.specs.CrashInputs.{CrashInputs}
 use Rattle.kexec_main.specs.CrashLoading.{IsCrashLoaded}
@@ -39,6 +39,7 @@ use Rattle.kexec_main.specs.Inputs.{LoadInputs}
 use Rattle.kexec_main.specs.Load.{LoadCommand, loads}
 use Rattle.kexec_main.specs.LoadPanic.{LoadPanicCommand, loads_panic}
 use Rattle.kexec_main.specs.Loading.{HasNoPlan, IsLoaded, RefusesLoad}
+use Rattle.kexec_main.specs.Migrate.{MigrateInputs}
 use Rattle.kexec_main.specs.Outputs.{Made, HasNoFile, IsTooHeavy}
 use Rattle.kexec_main.specs.Runs.{after_runs, checked_with, wish_of}
 use Rattle.kexec_main.specs.Trace.{TraceInputs, traces}
@@ -66,7 +67,7 @@ too_few pool need left n enough a b less = omega arith
 -- nothing refuses a load that can be made
 loads_not : (wish : Wish) (i : LoadInputs) (leaves : Checked → Mem) (why : Reason) → CanLoad wish i leaves → RefusesLoad wish i why → ⊥
 loads_not wish i leaves (reasons.NoPages left n) can (q, planned, few) =
-    too_few (length i.pool) (need wish can.p.segments) left n can.enough few.0 (few.1 ∙ ap (λ (p : Plan). need wish p.segments) (one_plan i q can.p planned can.planned)) few.2
+    too_few (length i.usable) (need wish can.p.segments) left n can.enough few.0 (few.1 ∙ ap (λ (p : Plan). need wish p.segments) (one_plan i q can.p planned can.planned)) few.2
 loads_not wish i leaves (reasons.Plan f) can h = no_fault can.p f (sym can.planned ∙ h)
 loads_not wish i leaves (reasons.Usage w) can h = h
 loads_not wish i leaves (reasons.Input f) can h = h
@@ -178,8 +179,11 @@ trace_stands t x light = record { unrefused = none; whole = λ goods m. m.1 }
     none (by why) m = light why m
     none (too_long name limit) m = m
 
+migrate_stands : (v : MigrateValue) (x : MigrateInputs) → Stands (migrate v) x
+migrate_stands v x = record { unrefused = λ a m. m; whole = λ goods m. m.1 }
+
 -- a load that lacks pages is refused for nothing else
-few_reason : (wish : Wish) (i : LoadInputs) (p : Plan) (pool n : ℕ) → plan i.request i.map ≡ Ok p → pool ≡ length i.pool → n ≡ need wish p.segments → (why : Reason) → RefusesLoad wish i why → why ≡ reasons.NoPages pool n
+few_reason : (wish : Wish) (i : LoadInputs) (p : Plan) (pool n : ℕ) → plan i.request i.map ≡ Ok p → pool ≡ length i.usable → n ≡ need wish p.segments → (why : Reason) → RefusesLoad wish i why → why ≡ reasons.NoPages pool n
 few_reason wish i p pool n planned same all (reasons.NoPages left m) (q, other, few) =
     rw (few.0 ∙ sym same, few.1 ∙ ap (λ (p : Plan). need wish p.segments) (one_plan i q p other planned) ∙ sym all) refl
 few_reason wish i p pool n planned same all (reasons.Plan f) h = absurd (no_fault p f (sym planned ∙ h))
@@ -190,7 +194,7 @@ few_reason wish i p pool n planned same all (reasons.Heavy m) h = absurd h
 
 not_loaded : (wish : Wish) (i : LoadInputs) (pool n : ℕ) (q : Plan) (c : Checked) → LacksPages wish i pool n → IsLoaded wish i q c.load → ⊥
 not_loaded wish i pool n q c (p, planned, same, all, less) l =
-    too_few (length i.pool) (need wish q.segments) pool n l.enough same (all ∙ ap (λ (p : Plan). need wish p.segments) (one_plan i p q planned l.planned)) less
+    too_few (length i.usable) (need wish q.segments) pool n l.enough same (all ∙ ap (λ (p : Plan). need wish p.segments) (one_plan i p q planned l.planned)) less
 
 few_boots : (b : BootValue) (x : BootInputs) (pool n : ℕ) → LacksPages (wish_of x.runs) x.load pool n → RefusesFor (boot b) x (by (reasons.NoPages pool n))
 few_boots b x pool n few (Ok goods) m = absurd (not_loaded (wish_of x.runs) x.load pool n m.0 m.1 few m.2.0)
@@ -214,6 +218,7 @@ module _ {S O : Type 0} (D : Shelf S) (E : Sink O) (held : Files) (s : S) (o : O
   ends (words.dump l) i m = stands_told D E (dump l) held i.0 s s' o o' a i.1 (dump_stands l i.0) calm quiet m
   ends (words.exec e) i m = stands_told D E (exec e) held i.0 s s' o o' a i.1 (exec_stands e i.0 i.2) calm quiet m
   ends (words.trace t) i m = stands_told D E (trace t) held i.0 s s' o o' a i.1 (trace_stands t i.0 (λ why h. heavy _ why i.2 h)) calm quiet m
+  ends (words.migrate v) i m = stands_told D E (migrate v) held i.0 s s' o o' a i.1 (migrate_stands v i.0) calm quiet m
   ends (words.sample n) i m = stands_told D E (sample n) held n s s' o o' a refl (sample_stands n) calm quiet m
 
   -- what is in order is done, or memory is wanted
@@ -227,6 +232,7 @@ module _ {S O : Type 0} (D : Shelf S) (E : Sink O) (held : Files) (s : S) (o : O
   lacks (words.dump l) pool n f m = absurd f
   lacks (words.exec e) pool n f m = absurd f
   lacks (words.trace t) pool n f m = absurd f
+  lacks (words.migrate v) pool n f m = absurd f
   lacks (words.load_panic l) pool n f m = absurd f
   lacks (words.sample k) pool n f m = absurd f
 

@@ -8,32 +8,33 @@ use Rattle.kx_edge.specs.declared.edge.Sink.{Ghosts as Sink}
 use Rattle.kx_pages.specs.declared.image.Wish.{Wish}
 use Rattle.page_memory.specs.Contents.{at}
 use Rattle.list_checker.specs.declared.fault.ListFault.{ListFault}
-use Rattle.load_record.specs.File.{record_file}
+use Rattle.load_record.specs.File.{Record, record_file}
 use Rattle.load_states.specs.States.{Checked, CrashLoad}
 use Rattle.load_states.specs.Ready.{Told}
 use Rattle.file_commands.specs.Taking.{File, Refusal, ok, reads, ◌>>=◌}
 use Rattle.file_commands.specs.Answers.{Answer, FilesPut, GoesOut, MeetsTold, done}
 use Rattle.file_commands.proofs.Steps.{reads_cases}
 use Rattle.kexec_words.specs.declared.faults.UsageWhy.{UsageWhy}
-use Rattle.kexec_words.specs.Values.{CommandValue, BootValue, CrashInputsValue, ExecValue, LoadPanicValue, LoadValue, LoadNamesValue, TraceValue}
+use Rattle.kexec_words.specs.Values.{CommandValue, BootValue, CrashInputsValue, ExecValue, LoadPanicValue, LoadValue, LoadNamesValue, MigrateValue, TraceValue}
 use Rattle.kexec_words.specs.Values as words
 use Rattle.kexec_plan.specs.Requests.{Plan}
 use Rattle.kexec_main.specs.declared.files.TakenLoad.{TakenLoad}
 use Rattle.kexec_main.specs.declared.files.TakenLoad.TheVariants.{Normal, Crash}
 use Rattle.kexec_main.specs.declared.status.Reason.{Reason}
 use Rattle.kexec_main.specs.Boot.{BootInputs, boot_files, boots}
-use Rattle.kexec_main.specs.Call.{NormalLoad, PanicLoad, HasBooted, HasLoaded, HasLoadedPanic, HasChecked, HasCheckedCrash, HasDumped, HasDumpedCrash, HasExecuted, HasExecutedCrash, HasTraced, HasDone}
+use Rattle.kexec_main.specs.Call.{NormalLoad, PanicLoad, HasBooted, HasLoaded, HasLoadedPanic, HasChecked, HasCheckedCrash, HasDumped, HasDumpedCrash, HasExecuted, HasExecutedCrash, HasTraced, HasMigrated, HasDone}
 use Rattle.kexec_main.specs.Check.{checks_list_as, checks_place_as}
-use Rattle.kexec_main.specs.Commands.{Holds, boot, load, load_panic, check, dump, exec, trace}
+use Rattle.kexec_main.specs.Commands.{Holds, boot, load, load_panic, check, dump, exec, migrate, trace}
 use Rattle.kexec_main.specs.CrashExec.{executes_place_as}
 use Rattle.kexec_main.specs.CrashInputs.{CrashInputs, crash_inputs, crash_request}
 use Rattle.kexec_main.specs.CrashLoading.{IsCrashLoaded}
 use Rattle.kexec_main.specs.Exec.{ExecInputs, exec_files, exec_of, executes_as, executes_by, load_of, runs_asked}
-use Rattle.kexec_main.specs.Files.{load_files, map_file, memory_file, some_notes}
+use Rattle.kexec_main.specs.Files.{load_files, load_record_file, map_file, memory_file, some_notes}
 use Rattle.kexec_main.specs.Inputs.{LoadInputs, kernel_files, load_inputs}
 use Rattle.kexec_main.specs.Load.{LoadCommand, load_command_files, load_wish, loads, record_of_load}
 use Rattle.kexec_main.specs.LoadPanic.{LoadPanicCommand, load_panic_files, load_panic_of, loads_panic, record_of_crash}
 use Rattle.kexec_main.specs.Loading.{IsLoaded}
+use Rattle.kexec_main.specs.Migrate.{MigrateInputs, migrate_files, migrates}
 use Rattle.kexec_main.specs.Outputs.{Made}
 use Rattle.kexec_main.specs.Runs.{checked_with}
 use Rattle.kexec_plan.proofs.Area.{in_area, outside_all}
@@ -78,6 +79,10 @@ load_asked l held x read = let k = reads_cases (load_inputs l.image l.inputs) (�
 
 exec_asked : (e : ExecValue) (held : Files) (x : ExecInputs) → reads (exec_files e) held ≡ Ok x → (load : TakenLoad) × (x ≡ exec_of e load)
 exec_asked e held x read = let k = reads_cases (load_files e.memory e.load_record) (λ load. ok (exec_of e load)) held x read in (k.0, sym (ok_same {F = Refusal Reason} _ x k.2))
+
+migrate_asked : (v : MigrateValue) (held : Files) (x : MigrateInputs) → reads (migrate_files v) held ≡ Ok x
+    → (r : Record) × (reads (load_record_file v.load_record) held ≡ Ok r) × (x ≡ record { load_record = r; out = v.out })
+migrate_asked v held x read = let k = reads_cases (load_record_file v.load_record) (λ r. ok (record { load_record = r; out = v.out })) held x read in (k.0, k.1, sym (ok_same {F = Refusal Reason} _ x k.2))
 
 -- what `load-panic` takes is the request of a crash kernel
 crash_asked : (i : CrashInputsValue) (map : List ℕ) (held : Files) (x : CrashInputs) → reads (crash_inputs i map) held ≡ Ok x → x.request.crash ≡ true
@@ -213,6 +218,18 @@ module _ {S O : Type 0} (D : Shelf S) (E : Sink O) (held : Files) (s : S) (o : O
   traced t (x, goods, read, m, fault, out) =
       record { inputs = x; read = read; output = m.2.0; is_memory = m.2.2; put = put_as goods.outputs ((x.out, m.2.0) ∷ []) m.2.1 out.put; said = said_as goods.text _ m.0 out.said }
 
+  migrated : (v : MigrateValue) → MeetsTold D E (migrate v) held s o done s' o' → HasMigrated D E held s o s' o' v
+  migrated v (x, goods, read, m, fault, out) =
+      let k = migrate_asked v held x read in
+      let n = subst (λ x. migrates x (Ok goods)) k.2 m in
+      record {
+        load_record = k.0;
+        read = k.1;
+        read_back = n.3;
+        put = put_as goods.outputs ((v.out, record_file k.0) ∷ []) n.2 out.put;
+        said = said_as goods.text _ n.0 out.said;
+      }
+
   done_as : (c : CommandValue) → Holds (λ X p. MeetsTold D E p held s o done s' o') (Ok c) → HasDone D E held s o s' o' c
   done_as (words.boot b) m = booted b m
   done_as (words.load l) m = loaded l m
@@ -220,6 +237,7 @@ module _ {S O : Type 0} (D : Shelf S) (E : Sink O) (held : Files) (s : S) (o : O
   done_as (words.dump l) m = dumped l m
   done_as (words.exec e) m = executed e m
   done_as (words.trace t) m = traced t m
+  done_as (words.migrate v) m = migrated v m
   done_as (words.load_panic l) m = loaded_panic l m
   done_as (words.sample n) m = sampled D E s o s' o' held n m
 

@@ -21,6 +21,7 @@ holds_as P Q f (Ok (words.check l)) h = f _ _ h
 holds_as P Q f (Ok (words.dump l)) h = f _ _ h
 holds_as P Q f (Ok (words.exec e)) h = f _ _ h
 holds_as P Q f (Ok (words.trace t)) h = f _ _ h
+holds_as P Q f (Ok (words.migrate m)) h = f _ _ h
 holds_as P Q f (Ok (words.load_panic l)) h = f _ _ h
 holds_as P Q f (Ok (words.sample n)) h = f _ _ h
 
@@ -33,6 +34,7 @@ holds_one P (Ok (words.check l)) h = h
 holds_one P (Ok (words.dump l)) h = h
 holds_one P (Ok (words.exec e)) h = h
 holds_one P (Ok (words.trace t)) h = h
+holds_one P (Ok (words.migrate m)) h = h
 holds_one P (Ok (words.load_panic l)) h = h
 holds_one P (Ok (words.sample n)) h = h
 

@@ -7,7 +7,8 @@ use Rattle.page_memory.specs.File.{reading}
 use Rattle.segments.specs.Rules.{IsBare, bare_refusal}
 use Rattle.segments.specs.Values.{SegmentValue}
 use Rattle.segments.specs.declared.fault.SegFault.{SegFault}
-use Rattle.load_record.specs.File.{Record, head_tested, record_of, record_reading, ruled, segments_read}
+use Rattle.load_record.specs.File.{Record, head_tested, record_of, record_reading, ruled, segments_tested}
+use Rattle.load_record.specs.Head.{version_of}
 use Rattle.load_record.specs.declared.fault.RecFault.{RecFault}
 use Rattle.load_record.specs.declared.head.Head.{Head}
 use Rattle.file_commands.specs.Files.{from_reader, whole_file}
@@ -81,7 +82,7 @@ record_bare : (bytes : List ℕ) (r : Record) → record_reading bytes ≡ Ok r 
 unfolding record_reading
 record_bare bytes r h =
     let head = bind_ok (head_tested bytes) _ r h in
-    let list = bind_ok (segments_read (length bytes) head.0.segments (drop 96 bytes)) _ r head.2 in
+    let list = bind_ok (segments_tested (version_of bytes) (length bytes) head.0.segments (drop 96 bytes)) _ r head.2 in
     ruled_bare head.0 list.0 (bare_refusal list.0) r refl list.2
 
 pub exec_bare : (e : ExecValue) (held : Files) (x : LoadFiles) → reads (exec_files e) held ≡ Ok (exec_of e (Normal x)) → IsBare x.load_record.segments

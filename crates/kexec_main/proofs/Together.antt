@@ -62,11 +62,11 @@ loads_alike : (wish v : Wish) (i j : LoadInputs) (p q : Plan) (c d : Checked) �
 loads_alike wish v i j p q c d w same a b =
     let asked : plan i.request i.map ≡ Ok q = ap (λ (i : LoadInputs). plan i.request i.map) (sym same) ∙ b.planned in
     let one : q ≡ p = ok_same {F = PlanFault} q p (sym asked ∙ a.planned) in
-    let laid : IsSealed (at i.memory) i.pool wish p.segments d.load =
-    subst (λ (p : Plan). IsSealed (at i.memory) i.pool wish p.segments d.load) one
-    (subst (λ (i : LoadInputs). IsSealed (at i.memory) i.pool wish q.segments d.load) same
-    (subst (λ wish. IsSealed (at j.memory) j.pool wish q.segments d.load) w b.laid)) in
-    (one, sealed_alike (at i.memory) i.pool wish p.segments c.load d.load a.laid laid)
+    let laid : IsSealed (at i.memory) i.usable wish p.segments d.load =
+    subst (λ (p : Plan). IsSealed (at i.memory) i.usable wish p.segments d.load) one
+    (subst (λ (i : LoadInputs). IsSealed (at i.memory) i.usable wish q.segments d.load) same
+    (subst (λ wish. IsSealed (at j.memory) j.usable wish q.segments d.load) w b.laid)) in
+    (one, sealed_alike (at i.memory) i.usable wish p.segments c.load d.load a.laid laid)
 
 -- a memory has one file
 one_file : (N : Mem) (a b : List ℕ) → IsFileOf N a → IsFileOf N b → a ≡ b

@@ -15,7 +15,7 @@ use Rattle.memory_map.specs.Maps.{reserved_area}
 use Rattle.list_checker.specs.declared.fault.ListFault.{ListFault}
 use Rattle.list_checker.specs.Reading.{IsWalk}
 use Rattle.list_checker.specs.Walk.{links, pairs}
-use Rattle.load_record.specs.File.{record_file}
+use Rattle.load_record.specs.File.{Record, record_file}
 use Rattle.load_states.specs.States.{Checked, CrashLoad}
 use Rattle.load_states.specs.Ready.{Told}
 use Rattle.load_states.specs.Fillings.{IsSealed}
@@ -23,7 +23,7 @@ use Rattle.load_states.specs.Runs.{EndsAfter}
 use Rattle.relocate_machine.specs.Run.{run_of}
 use Rattle.file_commands.specs.Taking.{reads}
 use Rattle.file_commands.specs.Answers.{Answer, FilesPut, done, memory, unsaid}
-use Rattle.kexec_words.specs.Values.{CommandValue, BootValue, ExecValue, LoadValue, LoadPanicValue, LoadNamesValue, TraceValue}
+use Rattle.kexec_words.specs.Values.{CommandValue, BootValue, ExecValue, LoadValue, LoadPanicValue, LoadNamesValue, MigrateValue, TraceValue}
 use Rattle.kexec_words.specs.Values as words
 use Rattle.purgatory_link.specs.declared.region_test.RegionTest.TheVariants.{Same}
 use Rattle.purgatory_link.specs.RegionTest.{test}
@@ -49,7 +49,8 @@ use Rattle.kexec_main.specs.Check.{IsAcceptedIn, IsInPlace}
 use Rattle.kexec_main.specs.Dump.{head_text, segment_line, walk_text}
 use Rattle.kexec_main.specs.CrashExec.{crash_text}
 use Rattle.kexec_main.specs.Exec.{ExecInputs, exec_files, exec_of, is_not_kept, load_of, runs_asked}
-use Rattle.kexec_main.specs.Files.{load_files_of}
+use Rattle.kexec_main.specs.Files.{load_files_of, load_record_file}
+use Rattle.kexec_main.specs.Migrate.{MigrateInputs, migrate_files, segments_line}
 use Rattle.kexec_main.specs.Sample.{IsSample, sample_text}
 use Rattle.kexec_main.specs.Trace.{TraceInputs, outcome_line, trace_files}
 
@@ -57,12 +58,12 @@ use Rattle.kexec_main.specs.Trace.{TraceInputs, outcome_line, trace_files}
 pub record NormalLoad (wish : Wish) (i : LoadInputs) (p : Plan) (c : Checked) : Type 0 where
   -- the request has this plan
   pub planned : plan i.request i.map ≡ Ok p
-  -- the pool has as many pages as the load takes
-  pub enough : need wish p.segments ≤ length i.pool
+  -- the pool has as many usable pages as the load takes
+  pub enough : need wish p.segments ≤ length i.usable
   -- the list, the control page and the sources are those that the rules of taking pages and laying a list give
-  pub laid : IsSealed (at i.memory) i.pool wish p.segments c.load
-  -- memory is as it was at every page but the first ones of the pool
-  pub only_pool_pages : (q : ℕ) → count q (take (need wish p.segments) i.pool) ≡ 0
+  pub laid : IsSealed (at i.memory) i.usable wish p.segments c.load
+  -- memory is as it was at every page but the first usable ones of the pool
+  pub only_pool_pages : (q : ℕ) → count q (take (need wish p.segments) i.usable) ≡ 0
       → at c.load.memory q ≡ at i.memory q
   -- the list is accepted for the segments, by a walk of so many words with so many link pages and these pairs
   pub accepted : Told c.load c.words c.links c.pairs
@@ -242,6 +243,15 @@ module _ {S O : Type 0} (D : Shelf S) (E : Sink O) (held : Files) (s : S) (o : O
     pub said : Said (E.said o)
         (outcome_line (run_of inputs.memory inputs.head inputs.mode inputs.limit).1) (E.said o')
 
+  -- After `migrate`: OUT is the file of the record that was read, as the second version spells it, and reads back as this
+  -- record. Every other file is as it was, and the text tells how many segments the record has.
+  pub record HasMigrated (m : MigrateValue) : Type 0 where
+    pub load_record : Record
+    pub read : reads (load_record_file m.load_record) held ≡ Ok load_record
+    pub read_back : IsReadBack load_record
+    pub put : FilesPut (D.files s) ((m.out, record_file load_record) ∷ []) (D.files s')
+    pub said : Said (E.said o) (segments_line (length load_record.segments)) (E.said o')
+
   -- what stands after a command answered Done
   abbrev pub HasDone : CommandValue → Type 0
   HasDone (words.boot b) = HasBooted b
@@ -251,14 +261,15 @@ module _ {S O : Type 0} (D : Shelf S) (E : Sink O) (held : Files) (s : S) (o : O
   HasDone (words.dump l) = HasDumped l ⊎ HasDumpedCrash l
   HasDone (words.exec e) = HasExecuted e ⊎ HasExecutedCrash e
   HasDone (words.trace t) = HasTraced t
+  HasDone (words.migrate m) = HasMigrated m
   HasDone (words.sample n) = HasSampled D E s o s' o' n
 
--- Nothing refuses the load of what was taken: the request has a plan, the pool has as many pages as the load takes, and
+-- Nothing refuses the load of what was taken: the request has a plan, the pool has as many usable pages as the load takes, and
 -- each memory that it may leave has a file.
 pub record CanLoad (wish : Wish) (i : LoadInputs) (leaves : Checked → Mem) : Type 0 where
   pub p : Plan
   pub planned : plan i.request i.map ≡ Ok p
-  pub enough : need wish p.segments ≤ length i.pool
+  pub enough : need wish p.segments ≤ length i.usable
   pub light : (c : Checked) (n : ℕ) → IsLoaded wish i p c.load → IsTooHeavy (leaves c) n → ⊥
 
 -- The same of a crash load, which takes no page of a pool.
@@ -309,12 +320,14 @@ IsInOrder (words.exec e) held =
 IsInOrder (words.trace t) held =
     (x : TraceInputs) × (reads (trace_files t) held ≡ Ok x)
     × ((n : ℕ) → IsTooHeavy (at (run_of x.memory x.head x.mode x.limit).0.memory) n → ⊥)
+IsInOrder (words.migrate m) held =
+    (x : MigrateInputs) × (reads (migrate_files m) held ≡ Ok x)
 IsInOrder (words.sample n) held = Unit {0}
 
--- the files are read and the request has a plan, whose load takes more pages than the pool has: so many, and so many
+-- the files are read and the request has a plan, whose load takes more pages than the pool has usable: so many, and so many
 abbrev pub LacksPages : Wish → LoadInputs → (pool need : ℕ) → Type 0
 LacksPages wish i pool n =
-    (p : Plan) × (plan i.request i.map ≡ Ok p) × (pool ≡ length i.pool) × (n ≡ need wish p.segments)
+    (p : Plan) × (plan i.request i.map ≡ Ok p) × (pool ≡ length i.usable) × (n ≡ need wish p.segments)
     × (pool < n)
 
 abbrev pub HasTooFew : CommandValue → Files → (pool need : ℕ) → Type 0

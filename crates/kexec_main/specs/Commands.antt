@@ -4,7 +4,7 @@ use Rattle.list_checker.specs.declared.fault.ListFault.{ListFault}
 use Rattle.file_commands.specs.Taking.{refuse, by}
 use Rattle.file_commands.specs.Answers.{Command, command_of}
 use Rattle.kexec_words.specs.declared.faults.UsageWhy.{UsageWhy}
-use Rattle.kexec_words.specs.Values.{CommandValue, BootValue, ExecValue, LoadValue, LoadPanicValue, LoadNamesValue, TraceValue}
+use Rattle.kexec_words.specs.Values.{CommandValue, BootValue, ExecValue, LoadValue, LoadPanicValue, LoadNamesValue, MigrateValue, TraceValue}
 use Rattle.kexec_words.specs.Values as words
 use Rattle.kexec_main.specs.declared.files.TakenLoad.{TakenLoad}
 use Rattle.kexec_main.specs.declared.status.Reason.{Reason}
@@ -16,6 +16,7 @@ use Rattle.kexec_main.specs.Exec.{ExecInputs, exec_files, executes}
 use Rattle.kexec_main.specs.Files.{load_files_of}
 use Rattle.kexec_main.specs.Load.{LoadCommand, load_command_files, loads}
 use Rattle.kexec_main.specs.LoadPanic.{LoadPanicCommand, load_panic_files, loads_panic}
+use Rattle.kexec_main.specs.Migrate.{MigrateInputs, migrate_files, migrates}
 use Rattle.kexec_main.specs.Sample.{sample_files, samples}
 use Rattle.kexec_main.specs.Trace.{TraceInputs, trace_files, traces}
 
@@ -44,6 +45,9 @@ exec e = command_of (exec_files e) executes
 abbrev pub trace : TraceValue → Program TraceInputs
 trace t = command_of (trace_files t) traces
 
+abbrev pub migrate : MigrateValue → Program MigrateInputs
+migrate m = command_of (migrate_files m) migrates
+
 abbrev pub sample : ℕ → Program ℕ
 sample number = command_of (sample_files number) samples
 
@@ -60,5 +64,6 @@ Holds P (Ok (words.check l)) = P TakenLoad (check l)
 Holds P (Ok (words.dump l)) = P TakenLoad (dump l)
 Holds P (Ok (words.exec e)) = P ExecInputs (exec e)
 Holds P (Ok (words.trace t)) = P TraceInputs (trace t)
+Holds P (Ok (words.migrate m)) = P MigrateInputs (migrate m)
 Holds P (Ok (words.load_panic l)) = P LoadPanicCommand (load_panic l)
 Holds P (Ok (words.sample n)) = P ℕ (sample n)

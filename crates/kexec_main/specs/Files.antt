@@ -1,8 +1,10 @@
 -- The files of the commands, and what is read of each (this project's own).
-use Rattle.std.specs.Prelude.{ℕ, List, [], Option, Some, None, if◌then◌else◌}
+use Rattle.std.specs.Prelude.{ℕ, ◌*◌, ◌^◌, List, [], Option, Some, None, if◌then◌else◌}
+use Rattle.std.specs.List.{filter}
 use Rattle.page_memory.specs.Contents.{Contents}
 use Rattle.page_memory.specs.File.{reading}
 use Rattle.page_pool.specs.File.{pool_reading}
+use Rattle.page_pool.specs.Pages.{is_usable}
 use Rattle.load_record.specs.File.{Record, record_reading}
 use Rattle.crash_headers.specs.declared.note.Note.{Note}
 use Rattle.crash_headers.specs.Notes.{notes_reading}
@@ -25,18 +27,33 @@ abbrev pub text_limit : ℕ
 text_limit = 1048576
 
 abbrev pub record_limit : ℕ
-record_limit = 268435936
+record_limit = 268436448
 
 abbrev pub memory_file : List ℕ → Take Reason Contents
 memory_file name = do
   bytes ← whole_file memory_limit name
   from_reader (λ e. Input (inputs.Mem e)) (reading bytes)
 
--- the pages of a pool file, in the order in which they are drawn
-abbrev pub pool_file : List ℕ → Take Reason (List ℕ)
-pool_file name = do
+-- the pages of a pool file, in their order
+abbrev pub pages_file : List ℕ → Take Reason (List ℕ)
+pages_file name = do
   bytes ← whole_file text_limit name
   from_reader (λ e. Input (inputs.Pool e)) (pool_reading bytes)
+
+-- the limit of a pool where this is the first page past it; without one it is 2 ^ 46, below which all pages lie
+abbrev pub limit_by : Option ℕ → ℕ
+limit_by None = 2 ^ 46
+limit_by (Some page) = 4096 * page
+
+-- those of these pages that lie below the limit, in their order
+abbrev pub usable_below : Option ℕ → List ℕ → List ℕ
+usable_below below pages = filter (is_usable (limit_by below)) pages
+
+-- the usable pages of a pool file, in the order in which they are drawn
+abbrev pub pool_file : List ℕ → Option ℕ → Take Reason (List ℕ)
+pool_file name below = do
+  pages ← pages_file name
+  ok (usable_below below pages)
 
 abbrev pub map_file : List ℕ → Take Reason MapValue
 map_file name = do

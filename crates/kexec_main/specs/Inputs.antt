@@ -2,6 +2,7 @@
 -- project's own).
 use Rattle.std.specs.Prelude.{ℕ, ◌-◌, List, [], length, map, Option, Some, None, option_map, false}
 use Rattle.page_memory.specs.Contents.{Contents}
+use Rattle.page_pool.specs.Pages.{usable_of}
 use Rattle.memory_map.specs.Maps.{MapValue}
 use Rattle.file_commands.specs.Taking.{File, Take, ok, ◌>>=◌}
 use Rattle.file_commands.specs.Files.{all_files, optional_file, whole_file}
@@ -61,10 +62,10 @@ request_with image command files = record {
   notes = [];
 }
 
--- what a load is made of: the memory, the pages of the pool, the memory map, and the request for a plan
+-- what a load is made of: the memory, the usable pages of the pool in their order, the memory map, and the request for a plan
 pub record LoadInputs : Type 0 where
   pub memory : Contents
-  pub pool : List ℕ
+  pub usable : List ℕ
   pub map : Option MapValue
   pub request : Asked
 
@@ -72,10 +73,10 @@ pub record LoadInputs : Type 0 where
 abbrev pub load_inputs : ImageType → InputsValue → Take Reason LoadInputs
 load_inputs image i = do
   m ← memory_file i.memory
-  p ← pool_file i.pool
+  p ← pool_file i.pool i.below
   ram ← optional_file map_file i.map
   files ← kernel_files i.kernel i.initrd i.purgatory i.modules
-  ok (record { memory = m; pool = p; map = ram; request = request_with image i.command files })
+  ok (record { memory = m; usable = p; map = ram; request = request_with image i.command files })
 
 -- the program's values, read plainly
 abbrev pub kernel_bytes : TakenFiles → KernelFiles
@@ -88,4 +89,4 @@ kernel_bytes f = record {
 
 abbrev pub inputs_of : Taken → LoadInputs
 inputs_of t =
-    record { memory = t.memory; pool = t.pool.left; map = t.map; request = request_of t.request }
+    record { memory = t.memory; usable = usable_of t.pool; map = t.map; request = request_of t.request }

@@ -15,6 +15,7 @@ pub mod Dump
 pub mod CrashExec
 pub mod Exec
 pub mod Trace
+pub mod Migrate
 pub mod Sample
 pub mod Commands
 pub mod Call

@@ -18,27 +18,27 @@ abbrev pub HasNoPlan : Asked → Option MapValue → Reason → Type 0
 HasNoPlan request map (reasons.Plan fault) = plan request map ≡ Err fault
 HasNoPlan request map other = ⊥
 
--- the pool has fewer pages than the load of the segments takes: both numbers are the reason
+-- the pool has fewer usable pages, which these are, than the load of the segments takes: both numbers are the reason
 abbrev pub IsTooFew : List ℕ → Wish → List SegmentValue → Reason → Type 0
-IsTooFew pool wish ss (reasons.NoPages left n) =
-    (left ≡ length pool) × (n ≡ need wish ss) × (left < n)
-IsTooFew pool wish ss other = ⊥
+IsTooFew usable wish ss (reasons.NoPages left n) =
+    (left ≡ length usable) × (n ≡ need wish ss) × (left < n)
+IsTooFew usable wish ss other = ⊥
 
 -- the plan of a load
 abbrev pub plan_of : LoadedKernel → Plan
 plan_of k =
     record { segments = k.loaded.segments; start = k.start; regions = k.regions; digest = k.digest }
 
--- The request has this plan, the pool suffices, and this is the load that the rules of taking pages and laying a list
+-- The request has this plan, the usable pages suffice, and this is the load that the rules of taking pages and laying a list
 -- give.
 pub record IsLoaded (wish : Wish) (i : LoadInputs) (p : Plan) (load : Load) : Type 0 where
   pub planned : plan i.request i.map ≡ Ok p
-  pub enough : need wish p.segments ≤ length i.pool
-  pub laid : IsSealed (at i.memory) i.pool wish p.segments load
+  pub enough : need wish p.segments ≤ length i.usable
+  pub laid : IsSealed (at i.memory) i.usable wish p.segments load
 
 -- a refusal of the plan, or of the load for its pages
 abbrev pub RefusesLoad : Wish → LoadInputs → Reason → Type 0
 RefusesLoad wish i (reasons.NoPages left n) =
     (p : Plan) × (plan i.request i.map ≡ Ok p)
-    × IsTooFew i.pool wish p.segments (reasons.NoPages left n)
+    × IsTooFew i.usable wish p.segments (reasons.NoPages left n)
 RefusesLoad wish i why = HasNoPlan i.request i.map why

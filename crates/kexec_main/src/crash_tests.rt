@@ -38,6 +38,18 @@ fn a_crash_load_writes_its_place_alone(rt: HostRuntime) -> Result<(), Fail> {
     Ok(())
 }
 
+/// The SHA-256 of the kernel's bytes, "crash".
+const KERNEL_DIGEST: [u8; 32] = [
+    0xcd, 0xb2, 0xe0, 0xd0, 0xf8, 0x73, 0xce, 0x53, 0x26, 0xe8, 0x7c, 0xf7, 0xde, 0xc4, 0x8d, 0xe8,
+    0xda, 0x30, 0x43, 0xcf, 0xc9, 0x50, 0xa7, 0xeb, 0xa0, 0x5a, 0x05, 0x91, 0x50, 0xe8, 0x73, 0xf5,
+];
+
+/// The SHA-256 of the headers.
+const HEADERS_DIGEST: [u8; 32] = [
+    0x15, 0xa1, 0x25, 0xed, 0x0f, 0x11, 0xe5, 0x0a, 0x27, 0x8c, 0xa3, 0x3c, 0xef, 0xa6, 0xe6, 0x33,
+    0xc4, 0x3f, 0xde, 0x06, 0x02, 0x0b, 0xe2, 0x76, 0x55, 0x0c, 0x06, 0x50, 0xc7, 0xd7, 0xee, 0x78,
+];
+
 // The head is the done word; there is no control page, no swap page and no purgatory.
 #[test]
 fn a_crash_record_tells_its_kind_and_its_segments(rt: HostRuntime) -> Result<(), Fail> {
@@ -45,17 +57,19 @@ fn a_crash_record_tells_its_kind_and_its_segments(rt: HostRuntime) -> Result<(),
     let mut shelf = crash_shelf(alloc, &[])?;
     run(alloc, &LOAD_PANIC, &mut shelf, &[])?;
     let record = taken(alloc, &mut shelf, "r")?;
-    let mut wanted = b"KXREC001\x01\0\0\0\0\0\0\0".to_vec(alloc)?;
+    let mut wanted = b"KXREC002\x01\0\0\0\0\0\0\0".to_vec(alloc)?;
     let fields = [
         4, 0, 0, 0x400_0200, 0, 0, 0x5ff_d000, 0, 0, 3, 0x400_0000, 0x3000, 5,
     ];
     wanted.extend_from_slice(&numbers(alloc, &fields)?)?;
+    wanted.extend_from_slice(&KERNEL_DIGEST)?;
     wanted.extend_from_slice(b"crash")?;
     wanted.extend_from_slice(&numbers(alloc, &[0x5ff_f000, 0x1000, 232])?)?;
+    wanted.extend_from_slice(&HEADERS_DIGEST)?;
     wanted.extend_from_slice(&headers(alloc)?)?;
     wanted.extend_from_slice(&numbers(alloc, &[0x5ff_d000, 0x2000, 4120])?)?;
     assert!(rt; record.starts_with(&wanted));
-    assert_eq!(rt; record.len(), 4525);
+    assert_eq!(rt; record.len(), 4621);
     Ok(())
 }
 
@@ -116,7 +130,7 @@ fn each_fault_of_a_crash_load_is_told(rt: HostRuntime) -> Result<(), Fail> {
         let mut shelf = crash_shelf(alloc, &[])?;
         run(alloc, &LOAD_PANIC, &mut shelf, &[])?;
         let old = taken(alloc, &mut shelf, "r")?;
-        let mut record = b"KXREC001\x01\0\0\0\0\0\0\0".to_vec(alloc)?;
+        let mut record = b"KXREC002\x01\0\0\0\0\0\0\0".to_vec(alloc)?;
         record.extend_from_slice(&head.to_le_bytes())?;
         record.extend_from_slice(old.get(24..).ok_or("a record")?)?;
         shelf.put("r", &record).ok().ok_or("a put")?;

@@ -1,16 +1,17 @@
 //! The files of the commands are taken, each with its limit, and read.
 
-ghost use Rattle.std.specs.Prelude.{◌≡◌, ℕ, false, is_some, option_map, string_bytes, IfOk};
+ghost use Rattle.std.specs.Prelude.{◌≡◌, ℕ, ◌^◌, [], false, is_some, option_map, string_bytes, IfOk};
 ghost use Rattle.file_commands.specs.Calls.{Takes};
 ghost use Rattle.file_commands.specs.Files.{optional_file};
-ghost use Rattle.kexec_main.specs.Files.{load_by, load_files, load_record_file, map_file, memory_file, notes_file, pool_file, some_notes};
-ghost use Rattle.page_pool.specs.Pages.{is_filed};
+ghost use Rattle.kexec_main.specs.Files.{load_by, load_files, load_record_file, map_file, memory_file, notes_file, pages_file, pool_file, some_notes, usable_below};
+ghost use Rattle.load_record.specs.File.{IsWritable};
+ghost use Rattle.page_pool.specs.Pages.{is_filed, usable_of};
 
 use crate::status::{InputFault, Reason};
 use crash_headers::{Note, NoteFault, read_notes};
 use file_commands::{FileParts, TakeFault, take_apart, take_file};
 use kx_edge::Shelf;
-use kx_pages::Start;
+use kx_pages::{Page, Start};
 use load_record::{FIRST_BYTES, LoadRecord, RecFault};
 use memory_map::{Map, MapFault};
 use page_memory::{MemFault, Memory};
@@ -24,8 +25,8 @@ const MEMORY_LIMIT: usize = 537_919_504;
 /// The most bytes of a pool file, of a memory map and of a file of notes.
 const TEXT_LIMIT: usize = 1_048_576;
 
-/// The most bytes of a load record: its head, sixteen segments' heads, and the bytes of 65,536 pages.
-const RECORD_LIMIT: usize = 268_435_936;
+/// The most bytes of a load record: its head, the heads and digests of sixteen segments, and the bytes of 65,536 pages.
+const RECORD_LIMIT: usize = 268_436_448;
 
 /// Takes a memory file and reads it.
 #[tactic(auto, unfolding(file_commands::specs::Taking::and_then, file_commands::specs::Taking::Took, file_commands::specs::Taking::FailedAt, file_commands::specs::Calls::TakesNot))]
@@ -48,15 +49,17 @@ pub(crate) fn take_memory<S: Shelf>(
     }
 }
 
-/// Takes a pool file and reads it.
+// Takes a pool file and reads it. No page of the pool is drawn, and each is usable.
 #[tactic(auto, unfolding(file_commands::specs::Taking::and_then, file_commands::specs::Taking::Took, file_commands::specs::Taking::FailedAt, file_commands::specs::Calls::TakesNot))]
-pub(crate) fn take_pool<S: Shelf>(
+fn take_pages<S: Shelf>(
     alloc: Global,
     name: String,
     shelf: &mut S,
 ) -> Result<Pool, TakeFault<Reason>>
-    ensures takes { Takes S.Shelf (pool_file (string_bytes name)) (λ p. p.left) shelf.old
+    ensures takes { Takes S.Shelf (pages_file (string_bytes name)) (λ p. p.made) shelf.old
         result shelf.new }
+    ensures undrawn { IfOk result (λ p. p.drawn ≡ []) }
+    ensures limit { IfOk result (λ p. p.limit ≡ 2 ^ 46) }
     ensures unfiled { IfOk result (λ p. (q : ℕ) → is_filed p q ≡ false) }
 {
     let bytes = take_file(alloc, name, TEXT_LIMIT, shelf)?;
@@ -69,6 +72,35 @@ pub(crate) fn take_pool<S: Shelf>(
             },
         }),
     }
+}
+
+// The pool with a limit, where this is the first page past it.
+fn with_limit(pool: Pool, below: Option<Page>) -> Pool
+    requires undrawn { pool.drawn ≡ [] }
+    requires limit { pool.limit ≡ 2 ^ 46 }
+    requires unfiled { (q : ℕ) → is_filed pool q ≡ false }
+    ensures usable { usable_of result ≡ usable_below below pool.made }
+    ensures unfiled { (q : ℕ) → is_filed result q ≡ false }
+{
+    match below {
+        Some(page) => pool.below(page.address()),
+        None => pool,
+    }
+}
+
+/// Takes a pool file and reads it. The pool has a limit where `below` is there, the first page past it.
+pub(crate) fn take_pool<S: Shelf>(
+    alloc: Global,
+    name: String,
+    below: Option<Page>,
+    shelf: &mut S,
+) -> Result<Pool, TakeFault<Reason>>
+    ensures takes { Takes S.Shelf (pool_file (string_bytes name) below) (λ p. usable_of p)
+        shelf.old result shelf.new }
+    ensures unfiled { IfOk result (λ p. (q : ℕ) → is_filed p q ≡ false) }
+{
+    let pool = take_pages(alloc, name, shelf)?;
+    Ok(with_limit(pool, below))
 }
 
 /// Takes a memory map and reads it.
@@ -147,16 +179,17 @@ pub(crate) fn take_notes<S: Shelf>(
     }
 }
 
-// Takes the file of a load record and reads it: what follows its front is taken into the buffer that becomes its first
-// segment's.
+/// Takes the file of a load record and reads it: what follows its front is taken into the buffer that becomes its first
+/// segment's.
 #[tactic(auto, unfolding(file_commands::specs::Taking::and_then, file_commands::specs::Taking::Took, file_commands::specs::Taking::FailedAt, file_commands::specs::Calls::TakesNot))]
-fn take_record<S: Shelf>(
+pub(crate) fn take_record<S: Shelf>(
     alloc: Global,
     name: String,
     shelf: &mut S,
 ) -> Result<LoadRecord, TakeFault<Reason>>
-    ensures { Takes S.Shelf (load_record_file (string_bytes name)) (λ r. r) shelf.old result
+    ensures takes { Takes S.Shelf (load_record_file (string_bytes name)) (λ r. r) shelf.old result
         shelf.new }
+    ensures writable { IfOk result IsWritable }
 {
     let FileParts { front, rest, .. } = take_apart(alloc, name, FIRST_BYTES, RECORD_LIMIT, shelf)?;
     match LoadRecord::from_file(alloc, &front, rest) {

@@ -114,13 +114,39 @@ pub(crate) fn first_memory(alloc: Global, is_run: bool) -> Result<Vec<u8>, Alloc
     Ok(file)
 }
 
-/// The record of the load.
-pub(crate) fn first_record(alloc: Global) -> Result<Vec<u8>, AllocError> {
-    let mut file = b"KXREC001\0\0\0\0\0\0\0\0".to_vec(alloc)?;
+/// The SHA-256 of "abc" (FIPS 180-4, the example of one block).
+const ABC_DIGEST: [u8; 32] = [
+    0xba, 0x78, 0x16, 0xbf, 0x8f, 0x01, 0xcf, 0xea, 0x41, 0x41, 0x40, 0xde, 0x5d, 0xae, 0x22, 0x23,
+    0xb0, 0x03, 0x61, 0xa3, 0x96, 0x17, 0x7a, 0x9c, 0xb4, 0x10, 0xff, 0x61, 0xf2, 0x00, 0x15, 0xad,
+];
+
+// The record of the load, with this magic, and these bytes before those of its segment.
+fn record_file(alloc: Global, magic: &[u8], digest: &[u8]) -> Result<Vec<u8>, AllocError> {
+    let mut file = magic.to_vec(alloc)?;
+    file.extend_from_slice(&[0; 8])?;
     let fields = [
         0x11002, 0x10000, 0, 0x2000, 0, 0, 0, 0, 0, 1, 0x2000, 0x1000, 3,
     ];
     file.extend_from_slice(&numbers(alloc, &fields)?)?;
+    file.extend_from_slice(digest)?;
     file.extend_from_slice(b"abc")?;
     Ok(file)
+}
+
+/// The record of the load.
+pub(crate) fn first_record(alloc: Global) -> Result<Vec<u8>, AllocError> {
+    record_file(alloc, b"KXREC002", &ABC_DIGEST)
+}
+
+/// The same bytes but for the last one.
+pub(crate) fn spoil(mut file: Vec<u8>) -> Vec<u8> {
+    if let Some(last) = file.last_mut() {
+        *last ^= 1;
+    }
+    file
+}
+
+/// The same record in version 1, which has no digests.
+pub(crate) fn old_record(alloc: Global) -> Result<Vec<u8>, AllocError> {
+    record_file(alloc, b"KXREC001", &[])
 }

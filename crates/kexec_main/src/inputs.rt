@@ -130,6 +130,7 @@ pub(crate) fn take_inputs<S: Shelf>(
     let Inputs {
         memory,
         pool,
+        below,
         map,
         kernel,
         initrd,
@@ -138,7 +139,7 @@ pub(crate) fn take_inputs<S: Shelf>(
         command,
     } = inputs;
     let memory = take_memory(alloc, memory, shelf)?;
-    let pool = take_pool(alloc, pool, shelf)?;
+    let pool = take_pool(alloc, pool, below, shelf)?;
     let map = take_map(alloc, map, shelf)?;
     let files = take_kernel(alloc, kernel, initrd, purgatory, modules, shelf)?;
     let request = request_with(alloc, image, command, files)?;

@@ -8,12 +8,14 @@
 //! | `files`, `inputs` | the files of the commands, their limits and readers; the kind of a load that is taken; the request that a kernel's files make |
 //! | `loading`, `running`, `output`, `text` | the work in memory: a plan, its load, a run, the file of a memory, the text |
 //! | `crash_loading`, `crash_exec` | the same of a crash kernel, which is put in its place and never moves |
-//! | `boot`, `load`, `load_panic`, `check`, `dump`, `exec`, `trace`, `sample` | a command each |
+//! | `boot`, `load`, `load_panic`, `check`, `dump`, `exec`, `trace`, `migrate`, `sample` | a command each |
 //! | `laws` | what commands do together |
 //! | `status` | how a command ended, and why it may be refused |
 //! | `run` | the top call |
 #![tactic(auto)]
 
+#[cfg(test)]
+mod below_tests;
 mod boot;
 mod check;
 #[cfg(test)]
@@ -39,6 +41,9 @@ mod load;
 mod load_inputs;
 mod load_panic;
 mod loading;
+mod migrate;
+#[cfg(test)]
+mod migrate_tests;
 mod output;
 #[cfg(test)]
 mod refused_memory_tests;

@@ -9,7 +9,7 @@ use std::test::Fail;
 /// modules have 256 MiB together, half of which the files "half" and "rest" have each.
 const LIMITS: [(&str, &str, usize); 7] = [
     ("boot --type raw --at 2000 x p o k", "x", 537_919_504),
-    ("check m x", "x", 268_435_936),
+    ("check m x", "x", 268_436_448),
     ("boot --map x --type raw --at 2000 m p o k", "x", 1_048_576),
     ("boot --type raw --at 2000 m p o x", "x", 268_435_456),
     ("boot --map f --initrd x m p o half", "x", 134_217_728),

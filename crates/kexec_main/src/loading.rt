@@ -5,7 +5,7 @@ ghost use Rattle.kx_pages.specs.declared.image.Wish.{Wish as WishOf};
 ghost use Rattle.kx_laws.specs.Results.{Gives};
 ghost use Rattle.page_memory.specs.Contents.{at};
 ghost use Rattle.page_memory.specs.Memory.{Mem};
-ghost use Rattle.page_pool.specs.Pages.{is_filed};
+ghost use Rattle.page_pool.specs.Pages.{is_filed, usable_of};
 ghost use Rattle.segments.specs.Values.{need};
 ghost use Rattle.load_states.specs.Fillings.{FillsFrom, IsSealed};
 ghost use Rattle.file_commands.specs.Calls.{MakesOr};
@@ -67,9 +67,9 @@ fn load_segments(
 ) -> Result<Loaded, MakeFault<Reason>>
     requires { (q : ℕ) → is_filed pool q ≡ false }
     ensures { MakesOr
-        (λ load. (need wish segments ≤ length pool.left)
-        × IsSealed (at memory) pool.left wish segments load)
-        (IsTooFew pool.left wish segments) result }
+        (λ load. (need wish segments ≤ length (usable_of pool))
+        × IsSealed (at memory) (usable_of pool) wish segments load)
+        (IsTooFew (usable_of pool) wish segments) result }
 {
     match Filling::begin(alloc, memory, pool, segments, wish) {
         Ok(filling) => Ok(fill_all(filling)),

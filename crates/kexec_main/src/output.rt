@@ -24,8 +24,8 @@ fn memory_bytes(memory: Memory) -> Result<Vec<u8>, MakeFault<Reason>>
     }
 }
 
-// One file in a list.
-fn one(alloc: Global, file: File) -> Result<Vec<File>, AllocError>
+/// One file in a list.
+pub(crate) fn one(alloc: Global, file: File) -> Result<Vec<File>, AllocError>
     ensures { IfOk result (λ v. v.items ≡ file ∷ []) }
 {
     let mut files = Vec::new(alloc);

@@ -15,7 +15,8 @@ ghost use Rattle.kexec_main.specs.declared.status.Reason.TheVariants.{NoPages};
 
 use crate::status::{Reason, Status};
 use crate::words::{
-    BootWords, CheckWords, DumpWords, ExecWords, LoadPanicWords, LoadWords, SampleWords, TraceWords,
+    BootWords, CheckWords, DumpWords, ExecWords, LoadPanicWords, LoadWords, MigrateWords,
+    SampleWords, TraceWords,
 };
 use file_commands::{Stop, run};
 use kexec_words::{Command, WordsFault, read};
@@ -44,6 +45,7 @@ fn run_command<S: Shelf, O: Sink>(
         Command::Dump(words) => run(alloc, DumpWords { words }, shelf, out),
         Command::Exec(words) => run(alloc, ExecWords { words }, shelf, out),
         Command::Trace(words) => run(alloc, TraceWords { words }, shelf, out),
+        Command::Migrate(words) => run(alloc, MigrateWords { words }, shelf, out),
         Command::Sample { number } => run(alloc, SampleWords { number }, shelf, out),
     }
 }
@@ -107,7 +109,7 @@ pub fn kexec<S: Shelf, O: Sink>(
         → (Rose (O.faults out.old) (O.faults out.new) → ⊥)
         → (answer_of result ≡ done) ⊎ (answer_of result ≡ memory)) }
 
-    // A load that takes more pages than the pool has is refused with both numbers where no device fails, or memory is
+    // A load that takes more pages than the pool has usable is refused with both numbers where no device fails, or memory is
     // wanted.
     ensures too_few { (c : CommandValue) → command_of (map string_bytes words.now) ≡ Ok c
         → IfSome (S.files shelf.old) (λ held. (pool need : ℕ) → HasTooFew c held pool need

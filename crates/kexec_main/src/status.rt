@@ -43,7 +43,7 @@ pub enum Reason {
     NotKept,
     /// The request has no plan.
     Plan { fault: PlanFault },
-    /// The pool has fewer pages than the load takes.
+    /// The pool has fewer usable pages than the load takes.
     NoPages { pool: u64, need: u64 },
     /// The memory to write has more pages that are not all zeros than a memory file can have.
     Heavy { count: u64 },
@@ -79,14 +79,14 @@ pub enum Status {
     /// The request has no plan.
     #[error("{fault}")]
     Plan { fault: PlanFault },
-    /// The pool has fewer pages than the load takes.
-    #[error("the pool has too few pages: {pool} where the load takes {need}; give it at least {} more", need.saturating_sub(*pool))]
+    /// The pool has fewer usable pages than the load takes.
+    #[error("the pool has too few usable pages: {pool} where the load takes {need}; give it at least {} more", need.saturating_sub(*pool))]
     NoPages { pool: u64, need: u64 },
     /// The memory to write has more pages that are not all zeros than a memory file can have.
     #[error("{count} pages of the memory are not all zeros, and a memory file has at most 131072")]
     Heavy { count: u64 },
     /// `exec --twice` was given a record that is not in kept mode.
-    #[error("the record is in plain mode, and --twice needs one that was loaded with --kept")]
+    #[error("the load record is in plain mode, and --twice needs one that was loaded with --kept")]
     NotKept,
     /// There was not enough memory for the work.
     #[error("there is not enough memory for the work: free some and try again")]

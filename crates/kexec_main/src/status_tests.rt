@@ -1,13 +1,13 @@
 //! Each status comes where it has to: contracts leave want of memory free, so tables show that no other cause is told as
 //! it.
 
-use crate::first_example::{memory_start, numbers, push_page, run, split};
+use crate::first_example::{first_record, memory_start, numbers, push_page, run, split, spoil};
 use kx_edge::{MemoryShelf, Shelf, ShelfFault};
 use std::alloc::{AllocError, Global};
 use std::test::Fail;
 
 /// The words, the exit status and the status, of commands that are refused: nothing is written or said.
-const REFUSALS: [(&str, u8, &str); 31] = [
+const REFUSALS: [(&str, u8, &str); 35] = [
     ("", 2, "Usage { why: Command }"),
     ("reboot m p o k", 2, "Usage { why: Command }"),
     ("boot m p o", 2, "Usage { why: Parse }"),
@@ -30,6 +30,11 @@ const REFUSALS: [(&str, u8, &str); 31] = [
         "boot --type raw --at 0 --entry x m p o k",
         2,
         "Usage { why: Number { which: Entry } }",
+    ),
+    (
+        "boot --type raw --at 0 --below 100001 m p o k",
+        2,
+        "Usage { why: Number { which: Below } }",
     ),
     (
         "trace --swap 1 m o 0 9",
@@ -83,6 +88,12 @@ const REFUSALS: [(&str, u8, &str); 31] = [
         "Input { fault: Map { fault: BadLine { line: 1 } } }",
     ),
     ("check m m", 7, "Input { fault: Rec { fault: BadMagic } }"),
+    ("migrate m o", 7, "Input { fault: Rec { fault: BadMagic } }"),
+    (
+        "check m spoiled",
+        7,
+        "Input { fault: Rec { fault: WrongDigest { segment: 0 } } }",
+    ),
     (
         "boot --type raw --at 2000 --initrd k m p o k",
         8,
@@ -112,6 +123,11 @@ const REFUSALS: [(&str, u8, &str); 31] = [
         "boot --type raw --at 2000 m few o k",
         9,
         "NoPages { pool: 2, need: 3 }",
+    ),
+    (
+        "boot --type raw --at 2000 --below 0 m p o k",
+        9,
+        "NoPages { pool: 0, need: 3 }",
     ),
     (
         "boot --type raw --at 2000 m none-free o k",
@@ -252,6 +268,7 @@ fn shelf(alloc: Global) -> Result<MemoryShelf, AllocError> {
         ("pages", vec![in alloc; b'b'; 4097]?),
         ("small", b"00000000-00001fff : System RAM\n".to_vec(alloc)?),
         ("k", b"abc".to_vec(alloc)?),
+        ("spoiled", spoil(first_record(alloc)?)),
         ("f", b"00000000-01ffffff : System RAM\n".to_vec(alloc)?),
         ("long", long),
         ("crash", record_file(alloc, 1, 0, 4, 0, 0)?),

@@ -77,7 +77,7 @@ fn a_load_and_then_its_exec_do_what_the_boot_does(rt: HostRuntime) -> Result<(),
     assert_eq!(rt; sink.said(), LOAD_TEXT);
     assert!(rt; shelf.take(alloc, "o", 20000)? == first_memory(alloc, false)?);
     let load_record = shelf.take(alloc, "r", 20000)?;
-    assert_eq!(rt; load_record.len(), 123);
+    assert_eq!(rt; load_record.len(), 155);
     assert!(rt; load_record == first_record(alloc)?);
     let (status, sink) = run(alloc, &EXEC, &mut shelf, &[])?;
     assert_eq!(rt; status.code(), 0);
@@ -86,7 +86,7 @@ fn a_load_and_then_its_exec_do_what_the_boot_does(rt: HostRuntime) -> Result<(),
     Ok(())
 }
 
-// A put that fails leaves half of the output, 4,112 of 8,224 bytes and 61 of 123, and no later one is made.
+// A put that fails leaves half of the output, 4,112 of 8,224 bytes and 77 of 155, and no later one is made.
 #[test]
 fn an_output_that_cannot_be_put_ends_the_load(rt: HostRuntime) -> Result<(), Fail> {
     let alloc = rt.alloc();
@@ -103,7 +103,7 @@ fn an_output_that_cannot_be_put_ends_the_load(rt: HostRuntime) -> Result<(), Fai
         assert_eq!(rt; lacks(alloc, &mut shelf, "r"), failing == 3);
         if failing == 4 {
             let load_record = shelf.take(alloc, "r", 20000)?;
-            assert_eq!(rt; load_record.len(), 61);
+            assert_eq!(rt; load_record.len(), 77);
             assert!(rt; first_record(alloc)?.starts_with(&load_record));
         }
     }

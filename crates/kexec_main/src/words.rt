@@ -4,7 +4,7 @@ ghost use Rattle.std.specs.Prelude.{◌≡◌, ◌<◌, ◌^◌, ℕ, Some};
 ghost use Rattle.kexec_words.specs.Limits.{HasParts};
 ghost use Rattle.kexec_words.specs.Values.{inputs_value};
 
-use kexec_words::{Boot, Exec, Load, LoadNames, LoadPanic, Trace};
+use kexec_words::{Boot, Exec, Load, LoadNames, LoadPanic, Migrate, Trace};
 
 /// The words of `boot`.
 #[derive(Drop)]
@@ -44,6 +44,12 @@ pub(crate) struct DumpWords {
 #[derive(Drop)]
 pub(crate) struct ExecWords {
     pub(crate) words: Exec,
+}
+
+/// The words of `migrate`.
+#[derive(Drop)]
+pub(crate) struct MigrateWords {
+    pub(crate) words: Migrate,
 }
 
 /// The words of `sample`: a number below 10^18.

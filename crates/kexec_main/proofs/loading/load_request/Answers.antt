@@ -13,5 +13,5 @@ returns-in_err-loaded c =
     let p = planned_of c.in_ok-planned.planned in
     let planned : plan i.request i.map ≡ Ok p = search rules in
     let e : c.from_residual-in_err-loaded.result ≡ Err c.in_err-loaded.field-0.0 = search rules in
-    handed_on_as (λ k. IsLoaded c.args.wish i (plan_of k) k.loaded) (RefusesLoad c.args.wish i) (IsTooFew i.pool c.args.wish p.segments) _ _ e
+    handed_on_as (λ k. IsLoaded c.args.wish i (plan_of k) k.loaded) (RefusesLoad c.args.wish i) (IsTooFew i.usable c.args.wish p.segments) _ _ e
     (too_few_refuses c.args.wish i p planned) c.in_err-loaded.ensures

@@ -1,13 +1,40 @@
-use Rattle.std.proofs.Common.{rules, ◌≡◌, ◌∙◌, Some, length, ap, subst, sym}
+use Rattle.std.proofs.Common.{rules, ◌≡◌, ◌∙◌, Some, None, length, ap, refl, subst, sym}
 use Rattle.std.proofs.lemmas.List.{length-map}
 use Rattle.page_memory.specs.Contents.{at}
-use Rattle.kexec_words.specs.declared.commands.Runs.TheVariants.{Twice}
+use Rattle.kexec_words.specs.declared.commands.Runs.TheVariants.{Once, Twice}
 use Rattle.list_checker.specs.Checked.{as_pair}
 use Rattle.load_states.specs.States.{Checked, swap_of}
 use Rattle.kexec_main.specs.declared.running.Ran.{Ran}
 use Rattle.kexec_main.specs.Runs.{HasRun}
 use Rattle.kexec_main.proofs.Again.{exchanged_again}
 use Rattle.kexec_main.proofs.running.run_kept.Goals as goal
+
+pub returns-in-Once : goal.returns-in-Once
+returns-in-Once c =
+    let a = c.args.accepted in
+    let rest = c.exec-ran.ensures.rest in
+    let told = c.accept_data-accept in
+    let items = told.result.now.pairs.items in
+    let len : c.len.result ≡ length items = search (rules, told.result.now.pairs.ok) in
+    let left : Ran = record {
+      memory = c.into_memory.result;
+      image = c.image-image.result;
+      words = told.result.now.words;
+      links = told.result.now.links;
+      pairs = c.len.result;
+      steps = c.steps-steps.result;
+      back = None;
+    } in
+    let once : HasRun (Some Once) a left = record {
+      memory = λ p. ap (λ m. at m p) c.into_memory.ensures ∙ c.exec-ran.ensures.memory p;
+      image = c.image-image.ensures.value;
+      words = told.ensures.words;
+      links = told.ensures.links;
+      pairs = len ∙ sym (length-map items as_pair) ∙ ap length told.ensures.pairs;
+      ends = c.steps-steps.ensures ∙ ap (λ (x : Checked). x.words) rest;
+      ends_again = refl;
+    } in
+    subst (λ r. HasRun (Some r) a left) (sym c.in-Once.is) once
 
 pub returns-in-Twice : goal.returns-in-Twice
 returns-in-Twice c =
