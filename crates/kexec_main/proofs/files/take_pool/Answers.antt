@@ -1,4 +1,4 @@
-use Rattle.std.proofs.Common.{ℕ, List, rules, string_bytes}
+use Rattle.std.proofs.Common.{rules, string_bytes}
 use Rattle.file_commands.proofs.Steps.{start, next, stopped, finished}
 use Rattle.page_pool.specs.Pages.{Pages, usable_of}
 use Rattle.kexec_main.specs.Files.{pool_file}

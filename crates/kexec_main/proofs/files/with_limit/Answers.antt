@@ -1,6 +1,4 @@
-use Rattle.std.proofs.Common.{◌∙◌, ◌^◌, ap, sym}
-use Rattle.page_pool.specs.Pages.{Pages}
-use Rattle.kexec_main.specs.Files.{usable_below}
+use Rattle.std.proofs.Common.{◌∙◌, ◌^◌, ap}
 use Rattle.kexec_main.proofs.Pages.{usable_limited, usable_with}
 use Rattle.kexec_main.proofs.files.with_limit.Goals as goal
 
