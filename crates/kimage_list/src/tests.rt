@@ -177,7 +177,7 @@ fn takes_a_second_link_page_for_511_pages(rt: HostRuntime) -> Result<(), Fail> {
     Ok(())
 }
 
-/// Pages are usable that start below this address.
+/// Pages are usable whose address is below this one.
 const LIMIT: u64 = 0x10_0000;
 
 // Page 0x200 is no destination, page 0x300 is the only one; neither is usable.

@@ -98,8 +98,8 @@ pub fn pool_is_a_page_short()
     ensures short_kept { loading_of Kept (two_pages 2) (0x10 ∷ 0x11 ∷ 0x12 ∷ 0x13 ∷ []) ≡ None }
 {}
 
-/// Pages are usable that start below 100000. Page 200 does not, so the load over the pool 10, 200, 11, 12, 2 is that over
-/// the other pages, and page 200 is left. So is page 300 passed over, though it is the destination.
+/// Pages are usable whose address is below 100000, and that of page 200 is not: the load over the pool 10, 200, 11, 12, 2
+/// is that over the other pages, and page 200 is left. Page 300 is passed over too, though it is the destination.
 pub fn pages_past_the_limit_are_passed_over()
     ensures usable { usable_among 0x10_0000 (0x10 ∷ 0x200 ∷ 0x11 ∷ 0x12 ∷ 2 ∷ []) []
         ≡ 0x10 ∷ 0x11 ∷ 0x12 ∷ 2 ∷ [] }
