@@ -42,15 +42,16 @@ def read_record(file):
     """The entry and the segments of a load record."""
     with open(file, "rb") as record:
         data = record.read()
-    if data[:8] != b"KXREC001":
+    if data[:8] not in (b"KXREC001", b"KXREC002"):
         sys.exit(f"{file} is no load record")
     entry = struct.unpack_from("<Q", data, 40)[0]
     (count,) = struct.unpack_from("<Q", data, 88)
+    head = 24 + (32 if data[:8] == b"KXREC002" else 0)  # version 2 has a digest behind the three numbers
     segments, at = [], 96
     for _ in range(count):
         mem, memsz, size = struct.unpack_from("<QQQ", data, at)
-        segments.append(Segment(mem, memsz, data[at + 24 : at + 24 + size]))
-        at += 24 + size
+        segments.append(Segment(mem, memsz, data[at + head : at + head + size]))
+        at += head + size
     return entry, segments
 
 

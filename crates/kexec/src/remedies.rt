@@ -1,10 +1,11 @@
-//! What helps where a kernel or a purgatory was refused.
+//! What helps where a kernel, a purgatory or a load record was refused.
 
 use boot_params::ParamsFault;
 use bzimage::BzFault;
 use elf_image::ElfFault;
-use kexec_main::Status;
+use kexec_main::{InputFault, Status};
 use kexec_plan::PlanFault;
+use load_record::RecFault;
 use purgatory_link::LinkFault;
 
 fn elf_remedy(fault: &ElfFault) -> Option<&'static str> {
@@ -42,11 +43,7 @@ fn link_remedy(fault: &LinkFault) -> Option<&'static str> {
     }
 }
 
-/// What the user can do about a refusal, where its sentence does not say so yet.
-pub(crate) fn remedy_of(status: &Status) -> Option<&'static str> {
-    let Status::Plan { fault } = status else {
-        return None;
-    };
+fn plan_remedy(fault: &PlanFault) -> Option<&'static str> {
     match fault {
         PlanFault::Elf { fault } => elf_remedy(fault),
         PlanFault::Bzimage { fault } => bzimage_remedy(fault),
@@ -54,6 +51,24 @@ pub(crate) fn remedy_of(status: &Status) -> Option<&'static str> {
         PlanFault::Params {
             fault: ParamsFault::TooManyRanges { .. },
         } => Some("leave small ranges out of the map"),
+        _ => None,
+    }
+}
+
+fn input_remedy(fault: &InputFault) -> Option<&'static str> {
+    match fault {
+        InputFault::Rec {
+            fault: RecFault::WrongDigest { .. },
+        } => Some("load the kernel again, or fetch the load record again"),
+        _ => None,
+    }
+}
+
+/// What the user can do about a refusal, where its sentence does not say so yet.
+pub(crate) fn remedy_of(status: &Status) -> Option<&'static str> {
+    match status {
+        Status::Plan { fault } => plan_remedy(fault),
+        Status::Input { fault } => input_remedy(fault),
         _ => None,
     }
 }

@@ -13,6 +13,7 @@ fn name_of(which: Which) -> &'static str {
         Which::Kept => "--kept",
         Which::At => "--at",
         Which::Entry => "--entry",
+        Which::Below => "--below",
         Which::Swap => "--swap",
         Which::Head => "HEAD",
         Which::Limit => "LIMIT",
@@ -140,5 +141,5 @@ pub(crate) fn print_help(rt: &impl Eprint, words: &[String]) {
         return;
     }
     let _ = rt.eprintln(help.lines().next().unwrap_or(""));
-    let _ = rt.eprintln("The word --help behind the command tells what it takes.");
+    let _ = rt.eprintln("The argument --help behind the command tells what it takes.");
 }
