@@ -72,21 +72,3 @@ pub(crate) fn remedy_of(status: &Status) -> Option<&'static str> {
         _ => None,
     }
 }
-
-fn input_remedy(fault: &InputFault) -> Option<&'static str> {
-    match fault {
-        InputFault::Rec {
-            fault: RecFault::WrongDigest { .. },
-        } => Some("load the kernel again, or fetch the load record again"),
-        _ => None,
-    }
-}
-
-/// What the user can do about a refusal, where its sentence does not say so yet.
-pub(crate) fn remedy_of(status: &Status) -> Option<&'static str> {
-    match status {
-        Status::Plan { fault } => plan_remedy(fault),
-        Status::Input { fault } => input_remedy(fault),
-        _ => None,
-    }
-}
