@@ -3,6 +3,7 @@
 ghost use Rattle.std.specs.Prelude.{◌≡◌, ℕ, false, IfOk};
 ghost use Rattle.page_pool.specs.Pages.{is_filed};
 
+use crate::fill_tests::seal;
 use crate::{Accepted, Filling, Loaded};
 use kx_pages::{Page, Wish};
 use list_checker::Pair;
@@ -65,12 +66,7 @@ fn zeros(alloc: Global) -> Result<Segments, Fail> {
 fn load(alloc: Global) -> Result<Loaded, Fail> {
     let memory = Memory::empty(alloc);
     match Filling::begin(alloc, memory, pool(alloc)?, zeros(alloc)?, Wish::Plain) {
-        Ok(mut filling) => {
-            while filling.left() > 0 {
-                filling.fill();
-            }
-            Ok(filling.seal())
-        }
+        Ok(filling) => Ok(seal(filling)),
         Err(_) => Err("a load".into()),
     }
 }

@@ -50,7 +50,8 @@ fn load(alloc: Global, pool: Pool, segments: Segments, wish: Wish) -> Result<Loa
     }
 }
 
-fn seal(mut filling: Filling) -> Loaded {
+// Fills all segments, and seals.
+pub(crate) fn seal(mut filling: Filling) -> Loaded {
     while filling.left() > 0 {
         filling.fill();
     }
