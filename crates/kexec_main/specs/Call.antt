@@ -264,8 +264,8 @@ module _ {S O : Type 0} (D : Shelf S) (E : Sink O) (held : Files) (s : S) (o : O
   HasDone (words.migrate m) = HasMigrated m
   HasDone (words.sample n) = HasSampled D E s o s' o' n
 
--- Nothing refuses the load of what was taken: the request has a plan, the pool has as many usable pages as the load takes, and
--- each memory that it may leave has a file.
+-- Nothing refuses the load of what was taken: the request has a plan, the pool has as many usable pages as the load
+-- takes, and each memory that it may leave has a file.
 pub record CanLoad (wish : Wish) (i : LoadInputs) (leaves : Checked → Mem) : Type 0 where
   pub p : Plan
   pub planned : plan i.request i.map ≡ Ok p
@@ -324,11 +324,12 @@ IsInOrder (words.migrate m) held =
     (x : MigrateInputs) × (reads (migrate_files m) held ≡ Ok x)
 IsInOrder (words.sample n) held = Unit {0}
 
--- the files are read and the request has a plan, whose load takes more pages than the pool has usable: so many, and so many
+-- the files are read and the request has a plan, whose load takes more pages than the pool has usable: so many, and so
+-- many
 abbrev pub LacksPages : Wish → LoadInputs → (pool need : ℕ) → Type 0
 LacksPages wish i pool n =
-    (p : Plan) × (plan i.request i.map ≡ Ok p) × (pool ≡ length i.usable) × (n ≡ need wish p.segments)
-    × (pool < n)
+    (p : Plan) × (plan i.request i.map ≡ Ok p) × (pool ≡ length i.usable)
+    × (n ≡ need wish p.segments) × (pool < n)
 
 abbrev pub HasTooFew : CommandValue → Files → (pool need : ℕ) → Type 0
 HasTooFew (words.boot b) held pool n =

@@ -62,7 +62,8 @@ request_with image command files = record {
   notes = [];
 }
 
--- what a load is made of: the memory, the usable pages of the pool in their order, the memory map, and the request for a plan
+-- what a load is made of: the memory, the usable pages of the pool in their order, the memory map, and the request for a
+-- plan
 pub record LoadInputs : Type 0 where
   pub memory : Contents
   pub usable : List ℕ
@@ -89,4 +90,9 @@ kernel_bytes f = record {
 
 abbrev pub inputs_of : Taken → LoadInputs
 inputs_of t =
-    record { memory = t.memory; usable = usable_of t.pool; map = t.map; request = request_of t.request }
+    record {
+      memory = t.memory;
+      usable = usable_of t.pool;
+      map = t.map;
+      request = request_of t.request;
+    }

@@ -18,7 +18,7 @@ abbrev pub HasNoPlan : Asked → Option MapValue → Reason → Type 0
 HasNoPlan request map (reasons.Plan fault) = plan request map ≡ Err fault
 HasNoPlan request map other = ⊥
 
--- the pool has fewer usable pages, which these are, than the load of the segments takes: both numbers are the reason
+-- these usable pages of the pool are fewer than the load of the segments takes: both numbers are the reason
 abbrev pub IsTooFew : List ℕ → Wish → List SegmentValue → Reason → Type 0
 IsTooFew usable wish ss (reasons.NoPages left n) =
     (left ≡ length usable) × (n ≡ need wish ss) × (left < n)
@@ -29,8 +29,8 @@ abbrev pub plan_of : LoadedKernel → Plan
 plan_of k =
     record { segments = k.loaded.segments; start = k.start; regions = k.regions; digest = k.digest }
 
--- The request has this plan, the usable pages suffice, and this is the load that the rules of taking pages and laying a list
--- give.
+-- The request has this plan, the usable pages suffice, and this is the load that the rules of taking pages and laying a
+-- list give.
 pub record IsLoaded (wish : Wish) (i : LoadInputs) (p : Plan) (load : Load) : Type 0 where
   pub planned : plan i.request i.map ≡ Ok p
   pub enough : need wish p.segments ≤ length i.usable
