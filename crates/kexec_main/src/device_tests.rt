@@ -7,14 +7,13 @@ use std::alloc::{AllocError, Global};
 use std::test::Fail;
 
 /// The words of a command, the files that it takes and those that it puts, each in its order.
-const COMMANDS: [(&str, &str, &str); 7] = [
+const COMMANDS: [(&str, &str, &str); 6] = [
     ("boot --type raw --at 2000 m p o k", "m p k", "o"),
     ("load --type raw --at 2000 m p o r k", "m p k", "o r"),
     ("check list record", "list record", ""),
     ("dump list record", "list record", ""),
     ("exec list record o", "list record", "o"),
     ("trace list o 11002 9", "list", "o"),
-    ("migrate record o", "record", "o"),
 ];
 
 /// Commands that take their files, and then refuse what these are.
