@@ -81,7 +81,8 @@ impl Filling {
         ensures enough { IfOk result (λ _. need wish segments ≤ length (usable_of pool)) }
         ensures pages { IfOk result (λ f. whole_pool f.writer.pool ≡ whole_pool pool) }
         ensures exactly { LoadsExactly wish segments (usable_of pool) }
-        ensures why { IfErr result (λ r. Refuses r.why (length (usable_of pool)) (need wish segments)) }
+        ensures why { IfErr result
+            (λ r. Refuses r.why (length (usable_of pool)) (need wish segments)) }
         ensures pool_back { IfErr result (λ r. r.pool ≡ pool) }
         ensures segments_back { IfErr result (λ r. r.segments ≡ segments) }
         ensures memory_back { IfErr result (λ r. (q : ℕ) → at r.memory q ≡ at memory q) }
