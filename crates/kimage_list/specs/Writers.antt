@@ -165,6 +165,8 @@ pub record StandsAt (h : History) (w : Writer) : Type 0 where
   pub mode : w.mode ≡ load_mode h.wish loading
   pub segments_left : w.segments_left + starts h.entries ≡ h.segments
   pub destination : w.destination ≡ destination_after None h.entries
+  -- what the next call asks of this load: it stands here, and is no invariant of the writer alone, since the clauses
+  -- speak of every load that leads to this writer, and what a type keeps would speak of one
   pub inside : IsOpen h loading w
 
 -- Where the pages of a load are: each page drawn so far is filed or in use, a filed page is a destination that is not

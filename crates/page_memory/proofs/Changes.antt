@@ -229,10 +229,6 @@ some_in xs m p h = mapped (tree.get nat_cmp m p) (ap is_some (sym (get-pages_by 
     mapped None h = h
     mapped (Some x) h = refl
 
-pub none_is : {X : Type 0} (o : Option X) → is_some o ≡ false → o ≡ None
-none_is None h = refl
-none_is (Some x) h = cc
-
 pub AreFrames-IsTable : (xs : List ℕ) (m : BTreeMap ℕ ℕ) → IsTable xs m → AreFrames (frame_in xs) m
 AreFrames-IsTable xs m is = record {
   each = λ q. if_some (tree.get nat_cmp m q) (λ i. (q < 2 ^ 34) × IsBlock 4096 (frame_in xs i)) (λ k e.

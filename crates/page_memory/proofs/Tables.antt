@@ -60,14 +60,6 @@ none_held f m k e = get-pages_by f m.entries k ∙ ap (option_map f) (sym e)
 pub some_held : {X : Type 0} (f : X → List ℕ) (m : BTreeMap ℕ X) (k : ℕ) (x : X) → Some x ≡ tree.get nat_cmp m k → get (pages_by f m.entries) k ≡ Some (f x)
 some_held f m k x e = get-pages_by f m.entries k ∙ ap (option_map f) (sym e)
 
-is_some-option_map : {X : Type 0} (f : X → List ℕ) (o : Option X) → is_some (option_map f o) ≡ is_some o
-is_some-option_map f None = refl
-is_some-option_map f (Some x) = refl
-
--- what the table lacks is not held
-pub not_held : {X : Type 0} (f : X → List ℕ) (m : BTreeMap ℕ X) (k : ℕ) (b : Bool) → b ≡ is_some (tree.get nat_cmp m k) → b ≡ false → is_some (get (pages_by f m.entries) k) ≡ false
-not_held f m k b e none = ap is_some (get-pages_by f m.entries k) ∙ is_some-option_map f (tree.get nat_cmp m k) ∙ sym e ∙ none
-
 -- the map of a table of frames has frames
 pub each-shown : {X : Type 0} (f : X → List ℕ) (m : BTreeMap ℕ X) (shown : FinMap nat_cmp (List ℕ)) → pages_by f m.entries ≡ shown → AreFrames f m → (q : ℕ) → IfSome (get shown q) (λ b. (q < 2 ^ 34) × IsBlock 4096 b)
 each-shown {X = X} f m shown e frames q = subst (λ o. IfSome o (λ b. (q < 2 ^ 34) × IsBlock 4096 b)) (sym (get-shown f m.entries shown q e)) (mapped (tree.get nat_cmp m q) (frames.each q))

@@ -1,6 +1,6 @@
 -- A buffer with frames in it, and a table from pages to the places of their frames. This project's own: it is how a
 -- memory is kept, and no public clause speaks of it.
-use Rattle.std.specs.Prelude.{◌≡◌, ℕ, ◌+◌, ◌-◌, ◌*◌, ◌%◌, ◌<◌, ◌≤◌, ◌^◌, ◌++◌, List, length, take, drop, map, filter, IfSome, Some, cond}
+use Rattle.std.specs.Prelude.{◌≡◌, ℕ, ◌+◌, ◌-◌, ◌*◌, ◌%◌, ◌<◌, ◌≤◌, ◌^◌, ◌++◌, List, length, take, drop, map, filter, IfSome, Option, Some, cond}
 use Rattle.std.specs.Ordering.{nat_cmp}
 use Rattle.std.specs.BTreeMap as tree
 use Rattle.std.specs.BTreeMap.{is_at}
@@ -40,6 +40,10 @@ pub record IsTable (frames : List ℕ) (table : tree.BTreeMap ℕ ℕ) : Type 0 
   pub slots : (q i : ℕ) → tree.get nat_cmp table q ≡ Some i → i % 4104 ≡ 24
   pub full : length frames - 16 ≡ 4104 * length table.entries
   pub bytes : AreBytes frames
+
+-- what is kept of a page beside the table is its entry
+abbrev pub IsRecent : tree.BTreeMap ℕ ℕ → Option (ℕ × ℕ) → Type 0
+IsRecent table recent = IfSome recent (λ e. tree.get nat_cmp table e.0 ≡ Some e.1)
 
 -- page p became these bytes, where the table is the same before and after
 abbrev pub IsSet : List ℕ → List ℕ → tree.BTreeMap ℕ ℕ → ℕ → List ℕ → Type 0

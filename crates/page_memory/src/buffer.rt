@@ -1,13 +1,13 @@
 //! The buffer in which the frames lie, and the table from pages to the places of their frames.
 
-ghost use Rattle.std.specs.Prelude.{◌≡◌, ℕ, ◌+◌, ◌<◌, ◌≤◌, ◌≢◌, ◌++◌, length, IsSome, OnOk, OnErr, List, None, Some};
+ghost use Rattle.std.specs.Prelude.{◌≡◌, ℕ, ◌+◌, ◌<◌, ◌≤◌, ◌≢◌, ◌++◌, length, IsSome, IfOk, OnOk, OnErr, List, None, Some};
 ghost use Rattle.std.specs.FinMap as finite;
 ghost use Rattle.std.specs.Ordering.{nat_cmp};
 ghost use Rattle.std.specs.BTreeMap as tree;
 ghost use Rattle.std.specs.Vec.{vec_capacity};
 ghost use Rattle.kx_fields.specs.Fields.{IsBlock};
 ghost use Rattle.page_memory.specs.Contents.{frame_at, page_of, page_with_word};
-ghost use Rattle.page_memory.specs.Frames.{frame_in, put_frame, put_word_in, pages_in, AreExchanged, HaveSamePages, IsAdded, IsCopied, IsSet, IsTable, IsWordSet, Differs};
+ghost use Rattle.page_memory.specs.Frames.{frame_in, put_frame, put_word_in, pages_in, AreExchanged, HaveSamePages, IsAdded, IsCopied, IsRecent, IsSet, IsTable, IsWordSet, Differs};
 
 use crate::layout::{FIRST_FRAME, FRAME_SIZE, SLOT};
 use byteorder::{ByteOrder, LittleEndian};
@@ -17,6 +17,10 @@ use std::collections::BTreeMap;
 
 /// Where in the buffer the frame of a page begins.
 pub type Table = BTreeMap<Page, usize>;
+
+/// A page and its entry in the table: those of the page that was held last, so that what is moved to it next needs no
+/// look-up. None where the table has changed since.
+pub type Recent = Option<(Page, usize)>;
 
 /// The frame that begins at a place of the buffer.
 #[tactic(auto, unfolding(crate::specs::Frames::frame_in))]
@@ -118,14 +122,15 @@ fn move_frame(frames: &mut [u8], to: usize, from: usize)
 }
 
 /// Page d, which has a frame, becomes what page s reads as.
-pub fn copy_frame(frames: &mut Vec<u8>, table: &Table, d: Page, s: Page)
+pub fn copy_frame(frames: &mut Vec<u8>, table: &Table, recent: Recent, d: Page, s: Page)
     requires old { IsTable frames.old.items table.now }
+    requires recent { IsRecent table.now recent }
     requires held { IsSome (finite.get (pages_in frames.old.items table.now) d) }
     ensures value { IsCopied frames.old.items frames.new.items table.now d s }
     ensures table { IsTable frames.new.items table.now }
 {
     match table.get(&s) {
-        Some(from) => move_frame(frames, entry_of(table, d), *from),
+        Some(from) => move_frame(frames, place_of(table, recent, d), *from),
         None => write_frame(frames, table, d, &[]),
     }
 }
@@ -133,13 +138,14 @@ pub fn copy_frame(frames: &mut Vec<u8>, table: &Table, d: Page, s: Page)
 // What a slot, and the buffer's head before the first slot, have in front of a frame until a file is made in the buffer.
 static HEADS: [u8; FIRST_FRAME] = [0; FIRST_FRAME];
 
-/// Adds a page, in a slot of its own behind the others. Room is made first, so that a refusal leaves both as they were.
+/// Adds a page, in a slot of its own behind the others, and tells where its frame begins. Room is made first, so that a
+/// refusal leaves both as they were.
 pub fn add_frame(
     frames: &mut Vec<u8>,
     table: &mut Table,
     p: Page,
     bytes: &[u8],
-) -> Result<(), AllocError>
+) -> Result<usize, AllocError>
     requires old { IsTable frames.old.items table.old }
     requires absent { finite.get (pages_in frames.old.items table.old) p ≡ None }
     requires bytes { IsBlock 4096 bytes.now }
@@ -148,6 +154,7 @@ pub fn add_frame(
     ensures err { OnErr result
         (HaveSamePages frames.old.items table.old frames.new.items table.new) }
     ensures table { IsTable frames.new.items table.new }
+    ensures place { IfOk result (λ i. tree.get nat_cmp table.new p ≡ Some i) }
 {
     // for its clause: what every value of the type keeps
     let _number = p.number();
@@ -157,7 +164,7 @@ pub fn add_frame(
     table.insert(p, place)?;
     append(frames, heads);
     append(frames, bytes);
-    Ok(())
+    Ok(place)
 }
 
 // Appends bytes for which room was made.
@@ -180,6 +187,18 @@ fn entry_of(table: &Table, p: Page) -> usize
     match table.get(&p) {
         Some(entry) => *entry,
         None => unreachable!(),
+    }
+}
+
+// Where the frame of a page begins that has one.
+fn place_of(table: &Table, recent: Recent, p: Page) -> usize
+    requires held { IsSome (tree.get nat_cmp table.now p) }
+    requires recent { IsRecent table.now recent }
+    ensures { tree.get nat_cmp table.now p ≡ Some result }
+{
+    match recent {
+        Some((page, place)) if page == p => place,
+        _ => entry_of(table, p),
     }
 }
 

@@ -11,7 +11,9 @@ ghost use Rattle.page_memory.specs.Contents.{IsMemory, Contents, at, IsHeld, pag
 ghost use Rattle.page_memory.specs.Memory.{word};
 ghost use Rattle.page_memory.specs.Frames.{frame_in, put_frame, pages_in, IsTable};
 
-use crate::buffer::{Table, add_frame, copy_frame, exchange, frame, write_frame, write_word};
+use crate::buffer::{
+    Recent, Table, add_frame, copy_frame, exchange, frame, write_frame, write_word,
+};
 use crate::fault::{HeavyFault, MemFault};
 use crate::file::{file_of, file_table, is_zero};
 use crate::in_place::file_in_place;
@@ -30,6 +32,7 @@ static ZEROS: [u8; FRAME_SIZE] = [0; FRAME_SIZE];
 pub struct Memory {
     frames: Vec<u8>,
     table: BTreeMap<Page, usize>,
+    recent: Recent,
     sets: u64,
     alloc: Global,
 }
@@ -37,7 +40,7 @@ pub struct Memory {
 impl Model for Memory {
     ghost use Rattle.page_memory.specs.Contents.{Contents, contents_code};
     ghost use Rattle.page_memory.specs.Memory.{word};
-    ghost use Rattle.page_memory.specs.Frames.{pages_in, IsTable};
+    ghost use Rattle.page_memory.specs.Frames.{pages_in, IsRecent, IsTable};
 
     ghost Value = { Contents };
 
@@ -45,7 +48,7 @@ impl Model for Memory {
 
     ghost view = { λ m. record { pages = pages_in m.frames.items m.table; sets = m.sets } };
 
-    ghost invariant = { λ m. IsTable m.frames.items m.table };
+    ghost invariant = { λ m. IsTable m.frames.items m.table × IsRecent m.table m.recent };
 }
 
 impl Memory {
@@ -56,6 +59,7 @@ impl Memory {
         Memory {
             frames: Vec::new(alloc),
             table: BTreeMap::new(alloc),
+            recent: None,
             sets: 0,
             alloc,
         }
@@ -97,8 +101,13 @@ impl Memory {
         ensures stay { (q : ℕ) → IsHeld self.old q → IsHeld self.new q }
         ensures only { (q : ℕ) → IsHeld self.new q → IsHeld self.old q ⊎ (q ≡ p) }
     {
-        if !self.table.contains_key(&p) {
-            add_frame(&mut self.frames, &mut self.table, p, &ZEROS)?;
+        match self.table.get(&p) {
+            Some(place) => self.recent = Some((p, *place)),
+            None => {
+                self.recent = None;
+                let place = add_frame(&mut self.frames, &mut self.table, p, &ZEROS)?;
+                self.recent = Some((p, place));
+            }
         }
         Ok(())
     }
@@ -182,7 +191,7 @@ impl Memory {
         ensures value { self.new ≡ with_page self.old d (at self.old s) }
         ensures stay { (q : ℕ) → IsHeld self.old q → IsHeld self.new q }
     {
-        copy_frame(&mut self.frames, &self.table, d, s);
+        copy_frame(&mut self.frames, &self.table, self.recent, d, s);
     }
 
     /// The copies `s` to `w`, `d` to `s`, `w` to `d`, in this order. All three pages are held; they may be equal.
@@ -210,7 +219,8 @@ impl Memory {
         ensures value { self.new ≡ swapped self.old d s w }
         ensures stay { (q : ℕ) → IsHeld self.old q → IsHeld self.new q }
     {
-        copy_frame(&mut self.frames, &self.table, w, s);
+        copy_frame(&mut self.frames, &self.table, self.recent, w, s);
+        self.recent = None;
         exchange(&mut self.table, d, s);
     }
 
@@ -288,6 +298,7 @@ impl Memory {
         Ok(Memory {
             frames,
             table,
+            recent: None,
             sets: 0,
             alloc,
         })
@@ -302,6 +313,7 @@ impl Memory {
         Ok(Memory {
             frames: bytes,
             table,
+            recent: None,
             sets: 0,
             alloc,
         })
@@ -324,6 +336,7 @@ impl Memory {
         let Memory {
             frames,
             table,
+            recent: _,
             sets: _,
             alloc,
         } = self;

@@ -24,4 +24,4 @@ returns-clause-stay c = λ q h.
     rw (c.exchange.ensures.value c.copy_frame.new.frames.items, c.copy_frame.ensures.value) (held-insert _ _ _ q (held-insert _ _ _ q (held-insert _ _ _ q (rw (ap (λ m. m.pages) c.self.view_is) h))))
 
 pub invariant_of-self : goal.invariant_of-self
-invariant_of-self c = c.exchange.ensures.table c.copy_frame.new.frames.items c.copy_frame.ensures.table
+invariant_of-self c = (c.exchange.ensures.table c.copy_frame.new.frames.items c.copy_frame.ensures.table, tt)
