@@ -30,6 +30,11 @@ fn raw_address<'a>(given: &[Given<'a>]) -> Option<&'a str> {
     }
 }
 
+// The memory map that was given.
+fn map_of<'a>(given: &[Given<'a>]) -> &'a str {
+    text_of(given, "--map").unwrap_or("")
+}
+
 // A fault of the segments where the kernel is raw, told by the options that place it.
 fn write_raw<W: Write>(
     fault: &SegFault,
@@ -43,13 +48,37 @@ fn write_raw<W: Write>(
             "--at {at}: a raw kernel has to begin at a multiple of 1000 and to end below 400000000000, both in hexadecimal"
         ),
         SegFault::NotRam { i: 0 } => {
-            let map = text_of(given, "--map").unwrap_or("");
+            let map = map_of(given);
             write!(
                 f,
                 "--at {at}: the kernel has a page there that is no System RAM of the memory map {map:?}"
             )
         }
         fault => write!(f, "the kernel at --at {at} cannot be placed: {fault}"),
+    }
+}
+
+// A fault of the segments where the kernel's file says where it lies. A segment with a number is one of the kernel's own:
+// every other part of a load is put on whole pages of RAM that nothing else takes, so no rule refuses it by itself.
+fn write_placed<W: Write>(
+    fault: &SegFault,
+    given: &[Given<'_>],
+    f: &mut Formatter<W>,
+) -> fmt::Result {
+    match fault {
+        SegFault::TooMany => f.write_str("the kernel and the parts beside it have more than 16 segments"),
+        SegFault::NotRam { i } => {
+            let map = map_of(given);
+            write!(
+                f,
+                "segment {i} of the kernel has a page that is no System RAM of the memory map {map:?}"
+            )
+        }
+        SegFault::TooLarge { pages } => write!(
+            f,
+            "the kernel and the parts beside it have {pages} pages together, and at most 65536 are allowed"
+        ),
+        fault => write!(f, "the kernel cannot be placed: {fault}"),
     }
 }
 
@@ -71,7 +100,7 @@ fn write_status<W: Write>(
             _,
         ) => match raw_address(given) {
             Some(at) => write_raw(fault, at, given, f),
-            None => write!(f, "{status}"),
+            None => write_placed(fault, given, f),
         },
         _ => write!(f, "{status}"),
     }

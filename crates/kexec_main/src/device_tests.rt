@@ -139,3 +139,38 @@ fn a_text_that_cannot_be_said_leaves_whole_outputs(rt: HostRuntime) -> Result<()
     }
     Ok(())
 }
+
+// `migrate` takes a file and puts one: first the take fails, then the put, then the text.
+#[test]
+fn each_call_of_a_migration_that_fails_is_told(rt: HostRuntime) -> Result<(), Fail> {
+    let alloc = rt.alloc();
+    let line = "migrate record o";
+    let unread = "Unread { name: \"record\" }";
+    let mut left = ends_with(alloc, line, 0, 3, unread)?.ok_or("another end")?;
+    assert!(rt; lacks(alloc, &mut left, "o"));
+    let unwritten = "Unwritten { name: \"o\" }";
+    let mut left = ends_with(alloc, line, 1, 4, unwritten)?.ok_or("another end")?;
+    let part = left.take(alloc, "o", 20_000)?;
+    assert_eq!(rt; part.len(), 77);
+    assert!(rt; first_record(alloc)?.starts_with(&part));
+    let mut left = shelf(alloc, &[2])?;
+    let (status, sink) = run(alloc, &split(alloc, line)?, &mut left, &[0])?;
+    assert_eq!(rt; status.code(), 5);
+    assert!(rt; sink.said().is_empty());
+    assert!(rt; lacks(alloc, &mut left, "k"));
+    assert!(rt; left.take(alloc, "o", 20_000)? == first_record(alloc)?);
+    Ok(())
+}
+
+// `sample` asks nothing of the shelf, and says one text.
+#[test]
+fn a_sample_that_cannot_be_said_is_told(rt: HostRuntime) -> Result<(), Fail> {
+    let alloc = rt.alloc();
+    let mut left = shelf(alloc, &[0])?;
+    let (status, sink) = run(alloc, &["sample", "1"], &mut left, &[0])?;
+    assert_eq!(rt; status.code(), 5);
+    assert!(rt; sink.said().is_empty());
+    assert!(rt; lacks(alloc, &mut left, "k"));
+    assert!(rt; left.take(alloc, "k", 20_000)?.len() == 3);
+    Ok(())
+}
