@@ -1,5 +1,7 @@
 //! Failing devices: each call of the shelf and of the sink fails in turn, for each command, and the answer names that
-//! call. What was put before stays whole, what would have come later is not there, and nothing is said.
+//! call. What was put before stays whole, what would have come later is not there, and nothing is said. The calls of
+//! `load-panic` fail in crash_tests. `sample` makes one call, its say, behind the moves of 64 MiB, which no test makes:
+//! scripts/attack-devices tries it.
 
 use crate::first_example::{first_memory, first_record, lacks, run, split};
 use kx_edge::{MemoryShelf, Shelf, ShelfFault};
@@ -159,18 +161,5 @@ fn each_call_of_a_migration_that_fails_is_told(rt: HostRuntime) -> Result<(), Fa
     assert!(rt; sink.said().is_empty());
     assert!(rt; lacks(alloc, &mut left, "k"));
     assert!(rt; left.take(alloc, "o", 20_000)? == first_record(alloc)?);
-    Ok(())
-}
-
-// `sample` asks nothing of the shelf, and says one text.
-#[test]
-fn a_sample_that_cannot_be_said_is_told(rt: HostRuntime) -> Result<(), Fail> {
-    let alloc = rt.alloc();
-    let mut left = shelf(alloc, &[0])?;
-    let (status, sink) = run(alloc, &["sample", "1"], &mut left, &[0])?;
-    assert_eq!(rt; status.code(), 5);
-    assert!(rt; sink.said().is_empty());
-    assert!(rt; lacks(alloc, &mut left, "k"));
-    assert!(rt; left.take(alloc, "k", 20_000)?.len() == 3);
     Ok(())
 }
