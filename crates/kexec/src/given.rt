@@ -2,6 +2,7 @@
 
 use crate::help::{Form, MODULES, needed, option_in, words_in};
 use crate::mistake::Mistake;
+use crate::old_words::option_for;
 use std::alloc::{AllocError, Global};
 
 /// A word that is given: the text of a positional word, or of an option's value.
@@ -75,7 +76,12 @@ impl<'a> Reading<'a> {
             return Ok(Some(Mistake::Again { option }));
         }
         match (option_in(self.help, option), value) {
-            (None, _) => Ok(Some(Mistake::Unknown { option })),
+            (None, _) => {
+                let other = option_for(option).filter(|other| option_in(
+                    self.help, other,
+                ).is_some());
+                Ok(Some(Mistake::Unknown { option, other }))
+            }
             (Some(Form::Flag), Some(_)) => Ok(Some(Mistake::HasValue { option })),
             (Some(Form::Flag), None) => self.push(option, ""),
             (Some(Form::Value { .. }), Some(text)) => self.push(option, text),

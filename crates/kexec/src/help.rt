@@ -72,6 +72,15 @@ pub(crate) fn is_written(help: &'static str, name: &str) -> bool {
         .any(|(word, rest)| word == name && rest.contains("to write"))
 }
 
+/// Whether the word or option of this name is a file.
+pub(crate) fn is_file(help: &'static str, name: &str) -> bool {
+    match option_in(help, name) {
+        Some(Form::Value { name }) => name == "FILE",
+        Some(Form::Flag) => false,
+        None => !matches!(name, "HEAD" | "LIMIT" | "NUMBER"),
+    }
+}
+
 /// How many of these words have to be given.
 pub(crate) fn needed(words: &[&'static str]) -> usize {
     match words.last() {

@@ -7,6 +7,7 @@ mod given;
 mod help;
 mod mistake;
 mod old_words;
+mod plans;
 mod remedies;
 mod report;
 mod usage;

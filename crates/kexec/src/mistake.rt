@@ -1,14 +1,14 @@
 //! Why words are not those of a command.
 
-use crate::old_words::option_for;
 use std::fmt::{self, Display, Formatter, Write};
 
 /// What stood among the words, and what has to stand there.
 #[derive(Clone, Copy, Debug, PartialEq, Eq)]
 pub(crate) enum Mistake<'a> {
-    /// The command has no such option.
+    /// The command has no such option; it has another one that does what this one does for kexec(8).
     Unknown {
         option: &'a str,
+        other: Option<&'static str>,
     },
     /// The option is given a second time.
     Again {
@@ -36,7 +36,7 @@ pub(crate) enum Mistake<'a> {
 impl Display for Mistake<'_> {
     fn fmt<W: Write>(&self, f: &mut Formatter<W>) -> fmt::Result {
         match self {
-            Mistake::Unknown { option } => match option_for(option) {
+            Mistake::Unknown { option, other } => match other {
                 Some(other) => write!(
                     f,
                     "{option} is no option of this command; {other} stands for it"

@@ -43,14 +43,24 @@ fn link_remedy(fault: &LinkFault) -> Option<&'static str> {
     }
 }
 
-fn plan_remedy(fault: &PlanFault) -> Option<&'static str> {
+fn params_remedy(fault: &ParamsFault, is_crash: bool) -> Option<&'static str> {
+    match fault {
+        ParamsFault::TooManyRanges { .. } => {
+            Some("join ranges of the map that touch, or leave small ones out")
+        }
+        ParamsFault::CommandTooLong { .. } if is_crash => {
+            Some("the word elfcorehdr= counts too, which is added to it")
+        }
+        _ => None,
+    }
+}
+
+fn plan_remedy(fault: &PlanFault, is_crash: bool) -> Option<&'static str> {
     match fault {
         PlanFault::Elf { fault } => elf_remedy(fault),
         PlanFault::Bzimage { fault } => bzimage_remedy(fault),
         PlanFault::Link { fault } => link_remedy(fault),
-        PlanFault::Params {
-            fault: ParamsFault::TooManyRanges { .. },
-        } => Some("join ranges of the map that touch, or leave small ones out"),
+        PlanFault::Params { fault } => params_remedy(fault, is_crash),
         _ => None,
     }
 }
@@ -65,9 +75,9 @@ fn input_remedy(fault: &InputFault) -> Option<&'static str> {
 }
 
 /// What the user can do about a refusal, where its sentence does not say so yet.
-pub(crate) fn remedy_of(status: &Status) -> Option<&'static str> {
+pub(crate) fn remedy_of(status: &Status, is_crash: bool) -> Option<&'static str> {
     match status {
-        Status::Plan { fault } => plan_remedy(fault),
+        Status::Plan { fault } => plan_remedy(fault, is_crash),
         Status::Input { fault } => input_remedy(fault),
         _ => None,
     }

@@ -1,7 +1,7 @@
 //! The sentences about the words, and the help.
 
 use crate::given::{Answer, Given, text_of};
-use crate::help::{MODULES, is_written};
+use crate::help::{MODULES, is_file, is_written};
 use crate::old_words::command_for;
 use kexec_words::{UsageWhy, Which, help_of};
 use std::fmt::{self, Formatter, Write};
@@ -21,10 +21,15 @@ fn name_of(which: Which) -> &'static str {
     }
 }
 
-// The name of another file with this text; a command line is no file.
-fn other_with<'a>(given: &[Given<'a>], name: &str, text: &str) -> Option<&'a str> {
+// The name of another file with this text.
+fn other_with<'a>(
+    help: &'static str,
+    given: &[Given<'a>],
+    name: &str,
+    text: &str,
+) -> Option<&'a str> {
     for one in given {
-        if one.name != name && one.name != "--command" && one.text == text {
+        if one.name != name && is_file(help, one.name) && one.text == text {
             return Some(one.name);
         }
     }
@@ -35,7 +40,7 @@ fn other_with<'a>(given: &[Given<'a>], name: &str, text: &str) -> Option<&'a str
 fn shared<'a>(help: &'static str, given: &[Given<'a>]) -> Option<(Given<'a>, &'a str)> {
     for file in given {
         if is_written(help, file.name) {
-            if let Some(other) = other_with(given, file.name, file.text) {
+            if let Some(other) = other_with(help, given, file.name, file.text) {
                 return Some((*file, other));
             }
         }
@@ -60,9 +65,22 @@ fn write_command<W: Write>(
     }
 }
 
-fn write_number<W: Write>(why: &UsageWhy, text: &str, f: &mut Formatter<W>) -> fmt::Result {
+// Whether such a number is hexadecimal.
+fn is_hexadecimal(which: Which) -> bool {
+    matches!(
+        which,
+        Which::At | Which::Entry | Which::Below | Which::Swap | Which::Head
+    )
+}
+
+fn write_number<W: Write>(
+    why: &UsageWhy,
+    which: Which,
+    text: &str,
+    f: &mut Formatter<W>,
+) -> fmt::Result {
     write!(f, "{why}: {text:?} is given")?;
-    if text.starts_with("0x") || text.starts_with("0X") {
+    if is_hexadecimal(which) && (text.starts_with("0x") || text.starts_with("0X")) {
         f.write_str("; leave out 0x")?;
     }
     Ok(())
@@ -99,11 +117,8 @@ pub(crate) fn write_refusal<W: Write>(
             None => write!(f, "{why}"),
         },
         UsageWhy::Number { which } => {
-            write_number(
-                why,
-                text_of(&answer.given, name_of(*which)).unwrap_or(""),
-                f,
-            )
+            let text = text_of(&answer.given, name_of(*which)).unwrap_or("");
+            write_number(why, *which, text, f)
         }
         UsageWhy::SameName => write_same_name(help, &answer.given, f),
         UsageWhy::TooManyModules => {

@@ -1,0 +1,91 @@
+//! The sentences about a request that has no plan, told by what was given.
+
+use crate::given::{Given, text_of};
+use kexec_plan::PlanFault;
+use segments::SegFault;
+use std::fmt::{self, Formatter, Write};
+
+// The address of a raw kernel, as it is given: such a kernel is the first segment.
+fn raw_address<'a>(given: &[Given<'a>]) -> Option<&'a str> {
+    match text_of(given, "--type") {
+        Some("raw") => text_of(given, "--at"),
+        _ => None,
+    }
+}
+
+// The memory map that was given.
+fn map_of<'a>(given: &[Given<'a>]) -> &'a str {
+    text_of(given, "--map").unwrap_or("")
+}
+
+// A fault of the segments where the kernel is raw, told by the options that place it.
+fn write_raw<W: Write>(
+    fault: &SegFault,
+    at: &str,
+    given: &[Given<'_>],
+    f: &mut Formatter<W>,
+) -> fmt::Result {
+    match fault {
+        SegFault::BadAddress { i: 0 } => write!(
+            f,
+            "--at {at}: a raw kernel has to begin at a multiple of 1000 and to end below 400000000000, both in hexadecimal"
+        ),
+        SegFault::NotRam { i: 0 } => {
+            let map = map_of(given);
+            write!(
+                f,
+                "--at {at}: the kernel has a page there that is no System RAM of the memory map {map:?}"
+            )
+        }
+        fault => write!(f, "the kernel at --at {at} cannot be placed: {fault}"),
+    }
+}
+
+// A fault of the segments where the kernel's file says where it lies. A segment with a number is one of the kernel's own:
+// every other part of a load is put on whole pages of RAM that nothing else takes, so no rule refuses it by itself.
+fn write_placed<W: Write>(
+    fault: &SegFault,
+    given: &[Given<'_>],
+    f: &mut Formatter<W>,
+) -> fmt::Result {
+    match fault {
+        SegFault::TooMany => f.write_str(
+            "the kernel and the parts beside it have more than 16 segments",
+        ),
+        SegFault::NotRam { i } => {
+            let map = map_of(given);
+            write!(
+                f,
+                "segment {i} of the kernel has a page that is no System RAM of the memory map {map:?}"
+            )
+        }
+        SegFault::TooLarge { pages } => write!(
+            f,
+            "the kernel and the parts beside it have {pages} pages together, and at most 65536 are allowed"
+        ),
+        fault => write!(f, "the kernel cannot be placed: {fault}"),
+    }
+}
+
+/// Why a request has no plan.
+pub(crate) fn write_plan<W: Write>(
+    fault: &PlanFault,
+    is_crash: bool,
+    given: &[Given<'_>],
+    f: &mut Formatter<W>,
+) -> fmt::Result {
+    match fault {
+        PlanFault::Segments { fault } => match raw_address(given) {
+            Some(at) => write_raw(fault, at, given, f),
+            None => write_placed(fault, given, f),
+        },
+        PlanFault::NoHole { part } if is_crash => write!(
+            f,
+            "there is no place for {part} in the reserved area of the memory map: boot the running kernel with a larger crashkernel="
+        ),
+        PlanFault::UnknownImage if is_crash => {
+            f.write_str("the kernel file is no bzImage, and a crash kernel has to be one")
+        }
+        fault => write!(f, "{fault}"),
+    }
+}
