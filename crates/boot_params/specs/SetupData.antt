@@ -1,6 +1,6 @@
 -- The setup_data record of the rows of the memory map that the zero page has no room for (Linux/x86 boot protocol, "The
--- Real-Mode Kernel Header", setup_data; Linux, Documentation/arch/x86/zero-page.rst, and SETUP_E820_EXT of
--- arch/x86/include/uapi/asm/setup_data.h; that it stands behind the command, at a multiple of 8, is this project's own).
+-- Real-Mode Kernel Header", setup_data; Linux, Documentation/x86/zero-page.rst, and SETUP_E820_EXT of
+-- arch/x86/include/uapi/asm/bootparam.h; that it stands behind the command, at a multiple of 8, is this project's own).
 use Rattle.std.specs.Prelude.{ℕ, ◌+◌, ◌-◌, ◌*◌, ◌/◌, List, [], ◌∷◌, ◌++◌, length}
 use Rattle.std.specs.List.{flat_map}
 use Rattle.kx_fields.specs.Fields.{zeros}

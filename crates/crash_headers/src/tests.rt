@@ -173,7 +173,7 @@ fn at_most_1024_program_headers(rt: HostRuntime) -> Result<(), Fail> {
 }
 
 #[test]
-fn texts_of_notes(rt: HostRuntime) -> Result<(), Fail> {
+fn each_text_of_notes_is_read_or_refused(rt: HostRuntime) -> Result<(), Fail> {
     let alloc = rt.alloc();
     for (text, wanted) in TEXTS {
         let found = read_notes(alloc, text);

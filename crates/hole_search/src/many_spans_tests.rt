@@ -1,4 +1,4 @@
-//! Searches over many spans, which bench/holes also runs by their names, to see how their time grows.
+//! Searches over many spans, which bench/holes.py also runs by their names, to see how their time grows.
 
 use crate::{End, find};
 use kx_pages::{ADDRESS_LIMIT, PAGE_SIZE, PageSet, Span};

@@ -12,14 +12,12 @@ use Rattle.kexec_words.specs.Values.{InputsValue}
 use Rattle.kexec_plan.specs.Modules.{AskedModule}
 use Rattle.kexec_plan.specs.Requests.{Asked, request_of}
 use Rattle.kexec_main.specs.declared.inputs.KernelFiles.{KernelFiles as TakenFiles}
+use Rattle.kx_pages.specs.Limits.{kernel_limit}
 use Rattle.kexec_main.specs.declared.load_inputs.LoadInputs.{LoadInputs as Taken}
 use Rattle.kexec_main.specs.declared.status.Reason.{Reason}
 use Rattle.kexec_main.specs.Files.{map_file, memory_file, pool_file}
 
--- the most bytes of the kernel, the initrd and the modules together, and of a purgatory
-abbrev pub kernel_limit : ℕ
-kernel_limit = 268435456
-
+-- the most bytes of a purgatory
 abbrev pub purgatory_limit : ℕ
 purgatory_limit = 16777216
 

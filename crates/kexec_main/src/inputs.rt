@@ -17,11 +17,8 @@ use file_commands::{File, TakeFault, take_all, take_file, take_optional};
 use kexec_plan::{Module, Request};
 use kexec_words::{CrashInputs as CrashNames, Inputs};
 use kx_edge::Shelf;
-use kx_pages::ImageType;
+use kx_pages::{ImageType, KERNEL_LIMIT};
 use std::alloc::{AllocError, Global};
-
-/// The most bytes of the kernel, the initrd and the modules of one command together.
-const KERNEL_LIMIT: usize = 268_435_456;
 
 /// The most bytes of a purgatory.
 const PURGATORY_LIMIT: usize = 16_777_216;

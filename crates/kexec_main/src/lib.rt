@@ -1,11 +1,11 @@
 //! The top call: a command's words, over files and a text output.
 //!
 //! Each command is a command over files (`file_commands`): what it takes stands in one definition, what it makes of that in
-//! another, and both beside its words in `specs/`. How a command is run, and what each of its answers says, is the frame's.
+//! another, and both beside its words in `specs/`. How a command is run, and what each of its answers says, is file_commands'.
 //!
 //! | Module | What it has |
 //! |---|---|
-//! | `files`, `inputs` | the files of the commands, their limits and readers; the kind of a load that is taken; the request that a kernel's files make |
+//! | `words`, `files`, `inputs`, `load_inputs` | the words, the files of the commands, their limits and readers; the kind of a load that is taken; the request that a kernel's files make |
 //! | `loading`, `running`, `output`, `text` | the work in memory: a plan, its load, a run, the file of a memory, the text |
 //! | `crash_loading`, `crash_exec` | the same of a crash kernel, which is put in its place and never moves |
 //! | `boot`, `load`, `load_panic`, `check`, `dump`, `exec`, `trace`, `migrate`, `sample` | a command each |

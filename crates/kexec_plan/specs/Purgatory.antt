@@ -1,6 +1,6 @@
 -- The purgatory: code that runs between the old kernel and the new one. It finds the registers of the new kernel, the
--- regions that it tests and their digest in three symbols, and starts at a fourth (the names are those of kexec-tools'
--- purgatory; sizes and the order of the registers are this project's own).
+-- regions that it tests and their digest in three symbols, and starts at a fourth (names, sizes and the
+-- order of the registers are those of Linux's own purgatory, arch/x86/purgatory).
 use Rattle.std.specs.Prelude.{◌≡◌, ℕ, ◌+◌, ◌-◌, ◌%◌, ◌^◌, ◌<◌, ◌≤◌, ◌==◌, not, Bool, List, [], ◌∷◌, codes, if◌then◌else◌, Option, Some, None, Result, Ok, Err}
 use Rattle.kx_laws.specs.Results.{◌>>=◌}
 use Rattle.kx_fields.specs.Fields.{zeros, with_bytes}

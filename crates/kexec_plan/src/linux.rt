@@ -93,7 +93,7 @@ pub(crate) fn rows_of<'a>(map: Option<&'a Map>, kind: &Kind) -> &'a [Row]
     }
 }
 
-// The segments of kernel, initrd and boot parameters.
+// The segments of kernel, initrd, crash headers and boot parameters.
 fn segments_of(
     alloc: Global,
     sites: &LinuxSites,

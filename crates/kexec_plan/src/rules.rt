@@ -24,6 +24,7 @@ fn test_all(
     match map {
         Some(map) => {
             let ram = map.ram();
+            // for its clause: what every value of the type keeps
             let _spans = ram.spans();
             Segments::new(alloc, list, ram, *kind)
         }

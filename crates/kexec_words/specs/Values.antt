@@ -19,7 +19,7 @@ use Rattle.kexec_words.specs.declared.commands.Command.TheVariants as code
 pub record InputsValue : Type 0 where
   pub memory : Text
   pub pool : Text
-  pub below : Option ℕ  -- the number of the first page that is not used
+  pub below : Option ℕ  -- the number of the first page past the limit
   pub map : Option Text
   pub kernel : Text
   pub initrd : Option Text

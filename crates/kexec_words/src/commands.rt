@@ -18,7 +18,7 @@ pub struct Inputs {
     pub memory: String,
     /// The pool file.
     pub pool: String,
-    /// The first page of the pool that is not used, nor is any above it; none is a pool without a limit.
+    /// The first page past the limit of the pool: neither it nor a page above it is used. None is a pool without a limit.
     pub below: Option<Page>,
     /// The text of the memory map.
     pub map: Option<String>,

@@ -9,7 +9,7 @@ const COMMANDS: &str = "\
 Usage: kexec COMMAND [OPTIONS] ARGUMENTS..
 
 Loads a new kernel into a memory that a file holds, as kexec_load(2) and the
-kernel's kexec core do, checks the list of page moves, and runs it.
+kernel's kexec core do, checks the list of page copies, and runs it.
 
 Commands:
   boot        load a kernel and run it
@@ -35,7 +35,7 @@ Without its arguments, as in kexec boot, each command prints what it takes.
 const BOOT: &str = "\
 Usage: kexec boot [OPTIONS] MEMORY POOL OUT KERNEL [MODULES]..
 
-Loads a kernel, checks the list of page moves, runs it, and writes the memory
+Loads a kernel, checks the list of page copies, runs it, and writes the memory
 after the last run.
 
 Arguments:
@@ -73,7 +73,7 @@ the files that are read. An option is given at most once, as --at 2000 or
 const LOAD: &str = "\
 Usage: kexec load [OPTIONS] MEMORY POOL OUT RECORD KERNEL [MODULES]..
 
-Loads a kernel, checks the list of page moves, and writes the memory after the
+Loads a kernel, checks the list of page copies, and writes the memory after the
 load and the load record, which check, dump and exec read.
 
 Arguments:

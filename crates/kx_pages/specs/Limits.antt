@@ -9,6 +9,6 @@ segment_limit = 16
 abbrev pub segment_page_limit : ℕ
 segment_page_limit = 65536
 
--- how many bytes the file of a kernel may have
+-- how many bytes a kernel, its initrd and its modules may have together
 abbrev pub kernel_limit : ℕ
 kernel_limit = 268435456

@@ -2,7 +2,7 @@
 //!
 //! A list is a head word and the words that follow it in memory, as the Linux kernel's kexec core writes them. The
 //! checker reads the list in the memory before the run, and answers that a run leaves each page of the segments
-//! what it is to have, or the first word that shows that it does not.
+//! what it is to have, or the first word that has a fault, and why.
 #![tactic(auto)]
 
 ghost use Rattle.list_checker.specs.Laws.{CheckExact, CheckEnds, OneWalk};

@@ -14,7 +14,7 @@ fn is_fault(alloc: Global, text: &[u8], fault: MapFault) -> bool {
 }
 
 #[test]
-fn map_with_a_crash_kernel(rt: HostRuntime) -> Result<(), Fail> {
+fn a_crash_kernels_area_is_reserved_and_no_ram(rt: HostRuntime) -> Result<(), Fail> {
     let map = Map::read(rt.alloc(), LAPTOP)?;
     assert_eq!(rt; map.ram().total(), 982910);
     assert_eq!(rt; map.ram().spans(), 4);
@@ -69,7 +69,7 @@ fn names_the_first_fault(rt: HostRuntime) {
 }
 
 #[test]
-fn map_read_without_root(rt: HostRuntime) {
+fn a_map_read_without_root_is_refused(rt: HostRuntime) {
     let alloc = rt.alloc();
     assert!(rt;
         is_fault(
@@ -89,7 +89,7 @@ fn map_read_without_root(rt: HostRuntime) {
 
 // Shortened from a virtual machine's `/proc/iomem`.
 #[test]
-fn map_of_a_virtual_machine(rt: HostRuntime) -> Result<(), Fail> {
+fn a_virtual_machines_rows_and_ram_are_counted(rt: HostRuntime) -> Result<(), Fail> {
     let map = Map::read(
         rt.alloc(),
         b"00000000-00000fff : Reserved

@@ -95,7 +95,7 @@ fn found(
 
 // the header's 12 bytes lie inside the first 8,192.
 #[test]
-fn where_headers_are_found(rt: HostRuntime) -> Result<(), Fail> {
+fn the_first_header_in_reach_is_found(rt: HostRuntime) -> Result<(), Fail> {
     let alloc = rt.alloc();
     assert_eq!(rt; found(alloc, 8192, 8180, 0)?, Ok(8180));
     assert_eq!(rt; found(alloc, 16_384, 8184, 0)?, Err(MbFault::NoHeader));
@@ -183,7 +183,7 @@ fn headers_at_each_place_around_the_end_of_the_search(rt: HostRuntime) -> Result
 }
 
 #[test]
-fn addresses_and_segments(rt: HostRuntime) -> Result<(), Fail> {
+fn addresses_give_a_segment_or_are_refused(rt: HostRuntime) -> Result<(), Fail> {
     let alloc = rt.alloc();
     for (addresses, wanted) in ADDRESSES {
         let mut kernel = file(alloc, 64, 0, &KERNEL)?;
@@ -206,7 +206,7 @@ fn addresses_and_segments(rt: HostRuntime) -> Result<(), Fail> {
 
 // A file without bytes to load and without memory has no segment.
 #[test]
-fn no_page_and_no_segment(rt: HostRuntime) -> Result<(), Fail> {
+fn without_a_page_there_is_no_segment(rt: HostRuntime) -> Result<(), Fail> {
     let alloc = rt.alloc();
     let mut kernel = file(alloc, 64, 0, &KERNEL)?;
     put(&mut kernel, 12, &[0x10_0800, 0x10_0800, 0x10_0800, 0]);

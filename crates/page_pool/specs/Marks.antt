@@ -20,7 +20,8 @@ pub record FiledAreAmong (xs : List ℕ) (m : tree.BTreeMap ℕ Bool) : Type 0 w
   pub each : (x : ℕ) → unwrap_or (finite.get (marks_of m) x) false ≡ true → 1 ≤ count x xs
 
 -- what each pool is: its pages, the queue of those drawn and those to draw, and its marks
-pub record IsPool (xs queue : List ℕ) (flags : List Bool) (next stop limit : ℕ) (m : tree.BTreeMap ℕ Bool) : Type 0 where
+pub record IsPool (xs queue : List ℕ) (flags : List Bool) (next stop limit : ℕ)
+    (m : tree.BTreeMap ℕ Bool) : Type 0 where
   pub once : Distinct xs
   pub low : Each IsPage xs
   pub few : length xs ≤ 262144

@@ -13,7 +13,8 @@ is_waiting limit drawn q = not drawn && is_usable limit q
 
 -- Up to `next` the queue has the places of the drawn pages, and from there up to `stop` those of the usable pages left
 -- among the pages seen. The flags tell by place which pages are drawn.
-pub record IsQueue (pages queue : List ℕ) (flags : List Bool) (next stop limit : ℕ) (seen : List ℕ) : Type 0 where
+pub record IsQueue (pages queue : List ℕ) (flags : List Bool) (next stop limit : ℕ)
+    (seen : List ℕ) : Type 0 where
   pub room : length queue ≡ length pages
   pub flagged : length flags ≡ length pages
   pub order : next ≤ stop
@@ -23,4 +24,5 @@ pub record IsQueue (pages queue : List ℕ) (flags : List Bool) (next stop limit
   pub drawn : (i : ℕ) → i < length pages
       → get_or flags i false ≡ has (get_or pages i 0) (pages_at pages (take next queue))
   pub usable : pages_at pages (take stop queue)
-      ≡ pages_at pages (take next queue) ++ usable_among limit seen (pages_at pages (take next queue))
+      ≡ pages_at pages (take next queue)
+      ++ usable_among limit seen (pages_at pages (take next queue))

@@ -88,7 +88,7 @@ fn names_the_first_fault(rt: HostRuntime) -> Result<(), Fail> {
 }
 
 #[test]
-fn prefixes_of_a_range(rt: HostRuntime) {
+fn each_prefix_of_a_range_is_read_or_refused(rt: HostRuntime) {
     let alloc = rt.alloc();
     assert_eq!(rt; count(alloc, b"1"), Some(1));
     assert_eq!(rt; count(alloc, b"10"), Some(1));

@@ -68,4 +68,5 @@ null_named starts s = null_at s (home starts s)
 -- of all of them, in the order of their indexes
 abbrev pub names_of : ℕ → List (Option ℕ) → List Sym → List Named
 names_of base starts [] = []
-names_of base starts (null ∷ symbols) = null_named starts null ++ flat_map (named base starts) symbols
+names_of base starts (null ∷ symbols) =
+    null_named starts null ++ flat_map (named base starts) symbols

@@ -15,14 +15,18 @@ GoesOn n s t = (k : ℕ) → run_from n k s ≡ (t, outcomes.Running (k + n))
 -- the state, where the run stands at this place
 abbrev pub standing : State → Place → State
 standing s p =
-    record { machine = record s.machine { cursor = p.cursor; destination = p.destination }; memory = s.memory }
+    record {
+      machine = record s.machine { cursor = p.cursor; destination = p.destination };
+      memory = s.memory;
+    }
 
 -- where a run stands past a word of the page at address `start`: nowhere, where the word does not only read
 abbrev pub place_past : ℕ → Place → WordKind → ℕ → Option Place
 place_past start p kinds.Destination a = Some (record { cursor = p.cursor + 8; destination = a })
 place_past start p kinds.Link a =
     if a == start then Some (record { cursor = a; destination = p.destination }) else None
-place_past start p kinds.Nothing a = Some (record { cursor = p.cursor + 8; destination = p.destination })
+place_past start p kinds.Nothing a =
+    Some (record { cursor = p.cursor + 8; destination = p.destination })
 place_past start p kinds.Done a = None
 place_past start p kinds.Source a = None
 

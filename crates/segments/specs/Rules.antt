@@ -4,6 +4,7 @@
 use Rattle.std.specs.Prelude.{◌≡◌, ◌⊎◌, ℕ, ◌*◌, ◌/◌, ◌%◌, ◌^◌, ◌&&◌, ◌||◌, ◌==◌, not, Bool, List, [], ◌∷◌, ◌++◌, length, Option, Some, None, Result, Ok, Err, if◌then◌else◌, nat_le, nat_lt}
 use Rattle.std.specs.Option.{option_map, option_or}
 use Rattle.std.specs.List.{position, list_any, list_all}
+use Rattle.kx_pages.specs.Limits.{segment_limit, segment_page_limit}
 use Rattle.kx_pages.specs.Spans.{Run, in_spans, end}
 use Rattle.kx_pages.specs.Spans as spans
 use Rattle.segments.specs.declared.fault.SegFault.{SegFault}
@@ -31,7 +32,7 @@ no_segments ss = where_true (length ss == 0) faults.NoSegments
 
 -- more than KEXEC_SEGMENT_MAX segments
 abbrev pub too_many : List SegmentValue → Option SegFault
-too_many ss = where_true (nat_lt 16 (length ss)) faults.TooMany
+too_many ss = where_true (nat_lt segment_limit (length ss)) faults.TooMany
 
 abbrev pub bad_count : List SegmentValue → Option SegFault
 bad_count ss = first_of (no_segments ss ∷ too_many ss ∷ [])
@@ -92,7 +93,7 @@ misplaced ram kind ss = first_of (outside_reserved kind ss ∷ not_ram ram kind 
 
 -- this project's own: more than 65,536 pages (256 MiB) in all
 abbrev pub too_large : List SegmentValue → Option SegFault
-too_large ss = where_true (nat_lt 65536 (length (pages ss))) (faults.TooLarge (length (pages ss)))
+too_large ss = where_true (nat_lt segment_page_limit (length (pages ss))) (faults.TooLarge (length (pages ss)))
 
 -- the rules of the list's shape
 unfoldable pub shape_refusal : List SegmentValue → Option SegFault

@@ -1,7 +1,7 @@
 //! Lines of a text of bytes, a cut at a byte, and hexadecimal numbers.
 //!
-//! These serve the small text files of this project (the pool file) and the memory map that the
-//! kernel shows as `/proc/iomem`. A text is bytes, which need not be UTF-8. It is a list of lines, each ended by a
+//! These serve the small text files of this project (the pool file, the file of notes) and the memory map that
+//! the kernel shows as `/proc/iomem`. A text is bytes, which need not be UTF-8. It is a list of lines, each ended by a
 //! newline; the last newline may be missing, and an empty text has no lines. A hexadecimal number is 1 to 16 digits
 //! `0` to `9`, `a` to `f`, `A` to `F`, so that it always fits 64 bits (both this project's own rules). No call here
 //! takes memory, and each reads a byte once.
