@@ -93,7 +93,8 @@ misplaced ram kind ss = first_of (outside_reserved kind ss ∷ not_ram ram kind 
 
 -- this project's own: more than 65,536 pages (256 MiB) in all
 abbrev pub too_large : List SegmentValue → Option SegFault
-too_large ss = where_true (nat_lt segment_page_limit (length (pages ss))) (faults.TooLarge (length (pages ss)))
+too_large ss =
+    where_true (nat_lt segment_page_limit (length (pages ss))) (faults.TooLarge (length (pages ss)))
 
 -- the rules of the list's shape
 unfoldable pub shape_refusal : List SegmentValue → Option SegFault
