@@ -71,15 +71,15 @@ impl OpenList {
         ensures pages { whole_pool self.new.pool ≡ whole_pool self.old.pool }
         ensures held { HoldSame self.new.memory self.old.memory }
     {
-        self.take(&None)
+        self.take(None)
     }
 
     // A page for a wanted page, or for none.
-    fn take(&mut self, wanted: &Option<Page>) -> Page
+    fn take(&mut self, wanted: Option<Page>) -> Page
         requires { (d : Draft) × (t : ℕ × Loading) × IsRendered self.old d ×
-            CanTake d wanted.now t }
+            CanTake d wanted t }
         ensures given { (d : Draft) (t : ℕ × Loading) → IsRendered self.old d
-            → CanTake d wanted.now t → (result ≡ t.0)
+            → CanTake d wanted t → (result ≡ t.0)
             × IsRenderedBut (t.0 ∷ []) self.new (record d { loading = t.1 })
             × (self.new.next ≡ self.old.next)
             × (self.new.entries ≡ self.old.entries) × (self.new.head ≡ self.old.head) ×
@@ -109,7 +109,7 @@ impl OpenList {
         ensures pages { whole_pool self.new.pool ≡ whole_pool self.old.pool }
         ensures held { HoldSame self.new.memory self.old.memory }
     {
-        let link = self.take(&None);
+        let link = self.take(None);
         fill(&mut self.memory, link, &[]);
         if self.entries == 0 {
             self.head = link_word(link);
@@ -180,7 +180,7 @@ impl OpenList {
         ensures held { HoldSame self.new.memory self.old.memory }
     {
         self.make_room();
-        let source = self.take(&Some(p));
+        let source = self.take(Some(p));
         fill(&mut self.memory, source, bytes);
         let place = self.next;
         self.write_entry(source_word(source));
