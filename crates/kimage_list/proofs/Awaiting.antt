@@ -1,5 +1,5 @@
 -- The pages that are awaited, and the writer after a source entry.
-use Rattle.std.proofs.Common.{◌≡◌, ℕ, suc, ◌+◌, ◌-◌, ◌<◌, ◌≤◌, ◌^◌, List, [], ◌∷◌, ◌++◌, length, Option, Some, None, refl, sym, ap, ◌∙◌, subst, ⊎_elim, inl, inr, arith, length-append, true, false, cond}
+use Rattle.std.proofs.Common.{◌≡◌, ℕ, suc, ◌+◌, ◌<◌, ◌≤◌, ◌^◌, List, [], ◌∷◌, ◌++◌, length, Option, Some, None, refl, sym, ap, ◌∙◌, subst, ⊎_elim, inl, inr, arith, length-append, true, false, cond}
 use Rattle.std.specs.Prelude.{◌≢◌, ◌⊎◌, ◌↔◌, eqb, is_some, unwrap_or}
 use Rattle.std.proofs.lemmas.Bool.{cases_lt, false≢true}
 use Rattle.std.proofs.lemmas.Bool.Decides.{eqb_tells}
@@ -8,7 +8,7 @@ use Rattle.page_memory.specs.Contents.{at, page_of}
 use Rattle.page_memory.specs.Memory.{Wants}
 use Rattle.kimage_list.specs.declared.table.PageSource.{PageSource}
 use Rattle.kx_pages.specs.Lists.{Has, count, destinations}
-use Rattle.kimage_list.specs.Load.{Loading, Move, pages_of, starts, requests, given, served, loaded, source_of}
+use Rattle.kimage_list.specs.Load.{Loading, Move, pages_of, starts, requests, given, loaded, source_of}
 use Rattle.kimage_list.specs.Laying.{Holds, source_pages}
 use Rattle.kimage_list.specs.Tables.{slot, source_in}
 use Rattle.kimage_list.specs.Drafts.{Renders, CanTake, IsSteady, IsNext, loaded_from, HeadIs}

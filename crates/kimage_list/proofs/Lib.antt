@@ -15,6 +15,7 @@ pub mod Arriving
 pub mod Finishing
 pub mod Enough
 pub mod Opening
+pub mod Held
 pub mod Going
 pub mod Spanned
 pub mod Standings

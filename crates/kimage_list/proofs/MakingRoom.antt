@@ -2,7 +2,7 @@
 use Rattle.std.proofs.Common.{◌≡◌, ℕ, ◌+◌, ◌-◌, ◌*◌, ◌<◌, ◌≤◌, List, [], ◌∷◌, ◌++◌, length, Some, None, refl, sym, ap, ◌∙◌, subst, arith, length-append, Bool, true, false, cond}
 use Rattle.std.specs.Prelude.{◌/◌, ◌%◌, eqb}
 use Rattle.std.proofs.lemmas.Bool.{eqb-true}
-use Rattle.kimage_list.specs.Load.{Loading, Start, requests, taken, given, served}
+use Rattle.kimage_list.specs.Load.{Loading, Start, taken, given, served}
 use Rattle.kimage_list.specs.Drafts.{Draft, Renders, IsSteady, HasRoom, Room, RoomBy, linked, started, HeadIs}
 use Rattle.kimage_list.specs.Counted.{UnderWay}
 use Rattle.kimage_list.specs.Writers.{History, Writer, StandsAt, IsOpen, draft_of, is_wanted, need, pages_in, with_destination}

@@ -24,7 +24,7 @@ use Rattle.page_memory.specs.Memory.{Mem, Wants}
 use Rattle.kx_pages.proofs.Counting.{count-from_Distinct, count-append}
 
 -- one of the first n has its place
-at_first : (n : ℕ) (xs : List ℕ) (x : ℕ) → 1 ≤ count x (take n xs) → (k : ℕ) × (k < n) × (slice_index xs k ≡ x)
+pub at_first : (n : ℕ) (xs : List ℕ) (x : ℕ) → 1 ≤ count x (take n xs) → (k : ℕ) × (k < n) × (slice_index xs k ≡ x)
 at_first zero xs x c = absurd (omega (arith, c))
 at_first (suc n) [] x c = absurd (omega (arith, c))
 at_first (suc n) (y ∷ xs) x c = go (eqb_tells y x) (at_first n xs x)

@@ -1,5 +1,5 @@
 -- Where the writer stands: what is kept inside tells all, and what one entry more asks for.
-use Rattle.std.proofs.Common.{◌≡◌, ℕ, zero, suc, ◌+◌, ◌-◌, ◌<◌, ◌≤◌, List, [], ◌∷◌, ◌++◌, length, Option, Some, None, refl, sym, ap, ◌∙◌, subst, arith, drop, append_assoc, append-nil, Bool, cond}
+use Rattle.std.proofs.Common.{◌≡◌, ℕ, zero, suc, ◌+◌, ◌<◌, ◌≤◌, List, [], ◌∷◌, ◌++◌, length, Option, Some, None, refl, sym, ap, ◌∙◌, subst, arith, drop, append_assoc, append-nil, Bool, cond}
 use Rattle.std.specs.Prelude.{◌%◌, eqb, slice_index, replicate}
 use Rattle.std.proofs.Math.Seq.{drop-append_seam}
 use Rattle.page_memory.specs.Contents.{Contents, at}

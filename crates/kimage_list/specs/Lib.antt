@@ -8,5 +8,6 @@ pub mod OpenLists
 pub mod Counted
 pub mod Writers
 pub mod Beginning
+pub mod Held
 pub mod Calls
 pub mod Laws

@@ -1,9 +1,10 @@
 //! What is made before a list is written.
 
-ghost use Rattle.std.specs.Prelude.{◌≡◌, ℕ, ◌≤◌, ◌<◌, ◌+◌, ◌^◌, ◌||◌, length, slice_index, take, OnOk, IfOk, Some, None, cond};
+ghost use Rattle.std.specs.Prelude.{◌≡◌, ℕ, ◌≤◌, ◌<◌, ◌+◌, ◌^◌, ◌||◌, ◌⊎◌, length, slice_index, take, OnOk, IfOk, Some, None, cond};
 ghost use Rattle.std.specs.List.Sorted.{IsPermutation};
 ghost use Rattle.page_memory.specs.Contents.{at, IsHeld};
 ghost use Rattle.page_pool.specs.Pages.{usable_of};
+ghost use Rattle.kx_pages.specs.Lists.{Has};
 ghost use Rattle.kx_pages.specs.Spans.{AreApart, in_spans, in_span};
 ghost use Rattle.kimage_list.specs.Tables.{slot, fresh_slot};
 ghost use Rattle.kimage_list.specs.Beginning.{IsFresh, AreHeld};
@@ -29,6 +30,8 @@ pub fn prepare(
     ensures same { (q : ℕ) → at memory.new q ≡ at memory.old q }
     ensures sets { memory.new.sets ≡ memory.old.sets }
     ensures stay { (q : ℕ) → IsHeld memory.old q → IsHeld memory.new q }
+    ensures only { (q : ℕ) → IsHeld memory.new q
+        → IsHeld memory.old q ⊎ Has q (take need (usable_of pool.now)) }
 {
     hold_first(alloc, memory, pool, need)?;
     table_of(alloc, wanted)
@@ -77,6 +80,8 @@ fn hold_first(alloc: Global, memory: &mut Memory, pool: &Pool, n: u64) -> Result
     ensures same { (q : ℕ) → at memory.new q ≡ at memory.old q }
     ensures sets { memory.new.sets ≡ memory.old.sets }
     ensures stay { (q : ℕ) → IsHeld memory.old q → IsHeld memory.new q }
+    ensures only { (q : ℕ) → IsHeld memory.new q
+        → IsHeld memory.old q ⊎ Has q (take n (usable_of pool.now)) }
 {
     let pages = first_in_order(alloc, pool, n)?;
     memory.hold_all(&pages)

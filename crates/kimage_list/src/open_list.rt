@@ -3,6 +3,7 @@
 ghost use Rattle.std.specs.Prelude.{◌≡◌, ℕ, ◌<◌, ◌≤◌, ◌+◌, ◌*◌, ◌∷◌, List, [], length, None, Some};
 ghost use Rattle.page_memory.specs.Contents.{at, IsHeld};
 ghost use Rattle.page_memory.specs.Memory.{set_word};
+ghost use Rattle.kimage_list.specs.Held.{HoldSame};
 ghost use Rattle.kimage_list.specs.Load.{Loading};
 ghost use Rattle.kimage_list.specs.OpenLists.{IsRendered, IsRenderedBut};
 ghost use Rattle.kimage_list.specs.Tracking.{whole_pool};
@@ -68,21 +69,23 @@ impl OpenList {
             → d.links ≡ []
             → d.loading.pairs ≡ [] → (result ≡ t.0) × IsRendered self.new (first_taken d t) }
         ensures pages { whole_pool self.new.pool ≡ whole_pool self.old.pool }
+        ensures held { HoldSame self.new.memory self.old.memory }
     {
-        self.take(&None)
+        self.take(None)
     }
 
     // A page for a wanted page, or for none.
-    fn take(&mut self, wanted: &Option<Page>) -> Page
+    fn take(&mut self, wanted: Option<Page>) -> Page
         requires { (d : Draft) × (t : ℕ × Loading) × IsRendered self.old d ×
-            CanTake d wanted.now t }
+            CanTake d wanted t }
         ensures given { (d : Draft) (t : ℕ × Loading) → IsRendered self.old d
-            → CanTake d wanted.now t → (result ≡ t.0)
+            → CanTake d wanted t → (result ≡ t.0)
             × IsRenderedBut (t.0 ∷ []) self.new (record d { loading = t.1 })
             × (self.new.next ≡ self.old.next)
             × (self.new.entries ≡ self.old.entries) × (self.new.head ≡ self.old.head) ×
             (d.loading.pairs ≡ [] → at self.new.memory ≡ at self.old.memory) }
         ensures pages { whole_pool self.new.pool ≡ whole_pool self.old.pool }
+        ensures held { HoldSame self.new.memory self.old.memory }
     {
         match take_page(&mut self.pool, &mut self.table, wanted) {
             Some(taken) => {
@@ -104,8 +107,9 @@ impl OpenList {
             → CanTake d None t → IsFull d
             → HeadIs d.links self.old.head → HeadIs (linked d t).links self.new.head }
         ensures pages { whole_pool self.new.pool ≡ whole_pool self.old.pool }
+        ensures held { HoldSame self.new.memory self.old.memory }
     {
-        let link = self.take(&None);
+        let link = self.take(None);
         fill(&mut self.memory, link, &[]);
         if self.entries == 0 {
             self.head = link_word(link);
@@ -123,6 +127,7 @@ impl OpenList {
         ensures head { (d : Draft) (e : Draft) → IsRendered self.old d → Room d e →
             HeadIs d.links self.old.head → HeadIs e.links self.new.head }
         ensures pages { whole_pool self.new.pool ≡ whole_pool self.old.pool }
+        ensures held { HoldSame self.new.memory self.old.memory }
     {
         if self.entries % ENTRIES == 0 {
             self.take_link();
@@ -134,6 +139,7 @@ impl OpenList {
         requires { (d : Draft) × (hand : List ℕ) × IsRenderedBut hand self.old d × HasRoom d }
         ensures value { at self.new.memory ≡ set_word (at self.old.memory) self.old.next word }
         ensures stay { (q : ℕ) → IsHeld self.old.memory q → IsHeld self.new.memory q }
+        ensures only { (q : ℕ) → IsHeld self.new.memory q → IsHeld self.old.memory q }
         ensures others { (self.new.pool ≡ self.old.pool) × (self.new.table ≡ self.old.table) ×
             (self.new.head ≡ self.old.head) }
         ensures next { (self.new.next ≡ self.old.next + 8) ×
@@ -152,6 +158,7 @@ impl OpenList {
         ensures head { (d : Draft) (e : Draft) → IsRendered self.old d → Room d e →
             HeadIs d.links self.old.head → HeadIs e.links self.new.head }
         ensures pages { whole_pool self.new.pool ≡ whole_pool self.old.pool }
+        ensures held { HoldSame self.new.memory self.old.memory }
     {
         self.make_room();
         self.write_entry(destination_word(p));
@@ -170,9 +177,10 @@ impl OpenList {
         ensures head { (d : Draft) (e : Draft) (t : ℕ × Loading) → IsRendered self.old d → Room d e
             → CanTake e (Some p) t → HeadIs d.links self.old.head → HeadIs e.links self.new.head }
         ensures pages { whole_pool self.new.pool ≡ whole_pool self.old.pool }
+        ensures held { HoldSame self.new.memory self.old.memory }
     {
         self.make_room();
-        let source = self.take(&Some(p));
+        let source = self.take(Some(p));
         fill(&mut self.memory, source, bytes);
         let place = self.next;
         self.write_entry(source_word(source));
@@ -186,6 +194,7 @@ impl OpenList {
             at result.memory p ≡ laid_by d p }
         ensures pool { result.pool ≡ self.pool }
         ensures head { result.head ≡ self.head }
+        ensures held { HoldSame result.memory self.memory }
     {
         let OpenList {
             mut memory,

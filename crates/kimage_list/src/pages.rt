@@ -11,28 +11,30 @@ use crate::taking::TakenPage;
 use kx_pages::{Item, Page};
 use page_memory::Memory;
 
-/// The word at this address.
+/// Writes a word at this address.
 pub fn write_word(memory: &mut Memory, place: u64, word: u64)
     requires inside { place < 2 ^ 46 }
     requires aligned { place % 8 ≡ 0 }
     requires held { IsHeld memory.old (place / 4096) }
     ensures value { at memory.new ≡ set_word (at memory.old) place word }
     ensures stay { (q : ℕ) → IsHeld memory.old q → IsHeld memory.new q }
+    ensures only { (q : ℕ) → IsHeld memory.new q → IsHeld memory.old q }
 {
     memory.set_word(place, word);
 }
 
-/// A page of these bytes, then zeros.
+/// Fills a page with these bytes, then zeros.
 pub fn fill(memory: &mut Memory, p: Page, bytes: &[u8])
     requires held { IsHeld memory.old p }
     requires fits { length bytes.now ≤ 4096 }
     ensures value { at memory.new ≡ put (at memory.old) p (page_of bytes.now) }
     ensures stay { (q : ℕ) → IsHeld memory.old q → IsHeld memory.new q }
+    ensures only { (q : ℕ) → IsHeld memory.new q → IsHeld memory.old q }
 {
     memory.set(p, bytes);
 }
 
-/// The bytes of `from` move to `page`, and the word at `place` names it as their source.
+/// Copies the bytes of `from` to `page`, and writes at `place` the word that names `page` as their source.
 pub fn move_source(memory: &mut Memory, page: Page, from: Page, place: u64)
     requires inside { place < 2 ^ 46 }
     requires aligned { place % 8 ≡ 0 }
@@ -41,6 +43,7 @@ pub fn move_source(memory: &mut Memory, page: Page, from: Page, place: u64)
     ensures value { at memory.new ≡ set_word (put (at memory.old) page (at memory.old from)) place
         (code (Source page)) }
     ensures stay { (q : ℕ) → IsHeld memory.old q → IsHeld memory.new q }
+    ensures only { (q : ℕ) → IsHeld memory.new q → IsHeld memory.old q }
 {
     memory.copy(page, from);
     write_word(memory, place, source_word(page));
@@ -72,6 +75,7 @@ pub fn settle(memory: &mut Memory, taken: &TakenPage)
     requires { CanMove taken.now.moved memory.old }
     ensures value { at memory.new ≡ moved (at memory.old) taken.now.moved taken.now.page }
     ensures stay { (q : ℕ) → IsHeld memory.old q → IsHeld memory.new q }
+    ensures only { (q : ℕ) → IsHeld memory.new q → IsHeld memory.old q }
 {
     if let Some(moved) = &taken.moved {
         move_source(memory, moved.page, taken.page, moved.place);

@@ -31,8 +31,8 @@ enum Fate {
     Exchanged(PageSource),
 }
 
-fn fate_at(table: &Table, wanted: &Option<Page>, q: Page) -> Fate
-    ensures { result ≡ fate_of (is_for wanted.now q) (slot table.now q) }
+fn fate_at(table: &Table, wanted: Option<Page>, q: Page) -> Fate
+    ensures { result ≡ fate_of (is_for wanted q) (slot table.now q) }
 {
     if is_wanted(wanted, q) {
         return Fate::Given;
@@ -44,11 +44,11 @@ fn fate_at(table: &Table, wanted: &Option<Page>, q: Page) -> Fate
     }
 }
 
-fn is_wanted(wanted: &Option<Page>, q: Page) -> bool
-    ensures { result ≡ is_for wanted.now q }
+fn is_wanted(wanted: Option<Page>, q: Page) -> bool
+    ensures { result ≡ is_for wanted q }
 {
     match wanted {
-        Some(d) => *d == q,
+        Some(d) => d == q,
         None => false,
     }
 }
@@ -61,7 +61,7 @@ fn draw_page(pool: &mut Pool, table: &mut Table, wanted: &Option<Page>) -> Optio
     ensures pages { whole_pool pool.new ≡ whole_pool pool.old }
 {
     while let Some(q) = pool.draw() {
-        match fate_at(table, wanted, q) {
+        match fate_at(table, *wanted, q) {
             Fate::Given => {
                 return Some(TakenPage {
                     page: q,
@@ -103,16 +103,16 @@ fn exchange(table: &mut Table, q: Page, loaded: PageSource) -> TakenPage
 pub(crate) fn take_page(
     pool: &mut Pool,
     table: &mut Table,
-    wanted: &Option<Page>,
+    wanted: Option<Page>,
 ) -> Option<TakenPage>
     ensures gives { (D : ℕ → Bool) (l : Loading) → Tracks D l pool.old table.old →
-        Gives D l (taken D wanted.now l) result pool.new table.old table.new }
+        Gives D l (taken D wanted l) result pool.new table.old table.new }
     ensures pages { whole_pool pool.new ≡ whole_pool pool.old }
 {
     if let Some(d) = wanted {
-        if let Some(page) = pool.take_filed(*d) {
+        if let Some(page) = pool.take_filed(d) {
             return Some(TakenPage { page, moved: None });
         }
     }
-    draw_page(pool, table, wanted)
+    draw_page(pool, table, &wanted)
 }

@@ -1,11 +1,12 @@
 //! The writer of a list.
 
-ghost use Rattle.std.specs.Prelude.{◌≡◌, ◌≢◌, ℕ, ◌<◌, ◌≤◌, ◌+◌, ◌^◌, ◌∷◌, [], length, take, drop, None, Some, IfOk, IfErr, false};
+ghost use Rattle.std.specs.Prelude.{◌≡◌, ◌≢◌, ℕ, ◌<◌, ◌≤◌, ◌+◌, ◌^◌, ◌⊎◌, ◌↔◌, ◌∷◌, [], length, take, drop, None, Some, IfOk, IfErr, false};
 ghost use Rattle.page_memory.specs.Contents.{at, IsHeld, page_of};
 ghost use Rattle.page_pool.specs.Pages.{Pages, is_filed, usable_of};
-ghost use Rattle.kx_pages.specs.Lists.{count, sources};
+ghost use Rattle.kx_pages.specs.Lists.{Has, count, sources};
 ghost use Rattle.kx_pages.specs.Spans.{pages};
 ghost use Rattle.kx_pages.specs.Needs.{need_of};
+ghost use Rattle.kimage_list.specs.Held.{HoldSame, load_pages};
 ghost use Rattle.kimage_list.specs.Laying.{image_of, laid};
 ghost use Rattle.kimage_list.specs.Tables.{slot};
 ghost use Rattle.kimage_list.specs.Tracking.{whole_pool};
@@ -48,10 +49,11 @@ impl Model for ListWriter {
 }
 
 impl ListWriter {
-    /// Begins a load of the pages `wanted`, in so many segments: the control page and, with context preserved, the swap
-    /// page are taken. Refuses where the pool has fewer usable pages than the load takes, or for want of memory; memory
-    /// then reads as before, and the pool is as it was. 1 to 16 segments, at most 65,536 pages (this project's own
-    /// limits; kexec_load(2) has KEXEC_SEGMENT_MAX), and nothing filed.
+    /// Begins a load of the pages `wanted`, in so many segments: memory holds the pages that the load takes, the first
+    /// usable ones of the pool, and no other for it; the control page and, with context preserved, the swap page are
+    /// taken. Refuses where the pool has fewer usable pages than the load takes, or for want of memory; memory then reads
+    /// as before, though some of these pages may be held, and the pool is as it was. 1 to 16 segments, at most 65,536
+    /// pages (this project's own limits; kexec_load(2) has KEXEC_SEGMENT_MAX), and nothing filed.
     pub fn begin(
         alloc: Global,
         mut memory: Memory,
@@ -75,6 +77,10 @@ impl ListWriter {
         ensures memory_back { IfErr result (λ r. (q : ℕ) → at r.memory q ≡ at memory q) }
         ensures sets_back { IfErr result (λ r. r.memory.sets ≡ memory.sets) }
         ensures held_back { IfErr result (λ r. (q : ℕ) → IsHeld memory q → IsHeld r.memory q) }
+        ensures held { IfOk result (λ w. (q : ℕ) → IsHeld w.memory q
+            ↔ (IsHeld memory q ⊎ Has q (load_pages pool wanted.now segments wish))) }
+        ensures held_only { IfErr result (λ r. (q : ℕ) → IsHeld r.memory q
+            → IsHeld memory q ⊎ Has q (load_pages pool wanted.now segments wish)) }
     {
         let need = pages_needed(wish, segments, wanted.total());
         let left = pool.left();
@@ -102,6 +108,7 @@ impl ListWriter {
         ensures stands { (h : History) → StandsAt h self.old →
             StandsAt (with_destination h d) self.new }
         ensures pages { whole_pool self.new.pool ≡ whole_pool self.old.pool }
+        ensures held { (q : ℕ) → IsHeld self.new.memory q ↔ IsHeld self.old.memory q }
     {
         self.list.add_start(d);
         self.segments_left -= 1;
@@ -116,6 +123,7 @@ impl ListWriter {
         ensures stands { (h : History) (d : ℕ) → self.old.destination ≡ Some d → StandsAt h self.old
             → StandsAt (with_source h d (page_of bytes.now)) self.new }
         ensures pages { whole_pool self.new.pool ≡ whole_pool self.old.pool }
+        ensures held { (q : ℕ) → IsHeld self.new.memory q ↔ IsHeld self.old.memory q }
     {
         match self.destination {
             Some(number) => {
@@ -135,6 +143,7 @@ impl ListWriter {
         ensures drawn { (h : History) (p : Pages) → StandsAt h self → h.pool ≡ usable_of p
             → whole_pool self.pool ≡ whole_pool p → HasDrawn (need h) p result.pool }
         ensures pages { whole_pool result.pool ≡ whole_pool self.pool }
+        ensures held { (q : ℕ) → IsHeld result.memory q ↔ IsHeld self.memory q }
     {
         let ListWriter {
             list,
@@ -161,6 +170,7 @@ fn open(mut list: OpenList, segments: usize, wish: Wish) -> ListWriter
     requires { (h : History) × IsPrepared h list segments wish }
     ensures stands { (h : History) → IsPrepared h list segments wish → StandsAt h result }
     ensures pages { whole_pool result.pool ≡ whole_pool list.pool }
+    ensures held { HoldSame result.memory list.memory }
 {
     let first = list.take_first();
     let mode = match wish {

@@ -30,7 +30,7 @@ pub enum BeginFault {
 /// A list that is not begun.
 #[derive(Drop)]
 pub struct BeginRefused {
-    /// The memory that was handed in: it reads as before.
+    /// The memory that was handed in: it reads as before, though some pages that the load takes may be held.
     pub memory: Memory,
     /// The pool that was handed in, as it was.
     pub pool: Pool,
