@@ -5,6 +5,7 @@ ghost use Rattle.page_memory.specs.Contents.{at};
 ghost use Rattle.segments.specs.Values.{want, overlay, pages};
 ghost use Rattle.kx_pages.specs.Items.{decode};
 ghost use Rattle.list_checker.specs.Crash.{AcceptedCrash as IsAcceptedCrash, crash_reason};
+ghost use Rattle.load_states.specs.Runs.{CrashRunsTo};
 
 use crate::lay::{hold_set, lay_set};
 use crate::ran::RanPlain;
@@ -124,6 +125,9 @@ impl AcceptedCrash {
         ensures steps { result.steps ≡ 1 }
         ensures memory { (p : ℕ) → at result.memory p ≡ at self.memory p }
         ensures sets { result.memory.sets ≡ self.memory.sets }
+        ensures run { CrashRunsTo self 1 result.memory }
+        // Held pages are the same too.
+        ensures unchanged { result.memory ≡ self.memory }
     {
         let (mut memory, head, _) = self.loaded.parts();
         let steps = run_to_end(&mut memory, head, Mode::Plain, 1);
