@@ -38,7 +38,7 @@ below W M qs h k = Each-map qs (λ q e. h q.0 (M q.1) e) k
 wanted_below : (S : List SegmentValue) → IsBare S → (p : ℕ) (b : List ℕ) → want S p ≡ Some b → p < 2 ^ 34
 wanted_below S k p b e = let a = AreSegments-from_IsBare S k in pages_below S p a.placed (Has-from_want S p b a.placed e)
 
-told_of : (s : Load) (a : Accept) → IsAccept s.memory s.segments s.image a → Told s a.words a.links (map as_pair a.pairs.items)
+pub told_of : (s : Load) (a : Accept) → IsAccept s.memory s.segments s.image a → Told s a.words a.links (map as_pair a.pairs.items)
 told_of s a h = record { items = h.0; accepted = h.1; count = h.2; link_pages = h.3; same_pairs = h.4 }
 
 -- a plain list that is accepted and whose pages are held
@@ -137,6 +137,13 @@ plain_done c r = (plain_ends c c.load.memory c.load.image r refl refl).ends
 
 pub kept_done : (c : Checked) → IsReadyKept c → EndsAfter c.load c.words
 kept_done c r = (kept_ends (at c.load.memory) c r.swap r.items c.load.memory c.load.image r.kept refl refl).ends
+
+-- the pages that these runs write are held
+pub plain_held : (c : Checked) → IsReadyPlain c → HoldsPairs c.load.memory c.load.image.mode c.pairs
+plain_held c r = subst (λ mode. HoldsPairs c.load.memory mode c.pairs) (sym r.mode) r.held
+
+pub kept_held : (c : Checked) → IsReadyKept c → HoldsPairs c.load.memory c.load.image.mode c.pairs
+kept_held c r = subst (λ mode. HoldsPairs c.load.memory mode c.pairs) (sym r.kept.mode) r.kept.held
 
 -- the pairs and the swap page have no page in common
 pub pairs_apart : (M : Mem) (c : Checked) (swap : ℕ) (items : List Item) → IsKept M c swap items → PairsApart c.pairs × Each (λ q. (q.0 ≢ swap_of c.load) × (q.1 ≢ swap_of c.load)) c.pairs
