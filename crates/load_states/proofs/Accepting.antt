@@ -1,5 +1,5 @@
 -- Accepted lists, as `accept` answers them.
-use Rattle.std.proofs.Common.{◌≡◌, ℕ, List, sym, ap, ◌∙◌, subst, inl, inr, ⊎_elim}
+use Rattle.std.proofs.Common.{◌≡◌, ℕ, sym, ap, ◌∙◌, subst, inl, inr, ⊎_elim}
 use Rattle.std.specs.Prelude.{◌⊎◌, IsSome, map}
 use Rattle.kx_pages.specs.Lists.{Each, Has}
 use Rattle.kx_pages.proofs.Lists.{Each-at}

@@ -80,9 +80,9 @@ pub set-from_pages : (rs : List Run) (p : ℕ) → Has p (pages_of_spans rs) →
 set-from_pages [] p h = absurd h
 set-from_pages (r ∷ rs) p h = ⊎_elim
     (λ i.
-        let k = Has-range r.count r.first p i in
-        let here : in_span r p ≡ true = grind (arith, nat_tests) in
-        ap (λ b. b || in_spans rs p) here)
+    let k = Has-range r.count r.first p i in
+    let here : in_span r p ≡ true = grind (arith, nat_tests) in
+    ap (λ b. b || in_spans rs p) here)
     (λ i. or_second (in_span r p) (in_spans rs p) (set-from_pages rs p i))
     (Has-either p (range_with_len r.first r.count) (pages_of_spans rs) h)
   where
@@ -94,9 +94,9 @@ pub pages-from_set : (rs : List Run) (p : ℕ) → in_spans rs p ≡ true → Ha
 pages-from_set [] p e = absurd (false≢true e)
 pages-from_set (r ∷ rs) p e = ⊎_elim
     (λ t.
-        let low : r.first ≤ p = grind (arith, nat_tests) in
-        let high : p < r.first + r.count = grind (arith, nat_tests) in
-        Has-left p (range_with_len r.first r.count) (pages_of_spans rs) (range-Has r.count r.first p low high))
+    let low : r.first ≤ p = grind (arith, nat_tests) in
+    let high : p < r.first + r.count = grind (arith, nat_tests) in
+    Has-left p (range_with_len r.first r.count) (pages_of_spans rs) (range-Has r.count r.first p low high))
     (λ t. Has-right p (range_with_len r.first r.count) (pages_of_spans rs) (pages-from_set rs p t))
     (or_cases (in_span r p) (in_spans rs p) e)
 

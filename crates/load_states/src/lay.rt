@@ -37,11 +37,7 @@ fn rising_pages(alloc: Global, set: &PageSet) -> Result<Vec<Page>, AllocError>
 
 /// Each page of the set is held, and no other becomes so; room is made at once. What memory reads as stays, after want
 /// of memory too.
-pub(crate) fn hold_set(
-    alloc: Global,
-    memory: &mut Memory,
-    set: &PageSet,
-) -> Result<(), AllocError>
+pub(crate) fn hold_set(alloc: Global, memory: &mut Memory, set: &PageSet) -> Result<(), AllocError>
     ensures held { OnOk result ((p : ℕ) → IsTrue (in_spans set.now p) → IsHeld memory.new p) }
     ensures same { (q : ℕ) → at memory.new q ≡ at memory.old q }
     ensures sets { memory.new.sets ≡ memory.old.sets }

@@ -174,11 +174,7 @@ impl Loaded {
 }
 
 // Makes the state of an accepted list: each page that its run writes is held.
-fn hold_for_run(
-    alloc: Global,
-    mut loaded: Loaded,
-    accept: Accept,
-) -> Result<Accepted, NotAccepted>
+fn hold_for_run(alloc: Global, mut loaded: Loaded, accept: Accept) -> Result<Accepted, NotAccepted>
     requires told { IsAccept loaded.memory loaded.segments loaded.image accept }
     requires bare { IsBare loaded.segments }
     ensures accepted { IfOk result (λ a. IsAcceptedAs loaded a) }

@@ -1,4 +1,4 @@
-use Rattle.std.proofs.Common.{◌∙◌, inl, inr, subst, sym, ⊎_elim}
+use Rattle.std.proofs.Common.{◌∙◌, inl, inr, subst, ⊎_elim}
 use Rattle.kx_pages.specs.Lists.{Has}
 use Rattle.load_states.proofs.Laying.{all_held, set-from_pages}
 use Rattle.load_states.proofs.lay.hold_set.Goals as goal

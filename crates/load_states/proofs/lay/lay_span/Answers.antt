@@ -1,6 +1,5 @@
 use Rattle.std.proofs.Common.{◌≡◌, ℕ, ◌+◌, ◌<◌, ⊎_elim, sym, ◌∙◌, subst, arith}
 use Rattle.std.specs.Prelude.{◌⊎◌, IsSome, Some}
-use Rattle.std.proofs.lemmas.Grind.{common_steps}
 use Rattle.page_memory.specs.Contents.{at}
 use Rattle.segments.specs.Values.{want}
 use Rattle.load_states.proofs.Laying.{lays_more, right_stays}

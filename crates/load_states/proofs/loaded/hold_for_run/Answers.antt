@@ -1,4 +1,4 @@
-use Rattle.std.proofs.Common.{◌≡◌, ℕ, List, ap, subst}
+use Rattle.std.proofs.Common.{List, subst}
 use Rattle.std.specs.Prelude.{◌⊎◌, map}
 use Rattle.kx_pages.specs.Lists.{Each, Has}
 use Rattle.page_memory.specs.Contents.{IsHeld}
