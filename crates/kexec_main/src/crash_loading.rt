@@ -46,7 +46,7 @@ pub(crate) fn load_in_place(
         regions,
         digest,
     } = planned;
-    match load_crash(memory, segments) {
+    match load_crash(alloc, memory, segments) {
         Ok(loaded) => Ok(CrashKernel {
             loaded,
             start,

@@ -45,7 +45,7 @@ tells_alike c told d same other =
     }
 
 -- what is told of a list is told of it where nothing has changed but which pages are held
-told_left : (s n : Load) (words link_count : ℕ) (qs : List (ℕ × ℕ)) → IsLeftAs s n → Told s words link_count qs → Told n words link_count qs
+pub told_left : (s n : Load) (words link_count : ℕ) (qs : List (ℕ × ℕ)) → IsLeftAs s n → Told s words link_count qs → Told n words link_count qs
 told_left s n words link_count qs left told =
     let memory : at s.memory ≡ at n.memory = sym (same_memory (at n.memory) (at s.memory) left.reads) in
     let P : Mem → List SegmentValue → Image → Type 0 = λ M S i. IsAccepted M (want S) i.head i.control (swap_page i.mode) told.items in

@@ -301,3 +301,11 @@ done_runs H mode m head e =
     let p = head / 4096 in
     let w : head ≡ code (Done p) = omega (arith, e) in
     last_one H 0 (start_at m head mode) (end_at mode 0 0 m) (begin-done H mode p m head w) refl
+
+-- and it leaves the memory that it found
+pub done_leaves : (mode : Mode) (m : Contents) (head : ℕ) → head % 4096 ≡ 4 → (run_from 1 0 (start_at m head mode)).0.memory ≡ m
+unfolding run_from
+done_leaves mode m head e =
+    let p = head / 4096 in
+    let w : head ≡ code (Done p) = omega (arith, e) in
+    ap (λ r. r.0.memory) (ap (run_after 0 (λ t. run_from 0 1 t)) (begin-done ⊥ mode p m head w).0)

@@ -28,6 +28,11 @@ held_written (Kept swap) m qs h =
     let rest = Each-right (λ p. IsHeld m p) (destinations qs) (sources qs ++ swap ∷ []) h in
     held_kept m swap qs (Each-right (λ p. IsHeld m p) (sources qs) (swap ∷ []) rest).0 (Each-left (λ p. IsHeld m p) (destinations qs) (sources qs ++ swap ∷ []) h) (Each-left (λ p. IsHeld m p) (sources qs) (swap ∷ []) rest)
 
+-- the pages that were held are those that the moves write
+pub all_written : {T E : Type 0} (r : Result T E) (mode : Mode) (m : Contents) (qs : List (ℕ × ℕ)) (pages : List ℕ) → pages ≡ written_pages mode qs → OnOk r (All (λ p. IsHeld m p) pages) → OnOk r (Each (λ p. IsHeld m p) (written_pages mode qs))
+all_written (Err e) mode m qs pages same held = held
+all_written (Ok x) mode m qs pages same held = subst (Each (λ p. IsHeld m p)) same (Each-from_All (λ p. IsHeld m p) pages held)
+
 -- where the pages that the moves write are held, the moves' pages are
 pub holds_written : {T E : Type 0} (r : Result T E) (mode : Mode) (m : Contents) (qs : List (ℕ × ℕ)) (pages : List ℕ) → pages ≡ written_pages mode qs → OnOk r (All (λ p. IsHeld m p) pages) → OnOk r (Holds m mode qs)
 holds_written (Err e) mode m qs pages same held = held

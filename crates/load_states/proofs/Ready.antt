@@ -16,12 +16,12 @@ use Rattle.segments.proofs.Laws.{AreSegments-from_IsBare, Has-from_want, pages_b
 use Rattle.list_checker.specs.declared.earlier.Accept.{Accept}
 use Rattle.list_checker.specs.Walk.{Accepted, AcceptedKept, PairsApart, IsAccepted, links, pairs}
 use Rattle.list_checker.specs.Checked.{as_pair, IsAccept}
-use Rattle.load_states.specs.States.{Load, Checked, checked_of, swap_of}
+use Rattle.load_states.specs.States.{CrashLoad, Load, Checked, checked_of, swap_of}
 use Rattle.load_states.specs.Exchange.{exchange, partner}
 use Rattle.load_states.proofs.Exchange.{arrives, link_kept, link_unwanted, restores, returns, no_source_wanted, sources_get}
-use Rattle.load_states.specs.Runs.{EndsAfter, RunsTo}
+use Rattle.load_states.specs.Runs.{CrashRunsTo, EndsAfter, RunsTo}
 use Rattle.load_states.specs.Ready.{Told, HoldsPairs, IsReadyPlain, IsKept, IsReadyKept, IsToGoBack}
-use Rattle.load_states.proofs.Bridge.{Comes, plain_runs, kept_runs, done_runs}
+use Rattle.load_states.proofs.Bridge.{Comes, plain_runs, kept_runs, done_runs, done_leaves}
 use Rattle.load_states.proofs.Holding.{Holds}
 use Rattle.kx_pages.specs.declared.image.Image.{Image}
 use Rattle.relocate_machine.specs.Machine.{start_at}
@@ -38,7 +38,7 @@ below W M qs h k = Each-map qs (λ q e. h q.0 (M q.1) e) k
 wanted_below : (S : List SegmentValue) → IsBare S → (p : ℕ) (b : List ℕ) → want S p ≡ Some b → p < 2 ^ 34
 wanted_below S k p b e = let a = AreSegments-from_IsBare S k in pages_below S p a.placed (Has-from_want S p b a.placed e)
 
-told_of : (s : Load) (a : Accept) → IsAccept s.memory s.segments s.image a → Told s a.words a.links (map as_pair a.pairs.items)
+pub told_of : (s : Load) (a : Accept) → IsAccept s.memory s.segments s.image a → Told s a.words a.links (map as_pair a.pairs.items)
 told_of s a h = record { items = h.0; accepted = h.1; count = h.2; link_pages = h.3; same_pairs = h.4 }
 
 -- a plain list that is accepted and whose pages are held
@@ -137,6 +137,13 @@ plain_done c r = (plain_ends c c.load.memory c.load.image r refl refl).ends
 
 pub kept_done : (c : Checked) → IsReadyKept c → EndsAfter c.load c.words
 kept_done c r = (kept_ends (at c.load.memory) c r.swap r.items c.load.memory c.load.image r.kept refl refl).ends
+
+-- the pages that these runs write are held
+pub plain_held : (c : Checked) → IsReadyPlain c → HoldsPairs c.load.memory c.load.image.mode c.pairs
+plain_held c r = subst (λ mode. HoldsPairs c.load.memory mode c.pairs) (sym r.mode) r.held
+
+pub kept_held : (c : Checked) → IsReadyKept c → HoldsPairs c.load.memory c.load.image.mode c.pairs
+kept_held c r = subst (λ mode. HoldsPairs c.load.memory mode c.pairs) (sym r.kept.mode) r.kept.held
 
 -- the pairs and the swap page have no page in common
 pub pairs_apart : (M : Mem) (c : Checked) (swap : ℕ) (items : List Item) → IsKept M c swap items → PairsApart c.pairs × Each (λ q. (q.0 ≢ swap_of c.load) × (q.1 ≢ swap_of c.load)) c.pairs
@@ -246,6 +253,15 @@ pub crash_ends : (m n : Contents) (head h : ℕ) → m ≡ n → head ≡ h → 
 crash_ends m n head h e f done =
     subst (λ x. Ends m (record { head = head; mode = Plain; control = 0 }) 1 (at x)) e
     (ends_of m (record { head = head; mode = Plain; control = 0 }) 1 (at m) (done_runs Held Plain m head (ap (λ x. x % 4096) f ∙ done)))
+
+-- this run, as the crash load has it, and that it leaves the memory that it found
+pub crash_runs : (c : CrashLoad) (m n : Contents) (head : ℕ) → m ≡ c.memory → head ≡ c.head → c.head % 4096 ≡ 4
+    → n ≡ (run_of m head Plain 1).0.memory → CrashRunsTo c 1 n × (n ≡ c.memory)
+crash_runs c m n head e f done left =
+    let same : (run_of m head Plain 1).0.memory ≡ (run_of c.memory c.head Plain 1).0.memory = λ i. (run_of (e i) (f i) Plain 1).0.memory in (
+      ((crash_ends c.memory c.memory c.head c.head refl refl done).ends, left ∙ same),
+      left ∙ same ∙ done_leaves Plain c.memory c.head done,
+    )
 
 -- what runs leave of a load whose list was accepted with context preserved
 module _ (c : Checked) (swap : ℕ) (mode : c.load.image.mode ≡ Kept swap) (t : Told c.load c.words c.links c.pairs) where

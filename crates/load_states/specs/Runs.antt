@@ -2,6 +2,7 @@
 use Rattle.std.specs.Prelude.{◌≡◌, ℕ, List, None, take}
 use Rattle.kx_pages.specs.Lists.{count}
 use Rattle.kx_pages.specs.declared.image.Wish.{Wish}
+use Rattle.kx_pages.specs.declared.image.Mode.TheVariants.{Plain}
 use Rattle.page_memory.specs.Contents.{Contents, at}
 use Rattle.page_memory.specs.Memory.{Mem, Agree}
 use Rattle.relocate_machine.specs.Run.{run_of}
@@ -9,7 +10,7 @@ use Rattle.relocate_machine.specs.declared.step.Outcome.TheVariants as outcomes
 use Rattle.segments.specs.Values.{need, overlay, want}
 use Rattle.load_states.specs.declared.accepted.Accepted.{Accepted}
 use Rattle.load_states.specs.declared.accepted.Accepted.TheVariants as variants
-use Rattle.load_states.specs.States.{Checked, Load, Returned, swap_of, with_memory}
+use Rattle.load_states.specs.States.{Checked, CrashLoad, Load, Returned, swap_of, with_memory}
 use Rattle.load_states.specs.Exchange.{exchange}
 use Rattle.load_states.specs.Fillings.{IsSealed}
 use Rattle.load_states.specs.Ready.{Told}
@@ -33,6 +34,12 @@ EndsAfter s steps = (run_of s.memory s.image.head s.image.mode steps).1 ≡ outc
 abbrev pub RunsTo : Load → ℕ → Contents → Type 0
 RunsTo s steps m =
     EndsAfter s steps × (m ≡ (run_of s.memory s.image.head s.image.mode steps).0.memory)
+
+-- the same of a crash list, which runs in plain mode
+abbrev pub CrashRunsTo : CrashLoad → ℕ → Contents → Type 0
+CrashRunsTo c steps m =
+    ((run_of c.memory c.head Plain steps).1 ≡ outcomes.Done steps)
+    × (m ≡ (run_of c.memory c.head Plain steps).0.memory)
 
 -- since the first run, from memory M, at most pages of the segments were written
 abbrev pub IsTouched : Mem → Checked → Type 0

@@ -10,7 +10,7 @@ ghost use Rattle.kx_pages.specs.Modes.{swap_page};
 ghost use Rattle.list_checker.specs.Checked.{as_pair, IsAccept};
 ghost use Rattle.load_states.specs.Exchange.{exchange};
 ghost use Rattle.load_states.specs.States.{swap_of, with_memory, checked_of};
-ghost use Rattle.load_states.specs.Ready.{Told};
+ghost use Rattle.load_states.specs.Ready.{HoldsPairs, Told};
 ghost use Rattle.load_states.specs.Runs.{EndsAfter, RunsTo};
 ghost use Rattle.load_states.specs.Answers.{IsMadeOf};
 
@@ -76,6 +76,8 @@ impl AcceptedPlain {
         ensures accepted { Told self.now.load self.now.words self.now.links self.now.pairs }
         // The machine's run of it, from the memory that this owns, is done after as many steps as the walk has words.
         ensures ends { EndsAfter self.now.load self.now.words }
+        // Each page that the run writes is held.
+        ensures held { HoldsPairs self.now.load.memory self.now.load.image.mode self.now.pairs }
     {
         &self.accept
     }
@@ -147,6 +149,8 @@ impl AcceptedKept {
         ensures accepted { Told self.now.load self.now.words self.now.links self.now.pairs }
         // The machine's run of it, from the memory that this owns, is done after as many steps as the walk has words.
         ensures ends { EndsAfter self.now.load self.now.words }
+        // Each page that the run writes is held.
+        ensures held { HoldsPairs self.now.load.memory self.now.load.image.mode self.now.pairs }
     {
         &self.accept
     }

@@ -1,10 +1,11 @@
 //! Crash kernels, which lie in their place from the load on.
 
-ghost use Rattle.std.specs.Prelude.{◌≡◌, ℕ, IfOk, IfErr};
-ghost use Rattle.page_memory.specs.Contents.{at};
-ghost use Rattle.segments.specs.Values.{want, overlay, pages};
+ghost use Rattle.std.specs.Prelude.{◌≡◌, ◌⊎◌, ◌↔◌, ℕ, true, IfOk, IfErr};
+ghost use Rattle.page_memory.specs.Contents.{at, IsHeld};
+ghost use Rattle.segments.specs.Values.{is_destination, want, overlay, pages};
 ghost use Rattle.kx_pages.specs.Items.{decode};
 ghost use Rattle.list_checker.specs.Crash.{AcceptedCrash as IsAcceptedCrash, crash_reason};
+ghost use Rattle.load_states.specs.Runs.{CrashRunsTo};
 
 use crate::lay::{hold_set, lay_set};
 use crate::ran::RanPlain;
@@ -13,6 +14,7 @@ use kx_pages::Mode;
 use list_checker::{ListFault, check_crash};
 use page_memory::Memory;
 use segments::Segments;
+use std::alloc::Global;
 use std::marker::Model;
 
 /// The word of a list with nothing in it.
@@ -124,6 +126,9 @@ impl AcceptedCrash {
         ensures steps { result.steps ≡ 1 }
         ensures memory { (p : ℕ) → at result.memory p ≡ at self.memory p }
         ensures sets { result.memory.sets ≡ self.memory.sets }
+        ensures run { CrashRunsTo self 1 result.memory }
+        // Held pages are the same too.
+        ensures unchanged { result.memory ≡ self.memory }
     {
         let (mut memory, head, _) = self.loaded.parts();
         let steps = run_to_end(&mut memory, head, Mode::Plain, 1);
@@ -132,8 +137,13 @@ impl AcceptedCrash {
 }
 
 /// Puts each page of the segments in its place: it becomes what it is to have, every other page stays, and the head is a
-/// done word. The list is accepted. Refused for want of memory alone, with what memory reads as unchanged.
-pub fn load_crash(mut memory: Memory, segments: Segments) -> Result<CrashLoaded, (Memory, Segments)>
+/// done word. The list is accepted. The pages are held then, and no other page comes to be so. Refused for want of memory
+/// alone, with what memory reads as unchanged; some of the pages may be held then.
+pub fn load_crash(
+    alloc: Global,
+    mut memory: Memory,
+    segments: Segments,
+) -> Result<CrashLoaded, (Memory, Segments)>
     ensures loaded { IfOk result (λ c.
         (p : ℕ) → at c.memory p ≡ overlay (at memory) (want segments) p) }
     ensures head { IfOk result (λ c. c.head ≡ 4) }
@@ -141,8 +151,13 @@ pub fn load_crash(mut memory: Memory, segments: Segments) -> Result<CrashLoaded,
     ensures accepted { IfOk result (λ c. IsAcceptedCrash (at c.memory) (want c.segments) c.head) }
     ensures given_back { IfErr result (λ r.
         ((p : ℕ) → at r.0 p ≡ at memory p) × (r.0.sets ≡ memory.sets) × (r.1 ≡ segments)) }
+    ensures held { IfOk result (λ c. (q : ℕ) →
+        IsHeld c.memory q ↔ (IsHeld memory q ⊎ (is_destination segments q ≡ true))) }
+    ensures held_back { IfErr result (λ r. (q : ℕ) → IsHeld memory q → IsHeld r.0 q) }
+    ensures no_other { IfErr result (λ r. (q : ℕ) → IsHeld r.0 q →
+        IsHeld memory q ⊎ (is_destination segments q ≡ true)) }
 {
-    match hold_set(&mut memory, segments.spans()) {
+    match hold_set(alloc, &mut memory, segments.spans()) {
         Ok(()) => {
             lay_set(&mut memory, &segments, segments.spans());
             Ok(CrashLoaded::from_parts(memory, DONE, segments))

@@ -3,7 +3,6 @@
 ghost use Rattle.std.specs.Prelude.{◌≡◌, ℕ, false, IfOk};
 ghost use Rattle.page_pool.specs.Pages.{is_filed};
 
-use crate::fill_tests::seal;
 use crate::{Accepted, Filling, Loaded};
 use kx_pages::{Page, Wish};
 use list_checker::Pair;
@@ -66,7 +65,7 @@ fn zeros(alloc: Global) -> Result<Segments, Fail> {
 fn load(alloc: Global) -> Result<Loaded, Fail> {
     let memory = Memory::empty(alloc);
     match Filling::begin(alloc, memory, pool(alloc)?, zeros(alloc)?, Wish::Plain) {
-        Ok(filling) => Ok(seal(filling)),
+        Ok(filling) => Ok(filling.finish()),
         Err(_) => Err("a load".into()),
     }
 }

@@ -45,17 +45,9 @@ fn load(alloc: Global, pool: Pool, segments: Segments, wish: Wish) -> Result<Loa
     requires { (q : ℕ) → is_filed pool q ≡ false }
 {
     match Filling::begin(alloc, Memory::empty(alloc), pool, segments, wish) {
-        Ok(filling) => Ok(seal(filling)),
+        Ok(filling) => Ok(filling.finish()),
         Err(_) => Err("a load".into()),
     }
-}
-
-// Fills all segments, and seals.
-pub(crate) fn seal(mut filling: Filling) -> Loaded {
-    while filling.left() > 0 {
-        filling.fill();
-    }
-    filling.seal()
 }
 
 #[test]

@@ -143,6 +143,18 @@ impl Filling {
         let written = writer.finish();
         Loaded::from_parts(written.memory, written.pool, written.image, segments)
     }
+
+    /// Writes the segments that are left, and ends the list: `fill` for each of them, and `seal`.
+    pub fn finish(mut self) -> Loaded
+        ensures sealed { (M : Mem) (pool : List ℕ) (wish : WishOf) → FillsFrom M pool wish self →
+            IsSealed M pool wish self.segments result }
+        ensures pages { whole_pool result.pool ≡ whole_pool self.writer.pool }
+    {
+        while self.left() > 0 {
+            self.fill();
+        }
+        self.seal()
+    }
 }
 
 // The set of the segments' pages.

@@ -1,7 +1,7 @@
 //! Holding the pages that a run writes.
 
-ghost use Rattle.std.specs.Prelude.{◌≡◌, ℕ, ◌++◌, map, IfOk, OnOk};
-ghost use Rattle.kx_pages.specs.Lists.{Each, destinations, sources};
+ghost use Rattle.std.specs.Prelude.{◌≡◌, ◌⊎◌, ℕ, ◌++◌, map, IfOk, OnOk};
+ghost use Rattle.kx_pages.specs.Lists.{Each, Has, destinations, sources};
 ghost use Rattle.page_memory.specs.Contents.{at, IsHeld};
 ghost use Rattle.relocate_machine.specs.Writes.{AreHeld, move_writes};
 ghost use Rattle.list_checker.specs.Checked.{as_pair};
@@ -46,8 +46,8 @@ fn written_pages(alloc: Global, mode: &Mode, pairs: &[Pair]) -> Result<Vec<Page>
     Ok(pages)
 }
 
-/// Each page that the pairs' moves write is held, and what was held stays so. What memory reads as stays, after want of
-/// memory too.
+/// Each page that the pairs' moves write is held, what was held stays so, and no other becomes held. What memory reads as
+/// stays, after want of memory too.
 pub(crate) fn hold_pairs(
     alloc: Global,
     memory: &mut Memory,
@@ -59,6 +59,10 @@ pub(crate) fn hold_pairs(
     ensures same { (q : ℕ) → at memory.new q ≡ at memory.old q }
     ensures sets { memory.new.sets ≡ memory.old.sets }
     ensures stay { (q : ℕ) → IsHeld memory.old q → IsHeld memory.new q }
+    ensures written { OnOk result (Each (λ q. IsHeld memory.new q)
+        (written_pages mode.now (map as_pair pairs.now))) }
+    ensures only { (q : ℕ) → IsHeld memory.new q →
+        IsHeld memory.old q ⊎ Has q (written_pages mode.now (map as_pair pairs.now)) }
 {
     let pages = written_pages(alloc, mode, pairs)?;
     memory.hold_all(&pages)

@@ -1,13 +1,14 @@
 //! Memory with any list.
 
-ghost use Rattle.std.specs.Prelude.{◌≡◌, ◌≤◌, length, map, IfOk, IfErr, OnOk};
-ghost use Rattle.kx_pages.specs.Lists.{Each};
+ghost use Rattle.std.specs.Prelude.{◌≡◌, ◌≤◌, ◌⊎◌, ℕ, length, map, IfOk, IfErr, OnOk};
+ghost use Rattle.kx_pages.specs.Lists.{Each, Has};
 ghost use Rattle.page_memory.specs.Contents.{IsHeld, after_set, page_of};
 ghost use Rattle.relocate_machine.specs.Writes.{AreHeld, move_writes};
 ghost use Rattle.list_checker.specs.Checked.{as_pair, IsAccept, IsCheckFault};
 ghost use Rattle.segments.specs.Rules.{IsBare};
 ghost use Rattle.load_states.specs.States.{IsLeftAs, no_pages, with_memory};
-ghost use Rattle.load_states.specs.Answers.{IsAcceptedAs};
+ghost use Rattle.load_states.specs.Answers.{HoldsForRun, HoldsNoOther, IsAcceptedAs};
+ghost use Rattle.load_states.specs.Ready.{written_pages};
 ghost use Rattle.load_states.specs.Runs.{TellsAlike, checked_in};
 
 use crate::accepted::{Accepted, of_mode};
@@ -48,7 +49,9 @@ impl Model for Loaded {
 /// The load, as it was, and why its list was not found to be accepted.
 #[derive(Drop)]
 pub struct NotAccepted {
+    /// The load that was tested.
     pub loaded: Loaded,
+    /// The first fault of its list, or want of memory.
     pub why: CheckFault,
 }
 
@@ -124,12 +127,16 @@ impl Loaded {
         (memory, pool, image, segments)
     }
 
-    // Holds each page that the pairs' moves write.
+    // Holds the pages that the pairs' moves write, and no other.
     fn hold(&mut self, alloc: Global, pairs: &[Pair]) -> Result<(), AllocError>
         ensures held { OnOk result (Each (λ q.
             AreHeld self.new.memory (move_writes self.new.image.mode q.0 q.1))
             (map as_pair pairs.now)) }
         ensures same { IsLeftAs self.old self.new }
+        ensures written { OnOk result (Each (λ q. IsHeld self.new.memory q)
+            (written_pages self.old.image.mode (map as_pair pairs.now))) }
+        ensures only { (q : ℕ) → IsHeld self.new.memory q → IsHeld self.old.memory q
+            ⊎ Has q (written_pages self.old.image.mode (map as_pair pairs.now)) }
     {
         hold_pairs(alloc, &mut self.memory, &self.image.mode, pairs)
     }
@@ -145,7 +152,8 @@ impl Loaded {
     }
 
     /// Tests the list in the memory for the segments. Ok exactly where it is accepted, in the image's mode, want of memory
-    /// aside. The load is as it was, but that more pages may be held, on Ok and after a refusal.
+    /// aside. Each page that the run writes is held then. All else is as it was, after a refusal too: where the list has
+    /// a fault the load is unchanged, and where memory is wanted some of these pages may be held.
     pub fn accept(self, alloc: Global) -> Result<Accepted, NotAccepted>
         ensures accepted { IfOk result (λ a. IsAcceptedAs self a) }
         // Of a load that reads alike the same is told, and its runs leave the same.
@@ -153,20 +161,26 @@ impl Loaded {
         ensures refused { IfErr result (λ e.
             IsCheckFault self.memory self.segments self.image e.why) }
         ensures given_back { IfErr result (λ e. IsLeftAs self e.loaded) }
+        ensures held { IfOk result (λ a. HoldsForRun self (checked_in a)) }
+        ensures as_it_was { IfErr result (λ e.
+            (e.why ≡ CheckFault.Memory → ⊥) → e.loaded ≡ self) }
+        ensures no_other { IfErr result (λ e. HoldsNoOther self e.loaded) }
     {
         match check(alloc, &self.memory, &self.image, &self.segments) {
-            Ok(accept) => hold_all(alloc, self, accept),
+            Ok(accept) => hold_for_run(alloc, self, accept),
             Err(why) => Err(NotAccepted { loaded: self, why }),
         }
     }
 }
 
-// Holds each page that the run of an accepted list writes.
-fn hold_all(alloc: Global, mut loaded: Loaded, accept: Accept) -> Result<Accepted, NotAccepted>
+// Makes the state of an accepted list: each page that its run writes is held.
+fn hold_for_run(alloc: Global, mut loaded: Loaded, accept: Accept) -> Result<Accepted, NotAccepted>
     requires told { IsAccept loaded.memory loaded.segments loaded.image accept }
     requires bare { IsBare loaded.segments }
     ensures accepted { IfOk result (λ a. IsAcceptedAs loaded a) }
+    ensures held { IfOk result (λ a. HoldsForRun loaded (checked_in a)) }
     ensures refused { IfErr result (λ e. (e.why ≡ CheckFault.Memory) × IsLeftAs loaded e.loaded) }
+    ensures no_other { IfErr result (λ e. HoldsNoOther loaded e.loaded) }
 {
     match loaded.hold(alloc, &accept.pairs) {
         Ok(()) => Ok(of_mode(loaded, accept)),

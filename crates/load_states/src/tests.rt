@@ -145,7 +145,7 @@ fn a_refused_list_comes_back(rt: HostRuntime) -> Result<(), Fail> {
 fn a_crash_kernel_lies_in_its_place(rt: HostRuntime) -> Result<(), Fail> {
     let alloc = rt.alloc();
     let segments = b_and_c(alloc, 0x2000)?;
-    let loaded = load_crash(Memory::empty(alloc), segments)
+    let loaded = load_crash(alloc, Memory::empty(alloc), segments)
         .ok()
         .ok_or("memory")?;
     assert_eq!(rt; loaded.memory().byte(0x3000), b'c');

@@ -1,6 +1,6 @@
-use Rattle.std.proofs.Common.{◌≡◌, ℕ, List, Option, sym, ap, ◌∙◌, subst, inl}
+use Rattle.std.proofs.Common.{◌≡◌, ℕ, List, Option, sym, ap, ◌∙◌, subst, inl, inr, ⊎_elim}
 use Rattle.std.specs.Prelude.{IsSome, Some, is_some}
-use Rattle.page_memory.specs.Contents.{at}
+use Rattle.page_memory.specs.Contents.{IsHeld, at}
 use Rattle.segments.specs.Values.{want}
 use Rattle.segments.proofs.Laws.{is_some-want}
 use Rattle.kx_laws.proofs.Options.{some_same}
@@ -33,3 +33,14 @@ returns-in-Ok-clause-accepted c =
   where
     there_some : (o : Option (List ℕ)) (b : List ℕ) → o ≡ Some b → IsSome o
     there_some o b e = ap is_some e
+
+pub returns-in-Ok-clause-held : goal.returns-in-Ok-clause-held
+returns-in-Ok-clause-held c = λ q.
+    let S = c.args.segments in (
+      λ h. ⊎_elim
+          (λ x. inl x)
+          (λ t. inr (sym (c.spans.ensures.pages q) ∙ t))
+          (c.hold_set.ensures.only q (c.lay_set.ensures.only q (subst (λ (s : CrashLoad). IsHeld s.memory q) c.from_parts.ensures h))),
+      λ h. subst (λ (s : CrashLoad). IsHeld s.memory q) (sym c.from_parts.ensures)
+          (c.lay_set.ensures.stay q (⊎_elim (c.hold_set.ensures.stay q) (λ t. c.in-Ok.ensures.held q (c.spans.ensures.pages q ∙ t)) h)),
+    )

@@ -18,6 +18,7 @@ loop-i-preserved c =
       right = next_span (λ r. (p : ℕ) → r.first ≤ p → p < r.first + r.count → IsSome (want S p) → want S p ≡ Some (L p)) c.args.set.now c.loop-i.i c.span.result c.span.ensures.value c.lay_span.ensures.right
           (λ k l r e p a b h. right_stays S N L p c.lay_span.ensures.lays (c.loop-i.invariant.right k l r e p a b h));
       stay = λ q h. c.lay_span.ensures.stay q (c.loop-i.invariant.stay q h);
+      only = λ q h. c.loop-i.invariant.only q (c.lay_span.ensures.only q h);
     }
 
 pub returns : goal.returns
@@ -27,4 +28,6 @@ returns c = record {
       let w = span_of c.args.set.now p t in
       let inside : w.0 < c.loop-i.i = omega (arith, w.2, c.spans-i-end.ensures.value) in
       c.loop-i.invariant.right w.0 inside w.1 w.3 p w.4 w.5 h;
+  stay = c.loop-i.invariant.stay;
+  only = c.loop-i.invariant.only;
 }

@@ -11,4 +11,5 @@ invariant-loop-i l = record {
   lays : Lays l.segments (at l.fn.memory) (at l.memory);
   right : (k : ℕ) → k < l.i → (r : Run) → slice_get l.set k ≡ Some r → (p : ℕ) → r.first ≤ p → p < r.first + r.count → IsSome (want l.segments p) → want l.segments p ≡ Some (at l.memory p);
   stay : (q : ℕ) → IsHeld l.fn.memory q → IsHeld l.memory q;
+  only : (q : ℕ) → IsHeld l.memory q → IsHeld l.fn.memory q;
 }

@@ -1,6 +1,5 @@
 use Rattle.std.proofs.Common.{◌≡◌, ℕ, ◌+◌, ◌<◌, ⊎_elim, sym, ◌∙◌, subst, arith}
 use Rattle.std.specs.Prelude.{◌⊎◌, IsSome, Some}
-use Rattle.std.proofs.lemmas.Grind.{common_steps}
 use Rattle.page_memory.specs.Contents.{at}
 use Rattle.segments.specs.Values.{want}
 use Rattle.load_states.proofs.Laying.{lays_more, right_stays}
@@ -14,7 +13,7 @@ loop-n-preserved c =
     let S = c.args.segments.now in
     let N = at c.loop-n.memory in
     let L = at c.lay_page.new.memory in
-    let same : c.unwrap.result ≡ c.loop-n.n = grind (arith, common_steps) in
+    let same = c.from_number.ensures in
     record {
       lays = lays_more S (at c.args.memory.now) N L c.loop-n.invariant.lays c.lay_page.ensures.lays;
       right = λ p a b h. ⊎_elim
@@ -22,4 +21,5 @@ loop-n-preserved c =
           (λ e. subst (λ x. IsSome (want S x) → want S x ≡ Some (L x)) (same ∙ sym e) c.lay_page.ensures.right h)
           (last p c.loop-n.n b);
       stay = λ q h. c.lay_page.ensures.stay q (c.loop-n.invariant.stay q h);
+      only = λ q h. c.loop-n.invariant.only q (c.lay_page.ensures.only q h);
     }

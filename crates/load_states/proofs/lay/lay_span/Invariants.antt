@@ -10,4 +10,5 @@ invariant-loop-n l = record {
   lays : Lays l.segments (at l.fn.memory) (at l.memory);
   right : (p : ℕ) → l.fn.span.first ≤ p → p < l.n → IsSome (want l.segments p) → want l.segments p ≡ Some (at l.memory p);
   stay : (q : ℕ) → IsHeld l.fn.memory q → IsHeld l.memory q;
+  only : (q : ℕ) → IsHeld l.memory q → IsHeld l.fn.memory q;
 }
