@@ -5,6 +5,7 @@ use Rattle.kx_pages.specs.declared.image.Mode.{Mode}
 use Rattle.kx_pages.specs.declared.image.Mode.TheVariants.{Plain, Kept}
 use Rattle.kx_pages.specs.Lists.{Each, destinations, sources}
 use Rattle.page_memory.specs.Contents.{Contents, IsHeld}
+use Rattle.kimage_list.specs.Held.{HoldSame}
 use Rattle.relocate_machine.specs.Writes.{AreHeld, move_writes}
 use Rattle.load_states.specs.Ready.{written_pages}
 use Rattle.kx_pages.proofs.Lists.{Each-left, Each-right}
@@ -37,3 +38,7 @@ all_written (Ok x) mode m qs pages same held = subst (Each (λ p. IsHeld m p)) s
 pub holds_written : {T E : Type 0} (r : Result T E) (mode : Mode) (m : Contents) (qs : List (ℕ × ℕ)) (pages : List ℕ) → pages ≡ written_pages mode qs → OnOk r (All (λ p. IsHeld m p) pages) → OnOk r (Holds m mode qs)
 holds_written (Err e) mode m qs pages same held = held
 holds_written (Ok x) mode m qs pages same held = held_written mode m qs (subst (Each (λ p. IsHeld m p)) same (Each-from_All (λ p. IsHeld m p) pages held))
+
+-- what holds the same pages one after another
+pub hold_same_too : (l m n : Contents) → HoldSame n m → HoldSame m l → HoldSame n l
+hold_same_too l m n later before q = (λ h. (before q).0 ((later q).0 h), λ h. (later q).1 ((before q).1 h))

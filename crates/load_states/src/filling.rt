@@ -1,6 +1,6 @@
 //! A load while its segments are written.
 
-ghost use Rattle.std.specs.Prelude.{◌≡◌, ℕ, ◌<◌, ◌≤◌, ◌+◌, ◌∷◌, ◌++◌, [], List, length, take, IfOk, IfErr, None, Some, true, false, ◌^◌};
+ghost use Rattle.std.specs.Prelude.{◌≡◌, ℕ, ◌<◌, ◌≤◌, ◌+◌, ◌∷◌, ◌++◌, ◌⊎◌, ◌↔◌, [], List, length, take, IfOk, IfErr, None, Some, true, false, ◌^◌};
 ghost use Rattle.kx_pages.specs.Lists.{Has};
 ghost use Rattle.kx_pages.specs.Spans.{AreApart, in_spans};
 ghost use Rattle.kx_pages.specs.declared.image.Wish.{Wish as WishOf};
@@ -8,6 +8,7 @@ ghost use Rattle.page_memory.specs.Contents.{at, IsHeld};
 ghost use Rattle.page_memory.specs.Memory.{Mem};
 ghost use Rattle.page_pool.specs.Pages.{is_filed, usable_of};
 ghost use Rattle.kimage_list.specs.Load.{Entry, Move, pages_of};
+ghost use Rattle.kimage_list.specs.Held.{HoldSame};
 ghost use Rattle.kimage_list.specs.Tracking.{whole_pool};
 ghost use Rattle.kimage_list.specs.Writers.{destination_after};
 ghost use Rattle.kimage_list.specs.Calls.{Refuses};
@@ -66,7 +67,8 @@ impl Model for Filling {
 
 impl Filling {
     /// Begins a load of the segments. Refuses where the pool has fewer usable pages than the load takes, or for want of
-    /// memory: nothing has changed then, but that more pages may be held. Nothing is filed. With so many usable pages,
+    /// memory: nothing has changed then, but that some of the load's pages may be held. Memory holds these pages, the first
+    /// usable ones of the pool, and no other for the load. Nothing is filed. With so many usable pages,
     /// and with no fewer, the rules of taking pages bring a load of the segments to its end.
     pub fn begin(
         alloc: Global,
@@ -88,6 +90,10 @@ impl Filling {
         ensures memory_back { IfErr result (λ r. (q : ℕ) → at r.memory q ≡ at memory q) }
         ensures sets_back { IfErr result (λ r. r.memory.sets ≡ memory.sets) }
         ensures held_back { IfErr result (λ r. (q : ℕ) → IsHeld memory q → IsHeld r.memory q) }
+        ensures held { IfOk result (λ f. (q : ℕ) → IsHeld f.writer.memory q
+            ↔ (IsHeld memory q ⊎ Has q (take (need wish segments) (usable_of pool)))) }
+        ensures held_only { IfErr result (λ r. (q : ℕ) → IsHeld r.memory q
+            → IsHeld memory q ⊎ Has q (take (need wish segments) (usable_of pool))) }
     {
         let count = segments.count();
         // for its clause: what every value of the type keeps
@@ -123,6 +129,7 @@ impl Filling {
         ensures segments { self.new.segments ≡ self.old.segments }
         ensures written { self.new.written ≡ self.old.written + 1 }
         ensures pages { whole_pool self.new.writer.pool ≡ whole_pool self.old.writer.pool }
+        ensures held { HoldSame self.new.writer.memory self.old.writer.memory }
     {
         fill_segment(&mut self.writer, &self.segments, self.written);
         self.written += 1;
@@ -134,6 +141,7 @@ impl Filling {
         ensures sealed { (M : Mem) (pool : List ℕ) (wish : WishOf) → FillsFrom M pool wish self →
             IsSealed M pool wish self.segments result }
         ensures pages { whole_pool result.pool ≡ whole_pool self.writer.pool }
+        ensures held { HoldSame result.memory self.writer.memory }
     {
         let Filling {
             writer,
@@ -149,6 +157,7 @@ impl Filling {
         ensures sealed { (M : Mem) (pool : List ℕ) (wish : WishOf) → FillsFrom M pool wish self →
             IsSealed M pool wish self.segments result }
         ensures pages { whole_pool result.pool ≡ whole_pool self.writer.pool }
+        ensures held { HoldSame result.memory self.writer.memory }
     {
         while self.left() > 0 {
             self.fill();
@@ -178,6 +187,7 @@ fn fill_segment(writer: &mut ListWriter, segments: &Segments, i: usize)
         Fills M pool wish segments.now (entries_of (take i segments.now)) writer.old →
         Fills M pool wish segments.now (entries_of (take (i + 1) segments.now)) writer.new }
     ensures pages { whole_pool writer.new.pool ≡ whole_pool writer.old.pool }
+    ensures held { HoldSame writer.new.memory writer.old.memory }
 {
     let run = segments.span(i);
     let first = run.first();
@@ -198,6 +208,7 @@ fn fill_page(writer: &mut ListWriter, segments: &Segments, p: Page)
         Fills M pool wish segments.now es writer.old → destination_after None es ≡ Some p →
         Fills M pool wish segments.now (es ++ Move p ∷ []) writer.new }
     ensures pages { whole_pool writer.new.pool ≡ whole_pool writer.old.pool }
+    ensures held { HoldSame writer.new.memory writer.old.memory }
 {
     match segments.wanted(p) {
         Some(bytes) => writer.add_source(bytes),

@@ -8,6 +8,7 @@ use Rattle.load_states.specs.Loads.{entries_of}
 use Rattle.load_states.specs.Fillings.{Fills}
 use Rattle.load_states.proofs.FillSteps.{some_left, started_few, so_far, so_far-goes, so_far-end, is_page, not_yet}
 use Rattle.load_states.proofs.Going.{Goes, goes_begun, goes_more, placed_at}
+use Rattle.load_states.proofs.Holding.{hold_same_too}
 use Rattle.load_states.proofs.filling.fill_segment.Goals as goal
 
 pub from_number-requires : goal.from_number-requires
@@ -30,6 +31,7 @@ loop-number-init c =
       omega (arith, c.first-first.ensures.value, c.count-count.ensures.value, c.first-first.ensures.value),
       subst (λ x. Goes ss c.args.i x x c.args.writer.now c.add_destination.new.self) c.from_number.ensures (goes_begun ss c.args.i c.from_number.result c.args.writer.now c.add_destination.new.self r.0 r.1 r.2 r.3 c.add_destination.ensures.stands),
       c.add_destination.ensures.pages,
+      c.add_destination.ensures.held,
     )
 
 pub from_number-requires-in-loop-number : goal.from_number-requires-in-loop-number
@@ -69,6 +71,7 @@ loop-number-preserved c = (
   goes_more c.args.segments.now c.args.i c.first-first.result c.loop-number.number c.args.writer.now c.loop-number.writer c.fill_page.new.writer c.loop-number.invariant.0 c.loop-number.invariant.2
       (λ M pool wish es g e. subst (λ x. Fills M pool wish c.args.segments.now (es ++ Move x ∷ []) c.fill_page.new.writer) c.from_number-in-loop-number.ensures (c.fill_page.ensures.filled M pool wish es g (e ∙ ap (λ x. Some x) (sym c.from_number-in-loop-number.ensures)))),
   c.fill_page.ensures.pages ∙ c.loop-number.invariant.3,
+  hold_same_too _ _ _ c.fill_page.ensures.held c.loop-number.invariant.4,
 )
 
 pub returns-clause-filled : goal.returns-clause-filled

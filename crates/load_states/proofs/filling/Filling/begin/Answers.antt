@@ -1,5 +1,7 @@
-use Rattle.std.proofs.Common.{length, subst, arith, ◌++◌}
-use Rattle.page_memory.specs.Contents.{at}
+use Rattle.std.proofs.Common.{ℕ, length, subst, arith, take, ◌++◌}
+use Rattle.std.specs.Prelude.{◌⊎◌, ◌↔◌}
+use Rattle.kx_pages.specs.Lists.{Has}
+use Rattle.page_memory.specs.Contents.{at, IsHeld}
 use Rattle.page_pool.specs.Pages.{usable_of}
 use Rattle.kimage_list.specs.Calls.{Refuses}
 use Rattle.segments.proofs.Laws.{AreSegments-from_IsBare}
@@ -50,3 +52,15 @@ pub returns-in-Err-clause-exactly : goal.returns-in-Err-clause-exactly
 returns-in-Err-clause-exactly c =
     loads_exactly c.args.wish c.args.segments (usable_of c.args.pool) (AreSegments-from_IsBare c.args.segments c.count-count.ensures.valid)
     (λ x. omega (arith, count-from_Distinct x (c.args.pool.drawn ++ usable_of c.args.pool) c.left-left.ensures.once, count-append x c.args.pool.drawn (usable_of c.args.pool)))
+
+pub returns-in-Ok-clause-held : goal.returns-in-Ok-clause-held
+returns-in-Ok-clause-held c =
+    let k = AreSegments-from_IsBare c.args.segments c.count-count.ensures.valid in
+    let e = need_same c.args.wish c.args.segments c.count-count.result _ c.count-count.ensures.value (span_pages c.args.segments c.pages_of.result.now k c.pages_of.ensures.apart c.pages_of.ensures.pages) in
+    subst (λ n. (q : ℕ) → IsHeld c.in-Ok.writer.memory q ↔ (IsHeld c.args.memory q ⊎ Has q (take n (usable_of c.args.pool)))) e c.in-Ok.ensures.held
+
+pub returns-in-Err-clause-held_only : goal.returns-in-Err-clause-held_only
+returns-in-Err-clause-held_only c =
+    let k = AreSegments-from_IsBare c.args.segments c.count-count.ensures.valid in
+    let e = need_same c.args.wish c.args.segments c.count-count.result _ c.count-count.ensures.value (span_pages c.args.segments c.pages_of.result.now k c.pages_of.ensures.apart c.pages_of.ensures.pages) in
+    subst (λ n. (q : ℕ) → IsHeld c.in-Err.refused.memory q → IsHeld c.args.memory q ⊎ Has q (take n (usable_of c.args.pool))) e c.in-Err.ensures.held_only
