@@ -61,7 +61,7 @@ impl OpenList {
         }
     }
 
-    // A page before the link pages: the control page, or the swap page.
+    // Takes a page before the link pages: the control page, or the swap page.
     pub(crate) fn take_first(&mut self) -> Page
         requires { (d : Draft) × (t : ℕ × Loading) × IsRendered self.old d × CanTake d None t ×
             (d.links ≡ []) × (d.loading.pairs ≡ []) }
@@ -74,7 +74,7 @@ impl OpenList {
         self.take(None)
     }
 
-    // A page for a wanted page, or for none.
+    // Takes a page for a wanted page, or for none.
     fn take(&mut self, wanted: Option<Page>) -> Page
         requires { (d : Draft) × (t : ℕ × Loading) × IsRendered self.old d ×
             CanTake d wanted t }
@@ -96,7 +96,7 @@ impl OpenList {
         }
     }
 
-    // A link page more, cleared, and the word that leads to it.
+    // Takes a link page more, clears it, and writes the word that leads to it.
     fn take_link(&mut self)
         requires { (d : Draft) × (t : ℕ × Loading) × IsRendered self.old d × CanTake d None t ×
             IsFull d }
@@ -119,7 +119,7 @@ impl OpenList {
         self.next = link.address();
     }
 
-    // A link page more, where the next entry needs one.
+    // Takes a link page more, where the next entry needs one.
     fn make_room(&mut self)
         requires { (d : Draft) × (e : Draft) × IsRendered self.old d × Room d e }
         ensures written { (d : Draft) (e : Draft) → IsRendered self.old d → Room d e →
@@ -134,7 +134,7 @@ impl OpenList {
         }
     }
 
-    // The next word.
+    // Writes the next word.
     fn write_entry(&mut self, word: u64)
         requires { (d : Draft) × (hand : List ℕ) × IsRenderedBut hand self.old d × HasRoom d }
         ensures value { at self.new.memory ≡ set_word (at self.old.memory) self.old.next word }
@@ -150,7 +150,7 @@ impl OpenList {
         self.entries += 1;
     }
 
-    // The entry of a segment's start.
+    // Writes the entry of a segment's start.
     pub(crate) fn add_start(&mut self, p: Page)
         requires { (d : Draft) × (e : Draft) × IsRendered self.old d × Room d e }
         ensures written { (d : Draft) (e : Draft) → IsRendered self.old d → Room d e →
@@ -164,7 +164,7 @@ impl OpenList {
         self.write_entry(destination_word(p));
     }
 
-    // Page p is loaded with these bytes, then zeros.
+    // Loads page p with these bytes, then zeros.
     pub(crate) fn load_page(&mut self, p: Page, bytes: &[u8])
         requires fits { length bytes.now ≤ 4096 }
         requires ready { (d : Draft) × (e : Draft) × (t : ℕ × Loading)

@@ -51,9 +51,9 @@ impl Model for ListWriter {
 impl ListWriter {
     /// Begins a load of the pages `wanted`, in so many segments: memory holds the pages that the load takes, the first
     /// usable ones of the pool, and no other for it; the control page and, with context preserved, the swap page are
-    /// taken. Refuses where the pool has fewer usable pages than the load takes, or for want of memory; memory then reads
-    /// as before, though some of these pages may be held, and the pool is as it was. 1 to 16 segments, at most 65,536
-    /// pages (this project's own limits; kexec_load(2) has KEXEC_SEGMENT_MAX), and nothing filed.
+    /// taken. Refuses where the pool has fewer usable pages than the load takes, or for want of memory; memory then
+    /// reads as before, though some of these pages may be held, and the pool is as it was. 1 to 16 segments, at most
+    /// 65,536 pages (this project's own limits; kexec_load(2) has KEXEC_SEGMENT_MAX), and nothing filed.
     pub fn begin(
         alloc: Global,
         mut memory: Memory,
