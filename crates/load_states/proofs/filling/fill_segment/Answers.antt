@@ -71,7 +71,7 @@ loop-number-preserved c = (
   goes_more c.args.segments.now c.args.i c.first-first.result c.loop-number.number c.args.writer.now c.loop-number.writer c.fill_page.new.writer c.loop-number.invariant.0 c.loop-number.invariant.2
       (λ M pool wish es g e. subst (λ x. Fills M pool wish c.args.segments.now (es ++ Move x ∷ []) c.fill_page.new.writer) c.from_number-in-loop-number.ensures (c.fill_page.ensures.filled M pool wish es g (e ∙ ap (λ x. Some x) (sym c.from_number-in-loop-number.ensures)))),
   c.fill_page.ensures.pages ∙ c.loop-number.invariant.3,
-  hold_same_too _ _ _ c.fill_page.ensures.held c.loop-number.invariant.4,
+  hold_same_too c.args.writer.now.memory c.loop-number.writer.memory c.fill_page.new.writer.memory c.fill_page.ensures.held c.loop-number.invariant.4,
 )
 
 pub returns-clause-filled : goal.returns-clause-filled
