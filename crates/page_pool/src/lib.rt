@@ -174,6 +174,7 @@ impl Pool {
         ensures value { result ≡ length (usable_of self.now) }
         ensures once { Distinct (self.now.drawn ++ usable_of self.now) }
         ensures each_once { Distinct self.now.made }
+        ensures most { length self.now.made ≤ 262144 }
         ensures few { length self.now.drawn + length (usable_of self.now) ≤ 262144 }
         ensures filed_were_drawn { (q : ℕ) → is_filed self.now q ≡ true
             → 1 ≤ count q self.now.drawn }
