@@ -176,7 +176,9 @@ fn without_wrong(list: Vec<Segment>, wrong: Option<u64>) -> Result<Vec<Segment>,
 {
     match wrong {
         None => Ok(list),
-        Some(segment) => Err(RecFault::WrongDigest { segment }),
+        Some(number) => Err(RecFault::WrongDigest {
+            segment: number as usize,
+        }),
     }
 }
 
