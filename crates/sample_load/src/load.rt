@@ -1,9 +1,7 @@
 //! The load of a sample.
 
-ghost use Rattle.std.specs.Prelude.{◌≡◌, ℕ, List, IfOk};
-ghost use Rattle.kx_pages.specs.declared.image.Wish.{Wish as WishOf};
-ghost use Rattle.page_memory.specs.Memory.{Mem};
-ghost use Rattle.load_states.specs.Fillings.{FillsFrom, IsSealed};
+ghost use Rattle.std.specs.Prelude.{◌≡◌, IfOk};
+ghost use Rattle.load_states.specs.Fillings.{IsSealed};
 ghost use Rattle.sample_load.specs.Samples.{sample_memory, sample_pool, sample_segments, start_of};
 
 use crate::drawn_segments::sample_segments;
@@ -15,17 +13,6 @@ use load_states::{Filling, Loaded};
 use segments::Segments;
 use std::alloc::{AllocError, Global};
 
-// Writes the segments that are left, and ends the list.
-fn fill_all(mut filling: Filling) -> Loaded
-    ensures { (M : Mem) (pool : List ℕ) (wish : WishOf) → FillsFrom M pool wish filling
-        → IsSealed M pool wish filling.segments result }
-{
-    while filling.left() > 0 {
-        filling.fill();
-    }
-    filling.seal()
-}
-
 /// Loads the sample of this number in plain mode: its segments, into its memory, with pages of its
 /// pool. Want of memory is the only refusal.
 pub fn load_sample(alloc: Global, number: u64) -> Result<Loaded, AllocError>
@@ -36,7 +23,7 @@ pub fn load_sample(alloc: Global, number: u64) -> Result<Loaded, AllocError>
     let memory = sample_memory(alloc)?;
     let pool = sample_pool(alloc)?;
     match Filling::begin(alloc, memory, pool, segments, Wish::Plain) {
-        Ok(filling) => Ok(fill_all(filling)),
+        Ok(filling) => Ok(filling.finish()),
         Err(refused) => match refused.why {
             BeginFault::Memory => Err(AllocError),
             BeginFault::NoPages { .. } => unreachable!(),
