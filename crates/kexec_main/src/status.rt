@@ -65,7 +65,7 @@ pub enum Status {
     #[error("{name:?} cannot be read: it has to be a file that exists and is readable to its end")]
     Unread { name: String },
     /// The file could not be written. The outputs before it are whole, and it has a prefix of its bytes.
-    #[error("{name:?} cannot be written: it has to be the name of a file, in a folder that exists and has room")]
+    #[error("{name:?} cannot be written: it has to be the name of a file, in a folder that exists, may be written to and has room")]
     Unwritten { name: String },
     /// The text could not be written whole. The outputs are whole.
     #[error("standard output cannot be written: it has to be open and to have room")]
@@ -86,7 +86,7 @@ pub enum Status {
     #[error("{count} pages of the memory are not all zeros, and a memory file has at most 131072")]
     Heavy { count: u64 },
     /// `exec --twice` was given a record that is not in kept mode.
-    #[error("the load record is in plain mode, and --twice needs one that was loaded with --kept")]
+    #[error("the load record is in plain mode, as that of a crash kernel always is, and --twice needs one that was loaded with --kept")]
     NotKept,
     /// There was not enough memory for the work.
     #[error("there is not enough memory for the work: free some and try again")]
