@@ -41,8 +41,8 @@ fn write_raw<W: Write>(
     }
 }
 
-// A fault of the segments where the kernel's file says where it lies. A segment with a number is one of the kernel's own:
-// every other part of a load is put on whole pages of RAM that nothing else takes, so no rule refuses it by itself.
+// A fault of the segments where the kernel's file says where it lies. A segment that is no RAM is one of the kernel's own:
+// every other part of a load is put on whole pages of RAM that nothing else takes.
 fn write_placed<W: Write>(
     fault: &SegFault,
     given: &[Given<'_>],
