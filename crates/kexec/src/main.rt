@@ -71,7 +71,7 @@ fn explain<'a>(rt: &(impl AllocGlobal + Eprint + Files), words: &'a [String], st
 fn main(rt: HostRuntime) -> ExitCode {
     let Ok(words) = read_words(&rt) else {
         let _ = rt.eprintln(
-            "kexec: an argument is no text in UTF-8, or there is not enough memory for the arguments",
+            "kexec: no words: an argument is no text in UTF-8, or there is not enough memory for the arguments",
         );
         return ExitCode::from(NO_WORDS);
     };
