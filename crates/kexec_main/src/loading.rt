@@ -1,13 +1,11 @@
 //! A request is planned, and its segments are loaded.
 
-ghost use Rattle.std.specs.Prelude.{◌≡◌, ◌≤◌, ℕ, List, length, false, option_map, Ok};
-ghost use Rattle.kx_pages.specs.declared.image.Wish.{Wish as WishOf};
+ghost use Rattle.std.specs.Prelude.{◌≡◌, ◌≤◌, ℕ, length, false, option_map, Ok};
 ghost use Rattle.kx_laws.specs.Results.{Gives};
 ghost use Rattle.page_memory.specs.Contents.{at};
-ghost use Rattle.page_memory.specs.Memory.{Mem};
 ghost use Rattle.page_pool.specs.Pages.{is_filed, usable_of};
 ghost use Rattle.segments.specs.Values.{need};
-ghost use Rattle.load_states.specs.Fillings.{FillsFrom, IsSealed};
+ghost use Rattle.load_states.specs.Fillings.{IsSealed};
 ghost use Rattle.file_commands.specs.Calls.{MakesOr};
 ghost use Rattle.kexec_plan.specs.Plan.{plan};
 ghost use Rattle.kexec_plan.specs.Requests.{IsMapped, lent, planned_of, request_of};
@@ -46,17 +44,6 @@ pub(crate) fn plan_request(
     }
 }
 
-// Writes the segments that are left, and ends the list.
-fn fill_all(mut filling: Filling) -> Loaded
-    ensures { (M : Mem) (pool : List ℕ) (wish : WishOf) → FillsFrom M pool wish filling
-        → IsSealed M pool wish filling.segments result }
-{
-    while filling.left() > 0 {
-        filling.fill();
-    }
-    filling.seal()
-}
-
 // Loads the segments: lays their list and their bytes in pages of the pool.
 fn load_segments(
     alloc: Global,
@@ -72,7 +59,7 @@ fn load_segments(
         (IsTooFew (usable_of pool) wish segments) result }
 {
     match Filling::begin(alloc, memory, pool, segments, wish) {
-        Ok(filling) => Ok(fill_all(filling)),
+        Ok(filling) => Ok(filling.finish()),
         Err(refused) => Err(match refused.why {
             BeginFault::NoPages { pool, need } => MakeFault::Refused {
                 why: Reason::NoPages { pool, need },
