@@ -82,7 +82,7 @@ boot_stands b x can = record { unrefused = none; whole = λ goods m. m.4 }
   where
     none : (a : Refusal Reason) → boots x (Err a) → ⊥
     none (by why) (inl r) = loads_not (wish_of x.runs) x.load (after_runs x.runs) why can r
-    none (by why) (inr (p, c, l, f)) = heavy (after_runs x.runs c) why (λ n h. can.light c n (loaded_as (wish_of x.runs) x.load (after_runs x.runs) p c can l.0) h) f
+    none (by why) (inr (p, c, l, f)) = heavy (after_runs x.runs c) why (λ n h. can.light c n (loaded_as (wish_of x.runs) x.load (after_runs x.runs) p c can l.0) l.1 h) f
     none (too_long name limit) m = m
 
 load_stands : (l : LoadValue) (x : LoadCommand) → CanLoad x.wish x.load (λ c. at c.load.memory) → Stands (load l) x
@@ -90,7 +90,7 @@ load_stands l x can = record { unrefused = none; whole = λ goods m. m.4 }
   where
     none : (a : Refusal Reason) → loads x (Err a) → ⊥
     none (by why) (inl r) = loads_not x.wish x.load (λ c. at c.load.memory) why can r
-    none (by why) (inr (p, c, k, f)) = heavy (at c.load.memory) why (λ n h. can.light c n (loaded_as x.wish x.load (λ c. at c.load.memory) p c can k.0) h) f
+    none (by why) (inr (p, c, k, f)) = heavy (at c.load.memory) why (λ n h. can.light c n (loaded_as x.wish x.load (λ c. at c.load.memory) p c can k.0) k.1 h) f
     none (too_long name limit) m = m
 
 -- nothing refuses a crash load that can be made
@@ -151,7 +151,7 @@ exec_not : (load : TakenLoad) (twice : Bool) (out : List ℕ) (a : Refusal Reaso
 exec_not (Normal x) twice out (by why) can (inl k) = not_both (is_not_kept twice x) can.kept k.1
 exec_not (Normal x) twice out (by why) can (inr (k, r)) =
     let c = checked_with (load_of x) r.0 r.1 r.2 in
-    heavy (after_runs (runs_asked twice x) c) why (λ n h. can.light c n refl h) r.4
+    heavy (after_runs (runs_asked twice x) c) why (λ n h. can.light c n refl r.3 h) r.4
 exec_not (Normal x) twice out (too_long name limit) can m = m
 exec_not (Crash x) twice out (by why) can (inl k) = not_both twice can.once k.1
 exec_not (Crash x) twice out (by why) can (inr (once, accepted, f)) = heavy (at x.memory) why can.light f

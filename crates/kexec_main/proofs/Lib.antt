@@ -6,6 +6,7 @@ pub mod Executes
 pub mod Leaving
 pub mod Done
 pub mod Complete
+pub mod InOrder
 pub mod Holding
 pub mod Rising
 pub mod Mapped

@@ -45,7 +45,7 @@ use Rattle.kexec_main.specs.Together.{AskTogether, LoadThenExecIsBoot, booted_te
 use Rattle.kexec_main.proofs.Reread.{exec_read, memory_found, record_found}
 
 -- a load of segments over a pool is one
-sealed_alike : (M : Mem) (pool : List ℕ) (wish : Wish) (ss : List SegmentValue) (r s : Load) → IsSealed M pool wish ss r → IsSealed M pool wish ss s → IsSameLoad r s
+pub sealed_alike : (M : Mem) (pool : List ℕ) (wish : Wish) (ss : List SegmentValue) (r s : Load) → IsSealed M pool wish ss r → IsSealed M pool wish ss s → IsSameLoad r s
 sealed_alike M pool wish ss r s a b =
     let loading : b.loading ≡ a.loading = some_same b.loading a.loading (sym b.requests ∙ a.requests) in
     record {
@@ -87,7 +87,7 @@ same_runs None swap twice mode e m = ap (runs_of twice) m
 same_runs (Some Once) swap twice mode e m = ap (runs_of twice) m ∙ ap (λ t. runs_of t (mode_with (wish_of (Some Once)) swap)) e
 same_runs (Some Twice) swap twice mode e m = ap (runs_of twice) m ∙ ap (λ t. runs_of t (mode_with (wish_of (Some Twice)) swap)) e
 
-same_after : (runs : Option Runs) (c d : Checked) → IsSameCheck c d → after_runs runs d ≡ after_runs runs c
+pub same_after : (runs : Option Runs) (c d : Checked) → IsSameCheck c d → after_runs runs d ≡ after_runs runs c
 same_after None c d s = s.plain
 same_after (Some Once) c d s = s.once
 same_after (Some Twice) c d s = s.twice

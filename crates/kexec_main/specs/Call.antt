@@ -265,12 +265,13 @@ module _ {S O : Type 0} (D : Shelf S) (E : Sink O) (held : Files) (s : S) (o : O
   HasDone (words.sample n) = HasSampled D E s o s' o' n
 
 -- Nothing refuses the load of what was taken: the request has a plan, the pool has as many usable pages as the load
--- takes, and each memory that it may leave has a file.
+-- takes, and each memory that it may leave, by what is told of its accepted list, has a file.
 pub record CanLoad (wish : Wish) (i : LoadInputs) (leaves : Checked → Mem) : Type 0 where
   pub p : Plan
   pub planned : plan i.request i.map ≡ Ok p
   pub enough : need wish p.segments ≤ length i.usable
-  pub light : (c : Checked) (n : ℕ) → IsLoaded wish i p c.load → IsTooHeavy (leaves c) n → ⊥
+  pub light : (c : Checked) (n : ℕ) → IsLoaded wish i p c.load
+      → Told c.load c.words c.links c.pairs → IsTooHeavy (leaves c) n → ⊥
 
 -- The same of a crash load, which takes no page of a pool.
 pub record CanLoadPanic (i : CrashInputs) : Type 0 where
@@ -289,8 +290,9 @@ pub record CanRun (x : LoadFiles) (twice : Bool) : Type 0 where
   pub items : List Item
   pub accepted : IsAcceptedIn x items
   pub kept : is_not_kept twice x ≡ false
-  pub light : (c : Checked) (n : ℕ) → c.load ≡ load_of x →
-      IsTooHeavy (after_runs (runs_asked twice x) c) n → ⊥
+  pub light : (c : Checked) (n : ℕ) → c.load ≡ load_of x
+      → Told c.load c.words c.links c.pairs
+      → IsTooHeavy (after_runs (runs_asked twice x) c) n → ⊥
 
 -- a crash load lies in its place, and is to run once
 pub record CanRunInPlace (x : CrashFiles) (twice : Bool) : Type 0 where

@@ -109,6 +109,10 @@ pub fn kexec<S: Shelf, O: Sink>(
         → (Rose (O.faults out.old) (O.faults out.new) → ⊥)
         → (answer_of result ≡ done) ⊎ (answer_of result ≡ memory)) }
 
+    // And only what is in order is Done.
+    ensures in_order { (c : CommandValue) → command_of (map string_bytes words.now) ≡ Ok c
+        → answer_of result ≡ done → IfSome (S.files shelf.old) (IsInOrder c) }
+
     // A load that takes more pages than the pool has usable is refused with both numbers where no device fails, or memory is
     // wanted.
     ensures too_few { (c : CommandValue) → command_of (map string_bytes words.now) ≡ Ok c

@@ -6,6 +6,7 @@ use Rattle.kexec_main.specs.Statuses.{answer_of}
 use Rattle.kexec_main.proofs.Complete.{complete, lacks_pages}
 use Rattle.kexec_main.proofs.Done.{has_done}
 use Rattle.kexec_main.proofs.Holding.{told, told_gives}
+use Rattle.kexec_main.proofs.InOrder.{was_in_order}
 use Rattle.kexec_main.proofs.Sampled.{ends_sample}
 use Rattle.kexec_main.proofs.Rising.{unread_rose, unsaid_rose, unwritten_rose}
 use Rattle.kexec_main.proofs.run.kexec.Goals as goal
@@ -26,6 +27,11 @@ pub returns-clause-complete : goal.returns-clause-complete
 returns-clause-complete g c = λ w e.
     let said = command_of (map string_bytes c.args.words.now) in
     told_gives g.S.Shelf g.O.Sink _ _ _ _ _ said (λ held h. λ i calm quiet. complete g.S.Shelf g.O.Sink held _ _ _ _ _ calm quiet said w e i h) c.answered.ensures
+
+pub returns-clause-in_order : goal.returns-clause-in_order
+returns-clause-in_order g c = λ w e f.
+    let said = command_of (map string_bytes c.args.words.now) in
+    told_gives g.S.Shelf g.O.Sink _ _ _ _ _ said (λ held h. was_in_order g.S.Shelf g.O.Sink held _ _ _ _ said w _ e f h) c.answered.ensures
 
 pub returns-clause-too_few : goal.returns-clause-too_few
 returns-clause-too_few g c = λ w e.
