@@ -2,15 +2,18 @@
 
 ghost use Rattle.std.specs.Prelude.{◌≡◌, ◌⊎◌, ℕ, List, map, string_bytes, true, Ok};
 ghost use Rattle.kx_edge.specs.Edge.{Rose};
-ghost use Rattle.file_commands.specs.Answers.{done, memory, unread, unwritten};
+ghost use Rattle.file_commands.specs.Answers.{Meets, MeetsTold, done, memory, refused, unread, unsaid, unwritten};
+ghost use Rattle.file_commands.specs.Taking.{by};
 ghost use Rattle.kexec_words.specs.Meaning.{command_of};
-ghost use Rattle.kexec_words.specs.Values.{CommandValue};
+ghost use Rattle.kexec_words.specs.Values.{CommandValue, sample};
 ghost use Rattle.kexec_main.specs.Statuses.{answer_of};
-ghost use Rattle.kexec_main.specs.Call.{IsInOrder};
+ghost use Rattle.kexec_main.specs.Call.{EndsSample, HasDone, HasTooFew, IsInOrder};
+ghost use Rattle.kexec_main.specs.Commands.{Holds};
+ghost use Rattle.kexec_main.specs.declared.status.Reason.TheVariants.{NoPages};
 
 use crate::run::kexec;
 use crate::status::Status;
-use kx_edge::{CalmShelf, MemorySink};
+use kx_edge::{CalmShelf, MemorySink, Shelf, Sink};
 use std::alloc::Global;
 
 /// The top call over files in memory, on a shelf that never fails, and a text in memory: for callers who have no devices.
@@ -21,6 +24,28 @@ pub fn kexec_in_memory(
     shelf: &mut CalmShelf,
     out: &mut MemorySink,
 ) -> Status
+    // Each answer has its cause: the takes that were made; what was made of them; and the puts and the say that followed,
+    // each once.
+    ensures meets { Holds
+        (λ X c. Meets ⟦<CalmShelf as Shelf>⟧ ⟦<MemorySink as Sink>⟧ c shelf.old out.old
+        (answer_of result) shelf.new out.new) (command_of (map string_bytes words.now)) }
+
+    // Over files that the shelf tells it is so by what is read of them.
+    ensures told { shelf.old.is_told ≡ true → Holds
+        (λ X c. MeetsTold ⟦<CalmShelf as Shelf>⟧ ⟦<MemorySink as Sink>⟧ c shelf.old.held shelf.old
+        out.old (answer_of result) shelf.new out.new) (command_of (map string_bytes words.now)) }
+
+    // What stands after each command that answered Done.
+    ensures done { (c : CommandValue) → command_of (map string_bytes words.now) ≡ Ok c
+        → answer_of result ≡ done → shelf.old.is_told ≡ true
+        → HasDone ⟦<CalmShelf as Shelf>⟧ ⟦<MemorySink as Sink>⟧ shelf.old.held shelf.old out.old
+        shelf.new out.new c }
+
+    // `sample` is done, its files told or not, unless its text cannot be said or memory is wanted.
+    ensures sampled { (n : ℕ) → command_of (map string_bytes words.now) ≡ Ok (sample n)
+        → EndsSample ⟦<CalmShelf as Shelf>⟧ ⟦<MemorySink as Sink>⟧ shelf.old out.old shelf.new
+        out.new n (answer_of result) }
+
     // A command that is in order over the files that the shelf tells is done where the sink takes its text, or memory is
     // wanted.
     ensures complete { (c : CommandValue) → command_of (map string_bytes words.now) ≡ Ok c
@@ -28,9 +53,22 @@ pub fn kexec_in_memory(
         → (Rose out.old.faults out.new.faults → ⊥)
         → (answer_of result ≡ done) ⊎ (answer_of result ≡ memory) }
 
-    // No file is ever told as one that could not be read or written.
+    // And only what is in order is Done.
+    ensures in_order { (c : CommandValue) → command_of (map string_bytes words.now) ≡ Ok c
+        → answer_of result ≡ done → shelf.old.is_told ≡ true → IsInOrder c shelf.old.held }
+
+    // A load that takes more pages than the pool has usable is refused with both numbers where the sink takes what is said,
+    // or memory is wanted.
+    ensures too_few { (c : CommandValue) → command_of (map string_bytes words.now) ≡ Ok c
+        → shelf.old.is_told ≡ true → (pool need : ℕ) → HasTooFew c shelf.old.held pool need
+        → (Rose out.old.faults out.new.faults → ⊥)
+        → (answer_of result ≡ refused (by (NoPages pool need))) ⊎ (answer_of result ≡ memory) }
+
+    // No file is ever told as one that could not be read or written, and the text as unsaid only where the count of the
+    // sink's faults rose.
     ensures read { (name : List ℕ) → answer_of result ≡ unread name → ⊥ }
     ensures written { (name : List ℕ) → answer_of result ≡ unwritten name → ⊥ }
+    ensures unsaid { answer_of result ≡ unsaid → Rose out.old.faults out.new.faults }
 {
     kexec(alloc, words, shelf, out)
 }

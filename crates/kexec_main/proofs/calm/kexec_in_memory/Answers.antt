@@ -13,6 +13,19 @@ of_told false held P e h = absurd cc
 still : Rose 0 0 → ⊥
 still r = omega (arith, r)
 
+pub returns-clause-told : goal.returns-clause-told
+returns-clause-told c = λ t. of_told c.args.shelf.now.is_told c.args.shelf.now.held _ t c.kexec.ensures.told
+
+pub returns-clause-done : goal.returns-clause-done
+returns-clause-done c = λ w e d t. of_told c.args.shelf.now.is_told c.args.shelf.now.held _ t (c.kexec.ensures.done w e d)
+
 pub returns-clause-complete : goal.returns-clause-complete
 returns-clause-complete c = λ w e t i took.
     of_told c.args.shelf.now.is_told c.args.shelf.now.held _ t (c.kexec.ensures.complete w e) i still took
+
+pub returns-clause-in_order : goal.returns-clause-in_order
+returns-clause-in_order c = λ w e d t. of_told c.args.shelf.now.is_told c.args.shelf.now.held _ t (c.kexec.ensures.in_order w e d)
+
+pub returns-clause-too_few : goal.returns-clause-too_few
+returns-clause-too_few c = λ w e t pool need few took.
+    of_told c.args.shelf.now.is_told c.args.shelf.now.held _ t (c.kexec.ensures.too_few w e) pool need few still took
