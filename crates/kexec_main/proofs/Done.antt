@@ -155,6 +155,7 @@ module _ {S O : Type 0} (D : Shelf S) (E : Sink O) (held : Files) (s : S) (o : O
         load = panic k.0 n.0 n.1 k.2 n.2;
         output = n.5;
         is_memory = n.6;
+        read_back = n.8;
         put = put_as goods.outputs ((l.out, n.5) ∷ (l.load_record, record_file (record_of_crash n.1 n.0)) ∷ []) n.7 out.put;
         said = said_as goods.text _ n.3 out.said;
       }

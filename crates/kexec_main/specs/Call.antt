@@ -148,8 +148,8 @@ module _ {S O : Type 0} (D : Shelf S) (E : Sink O) (held : Files) (s : S) (o : O
     pub said : Said (E.said o) (list_text checked planned.start) (E.said o')
 
   -- After `load-panic`: the crash kernel was put in its place. OUT is the file of the memory after the
-  -- load, RECORD tells its start and segments, every other file is as it was, and the text tells how
-  -- many pages it has and how it starts.
+  -- load. RECORD tells its start and segments, and reads back as it was written. Every other file is as
+  -- it was, and the text tells how many pages it has and how it starts.
   pub record HasLoadedPanic (l : LoadPanicValue) : Type 0 where
     pub inputs : CrashInputs
     pub read : reads (load_panic_files l) held ≡ Ok (load_panic_of l inputs)
@@ -158,6 +158,7 @@ module _ {S O : Type 0} (D : Shelf S) (E : Sink O) (held : Files) (s : S) (o : O
     pub load : PanicLoad inputs planned loaded
     pub output : List ℕ
     pub is_memory : IsFileOf (at loaded.memory) output
+    pub read_back : IsReadBack (record_of_crash loaded planned)
     pub put : FilesPut (D.files s)
         ((l.out, output) ∷ (l.load_record, record_file (record_of_crash loaded planned)) ∷ [])
         (D.files s')

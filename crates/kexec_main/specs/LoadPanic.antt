@@ -12,6 +12,7 @@ use Rattle.kexec_main.specs.declared.load_panic.LoadPanicCommand.{LoadPanicComma
 use Rattle.kexec_main.specs.declared.status.Reason.{Reason}
 use Rattle.kexec_main.specs.CrashInputs.{CrashInputs, crash_inputs, crash_inputs_of}
 use Rattle.kexec_main.specs.CrashLoading.{IsCrashLoaded}
+use Rattle.kexec_main.specs.Load.{IsReadBack}
 use Rattle.kexec_main.specs.Loading.{HasNoPlan}
 use Rattle.kexec_main.specs.Outputs.{Made, HasNoFile, IsFileOf}
 use Rattle.kexec_main.specs.Texts.{crash_lines}
@@ -52,15 +53,16 @@ record_of_crash load p = record {
 abbrev pub panic_text : Plan → List ℕ
 panic_text p = crash_lines (length (pages p.segments)) p.start
 
--- The kernel lies in its place: the file of the memory after the load and its record are the outputs,
--- and the text tells how many pages it has and how it starts. Or the plan refuses, or that memory has
--- no file.
+-- The kernel lies in its place: the file of the memory after the load and its record, which reads back,
+-- are the outputs, and the text tells how many pages it has and how it starts. Or the plan refuses, or
+-- that memory has no file.
 abbrev pub loads_panic : LoadPanicCommand → Result Made (Refusal Reason) → Type 0
 loads_panic x (Ok goods) =
     (p : Plan) × (load : CrashLoad) × IsCrashLoaded x.load p load
     × (goods.text ≡ panic_text p) × (goods.fault ≡ None)
     × (bytes : List ℕ) × IsFileOf (at load.memory) bytes
     × (goods.outputs ≡ (x.out, bytes) ∷ (x.load_record, record_file (record_of_crash load p)) ∷ [])
+    × IsReadBack (record_of_crash load p)
 loads_panic x (Err (by why)) =
     HasNoPlan x.load.request (Some x.load.map) why
     ⊎ ((p : Plan) × (load : CrashLoad) × IsCrashLoaded x.load p load

@@ -5,6 +5,7 @@ ghost use Rattle.load_record.specs.File.{record_file};
 ghost use Rattle.file_commands.specs.Calls.{Makes, Takes, file_of};
 ghost use Rattle.kexec_words.specs.Values.{load_panic_value};
 ghost use Rattle.kexec_main.specs.CrashLoading.{crash_plan_of};
+ghost use Rattle.kexec_main.specs.Load.{IsReadBack};
 ghost use Rattle.kexec_main.specs.LoadPanic.{LoadPanicCommand as Inputs, load_panic_command, load_panic_files, loads_panic, panic_text, record_of_crash};
 
 use crate::crash_loading::{CrashKernel, load_in_place};
@@ -64,6 +65,8 @@ fn record_output(
     ensures text { IfOk result (λ r. string_bytes r.1 ≡ panic_text (crash_plan_of kernel)) }
     ensures record { IfOk result (λ r. file_of r.2 ≡
         (string_bytes name, record_file (record_of_crash kernel.loaded (crash_plan_of kernel)))) }
+    ensures read_back { IfOk result
+        (λ r. IsReadBack (record_of_crash kernel.loaded (crash_plan_of kernel))) }
 {
     let (memory, head, segments) = kernel.loaded.parts();
     let text = crash_lines(alloc, segments.pages(), &kernel.start)?;

@@ -41,4 +41,5 @@ returns c =
       w.0,
       file_as (at c.in_ok-memory.memory) (at kernel.loaded.memory) w.0 (λ p. ap (λ m. at m p) c.in_ok-memory.ensures.memory) w.2,
       outputs ∙ ap (λ (fs : List File). fs ++ file_of c.in_ok-memory.output ∷ []) w.1 ∙ ap (λ (f : File). (x.out, w.0) ∷ f ∷ []) c.in_ok-memory.ensures.record,
+      c.in_ok-memory.ensures.read_back,
     )
