@@ -1,6 +1,5 @@
 -- What was Done was in order: so what is said of commands that are in order speaks of each that can be done.
-use Rattle.std.proofs.Common.{◌≡◌, ◌∙◌, ℕ, Bool, List, length, Option, Some, None, Result, Ok, ap, sym, subst, inl, inr, arith}
-use Rattle.kx_laws.proofs.Results.{ok_same}
+use Rattle.std.proofs.Common.{◌≡◌, ◌∙◌, ℕ, Bool, List, length, Option, None, Result, Ok, ap, sym, subst, arith}
 use Rattle.kx_edge.specs.Edge.{Files}
 use Rattle.kx_edge.specs.declared.edge.Shelf.{Ghosts as Shelf}
 use Rattle.kx_edge.specs.declared.edge.Sink.{Ghosts as Sink}
@@ -12,7 +11,7 @@ use Rattle.page_memory.proofs.OneFile.{stored-agree}
 use Rattle.list_checker.specs.declared.fault.ListFault.{ListFault}
 use Rattle.load_states.specs.Ready.{Told}
 use Rattle.load_states.specs.Runs.{IsSameLoad}
-use Rattle.load_states.specs.States.{Checked, CrashLoad, Load}
+use Rattle.load_states.specs.States.{Checked, Load}
 use Rattle.load_states.proofs.Alike.{tells_alike}
 use Rattle.file_commands.specs.Answers.{Answer, MeetsTold, done}
 use Rattle.kexec_words.specs.declared.commands.Runs.{Runs}
@@ -20,8 +19,6 @@ use Rattle.kexec_words.specs.declared.faults.UsageWhy.{UsageWhy}
 use Rattle.kexec_words.specs.Values.{CommandValue}
 use Rattle.kexec_words.specs.Values as words
 use Rattle.kexec_plan.specs.Requests.{Plan}
-use Rattle.kexec_plan.specs.Plan.{plan}
-use Rattle.kexec_plan.specs.declared.fault.PlanFault.{PlanFault}
 use Rattle.kexec_main.specs.declared.files.CrashFiles.{CrashFiles}
 use Rattle.kexec_main.specs.declared.files.LoadFiles.{LoadFiles}
 use Rattle.kexec_main.specs.declared.files.TakenLoad.{TakenLoad}
@@ -32,8 +29,6 @@ use Rattle.kexec_main.specs.Call.{CanExec, CanLoad, CanLoadPanic, CanRun, CanRun
 use Rattle.kexec_main.specs.Check.{checks, checks_list_as, checks_place_as}
 use Rattle.kexec_main.specs.Commands.{Holds}
 use Rattle.kexec_main.specs.CrashExec.{executes_place_as}
-use Rattle.kexec_main.specs.CrashInputs.{CrashInputs}
-use Rattle.kexec_main.specs.CrashLoading.{IsCrashLoaded}
 use Rattle.kexec_main.specs.Exec.{executes_as, executes_by, load_of, runs_asked}
 use Rattle.kexec_main.specs.Inputs.{LoadInputs}
 use Rattle.kexec_main.specs.Load.{LoadCommand, loads}

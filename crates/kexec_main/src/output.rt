@@ -14,6 +14,7 @@ use std::alloc::{AllocError, Global};
 fn memory_bytes(memory: Memory) -> Result<Vec<u8>, MakeFault<Reason>>
     ensures { MakesOr (λ bytes. IsFileOf (at memory) bytes.items) (HasNoFile (at memory)) result }
 {
+    // for its clause: what every value of the type keeps
     let _sets = memory.sets();
     match memory.into_file() {
         Ok(bytes) => Ok(bytes),

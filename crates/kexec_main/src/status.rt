@@ -20,14 +20,19 @@ use thiserror::Error;
 /// Why an input file was refused: by its reader, with the place in it.
 #[derive(Clone, Copy, Debug, PartialEq, Eq, Error)]
 pub enum InputFault {
+    /// The memory file.
     #[error("{fault}")]
     Mem { fault: MemFault },
+    /// The pool file.
     #[error("{fault}")]
     Pool { fault: PoolFault },
+    /// The memory map.
     #[error("{fault}")]
     Map { fault: MapFault },
+    /// The load record.
     #[error("{fault}")]
     Rec { fault: RecFault },
+    /// The file of notes.
     #[error("{fault}")]
     Notes { fault: NoteFault },
 }

@@ -46,7 +46,7 @@ fn mode_by(swap: Option<u64>) -> Mode
 {
     match swap {
         Some(address) => Mode::Kept {
-            swap: Page::new(address / 4096).unwrap(),
+            swap: Page::from_address(address),
         },
         None => Mode::Plain,
     }
