@@ -24,8 +24,8 @@ pub fn kexec_in_memory(
     shelf: &mut CalmShelf,
     out: &mut MemorySink,
 ) -> Status
-    // Each answer has its cause: the takes that were made; what was made of them; and the puts and the say that followed,
-    // each once.
+    // Each answer has its cause: the takes that were made; what was made of them; and the puts and the say that
+    // followed, each once.
     ensures meets { Holds
         (λ X c. Meets ⟦<CalmShelf as Shelf>⟧ ⟦<MemorySink as Sink>⟧ c shelf.old out.old
         (answer_of result) shelf.new out.new) (command_of (map string_bytes words.now)) }
@@ -57,8 +57,8 @@ pub fn kexec_in_memory(
     ensures in_order { (c : CommandValue) → command_of (map string_bytes words.now) ≡ Ok c
         → answer_of result ≡ done → shelf.old.is_told ≡ true → IsInOrder c shelf.old.held }
 
-    // A load that takes more pages than the pool has usable is refused with both numbers where the sink takes what is said,
-    // or memory is wanted.
+    // A load that takes more pages than the pool has usable is refused with both numbers, or memory is wanted, where
+    // the count of the sink's faults has not risen.
     ensures too_few { (c : CommandValue) → command_of (map string_bytes words.now) ≡ Ok c
         → shelf.old.is_told ≡ true → (pool need : ℕ) → HasTooFew c shelf.old.held pool need
         → (Rose out.old.faults out.new.faults → ⊥)

@@ -28,6 +28,15 @@ const TEXT_LIMIT: usize = 1_048_576;
 /// The most bytes of a load record: its head, the heads and digests of sixteen segments, and the bytes of 65,536 pages.
 const RECORD_LIMIT: usize = 268_436_448;
 
+// A file is refused by its reader.
+fn refused_by(fault: InputFault) -> TakeFault<Reason>
+    ensures { result ≡ TakeFault.Refused (Reason.Input fault) }
+{
+    TakeFault::Refused {
+        why: Reason::Input { fault },
+    }
+}
+
 /// Takes a memory file and reads it.
 #[tactic(auto, unfolding(file_commands::specs::Taking::and_then, file_commands::specs::Taking::Took, file_commands::specs::Taking::FailedAt, file_commands::specs::Calls::TakesNot))]
 pub(crate) fn take_memory<S: Shelf>(
@@ -41,11 +50,7 @@ pub(crate) fn take_memory<S: Shelf>(
     match Memory::from_file(alloc, bytes) {
         Ok(memory) => Ok(memory),
         Err(MemFault::Memory) => Err(TakeFault::Memory),
-        Err(fault) => Err(TakeFault::Refused {
-            why: Reason::Input {
-                fault: InputFault::Mem { fault },
-            },
-        }),
+        Err(fault) => Err(refused_by(InputFault::Mem { fault })),
     }
 }
 
@@ -66,11 +71,7 @@ fn take_pages<S: Shelf>(
     match Pool::read(alloc, &bytes) {
         Ok(pool) => Ok(pool),
         Err(PoolFault::Memory) => Err(TakeFault::Memory),
-        Err(fault) => Err(TakeFault::Refused {
-            why: Reason::Input {
-                fault: InputFault::Pool { fault },
-            },
-        }),
+        Err(fault) => Err(refused_by(InputFault::Pool { fault })),
     }
 }
 
@@ -116,11 +117,7 @@ pub(crate) fn take_map_file<S: Shelf>(
     match Map::read(alloc, &bytes) {
         Ok(map) => Ok(map),
         Err(MapFault::Memory) => Err(TakeFault::Memory),
-        Err(fault) => Err(TakeFault::Refused {
-            why: Reason::Input {
-                fault: InputFault::Map { fault },
-            },
-        }),
+        Err(fault) => Err(refused_by(InputFault::Map { fault })),
     }
 }
 
@@ -155,11 +152,7 @@ fn take_notes_file<S: Shelf>(
     match read_notes(alloc, &bytes) {
         Ok(notes) => Ok(notes),
         Err(NoteFault::Memory) => Err(TakeFault::Memory),
-        Err(fault) => Err(TakeFault::Refused {
-            why: Reason::Input {
-                fault: InputFault::Notes { fault },
-            },
-        }),
+        Err(fault) => Err(refused_by(InputFault::Notes { fault })),
     }
 }
 
@@ -195,11 +188,7 @@ pub(crate) fn take_record<S: Shelf>(
     match LoadRecord::from_file(alloc, &front, rest) {
         Ok(record) => Ok(record),
         Err(RecFault::Memory) => Err(TakeFault::Memory),
-        Err(fault) => Err(TakeFault::Refused {
-            why: Reason::Input {
-                fault: InputFault::Rec { fault },
-            },
-        }),
+        Err(fault) => Err(refused_by(InputFault::Rec { fault })),
     }
 }
 
