@@ -74,10 +74,12 @@ pub(crate) fn is_written(help: &'static str, name: &str) -> bool {
 
 /// Whether the word or option of this name is a file.
 pub(crate) fn is_file(help: &'static str, name: &str) -> bool {
+    if !name.starts_with("--") {
+        return !matches!(name, "HEAD" | "LIMIT" | "NUMBER");
+    }
     match option_in(help, name) {
         Some(Form::Value { name }) => name == "FILE",
-        Some(Form::Flag) => false,
-        None => !matches!(name, "HEAD" | "LIMIT" | "NUMBER"),
+        _ => false,
     }
 }
 
