@@ -1,6 +1,7 @@
 //! The load of a sample.
 
-ghost use Rattle.std.specs.Prelude.{◌≡◌, IfOk};
+ghost use Rattle.std.specs.Prelude.{◌≡◌, ◌^◌, IfOk};
+ghost use Rattle.kimage_list.specs.Tracking.{whole_pool};
 ghost use Rattle.load_states.specs.Fillings.{IsSealed};
 ghost use Rattle.sample_load.specs.Samples.{sample_memory, sample_pool, sample_segments, start_of};
 
@@ -16,8 +17,11 @@ use std::alloc::{AllocError, Global};
 /// Loads the sample of this number in plain mode: its segments, into its memory, with pages of its
 /// pool. Want of memory is the only refusal.
 pub fn load_sample(alloc: Global, number: u64) -> Result<Loaded, AllocError>
-    ensures { IfOk result (λ load.
+    ensures sealed { IfOk result (λ load.
         IsSealed sample_memory sample_pool Wish.Plain (sample_segments number) load) }
+    // Its pool has the same pages as the pool of every sample, and no limit.
+    ensures pool { IfOk result (λ load.
+        whole_pool load.pool ≡ (sample_pool, sample_pool, 2 ^ 46)) }
 {
     let segments = sample_segments(alloc, number)?;
     let memory = sample_memory(alloc)?;

@@ -1,6 +1,7 @@
 //! The pool of a sample.
 
-ghost use Rattle.std.specs.Prelude.{◌≡◌, ℕ, ◌<◌, ◌≤◌, false, IfOk};
+ghost use Rattle.std.specs.Prelude.{◌≡◌, ℕ, ◌<◌, ◌≤◌, ◌^◌, false, IfOk};
+ghost use Rattle.kimage_list.specs.Tracking.{whole_pool};
 ghost use Rattle.page_pool.specs.Pages.{is_filed, usable_of};
 ghost use Rattle.sample_load.specs.Samples.{pool_page, pool_pages, sample_pool};
 
@@ -38,6 +39,8 @@ fn pool_pages(alloc: Global, count: u64) -> Result<Vec<Page>, AllocError>
 fn pool_of(alloc: Global, count: u64) -> Result<Pool, AllocError>
     requires { count ≤ 16384 }
     ensures pages { IfOk result (λ p. usable_of p ≡ pool_pages count) }
+    ensures whole { IfOk result (λ p.
+        whole_pool p ≡ (pool_pages count, pool_pages count, 2 ^ 46)) }
     ensures unfiled { IfOk result (λ p. (q : ℕ) → is_filed p q ≡ false) }
 {
     let pages = pool_pages(alloc, count)?;
@@ -53,6 +56,7 @@ fn pool_of(alloc: Global, count: u64) -> Result<Pool, AllocError>
 /// The pool of each sample.
 pub(crate) fn sample_pool(alloc: Global) -> Result<Pool, AllocError>
     ensures pages { IfOk result (λ p. usable_of p ≡ sample_pool) }
+    ensures whole { IfOk result (λ p. whole_pool p ≡ (sample_pool, sample_pool, 2 ^ 46)) }
     ensures unfiled { IfOk result (λ p. (q : ℕ) → is_filed p q ≡ false) }
 {
     pool_of(alloc, PAGE_COUNT)

@@ -7,7 +7,7 @@ use Rattle.kexec_main.proofs.sample.make_sample.Goals as goal
 
 pub returns : goal.returns
 returns c =
-    let l = c.in_ok-loaded.ensures in
+    let l = c.in_ok-loaded.ensures.sealed in
     let r = c.in_ok-ran.ensures in
     let k = checked_with c.in_ok-loaded.loaded r.0 r.1 r.2 in
     let start = c.start_of-start.ensures ∙ ap start_of (c.segments.ensures ∙ l.segments) in
