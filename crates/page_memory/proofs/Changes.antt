@@ -181,7 +181,7 @@ all_inside xs m sorted is = all_entries (λ q i. i + 4096 ≤ length xs) m.entri
 all_slots : (xs : List ℕ) (m : BTreeMap ℕ ℕ) → IsOrdered nat_cmp m → IsTable xs m → AllByRecursion (λ e. e.1 % 4104 ≡ 24) m.entries
 all_slots xs m sorted is = all_entries (λ q i. i % 4104 ≡ 24) m.entries sorted (λ q. if_some (tree.get nat_cmp m q) (λ i. i % 4104 ≡ 24) (λ i e. is.slots q i e))
 
-all_found : (m : BTreeMap ℕ ℕ) → IsOrdered nat_cmp m → AllByRecursion (λ e. tree.get nat_cmp m e.0 ≡ Some e.1) m.entries
+pub all_found : (m : BTreeMap ℕ ℕ) → IsOrdered nat_cmp m → AllByRecursion (λ e. tree.get nat_cmp m e.0 ≡ Some e.1) m.entries
 all_found m sorted = all_entries (λ q i. tree.get nat_cmp m q ≡ Some i) m.entries sorted (λ q. if_some (tree.get nat_cmp m q) (λ i. tree.get nat_cmp m q ≡ Some i) (λ i e. e))
 
 not_below : (n : ℕ) → nat_cmp n n ≡ Less → ⊥

@@ -12,3 +12,4 @@ pub mod Stored
 pub mod Tables
 pub mod Zeros
 pub mod RoundTrip
+pub mod Shortcuts

@@ -41,10 +41,6 @@ pub record IsTable (frames : List ℕ) (table : tree.BTreeMap ℕ ℕ) : Type 0 
   pub full : length frames - 16 ≡ 4104 * length table.entries
   pub bytes : AreBytes frames
 
--- what is kept of a page beside the table is its entry
-abbrev pub IsRecent : tree.BTreeMap ℕ ℕ → Option (ℕ × ℕ) → Type 0
-IsRecent table recent = IfSome recent (λ e. tree.get nat_cmp table e.0 ≡ Some e.1)
-
 -- page p became these bytes, where the table is the same before and after
 abbrev pub IsSet : List ℕ → List ℕ → tree.BTreeMap ℕ ℕ → ℕ → List ℕ → Type 0
 IsSet old new table p bytes = pages_in new table ≡ finite.insert (pages_in old table) p bytes

@@ -4,3 +4,4 @@ pub mod View
 pub mod File
 pub mod Frames
 pub mod InPlace
+pub mod Shortcuts

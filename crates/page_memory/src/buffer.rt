@@ -1,4 +1,4 @@
-//! The buffer in which the frames lie, and the table from pages to the places of their frames.
+//! The buffer in which the frames lie, at the places that the table says.
 
 ghost use Rattle.std.specs.Prelude.{◌≡◌, ℕ, ◌+◌, ◌<◌, ◌≤◌, ◌≢◌, ◌++◌, length, IsSome, IfOk, OnOk, OnErr, List, None, Some};
 ghost use Rattle.std.specs.FinMap as finite;
@@ -7,20 +7,13 @@ ghost use Rattle.std.specs.BTreeMap as tree;
 ghost use Rattle.std.specs.Vec.{vec_capacity};
 ghost use Rattle.kx_fields.specs.Fields.{IsBlock};
 ghost use Rattle.page_memory.specs.Contents.{frame_at, page_of, page_with_word};
-ghost use Rattle.page_memory.specs.Frames.{frame_in, put_frame, put_word_in, pages_in, AreExchanged, HaveSamePages, IsAdded, IsCopied, IsRecent, IsSet, IsTable, IsWordSet, Differs};
+ghost use Rattle.page_memory.specs.Frames.{frame_in, put_frame, put_word_in, pages_in, AreExchanged, HaveSamePages, IsAdded, IsCopied, IsSet, IsTable, IsWordSet};
 
 use crate::layout::{FIRST_FRAME, FRAME_SIZE, SLOT};
+use crate::table::Table;
 use byteorder::{ByteOrder, LittleEndian};
 use kx_pages::Page;
 use std::alloc::AllocError;
-use std::collections::BTreeMap;
-
-/// Where in the buffer the frame of a page begins.
-pub type Table = BTreeMap<Page, usize>;
-
-/// A page and its entry in the table: those of the page that was held last, so that what is moved to it next needs no
-/// look-up. None where the table has changed since.
-pub type Recent = Option<(Page, usize)>;
 
 /// The frame that begins at a place of the buffer.
 #[tactic(auto, unfolding(crate::specs::Frames::frame_in))]
@@ -78,28 +71,28 @@ pub fn put_word(frame: &mut [u8], place: usize, v: u64)
 
 /// Page p, which has a frame, becomes these at most 4,096 bytes, then zeros.
 pub fn write_frame(frames: &mut Vec<u8>, table: &Table, p: Page, bytes: &[u8])
-    requires old { IsTable frames.old.items table.now }
-    requires held { IsSome (finite.get (pages_in frames.old.items table.now) p) }
+    requires old { IsTable frames.old.items table.now.places }
+    requires held { IsSome (finite.get (pages_in frames.old.items table.now.places) p) }
     requires fits { length bytes.now ≤ 4096 }
-    ensures value { IsSet frames.old.items frames.new.items table.now p (page_of bytes.now) }
-    ensures table { IsTable frames.new.items table.now }
+    ensures value { IsSet frames.old.items frames.new.items table.now.places p (page_of bytes.now) }
+    ensures table { IsTable frames.new.items table.now.places }
 {
-    match table.get(&p) {
-        Some(place) => fill(frames, *place, bytes),
+    match table.get(p) {
+        Some(place) => fill(frames, place, bytes),
         None => unreachable!(),
     }
 }
 
 /// The eight bytes at a place of page p, which has a frame, become the little-endian number v.
 pub fn write_word(frames: &mut Vec<u8>, table: &Table, p: Page, place: usize, v: u64)
-    requires old { IsTable frames.old.items table.now }
-    requires held { IsSome (finite.get (pages_in frames.old.items table.now) p) }
+    requires old { IsTable frames.old.items table.now.places }
+    requires held { IsSome (finite.get (pages_in frames.old.items table.now.places) p) }
     requires fits { place + 8 ≤ 4096 }
-    ensures value { IsWordSet frames.old.items frames.new.items table.now p place v }
-    ensures table { IsTable frames.new.items table.now }
+    ensures value { IsWordSet frames.old.items frames.new.items table.now.places p place v }
+    ensures table { IsTable frames.new.items table.now.places }
 {
-    match table.get(&p) {
-        Some(start) => fill_word(frames, *start, place, v),
+    match table.get(p) {
+        Some(start) => fill_word(frames, start, place, v),
         None => unreachable!(),
     }
 }
@@ -122,15 +115,14 @@ fn move_frame(frames: &mut [u8], to: usize, from: usize)
 }
 
 /// Page d, which has a frame, becomes what page s reads as.
-pub fn copy_frame(frames: &mut Vec<u8>, table: &Table, recent: Recent, d: Page, s: Page)
-    requires old { IsTable frames.old.items table.now }
-    requires recent { IsRecent table.now recent }
-    requires held { IsSome (finite.get (pages_in frames.old.items table.now) d) }
-    ensures value { IsCopied frames.old.items frames.new.items table.now d s }
-    ensures table { IsTable frames.new.items table.now }
+pub fn copy_frame(frames: &mut Vec<u8>, table: &Table, d: Page, s: Page)
+    requires old { IsTable frames.old.items table.now.places }
+    requires held { IsSome (finite.get (pages_in frames.old.items table.now.places) d) }
+    ensures value { IsCopied frames.old.items frames.new.items table.now.places d s }
+    ensures table { IsTable frames.new.items table.now.places }
 {
-    match table.get(&s) {
-        Some(from) => move_frame(frames, place_of(table, recent, d), *from),
+    match table.get(s) {
+        Some(from) => move_frame(frames, place_of(table, d), from),
         None => write_frame(frames, table, d, &[]),
     }
 }
@@ -138,23 +130,21 @@ pub fn copy_frame(frames: &mut Vec<u8>, table: &Table, recent: Recent, d: Page, 
 // What a slot, and the buffer's head before the first slot, have in front of a frame until a file is made in the buffer.
 static HEADS: [u8; FIRST_FRAME] = [0; FIRST_FRAME];
 
-/// Adds a page, in a slot of its own behind the others, and tells where its frame begins. Room is made first, so that a
-/// refusal leaves both as they were.
+/// Adds a page, in a slot of its own behind the others. Room is made first, so that a refusal leaves both as they were.
 pub fn add_frame(
     frames: &mut Vec<u8>,
     table: &mut Table,
     p: Page,
     bytes: &[u8],
-) -> Result<usize, AllocError>
-    requires old { IsTable frames.old.items table.old }
-    requires absent { finite.get (pages_in frames.old.items table.old) p ≡ None }
+) -> Result<(), AllocError>
+    requires old { IsTable frames.old.items table.old.places }
+    requires absent { finite.get (pages_in frames.old.items table.old.places) p ≡ None }
     requires bytes { IsBlock 4096 bytes.now }
     ensures ok { OnOk result
-        (IsAdded frames.old.items table.old frames.new.items table.new p bytes.now) }
+        (IsAdded frames.old.items table.old.places frames.new.items table.new.places p bytes.now) }
     ensures err { OnErr result
-        (HaveSamePages frames.old.items table.old frames.new.items table.new) }
-    ensures table { IsTable frames.new.items table.new }
-    ensures place { IfOk result (λ i. tree.get nat_cmp table.new p ≡ Some i) }
+        (HaveSamePages frames.old.items table.old.places frames.new.items table.new.places) }
+    ensures table { IsTable frames.new.items table.new.places }
 {
     // for its clause: what every value of the type keeps
     let _number = p.number();
@@ -164,7 +154,7 @@ pub fn add_frame(
     table.insert(p, place)?;
     append(frames, heads);
     append(frames, bytes);
-    Ok(place)
+    Ok(())
 }
 
 // Appends bytes for which room was made.
@@ -179,50 +169,27 @@ fn append(frames: &mut Vec<u8>, bytes: &[u8])
     }
 }
 
-// The entry of a page that has one.
-fn entry_of(table: &Table, p: Page) -> usize
-    requires { IsSome (tree.get nat_cmp table.now p) }
-    ensures { tree.get nat_cmp table.now p ≡ Some result }
-{
-    match table.get(&p) {
-        Some(entry) => *entry,
-        None => unreachable!(),
-    }
-}
-
 // Where the frame of a page begins that has one.
-fn place_of(table: &Table, recent: Recent, p: Page) -> usize
-    requires held { IsSome (tree.get nat_cmp table.now p) }
-    requires recent { IsRecent table.now recent }
-    ensures { tree.get nat_cmp table.now p ≡ Some result }
+fn place_of(table: &Table, p: Page) -> usize
+    requires { IsSome (tree.get nat_cmp table.now.places p) }
+    ensures { tree.get nat_cmp table.now.places p ≡ Some result }
 {
-    match recent {
-        Some((page, place)) if page == p => place,
-        _ => entry_of(table, p),
-    }
-}
-
-fn set_entry(table: &mut Table, p: Page, i: usize)
-    requires { IsSome (tree.get nat_cmp table.old p) }
-    ensures differs { Differs table.old table.new p i }
-    ensures length { length table.new.entries ≡ length table.old.entries }
-{
-    match table.get_mut(&p) {
-        Some(entry) => *entry = i,
+    match table.get(p) {
+        Some(place) => place,
         None => unreachable!(),
     }
 }
 
 /// The frames of two pages change places: no byte moves.
 pub fn exchange(table: &mut Table, d: Page, s: Page)
-    requires d { IsSome (tree.get nat_cmp table.old d) }
-    requires s { IsSome (tree.get nat_cmp table.old s) }
+    requires d { IsSome (tree.get nat_cmp table.old.places d) }
+    requires s { IsSome (tree.get nat_cmp table.old.places s) }
     requires apart { d ≢ s }
-    ensures value { AreExchanged table.old table.new d s }
-    ensures table { (xs : List ℕ) → IsTable xs table.old → IsTable xs table.new }
+    ensures value { AreExchanged table.old.places table.new.places d s }
+    ensures table { (xs : List ℕ) → IsTable xs table.old.places → IsTable xs table.new.places }
 {
-    let i = entry_of(table, d);
-    let j = entry_of(table, s);
-    set_entry(table, s, i);
-    set_entry(table, d, j);
+    let i = place_of(table, d);
+    let j = place_of(table, s);
+    table.change(s, i);
+    table.change(d, j);
 }

@@ -14,9 +14,10 @@ ghost use Rattle.page_memory.specs.Memory.{Agree};
 ghost use Rattle.page_memory.specs.Frames.{pages_in, AreStored, IsTable, stored_in, frame_entries};
 ghost use Rattle.page_memory.specs.InPlace.{AreInSlots};
 
-use crate::buffer::{Table, frame};
+use crate::buffer::frame;
 use crate::fault::{HeavyFault, MemFault};
 use crate::layout::{FIRST_FRAME, FRAME_SIZE, HEAD, MOST_PAGES, SLOT};
+use crate::table::Table;
 use kx_fields::Block;
 use kx_pages::Page;
 use std::alloc::{AllocError, Global};
@@ -130,12 +131,12 @@ fn next_page(
 fn table_of(alloc: Global, count: u64, bytes: &[u8]) -> Result<Table, MemFault>
     requires few { count ≤ 131072 }
     requires headed { 16 ≤ length bytes.now }
-    ensures exact { Gives MemFault.Memory (λ t. pages_in bytes.now t) result
+    ensures exact { Gives MemFault.Memory (λ t. pages_in bytes.now t.places) result
         (pages_from count bytes.now) }
-    ensures table { IfOk result (λ t. IsTable bytes.now t) }
+    ensures table { IfOk result (λ t. IsTable bytes.now t.places) }
 {
     let total = bytes.len() as u64;
-    let mut table = BTreeMap::new(alloc);
+    let mut places = BTreeMap::new(alloc);
     let mut low = 0;
     let (_, mut rest) = bytes.split_at(HEAD);
     for i in 0..count {
@@ -143,7 +144,7 @@ fn table_of(alloc: Global, count: u64, bytes: &[u8]) -> Result<Table, MemFault>
             Ok(next) => next,
             Err(e) => return Err(e),
         };
-        table.insert(page, (FIRST_FRAME as u64 + SLOT as u64 * i) as usize)?;
+        places.insert(page, (FIRST_FRAME as u64 + SLOT as u64 * i) as usize)?;
         low = page.number() + 1;
         rest = after;
     }
@@ -152,15 +153,15 @@ fn table_of(alloc: Global, count: u64, bytes: &[u8]) -> Result<Table, MemFault>
             at: HEAD as u64 + SLOT as u64 * count,
         });
     }
-    Ok(table)
+    Ok(Table::new(alloc, places))
 }
 
 /// The table of the pages that a memory file spells, over the bytes of the file.
 #[tactic(auto, unfolding(crate::specs::File::pages_read))]
 pub fn file_table(alloc: Global, bytes: &[u8]) -> Result<Table, MemFault>
-    ensures exact { Gives MemFault.Memory (λ t. pages_in bytes.now t) result
+    ensures exact { Gives MemFault.Memory (λ t. pages_in bytes.now t.places) result
         (pages_read bytes.now) }
-    ensures table { IfOk result (λ t. IsTable bytes.now t) }
+    ensures table { IfOk result (λ t. IsTable bytes.now t.places) }
 {
     if !bytes.starts_with(b"KXMEM001") {
         return Err(MemFault::BadMagic);
@@ -193,13 +194,13 @@ fn stored_frames(
     frames: &[u8],
     table: &Table,
 ) -> Result<Vec<(Page, usize)>, AllocError>
-    requires { IsTable frames.now table.now }
-    ensures stored { IfOk result (λ v. AreStored frames.now table.now v.items) }
+    requires { IsTable frames.now table.now.places }
+    ensures stored { IfOk result (λ v. AreStored frames.now table.now.places v.items) }
     ensures slots { IfOk result (λ v. AreInSlots frames.now v.items) }
-    ensures few { IfOk result (λ v. length v.items ≤ length table.now.entries) }
-    ensures ordered { IsOrdered nat_cmp table.now }
+    ensures few { IfOk result (λ v. length v.items ≤ length table.now.places.entries) }
+    ensures ordered { IsOrdered nat_cmp table.now.places }
 {
-    let entries = table.iter();
+    let entries = table.places().iter();
     let mut stored = Vec::new(alloc);
     stored.reserve_exact(table.len())?;
     for (p, place) in entries {
@@ -235,13 +236,13 @@ pub fn file_pages(
     frames: &[u8],
     table: &Table,
 ) -> Result<Vec<(Page, usize)>, HeavyFault>
-    requires { IsTable frames.now table.now }
-    ensures stored { IfOk result (λ v. AreStored frames.now table.now v.items) }
+    requires { IsTable frames.now table.now.places }
+    ensures stored { IfOk result (λ v. AreStored frames.now table.now.places v.items) }
     ensures limit { IfOk result (λ v. length v.items ≤ 131072) }
     ensures slots { IfOk result (λ v. AreInSlots frames.now v.items) }
-    ensures few { IfOk result (λ v. length v.items ≤ length table.now.entries) }
-    ensures ordered { IsOrdered nat_cmp table.now }
-    ensures heavy { IfErr result (λ e. HasNoFile (stored_in frames.now table.now) e) }
+    ensures few { IfOk result (λ v. length v.items ≤ length table.now.places.entries) }
+    ensures ordered { IsOrdered nat_cmp table.now.places }
+    ensures heavy { IfErr result (λ e. HasNoFile (stored_in frames.now table.now.places) e) }
 {
     let pages = stored_frames(alloc, frames, table)?;
     if pages.len() as u64 > MOST_PAGES {
@@ -254,10 +255,10 @@ pub fn file_pages(
 
 /// The file of the pages that are not all zeros.
 pub fn file_of(alloc: Global, frames: &[u8], table: &Table) -> Result<Vec<u8>, HeavyFault>
-    requires { IsTable frames.now table.now }
-    ensures file { IfOk result (λ v. IsFileOf (stored_in frames.now table.now) v.items) }
-    ensures ordered { IsOrdered nat_cmp table.now }
-    ensures heavy { IfErr result (λ e. HasNoFile (stored_in frames.now table.now) e) }
+    requires { IsTable frames.now table.now.places }
+    ensures file { IfOk result (λ v. IsFileOf (stored_in frames.now table.now.places) v.items) }
+    ensures ordered { IsOrdered nat_cmp table.now.places }
+    ensures heavy { IfErr result (λ e. HasNoFile (stored_in frames.now table.now.places) e) }
 {
     let pages = file_pages(alloc, frames, table)?;
     Ok(text_of_pages(alloc, frames, &pages)?)

@@ -15,10 +15,11 @@ ghost use Rattle.page_memory.specs.File.{text_of, HasNoFile, IsFileOf};
 ghost use Rattle.page_memory.specs.Frames.{IsTable, frame_in, put_frame, stored_in, traded};
 ghost use Rattle.page_memory.specs.InPlace.{AreArranged, AreGathered, AreInSlots, AreOwned, AreSlotsOf, StillHold, slot_entries, slot_texts, slots_of};
 
-use crate::buffer::{Table, put_word};
+use crate::buffer::put_word;
 use crate::fault::HeavyFault;
 use crate::file::{file_pages, head_of};
 use crate::layout::{FIRST_FRAME, FRAME_SIZE, HEAD, SLOT};
+use crate::table::Table;
 use kx_pages::Page;
 use std::alloc::{AllocError, Global};
 
@@ -160,10 +161,10 @@ pub fn file_in_place(
     mut frames: Vec<u8>,
     table: &Table,
 ) -> Result<Vec<u8>, HeavyFault>
-    requires { IsTable frames.items table.now }
-    ensures file { IfOk result (λ v. IsFileOf (stored_in frames.items table.now) v.items) }
-    ensures ordered { IsOrdered nat_cmp table.now }
-    ensures heavy { IfErr result (λ e. HasNoFile (stored_in frames.items table.now) e) }
+    requires { IsTable frames.items table.now.places }
+    ensures file { IfOk result (λ v. IsFileOf (stored_in frames.items table.now.places) v.items) }
+    ensures ordered { IsOrdered nat_cmp table.now.places }
+    ensures heavy { IfErr result (λ e. HasNoFile (stored_in frames.items table.now.places) e) }
 {
     let pages = file_pages(alloc, &frames, table)?;
     gather(alloc, &mut frames, &pages, table.len())?;

@@ -1,7 +1,7 @@
 //! Memory images: what each page holds, by its number, and the memory file.
 //!
 //! A page has 4,096 bytes. A page that is not held reads as zeros. The bytes lie in one buffer, each page in a frame of its
-//! own; an ordered table says at which place the frame of a page begins. The buffer is laid out as a memory file all the
+//! own; a table says at which place the frame of a page begins. The buffer is laid out as a memory file all the
 //! time, with pages in the order in which they came to be held: so the buffer of a memory that was read is its file, and
 //! a file can be made in the buffer in which the pages lie. No contract tells this: a memory is seen as a map from held
 //! pages to their bytes, and a number of sets, which only `set` and `set_word` raise.
@@ -13,6 +13,7 @@ mod file;
 mod in_place;
 mod layout;
 mod memory;
+mod table;
 #[cfg(test)]
 mod tests;
 

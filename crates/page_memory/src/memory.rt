@@ -11,13 +11,12 @@ ghost use Rattle.page_memory.specs.Contents.{IsMemory, Contents, at, IsHeld, pag
 ghost use Rattle.page_memory.specs.Memory.{word};
 ghost use Rattle.page_memory.specs.Frames.{frame_in, put_frame, pages_in, IsTable};
 
-use crate::buffer::{
-    Recent, Table, add_frame, copy_frame, exchange, frame, write_frame, write_word,
-};
+use crate::buffer::{add_frame, copy_frame, exchange, frame, write_frame, write_word};
 use crate::fault::{HeavyFault, MemFault};
 use crate::file::{file_of, file_table, is_zero};
 use crate::in_place::file_in_place;
 use crate::layout::{FRAME_SIZE, HEAD, SLOT};
+use crate::table::Table;
 use byteorder::{ByteOrder, LittleEndian};
 use kx_pages::{PAGE_SIZE, Page, room_for};
 use std::alloc::{AllocError, Global};
@@ -31,8 +30,7 @@ static ZEROS: [u8; FRAME_SIZE] = [0; FRAME_SIZE];
 #[derive(Drop)]
 pub struct Memory {
     frames: Vec<u8>,
-    table: BTreeMap<Page, usize>,
-    recent: Recent,
+    table: Table,
     sets: u64,
     alloc: Global,
 }
@@ -40,15 +38,15 @@ pub struct Memory {
 impl Model for Memory {
     ghost use Rattle.page_memory.specs.Contents.{Contents, contents_code};
     ghost use Rattle.page_memory.specs.Memory.{word};
-    ghost use Rattle.page_memory.specs.Frames.{pages_in, IsRecent, IsTable};
+    ghost use Rattle.page_memory.specs.Frames.{pages_in, IsTable};
 
     ghost Value = { Contents };
 
     ghost coded = { contents_code };
 
-    ghost view = { λ m. record { pages = pages_in m.frames.items m.table; sets = m.sets } };
+    ghost view = { λ m. record { pages = pages_in m.frames.items m.table.places; sets = m.sets } };
 
-    ghost invariant = { λ m. IsTable m.frames.items m.table × IsRecent m.table m.recent };
+    ghost invariant = { λ m. IsTable m.frames.items m.table.places };
 }
 
 impl Memory {
@@ -58,8 +56,7 @@ impl Memory {
     {
         Memory {
             frames: Vec::new(alloc),
-            table: BTreeMap::new(alloc),
-            recent: None,
+            table: Table::new(alloc, BTreeMap::new(alloc)),
             sets: 0,
             alloc,
         }
@@ -77,7 +74,7 @@ impl Memory {
     pub fn held(&self, p: Page) -> bool
         ensures { IsTrue result ↔ IsHeld self.now p }
     {
-        self.table.contains_key(&p)
+        self.table.get(p).is_some()
     }
 
     /// The 4,096 bytes of a held page, lent and not copied. None exactly where the page is not held. It takes no
@@ -87,8 +84,8 @@ impl Memory {
         ensures value { option_map (λ s. s.now) result ≡ finite.get self.now.pages p }
         ensures bytes { IfSome result (λ s. IsBlock 4096 s.now) }
     {
-        match self.table.get(&p) {
-            Some(place) => Some(frame(&self.frames, *place)),
+        match self.table.get(p) {
+            Some(place) => Some(frame(&self.frames, place)),
             None => None,
         }
     }
@@ -101,13 +98,9 @@ impl Memory {
         ensures stay { (q : ℕ) → IsHeld self.old q → IsHeld self.new q }
         ensures only { (q : ℕ) → IsHeld self.new q → IsHeld self.old q ⊎ (q ≡ p) }
     {
-        match self.table.get(&p) {
-            Some(place) => self.recent = Some((p, *place)),
-            None => {
-                self.recent = None;
-                let place = add_frame(&mut self.frames, &mut self.table, p, &ZEROS)?;
-                self.recent = Some((p, place));
-            }
+        match self.table.get(p) {
+            Some(_) => (),
+            None => add_frame(&mut self.frames, &mut self.table, p, &ZEROS)?,
         }
         Ok(())
     }
@@ -191,7 +184,7 @@ impl Memory {
         ensures value { self.new ≡ with_page self.old d (at self.old s) }
         ensures stay { (q : ℕ) → IsHeld self.old q → IsHeld self.new q }
     {
-        copy_frame(&mut self.frames, &self.table, self.recent, d, s);
+        copy_frame(&mut self.frames, &self.table, d, s);
     }
 
     /// The copies `s` to `w`, `d` to `s`, `w` to `d`, in this order. All three pages are held; they may be equal.
@@ -219,8 +212,7 @@ impl Memory {
         ensures value { self.new ≡ swapped self.old d s w }
         ensures stay { (q : ℕ) → IsHeld self.old q → IsHeld self.new q }
     {
-        copy_frame(&mut self.frames, &self.table, self.recent, w, s);
-        self.recent = None;
+        copy_frame(&mut self.frames, &self.table, w, s);
         exchange(&mut self.table, d, s);
     }
 
@@ -298,7 +290,6 @@ impl Memory {
         Ok(Memory {
             frames,
             table,
-            recent: None,
             sets: 0,
             alloc,
         })
@@ -313,7 +304,6 @@ impl Memory {
         Ok(Memory {
             frames: bytes,
             table,
-            recent: None,
             sets: 0,
             alloc,
         })
@@ -336,7 +326,6 @@ impl Memory {
         let Memory {
             frames,
             table,
-            recent: _,
             sets: _,
             alloc,
         } = self;

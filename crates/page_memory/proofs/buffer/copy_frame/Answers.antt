@@ -9,24 +9,24 @@ use Rattle.page_memory.proofs.Tables.{none_held, some_held}
 use Rattle.page_memory.proofs.Frames.{clear, inside_found, frame_in-put_same, other_page, pages_by-written, vec_back}
 use Rattle.page_memory.proofs.buffer.copy_frame.Goals as goal
 
-pub place_of-requires-clause-held : goal.place_of-requires-clause-held
-place_of-requires-clause-held c = some_in c.args.frames.now.items c.args.table.now c.args.d c.requires.held
+pub place_of-requires : goal.place_of-requires
+place_of-requires c = some_in c.args.frames.now.items c.args.table.now.places c.args.d c.requires.held
 
 pub move_frame-requires-clause-from : goal.move_frame-requires-clause-from
-move_frame-requires-clause-from c = rw c.deref_mut.ensures.value (inside_found c.args.frames.now.items c.args.table.now c.args.s c.in-Some.from.now c.requires.old c.in-Some.ensures.value).1
+move_frame-requires-clause-from c = rw c.deref_mut.ensures.value (inside_found c.args.frames.now.items c.args.table.now.places c.args.s c.in-Some.from c.requires.old c.in-Some.ensures.value).1
 
 pub move_frame-requires-clause-up : goal.move_frame-requires-clause-up
-move_frame-requires-clause-up c = clear c.args.frames.now.items c.args.table.now c.args.s c.args.d c.in-Some.from.now c.place_of.result c.requires.old (sym c.in-Some.ensures.value) c.place_of.ensures
+move_frame-requires-clause-up c = clear c.args.frames.now.items c.args.table.now.places c.args.s c.args.d c.in-Some.from c.place_of.result c.requires.old (sym c.in-Some.ensures.value) c.place_of.ensures
 
 pub move_frame-requires-clause-down : goal.move_frame-requires-clause-down
-move_frame-requires-clause-down c = clear c.args.frames.now.items c.args.table.now c.args.d c.args.s c.place_of.result c.in-Some.from.now c.requires.old c.place_of.ensures (sym c.in-Some.ensures.value)
+move_frame-requires-clause-down c = clear c.args.frames.now.items c.args.table.now.places c.args.d c.args.s c.place_of.result c.in-Some.from c.requires.old c.place_of.ensures (sym c.in-Some.ensures.value)
 
 pub returns-in-Some-clause-value : goal.returns-in-Some-clause-value
 returns-in-Some-clause-value c =
     let xs = c.args.frames.now.items in
-    let t = c.args.table.now in
+    let t = c.args.table.now.places in
     let i = c.place_of.result in
-    let from = c.in-Some.from.now in
+    let from = c.in-Some.from in
     let at_d = c.place_of.ensures in
     let at_s = c.in-Some.ensures.value in
     let to_is = inside_found xs t c.args.d i c.requires.old (sym at_d) in
@@ -43,6 +43,6 @@ returns-in-Some-clause-value c =
 
 pub returns-in-None-clause-value : goal.returns-in-None-clause-value
 returns-in-None-clause-value c =
-    let m = pages_in c.args.frames.now.items c.args.table.now in
-    let read = frame_at-none m c.args.s (sym (none_held (frame_in c.args.frames.now.items) c.args.table.now c.args.s c.in-None.ensures.value)) in
+    let m = pages_in c.args.frames.now.items c.args.table.now.places in
+    let read = frame_at-none m c.args.s (sym (none_held (frame_in c.args.frames.now.items) c.args.table.now.places c.args.s c.in-None.ensures.value)) in
     c.write_frame.ensures.value ∙ ap (insert m c.args.d) (page_of-nothing ∙ sym read)

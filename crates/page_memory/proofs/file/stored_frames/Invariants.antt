@@ -6,5 +6,5 @@ use Rattle.page_memory.proofs.file.stored_frames.Given as goal
 abbrev pub invariant-loop-p : goal.invariant-loop-p
 invariant-loop-p l = record {
   inside : AllByRecursion (λ e. e.1 + 4096 ≤ length l.frames) l.p-iterator;
-  kept : l.stored.items ++ kept_in l.frames l.p-iterator ≡ kept_in l.frames l.table.entries;
+  kept : l.stored.items ++ kept_in l.frames l.p-iterator ≡ kept_in l.frames l.table.places.entries;
 }

@@ -17,7 +17,7 @@ use Rattle.page_memory.proofs.file.table_of.Goals as goal
 pub returns-in-Err-clause-exact : goal.returns-in-Err-clause-exact
 returns-in-Err-clause-exact c =
     let more : c.args.count - c.loop-i.i ≡ suc (c.args.count - (c.loop-i.i + 1)) = omega arith in
-    subst (λ r. (r ≡ Err c.in-Err.e) ⊎ (c.in-Err.e ≡ Memory)) c.loop-i.invariant.same (pages_onto-fails (length c.args.bytes.now) (16 + 4104 * c.loop-i.i) c.loop-i.low (pages_in (take (16 + 4104 * c.loop-i.i) c.args.bytes.now) c.loop-i.table) _ _ c.loop-i.rest.now c.in-Err.e more c.in-Err.ensures.exact)
+    subst (λ r. (r ≡ Err c.in-Err.e) ⊎ (c.in-Err.e ≡ Memory)) c.loop-i.invariant.same (pages_onto-fails (length c.args.bytes.now) (16 + 4104 * c.loop-i.i) c.loop-i.low (pages_in (take (16 + 4104 * c.loop-i.i) c.args.bytes.now) c.loop-i.places) _ _ c.loop-i.rest.now c.in-Err.e more c.in-Err.ensures.exact)
 
 -- the bytes up to the end of the page that was cut off the rest
 slot_more : (bytes rest frame : List ℕ) (n m : ℕ) → rest ≡ drop n bytes → frame ≡ take 4096 (drop 8 rest) → m ≡ n + 4104 → take m bytes ≡ take n bytes ++ take 8 (drop n bytes) ++ frame
@@ -47,23 +47,23 @@ is_page bytes rest frame n small at_n long is =
 pub loop-i-init : goal.loop-i-init
 loop-i-init c =
     let bytes = c.args.bytes.now in
-    let none = c.new-table.ensures.empty in
+    let none = c.new-places.ensures.empty in
     let all : c.args.count - 0 ≡ c.args.count = omega arith in
     let head : length (take 16 bytes) ≤ 16 = omega (arith, length-take 16 bytes) in
     record {
-      table = IsTable-empty (take 16 bytes) c.new-table.result (AreBytes-take 16 bytes (λ k. omega (arith, c.type_inv.bytes k))) head none;
-      new = λ q le. absent-empty c.new-table.result q none;
-      count = c.new-table.ensures.len;
+      table = IsTable-empty (take 16 bytes) c.new-places.result (AreBytes-take 16 bytes (λ k. omega (arith, c.type_inv.bytes k))) head none;
+      new = λ q le. absent-empty c.new-places.result q none;
+      count = c.new-places.ensures.len;
       room = c.requires.headed;
       rest = c.split_at.ensures.back;
-      same = ap (λ n. pages_onto (length bytes) 16 0 (pages_in (take 16 bytes) c.new-table.result) n c.split_at.result.1.now) all ∙ ap (λ m. pages_onto (length bytes) 16 0 m c.args.count c.split_at.result.1.now) (pages-empty (take 16 bytes) c.new-table.result none) ∙ ap (pages_onto (length bytes) 16 0 finite.empty c.args.count) (c.split_at.ensures.back ∙ sym (drop-drop 8 8 bytes));
+      same = ap (λ n. pages_onto (length bytes) 16 0 (pages_in (take 16 bytes) c.new-places.result) n c.split_at.result.1.now) all ∙ ap (λ m. pages_onto (length bytes) 16 0 m c.args.count c.split_at.result.1.now) (pages-empty (take 16 bytes) c.new-places.result none) ∙ ap (pages_onto (length bytes) 16 0 finite.empty c.args.count) (c.split_at.ensures.back ∙ sym (drop-drop 8 8 bytes));
     }
 
 pub loop-i-preserved : goal.loop-i-preserved
 loop-i-preserved c =
     let bytes = c.args.bytes.now in
     let rest = c.loop-i.rest.now in
-    let m = c.loop-i.table in
+    let m = c.loop-i.places in
     let t = c.insert.new.self in
     let i = c.loop-i.i in
     let n = 16 + 4104 * i in
@@ -115,9 +115,9 @@ pub returns-clause-exact : goal.returns-clause-exact
 returns-clause-exact c =
     let none : c.args.count - c.loop-i.i ≡ 0 = omega arith in
     let empty = sym c.is_empty.ensures ∙ c.if-not-is_empty.false in
-    sym c.loop-i.invariant.same ∙ pages_onto-end (length c.args.bytes.now) _ _ _ _ _ none empty ∙ ap (λ zs. Ok (pages_in zs c.loop-i.table)) (all_read c.args.bytes.now c.loop-i.rest.now (16 + 4104 * c.loop-i.i) c.loop-i.invariant.rest empty)
+    sym c.loop-i.invariant.same ∙ pages_onto-end (length c.args.bytes.now) _ _ _ _ _ none empty ∙ ap (λ zs. Ok (pages_in zs c.loop-i.places)) (all_read c.args.bytes.now c.loop-i.rest.now (16 + 4104 * c.loop-i.i) c.loop-i.invariant.rest empty) ∙ ap (λ m. Ok (pages_in c.args.bytes.now m)) (sym c.new.ensures)
 
 pub returns-clause-table : goal.returns-clause-table
 returns-clause-table c =
     let empty = sym c.is_empty.ensures ∙ c.if-not-is_empty.false in
-    subst (λ zs. IsTable zs c.loop-i.table) (all_read c.args.bytes.now c.loop-i.rest.now (16 + 4104 * c.loop-i.i) c.loop-i.invariant.rest empty) c.loop-i.invariant.table
+    rw c.new.ensures (subst (λ zs. IsTable zs c.loop-i.places) (all_read c.args.bytes.now c.loop-i.rest.now (16 + 4104 * c.loop-i.i) c.loop-i.invariant.rest empty) c.loop-i.invariant.table)

@@ -8,10 +8,10 @@ use Rattle.page_memory.proofs.file.table_of.Given as goal
 
 abbrev pub invariant-loop-i : goal.invariant-loop-i
 invariant-loop-i l = record {
-  table : IsTable (take (16 + 4104 * l.i) l.bytes) l.table;
-  new : (q : ℕ) → l.low ≤ q → tree.get nat_cmp l.table q ≡ None;
-  count : length l.table.entries ≡ l.i;
+  table : IsTable (take (16 + 4104 * l.i) l.bytes) l.places;
+  new : (q : ℕ) → l.low ≤ q → tree.get nat_cmp l.places q ≡ None;
+  count : length l.places.entries ≡ l.i;
   room : 16 + 4104 * l.i ≤ length l.bytes;
   rest : l.rest ≡ drop (16 + 4104 * l.i) l.bytes;
-  same : pages_onto (length l.bytes) (16 + 4104 * l.i) l.low (pages_in (take (16 + 4104 * l.i) l.bytes) l.table) (l.count - l.i) l.rest ≡ pages_onto (length l.bytes) 16 0 finite.empty l.count (drop 8 (drop 8 l.bytes));
+  same : pages_onto (length l.bytes) (16 + 4104 * l.i) l.low (pages_in (take (16 + 4104 * l.i) l.bytes) l.places) (l.count - l.i) l.rest ≡ pages_onto (length l.bytes) 16 0 finite.empty l.count (drop 8 (drop 8 l.bytes));
 }

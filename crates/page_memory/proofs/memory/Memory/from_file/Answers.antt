@@ -7,4 +7,4 @@ returns-clause-found c =
     let bytes = c.args.bytes.items in
     let spelled = rw c.deref.ensures.value at c.in_ok-table.ensures.exact in
     let table = rw c.deref.ensures.value at c.in_ok-table.ensures.table in
-    read_spelled bytes (pages_in bytes c.in_ok-table.table) table.bytes spelled
+    read_spelled bytes (pages_in bytes c.in_ok-table.table.places) table.bytes spelled

@@ -5,5 +5,5 @@ use Rattle.page_memory.proofs.memory.Memory.held.Goals as goal
 
 pub returns : goal.returns
 returns c =
-    let shown = get-shown (frame_in c.self.inside.frames.items) c.self.inside.table.entries c.args.self.now.pages c.args.p (ap (λ m. m.pages) c.self.view_is) in
-    rw (c.contains_key.ensures, shown) (IsSome-option_map _ _)
+    let shown = get-shown (frame_in c.self.inside.frames.items) c.self.inside.table.places.entries c.args.self.now.pages c.args.p (ap (λ m. m.pages) c.self.view_is) in
+    rw (c.is_some.ensures, c.get.ensures.value, shown) (IsSome-option_map _ _)

@@ -8,21 +8,21 @@ use Rattle.page_memory.proofs.Frames.{inside_found, IsBlock-frame_in}
 use Rattle.page_memory.proofs.memory.Memory.page.Goals as goal
 
 pub frame-requires : goal.frame-requires
-frame-requires c = rw c.deref.ensures.value (inside_found c.self.inside.frames.items c.self.inside.table c.args.p c.in-Some.place.now c.self.invariant.0 c.in-Some.ensures.value).1
+frame-requires c = rw c.deref.ensures.value (inside_found c.self.inside.frames.items c.self.inside.table.places c.args.p c.in-Some.place c.self.invariant c.in-Some.ensures.value).1
 
 pub returns-in-Some-clause-value : goal.returns-in-Some-clause-value
 returns-in-Some-clause-value c =
-    let shown = get-shown (frame_in c.self.inside.frames.items) c.self.inside.table.entries c.args.self.now.pages c.args.p (ap (λ m. m.pages) c.self.view_is) in
+    let shown = get-shown (frame_in c.self.inside.frames.items) c.self.inside.table.places.entries c.args.self.now.pages c.args.p (ap (λ m. m.pages) c.self.view_is) in
     rw (c.frame.ensures, c.deref.ensures.value) (ap (option_map (frame_in c.self.inside.frames.items)) c.in-Some.ensures.value ∙ sym shown)
 
 pub returns-in-Some-clause-bytes : goal.returns-in-Some-clause-bytes
 returns-in-Some-clause-bytes c =
-    let found = inside_found c.self.inside.frames.items c.self.inside.table c.args.p c.in-Some.place.now c.self.invariant.0 c.in-Some.ensures.value in
-    rw (c.frame.ensures, c.deref.ensures.value) (IsBlock-frame_in c.self.inside.frames.items c.in-Some.place.now found.1 c.self.invariant.0.bytes)
+    let found = inside_found c.self.inside.frames.items c.self.inside.table.places c.args.p c.in-Some.place c.self.invariant c.in-Some.ensures.value in
+    rw (c.frame.ensures, c.deref.ensures.value) (IsBlock-frame_in c.self.inside.frames.items c.in-Some.place found.1 c.self.invariant.bytes)
 
 pub returns-in-None-clause-value : goal.returns-in-None-clause-value
 returns-in-None-clause-value c =
-    let shown = get-shown (frame_in c.self.inside.frames.items) c.self.inside.table.entries c.args.self.now.pages c.args.p (ap (λ m. m.pages) c.self.view_is) in
+    let shown = get-shown (frame_in c.self.inside.frames.items) c.self.inside.table.places.entries c.args.self.now.pages c.args.p (ap (λ m. m.pages) c.self.view_is) in
     ap (option_map (frame_in c.self.inside.frames.items)) c.in-None.ensures.value ∙ sym shown
 
 pub returns-in-Some-clause-held : goal.returns-in-Some-clause-held

@@ -5,5 +5,5 @@ use Rattle.page_memory.proofs.memory.Memory.read.Goals as goal
 
 pub returns-clause-found : goal.returns-clause-found
 returns-clause-found c =
-    let spelled = read_spelled c.args.bytes.now (pages_in c.args.bytes.now c.in_ok-table.table) (λ i. omega (arith, c.type_inv.bytes i)) c.in_ok-table.ensures.exact in
+    let spelled = read_spelled c.args.bytes.now (pages_in c.args.bytes.now c.in_ok-table.table.places) (λ i. omega (arith, c.type_inv.bytes i)) c.in_ok-table.ensures.exact in
     rw c.in_ok-frames.ensures spelled
