@@ -2,7 +2,8 @@
 use Rattle.std.proofs.Common.{◌≡◌, ◌∙◌, ℕ, Some, ap, cond}
 use Rattle.std.specs.Prelude.{eqb}
 use Rattle.page_memory.specs.Contents.{at}
-use Rattle.page_memory.specs.Memory.{Mem, Agree}
+use Rattle.kx_pages.specs.Bytes.{Mem}
+use Rattle.page_memory.specs.Memory.{Agree}
 use Rattle.kexec_words.specs.declared.commands.Runs.TheVariants.{Twice}
 use Rattle.load_states.specs.Exchange.{exchange, last_source, partner}
 use Rattle.load_states.specs.States.{Checked, swap_of}

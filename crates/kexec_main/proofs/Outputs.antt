@@ -1,6 +1,7 @@
 -- Memories that agree have the same files.
 use Rattle.std.proofs.Common.{ℕ, List, ◌∙◌}
-use Rattle.page_memory.specs.Memory.{Mem, Agree}
+use Rattle.kx_pages.specs.Bytes.{Mem}
+use Rattle.page_memory.specs.Memory.{Agree}
 use Rattle.file_commands.specs.Taking.{File}
 use Rattle.kexec_main.specs.declared.status.Reason.{Reason}
 use Rattle.kexec_main.specs.declared.status.Reason.TheVariants.{Usage, Input, NotKept, Plan, NoPages, Heavy}

@@ -1,6 +1,6 @@
 -- A load with a purgatory proves itself once more: after one run the test of its regions finds them the same.
 use Rattle.std.proofs.Common.{◌≡◌, ◌∙◌, ℕ, List, Option, Some, None, ap, sym}
-use Rattle.page_memory.specs.Memory.{Mem}
+use Rattle.kx_pages.specs.Bytes.{Mem}
 use Rattle.segments.specs.Rules.{IsBare}
 use Rattle.segments.specs.Values.{SegmentValue, want}
 use Rattle.segments.proofs.Laws.{AreSegments-from_IsBare, want-from_Has}

@@ -11,7 +11,8 @@ use Rattle.kx_pages.specs.declared.image.Mode.{Mode}
 use Rattle.kx_pages.specs.declared.image.Wish.{Wish}
 use Rattle.page_memory.specs.Contents.{Contents, at}
 use Rattle.page_memory.specs.File.{reading}
-use Rattle.page_memory.specs.Memory.{Agree, Mem}
+use Rattle.kx_pages.specs.Bytes.{Mem}
+use Rattle.page_memory.specs.Memory.{Agree}
 use Rattle.page_memory.specs.declared.fault.MemFault.{MemFault}
 use Rattle.page_memory.proofs.OneFile.{file-agree}
 use Rattle.page_memory.proofs.RoundTrip.{file_read}

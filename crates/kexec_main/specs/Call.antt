@@ -9,7 +9,7 @@ use Rattle.kx_edge.specs.Edge.{Files, Said}
 use Rattle.kx_edge.specs.declared.edge.Shelf.{Ghosts as Shelf}
 use Rattle.kx_edge.specs.declared.edge.Sink.{Ghosts as Sink}
 use Rattle.page_memory.specs.Contents.{at}
-use Rattle.page_memory.specs.Memory.{Mem}
+use Rattle.kx_pages.specs.Bytes.{Mem}
 use Rattle.segments.specs.Values.{need, pages, want}
 use Rattle.memory_map.specs.Maps.{reserved_area}
 use Rattle.list_checker.specs.declared.fault.ListFault.{ListFault}

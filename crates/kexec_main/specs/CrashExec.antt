@@ -2,7 +2,7 @@
 use Rattle.std.specs.Prelude.{◌≡◌, ℕ, Bool, true, false, List, length, Option, Some, None, Result, Ok, Err, ◌⊎◌}
 use Rattle.kx_pages.specs.declared.image.Start.{Start}
 use Rattle.page_memory.specs.Contents.{at}
-use Rattle.page_memory.specs.Memory.{Mem}
+use Rattle.kx_pages.specs.Bytes.{Mem}
 use Rattle.segments.specs.Values.{pages}
 use Rattle.list_checker.specs.declared.fault.ListFault.{ListFault}
 use Rattle.file_commands.specs.Taking.{Refusal, too_long, by}

@@ -1,7 +1,8 @@
 -- Outputs that are files of memories (this project's own).
 use Rattle.std.specs.Prelude.{◌≡◌, ℕ, ◌≤◌, ◌<◌, List, [], ◌∷◌, length}
 use Rattle.page_memory.specs.Contents.{Contents, IsMemory, at}
-use Rattle.page_memory.specs.Memory.{Mem, Agree}
+use Rattle.kx_pages.specs.Bytes.{Mem}
+use Rattle.page_memory.specs.Memory.{Agree}
 use Rattle.page_memory.specs.File.{stored, file}
 use Rattle.list_checker.specs.declared.fault.ListFault.{ListFault}
 use Rattle.file_commands.specs.Answers.{Goods}

@@ -7,7 +7,8 @@ use Rattle.kx_pages.specs.declared.image.Wish.{Wish}
 use Rattle.kx_pages.specs.declared.image.Wish.TheVariants.{Plain, Kept}
 use Rattle.kexec_words.specs.declared.commands.Runs.{Runs}
 use Rattle.kexec_words.specs.declared.commands.Runs.TheVariants.{Once, Twice}
-use Rattle.page_memory.specs.Memory.{Mem, Agree}
+use Rattle.kx_pages.specs.Bytes.{Mem}
+use Rattle.page_memory.specs.Memory.{Agree}
 use Rattle.page_memory.specs.Contents.{Contents, at}
 use Rattle.segments.specs.Values.{overlay, want}
 use Rattle.load_states.specs.States.{Checked, Load, swap_of, with_memory}

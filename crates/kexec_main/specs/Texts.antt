@@ -1,7 +1,7 @@
 -- The texts that commands say (this project's own). Addresses and words are in lower-case hexadecimal without leading
 -- zeros, counts in decimal, and each line ends with a newline.
 use Rattle.std.specs.Prelude.{ℕ, ◌*◌, ◌==◌, ◌&&◌, List, [], ◌++◌, codes, decimal, false, if◌then◌else◌}
-use Rattle.page_memory.specs.Memory.{Mem}
+use Rattle.kx_pages.specs.Bytes.{Mem}
 use Rattle.purgatory_link.specs.declared.region_test.RegionTest.{RegionTest}
 use Rattle.purgatory_link.specs.declared.region_test.RegionTest.TheVariants as tests
 use Rattle.purgatory_link.specs.RegionTest.{test}

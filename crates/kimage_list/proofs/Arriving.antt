@@ -20,7 +20,7 @@ use Rattle.kimage_list.specs.Tables.{Slots, slot, place_in, source_in}
 use Rattle.kx_pages.specs.Items.{code}
 use Rattle.kx_pages.specs.Lists.{destinations, sources, count}
 use Rattle.kx_pages.specs.declared.item.Item.TheVariants.{Source}
-use Rattle.page_memory.specs.Contents.{page_of}
+use Rattle.kx_pages.specs.Bytes.{page_of}
 use Rattle.page_memory.specs.Memory.{set_word}
 use Rattle.kx_pages.proofs.Lists.{Each-append}
 use Rattle.kx_pages.proofs.Counting.{count-append}

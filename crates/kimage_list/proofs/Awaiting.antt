@@ -4,8 +4,8 @@ use Rattle.std.specs.Prelude.{◌≢◌, ◌⊎◌, ◌↔◌, eqb, is_some, unw
 use Rattle.std.proofs.lemmas.Bool.{cases_lt, false≢true}
 use Rattle.std.proofs.lemmas.Bool.Decides.{eqb_tells}
 use Rattle.std.proofs.lemmas.Option.{none-some}
-use Rattle.page_memory.specs.Contents.{at, page_of}
-use Rattle.page_memory.specs.Memory.{Wants}
+use Rattle.kx_pages.specs.Bytes.{page_of, Wants}
+use Rattle.page_memory.specs.Contents.{at}
 use Rattle.kimage_list.specs.declared.table.PageSource.{PageSource}
 use Rattle.kx_pages.specs.Lists.{Has, count, destinations}
 use Rattle.kimage_list.specs.Load.{Loading, Move, pages_of, starts, requests, given, loaded, source_of}

@@ -19,7 +19,8 @@ use Rattle.kx_pages.specs.Items.{code}
 use Rattle.kx_pages.specs.Lists.{Each, Distinct, destinations, sources, count}
 use Rattle.kx_pages.specs.declared.item.Item.{Item}
 use Rattle.kx_pages.specs.declared.item.Item.TheVariants.{Destination, Source}
-use Rattle.page_memory.specs.Memory.{Mem, put, set_word}
+use Rattle.kx_pages.specs.Bytes.{Mem}
+use Rattle.page_memory.specs.Memory.{put, set_word}
 use Rattle.kx_pages.proofs.Counting.{count-append, Each-from_no_count, Distinct-from_count}
 use Rattle.page_memory.proofs.Laws.{put-apart}
 

@@ -15,8 +15,9 @@ use Rattle.kx_pages.specs.Items.{code}
 use Rattle.kx_pages.specs.Lists.{Each, Distinct, destinations}
 use Rattle.kx_pages.specs.declared.item.Item.{Item}
 use Rattle.kx_pages.specs.declared.item.Item.TheVariants.{Destination, Source}
-use Rattle.page_memory.specs.Contents.{page_of, page_with_word}
-use Rattle.page_memory.specs.Memory.{Mem, put, Wants, set_word}
+use Rattle.kx_pages.specs.Bytes.{page_of, Mem, Wants}
+use Rattle.page_memory.specs.Contents.{page_with_word}
+use Rattle.page_memory.specs.Memory.{put, set_word}
 use Rattle.kx_pages.proofs.Lists.{Each-map, Each-both}
 use Rattle.kx_laws.proofs.Options.{some_same}
 use Rattle.page_memory.proofs.Laws.{put-same, put-apart}

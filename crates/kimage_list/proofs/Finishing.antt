@@ -13,7 +13,8 @@ use Rattle.kimage_list.specs.Laying.{items, source_pages, link_pages, put_all, H
 use Rattle.kimage_list.specs.Opening.{next_place, open_pages}
 use Rattle.kimage_list.specs.Tables.{Slots}
 use Rattle.kx_pages.specs.Lists.{Distinct, sources, count}
-use Rattle.page_memory.specs.Memory.{Mem, set_word}
+use Rattle.kx_pages.specs.Bytes.{Mem}
+use Rattle.page_memory.specs.Memory.{set_word}
 use Rattle.kx_pages.proofs.Counting.{count-append, Distinct-from_count}
 
 same_page : (N K : Mem) (xs : List (ℕ × (List ℕ))) (p : ℕ) → Holds N xs → Holds K xs → 1 ≤ count p (keys xs) → N p ≡ K p

@@ -12,7 +12,7 @@ use Rattle.kimage_list.specs.Laws.{RoomIsThere, PageIsThere, StartIsThere, AllDr
 use Rattle.kimage_list.specs.Drafts.{initial, first_taken, Draft, CanTake, linked, loaded_from, Room, RoomBy, HasRoom}
 use Rattle.kimage_list.specs.Load.{Loading, Start, Move, taken, given, pages_of}
 use Rattle.kx_pages.specs.Lists.{Each, Has, count}
-use Rattle.page_memory.specs.Memory.{Mem, Wants}
+use Rattle.kx_pages.specs.Bytes.{Mem, Wants}
 
 -- the counts after a request
 counted : (pool all : List ℕ) (need : ℕ) (d e : Draft) (r : Option ℕ) (t : ℕ × Loading) → Counts pool all d → taken d.wanted r d.loading ≡ Some t → e.loading ≡ given r t → e.wanted ≡ d.wanted

@@ -20,7 +20,8 @@ use Rattle.kimage_list.specs.declared.taking.TakenPage.{TakenPage}
 use Rattle.kx_pages.specs.Items.{code}
 use Rattle.kx_pages.specs.Lists.{Each, sources, count}
 use Rattle.kx_pages.specs.declared.item.Item.TheVariants.{Source}
-use Rattle.page_memory.specs.Memory.{Mem, put, set_word}
+use Rattle.kx_pages.specs.Bytes.{Mem}
+use Rattle.page_memory.specs.Memory.{put, set_word}
 use Rattle.kx_pages.proofs.Lists.{Each-map}
 use Rattle.kx_pages.proofs.Counting.{count-append, Each-from_no_count, Distinct-from_count}
 

@@ -18,8 +18,9 @@ use Rattle.kimage_list.specs.declared.table.PageSource.{PageSource}
 use Rattle.kx_pages.specs.Items.{code}
 use Rattle.kx_pages.specs.Lists.{Each, Distinct, destinations, sources, count}
 use Rattle.kx_pages.specs.declared.item.Item.TheVariants.{Link}
-use Rattle.page_memory.specs.Contents.{page_of, page_with_word}
-use Rattle.page_memory.specs.Memory.{Mem, put, Wants, set_word}
+use Rattle.kx_pages.specs.Bytes.{page_of, Mem, Wants}
+use Rattle.page_memory.specs.Contents.{page_with_word}
+use Rattle.page_memory.specs.Memory.{put, set_word}
 use Rattle.kx_pages.proofs.Lists.{Each-map}
 use Rattle.kx_pages.proofs.Counting.{count-append, Each-from_no_count, Distinct-from_count}
 use Rattle.page_memory.proofs.Laws.{put-apart}

@@ -7,7 +7,7 @@ use Rattle.kx_pages.proofs.Lists.{Each-both}
 use Rattle.kx_pages.proofs.Counting.{Each-from_no_count}
 use Rattle.page_memory.proofs.Laws.{put-apart, put-same}
 use Rattle.kx_pages.specs.declared.item.Item.{Item}
-use Rattle.page_memory.specs.Memory.{Mem, Wants}
+use Rattle.kx_pages.specs.Bytes.{Mem, Wants}
 use Rattle.kimage_list.specs.Load.{Entry, Start, Move}
 use Rattle.kimage_list.specs.Laying.{Holds, items, link_pages, source_pages, put_all}
 

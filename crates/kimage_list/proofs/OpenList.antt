@@ -10,8 +10,9 @@ use Rattle.kx_pages.specs.Items.{code}
 use Rattle.kx_pages.specs.Lists.{Each, Distinct}
 use Rattle.kx_pages.specs.declared.item.Item.{Item}
 use Rattle.kx_pages.specs.declared.item.Item.TheVariants.{Link, Done}
-use Rattle.page_memory.specs.Contents.{page_of, page_with_word}
-use Rattle.page_memory.specs.Memory.{Mem, put, set_word}
+use Rattle.kx_pages.specs.Bytes.{page_of, Mem}
+use Rattle.page_memory.specs.Contents.{page_with_word}
+use Rattle.page_memory.specs.Memory.{put, set_word}
 use Rattle.page_memory.proofs.Laws.{put-same, put-apart}
 
 -- no word is last yet

@@ -20,7 +20,7 @@ use Rattle.kimage_list.specs.Drafts.{initial, first_taken, Draft, Renders}
 use Rattle.kimage_list.specs.Load.{Loading}
 use Rattle.kimage_list.specs.Tables.{Slots, slot, source_in, place_in, fresh_slot}
 use Rattle.kx_pages.specs.Lists.{Distinct, count}
-use Rattle.page_memory.specs.Memory.{Mem, Wants}
+use Rattle.kx_pages.specs.Bytes.{Mem, Wants}
 use Rattle.kx_pages.proofs.Counting.{count-from_Distinct, count-append}
 
 -- one of the first n has its place

@@ -3,8 +3,9 @@ use Rattle.std.proofs.Common.{◌≡◌, ℕ, zero, suc, ◌+◌, ◌-◌, ◌*�
 use Rattle.std.specs.Prelude.{replicate}
 use Rattle.std.proofs.Math.Seq.{drop-append_seam, take-append_seam, drop-append-add}
 use Rattle.byteorder.specs.Endian.{little_bytes}
-use Rattle.page_memory.specs.Contents.{page_of, page_with_word}
-use Rattle.page_memory.proofs.Laws.{page_of-fits}
+use Rattle.kx_pages.specs.Bytes.{page_of}
+use Rattle.page_memory.specs.Contents.{page_with_word}
+use Rattle.kx_pages.proofs.Bytes.{page_of-fits}
 use Rattle.kimage_list.specs.Laying.{in_bytes}
 
 pub length-in_bytes : (ws : List ℕ) → length (in_bytes ws) ≡ 8 * length ws

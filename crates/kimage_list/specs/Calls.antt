@@ -1,7 +1,7 @@
 -- What the writer's calls begin with, and what they leave (this project's own).
 use Rattle.std.specs.Prelude.{◌≡◌, ℕ, ◌+◌, ◌≤◌, ◌<◌, ◌^◌, List, [], ◌++◌, take, drop, false, None, Some}
 use Rattle.page_memory.specs.Contents.{at}
-use Rattle.page_memory.specs.Memory.{Mem}
+use Rattle.kx_pages.specs.Bytes.{Mem}
 use Rattle.page_pool.specs.Pages.{Pages, is_filed, left_among, left_of, usable_of}
 use Rattle.kx_pages.specs.Lists.{count, sources}
 use Rattle.kx_pages.specs.Spans.{Run, AreApart}

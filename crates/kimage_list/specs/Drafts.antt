@@ -1,7 +1,8 @@
 -- A list under way: what was asked for so far, and what stands in memory, pool and table (this project's own).
 use Rattle.std.specs.Prelude.{◌≡◌, ℕ, ◌+◌, ◌*◌, ◌/◌, ◌%◌, ◌<◌, ◌≤◌, ◌^◌, ◌⊎◌, List, [], ◌∷◌, ◌++◌, length, take, Bool, true, false, cond, eqb, Option, Some, None}
-use Rattle.page_memory.specs.Contents.{Contents, at, IsHeld, page_of}
-use Rattle.page_memory.specs.Memory.{Mem, Wants, put, set_word}
+use Rattle.kx_pages.specs.Bytes.{page_of, Mem, Wants}
+use Rattle.page_memory.specs.Contents.{Contents, at, IsHeld}
+use Rattle.page_memory.specs.Memory.{put, set_word}
 use Rattle.page_pool.specs.Pages.{Pages}
 use Rattle.kx_pages.specs.Items.{code}
 use Rattle.kx_pages.specs.Lists.{Each, count, destinations, sources}

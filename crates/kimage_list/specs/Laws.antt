@@ -1,7 +1,7 @@
 -- What is claimed of loads, in the clauses of laws.rt (this project's own): taking never fails, each call can be made,
 -- and all is drawn in the end.
 use Rattle.std.specs.Prelude.{◌≡◌, ℕ, ◌+◌, ◌<◌, ◌≤◌, ◌/◌, List, [], ◌∷◌, ◌++◌, length, take, drop, Bool, true, Some, None, not, filter}
-use Rattle.page_memory.specs.Memory.{Mem, Wants}
+use Rattle.kx_pages.specs.Bytes.{Mem, Wants}
 use Rattle.kx_pages.specs.Lists.{Has, count}
 use Rattle.kimage_list.specs.Load.{Loading, Request, begun, taken, given, served, pages_of, Entry, loaded}
 use Rattle.kimage_list.specs.Drafts.{Draft, CanTake, IsSteady, HasRoom, Room, initial, first_taken, started, loaded_from}

@@ -2,8 +2,8 @@
 -- (kimage_entry_t), and the destinations' bytes at the sources. Which page is which is this project's own.
 use Rattle.std.specs.Prelude.{◌≡◌, ℕ, List, [], ◌∷◌, ◌++◌, map, take, drop, unwrap_or, slice_index}
 use Rattle.byteorder.specs.Endian.{little_bytes}
-use Rattle.page_memory.specs.Memory.{Mem, Wants, put}
-use Rattle.page_memory.specs.Contents.{page_of}
+use Rattle.kx_pages.specs.Bytes.{Mem, Wants, page_of}
+use Rattle.page_memory.specs.Memory.{put}
 use Rattle.kx_pages.specs.Items.{code}
 use Rattle.kx_pages.specs.Lists.{Each}
 use Rattle.kx_pages.specs.declared.item.Item.{Item}

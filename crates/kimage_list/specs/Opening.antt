@@ -1,7 +1,6 @@
 -- The list while it is written: no done word yet, and the last link page has room or is full (this project's own).
 use Rattle.std.specs.Prelude.{ℕ, suc, cond, eqb, ◌≤◌, ◌-◌, ◌+◌, ◌*◌, ◌/◌, ◌%◌, List, [], ◌∷◌, ◌++◌, map, length, take, drop, slice_index}
-use Rattle.page_memory.specs.Memory.{Mem, Wants}
-use Rattle.page_memory.specs.Contents.{page_of}
+use Rattle.kx_pages.specs.Bytes.{Mem, Wants, page_of}
 use Rattle.kx_pages.specs.Items.{code}
 use Rattle.kx_pages.specs.declared.item.Item.{Item}
 use Rattle.kx_pages.specs.declared.item.Item.TheVariants.{Link}

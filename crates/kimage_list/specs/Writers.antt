@@ -2,7 +2,7 @@
 use Rattle.std.specs.Prelude.{◌≡◌, ℕ, zero, suc, ◌+◌, ◌≤◌, List, [], ◌∷◌, ◌++◌, ◌⊎◌, length, take, slice_index, Bool, true, false, cond, eqb, Option, Some, None, refl}
 use Rattle.std.specs.Coded.{Coded, code_by, coded×, coded_ℕ, coded_option}
 use Rattle.page_memory.specs.Contents.{Contents, contents_code, at}
-use Rattle.page_memory.specs.Memory.{Mem, Wants}
+use Rattle.kx_pages.specs.Bytes.{Mem, Wants}
 use Rattle.page_pool.specs.Pages.{Pages, pages_code, is_filed, usable_of}
 use Rattle.kx_pages.specs.Spans.{Run, in_spans, pages, AreApart}
 use Rattle.kx_pages.specs.Lists.{Each, Has, has, count, sources}

@@ -1,7 +1,8 @@
 //! What is written into memory, page by page and word by word.
 
 ghost use Rattle.std.specs.Prelude.{◌≡◌, ℕ, ◌/◌, ◌%◌, ◌<◌, ◌≤◌, ◌^◌, [], length};
-ghost use Rattle.page_memory.specs.Contents.{at, IsHeld, page_of};
+ghost use Rattle.kx_pages.specs.Bytes.{page_of};
+ghost use Rattle.page_memory.specs.Contents.{at, IsHeld};
 ghost use Rattle.page_memory.specs.Memory.{put, set_word};
 ghost use Rattle.kx_pages.specs.Items.{code};
 ghost use Rattle.kx_pages.specs.declared.item.Item.TheVariants.{Source, Link, Destination};

@@ -1,7 +1,8 @@
 //! The writer of a list.
 
 ghost use Rattle.std.specs.Prelude.{◌≡◌, ◌≢◌, ℕ, ◌<◌, ◌≤◌, ◌+◌, ◌^◌, ◌⊎◌, ◌↔◌, ◌∷◌, [], length, take, drop, None, Some, IfOk, IfErr, false};
-ghost use Rattle.page_memory.specs.Contents.{at, IsHeld, page_of};
+ghost use Rattle.kx_pages.specs.Bytes.{page_of};
+ghost use Rattle.page_memory.specs.Contents.{at, IsHeld};
 ghost use Rattle.page_pool.specs.Pages.{Pages, is_filed, usable_of};
 ghost use Rattle.kx_pages.specs.Lists.{Has, count, sources};
 ghost use Rattle.kx_pages.specs.Spans.{pages};

@@ -6,3 +6,4 @@ pub mod Lists
 pub mod Modes
 pub mod Needs
 pub mod Limits
+pub mod Bytes

@@ -7,7 +7,8 @@ use Rattle.kx_pages.specs.declared.item.Item.{Item}
 use Rattle.kx_pages.specs.declared.item.Item.TheVariants.{Link, Destination, Source, Done}
 use Rattle.list_checker.specs.declared.fault.Why.{Why}
 use Rattle.list_checker.specs.declared.fault.Why.TheVariants.{Missing}
-use Rattle.page_memory.specs.Memory.{Mem, Wants, word}
+use Rattle.kx_pages.specs.Bytes.{Mem, Wants}
+use Rattle.page_memory.specs.Memory.{word}
 use Rattle.kx_pages.specs.Items.{code, decode}
 use Rattle.kx_pages.specs.Lists.{Each, Has, Distinct, destinations, sources, has}
 use Rattle.list_checker.specs.Walk.{Reads, Walk, links, DestinationFirst, pairs_from, pairs, InOrder, Accepted, IsAccepted}

@@ -8,7 +8,7 @@ use Rattle.kx_pages.specs.declared.item.Item.{Item}
 use Rattle.kx_pages.specs.declared.item.Item.TheVariants.{Link, Destination, Source, Done}
 use Rattle.list_checker.specs.declared.fault.Why.{Why}
 use Rattle.list_checker.specs.declared.fault.Why.TheVariants.{Flags, Missing, PastLimit, HeadKind}
-use Rattle.page_memory.specs.Memory.{Mem, Wants}
+use Rattle.kx_pages.specs.Bytes.{Mem, Wants}
 use Rattle.kx_pages.specs.Items.{code, decode}
 use Rattle.kx_pages.specs.Lists.{Each}
 use Rattle.list_checker.specs.Faults.{first_of, are_wanted}

@@ -9,7 +9,8 @@ use Rattle.kx_pages.specs.declared.item.Item.{Item}
 use Rattle.kx_pages.specs.declared.item.Item.TheVariants.{Link, Destination, Source, Done}
 use Rattle.list_checker.specs.declared.fault.Why.{Why}
 use Rattle.list_checker.specs.declared.fault.Why.TheVariants.{Flags}
-use Rattle.page_memory.specs.Memory.{Mem, Wants, word}
+use Rattle.kx_pages.specs.Bytes.{Mem, Wants}
+use Rattle.page_memory.specs.Memory.{word}
 use Rattle.kx_pages.specs.Items.{decode}
 use Rattle.kx_pages.specs.Lists.{Each, Distinct}
 use Rattle.list_checker.specs.Faults.{Earlier, nothing_earlier, with_item, with_pair, following, reason, reasons, Faulty, Faultless}

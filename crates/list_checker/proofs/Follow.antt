@@ -8,7 +8,8 @@ use Rattle.page_memory.specs.Contents.{Contents, at}
 use Rattle.kx_pages.specs.declared.item.Item.{Item}
 use Rattle.kx_pages.specs.declared.item.Item.TheVariants.{Link, Destination, Source, Done}
 use Rattle.list_checker.specs.declared.fault.Why.{Why}
-use Rattle.page_memory.specs.Memory.{Mem, word}
+use Rattle.kx_pages.specs.Bytes.{Mem}
+use Rattle.page_memory.specs.Memory.{word}
 use Rattle.kx_pages.specs.Items.{code, decode}
 use Rattle.list_checker.specs.Walk.{Reads, Walk, links}
 use Rattle.kx_pages.specs.Lists.{Distinct, has}

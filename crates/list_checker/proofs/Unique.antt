@@ -3,7 +3,8 @@ use Rattle.std.proofs.Common.{◌≡◌, ℕ, ◌+◌, ◌*◌, List, [], ◌∷
 use Rattle.kx_pages.specs.declared.item.Item.{Item}
 use Rattle.kx_pages.specs.declared.item.Item.TheVariants.{Link, Destination, Source, Done}
 use Rattle.kx_pages.specs.Items.{code, decode}
-use Rattle.page_memory.specs.Memory.{Mem, word}
+use Rattle.kx_pages.specs.Bytes.{Mem}
+use Rattle.page_memory.specs.Memory.{word}
 use Rattle.kx_laws.proofs.Options.{some_same}
 use Rattle.list_checker.specs.Walk.{Reads, Walk}
 use Rattle.list_checker.specs.Laws.{OneWalk}

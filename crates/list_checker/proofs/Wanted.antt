@@ -4,7 +4,7 @@ use Rattle.std.specs.Prelude.{IsTrue, ◌↔◌, ◌⊎◌, cond, not, map}
 use Rattle.std.specs.Option.{option_map, is_some, IsSome}
 use Rattle.std.specs.List.{find}
 use Rattle.std.proofs.lemmas.Bool.{true≢false, false≢true}
-use Rattle.page_memory.specs.Contents.{page_of}
+use Rattle.kx_pages.specs.Bytes.{page_of}
 use Rattle.segments.specs.Values.{SegmentValue, want, pages}
 use Rattle.segments.proofs.Laws.{AreSegments-from_IsBare, pages_below, Has-from_want, want-from_Has}
 use Rattle.segments.specs.Rules.{IsBare}

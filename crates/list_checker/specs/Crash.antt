@@ -2,7 +2,7 @@
 use Rattle.std.specs.Prelude.{◌≡◌, ℕ, ◌%◌, ◌^◌, true, Bool, not, leb, List, [], ◌∷◌, map, Option, Some, None}
 use Rattle.kx_pages.specs.declared.item.Item.{Item}
 use Rattle.kx_pages.specs.declared.item.Item.TheVariants.{Link, Destination, Source, Done}
-use Rattle.page_memory.specs.Memory.{Mem, Wants}
+use Rattle.kx_pages.specs.Bytes.{Mem, Wants}
 use Rattle.list_checker.specs.declared.fault.Why.{Why}
 use Rattle.list_checker.specs.declared.fault.Why.TheVariants.{Flags, HeadKind, Missing, PastLimit}
 use Rattle.list_checker.specs.Faults.{first_of, are_wanted}

@@ -2,7 +2,7 @@
 use Rattle.std.specs.Prelude.{◌≡◌, ◌⊎◌, ℕ, suc, List, length, Option, Some, None}
 use Rattle.kx_pages.specs.declared.item.Item.{Item}
 use Rattle.list_checker.specs.declared.fault.Why.{Why}
-use Rattle.page_memory.specs.Memory.{Mem, Wants}
+use Rattle.kx_pages.specs.Bytes.{Mem, Wants}
 use Rattle.kx_pages.specs.Lists.{Has}
 use Rattle.list_checker.specs.Walk.{Walk, IsAccepted, links, pairs}
 use Rattle.list_checker.specs.Faults.{Faulty, Faultless, Earlier, nothing_earlier}

@@ -6,7 +6,8 @@ use Rattle.kx_pages.specs.declared.item.Item.{Item}
 use Rattle.kx_pages.specs.declared.item.Item.TheVariants.{Link, Destination, Source, Done}
 use Rattle.kx_pages.specs.Items.{code}
 use Rattle.kx_pages.specs.Lists.{Each, Has, Distinct, destinations}
-use Rattle.page_memory.specs.Memory.{Mem, Wants, word}
+use Rattle.kx_pages.specs.Bytes.{Mem, Wants}
+use Rattle.page_memory.specs.Memory.{word}
 
 -- M holds the words of these items from address a on, up to the first done word. After a link the words go on in its
 -- page; no destination or source word stands in the last slot of a page. All words are read from the one memory M.

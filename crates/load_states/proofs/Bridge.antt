@@ -18,7 +18,8 @@ use Rattle.kx_pages.specs.declared.item.Item.{Item}
 use Rattle.kx_pages.specs.declared.item.Item.TheVariants.{Link, Destination, Source, Done}
 use Rattle.kx_pages.specs.Items.{code}
 use Rattle.kx_pages.specs.Lists.{Each, Has}
-use Rattle.page_memory.specs.Memory.{Mem, Wants, word, copied_page}
+use Rattle.kx_pages.specs.Bytes.{Mem, Wants}
+use Rattle.page_memory.specs.Memory.{word, copied_page}
 use Rattle.list_checker.specs.Walk.{Reads, Walk, links, pairs_from, pairs, Accepted, AcceptedKept}
 use Rattle.segments.specs.Values.{overlay}
 use Rattle.load_states.specs.Exchange.{exchange}

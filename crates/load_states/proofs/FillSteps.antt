@@ -11,7 +11,7 @@ use Rattle.kx_pages.specs.Spans as spans
 use Rattle.kx_pages.specs.declared.image.Wish.{Wish}
 use Rattle.kx_pages.specs.declared.image.Wish.TheVariants.{Plain, Kept}
 use Rattle.page_memory.specs.Contents.{Contents, at}
-use Rattle.page_memory.specs.Memory.{Mem}
+use Rattle.kx_pages.specs.Bytes.{Mem}
 use Rattle.segments.specs.Values.{SegmentValue, is_destination, want, page_count, pages_of_segment, pages, need}
 use Rattle.segments.proofs.Laws.{AreSegments, is_destination-from_Has, Has-from_is_destination, Distinct-pages}
 use Rattle.kimage_list.specs.Load.{Entry, Start, Move, page_entries, pages_of, starts}

@@ -4,7 +4,7 @@ use Rattle.std.specs.List.{slice_get}
 use Rattle.std.proofs.lemmas.Option.{none-some}
 use Rattle.kx_pages.specs.Lists.{Each}
 use Rattle.kx_pages.specs.declared.image.Wish.{Wish}
-use Rattle.page_memory.specs.Memory.{Mem}
+use Rattle.kx_pages.specs.Bytes.{Mem}
 use Rattle.segments.specs.Values.{SegmentValue}
 use Rattle.segments.proofs.Laws.{IsPlaced}
 use Rattle.kimage_list.specs.Load.{Entry, Move}

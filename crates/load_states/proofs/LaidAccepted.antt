@@ -10,7 +10,7 @@ use Rattle.kx_pages.specs.declared.item.Item.{Item}
 use Rattle.kx_pages.specs.declared.item.Item.TheVariants.{Link, Destination, Source, Done}
 use Rattle.kx_pages.specs.declared.image.Wish.{Wish}
 use Rattle.kx_pages.specs.declared.image.Wish.TheVariants.{Plain, Kept}
-use Rattle.page_memory.specs.Memory.{Mem, Wants}
+use Rattle.kx_pages.specs.Bytes.{Mem, Wants}
 use Rattle.list_checker.specs.Walk.{links, pairs_from, pairs, DestinationFirst, InOrder, PairsApart, Accepted, AcceptedKept}
 use Rattle.kimage_list.specs.Load.{Loading, Request, Entry, Start, Move, begun, pages_of, own_request, requests_from, requests, loaded}
 use Rattle.kimage_list.specs.Laying.{Holds, items, chained, link_pages, source_pages, put_all, laid, head_of, control_of, swap_of, list_of}

@@ -9,7 +9,7 @@ use Rattle.std.proofs.lemmas.List.Folds.{Any-from_list_any}
 use Rattle.kx_pages.specs.Spans.{Run, in_span, in_spans, IsMaximal}
 use Rattle.kx_pages.specs.Lists.{Each, Has}
 use Rattle.kx_pages.proofs.Lists.{Each-at, Each-from_All, Has-left, Has-right, Has-either, Has-range, range-Has}
-use Rattle.page_memory.specs.Memory.{Mem}
+use Rattle.kx_pages.specs.Bytes.{Mem}
 use Rattle.page_memory.specs.Contents.{Contents, IsHeld, at, after_set}
 use Rattle.page_memory.proofs.Laws.{frame_at-insert_same, frame_at-insert_other, held-insert_only}
 use Rattle.segments.specs.Values.{SegmentValue, want, overlay}

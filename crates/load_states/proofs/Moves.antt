@@ -3,7 +3,8 @@ use Rattle.std.proofs.Common.{◌≡◌, ℕ, List, [], ◌∷◌, Option, Some,
 use Rattle.std.specs.Prelude.{◌≢◌, cond, eqb, unwrap_or}
 use Rattle.kx_pages.specs.declared.image.Mode.{Mode}
 use Rattle.kx_pages.specs.declared.image.Mode.TheVariants.{Plain, Kept}
-use Rattle.page_memory.specs.Memory.{Mem, Wants, copied_page, put}
+use Rattle.kx_pages.specs.Bytes.{Mem, Wants}
+use Rattle.page_memory.specs.Memory.{copied_page, put}
 use Rattle.kx_pages.specs.Lists.{Each, Has, destinations}
 use Rattle.list_checker.specs.Walk.{InOrder}
 use Rattle.segments.specs.Values.{overlay}

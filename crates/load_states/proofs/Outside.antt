@@ -8,7 +8,7 @@ use Rattle.kx_pages.specs.declared.image.Wish.{Wish}
 use Rattle.kx_pages.specs.declared.image.Wish.TheVariants.{Plain, Kept}
 use Rattle.kx_pages.specs.declared.item.Item.{Item}
 use Rattle.page_memory.specs.Contents.{at}
-use Rattle.page_memory.specs.Memory.{Mem, Wants}
+use Rattle.kx_pages.specs.Bytes.{Mem, Wants}
 use Rattle.segments.specs.Values.{is_destination, need, want}
 use Rattle.kimage_list.specs.Load.{Entry, Move, Start}
 use Rattle.kimage_list.specs.Laying.{items, links_of, list_of, load_mode}

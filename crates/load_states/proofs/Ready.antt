@@ -9,7 +9,7 @@ use Rattle.kx_pages.specs.Lists.{Each, Has, destinations, sources}
 use Rattle.page_memory.specs.Contents.{Contents, at, IsHeld, after_set}
 use Rattle.page_memory.proofs.Laws.{frame_at-insert_other, held-insert}
 use Rattle.std.proofs.lemmas.Option.{none-some}
-use Rattle.page_memory.specs.Memory.{Mem}
+use Rattle.kx_pages.specs.Bytes.{Mem}
 use Rattle.segments.specs.Values.{SegmentValue, want, overlay}
 use Rattle.segments.specs.Rules.{IsBare}
 use Rattle.segments.proofs.Laws.{AreSegments-from_IsBare, Has-from_want, pages_below}

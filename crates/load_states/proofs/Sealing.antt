@@ -6,7 +6,7 @@ use Rattle.kx_pages.specs.Spans.{in_spans}
 use Rattle.kx_pages.specs.declared.image.Wish.{Wish}
 use Rattle.kx_pages.specs.declared.image.Image.{Image}
 use Rattle.page_memory.specs.Contents.{at}
-use Rattle.page_memory.specs.Memory.{Mem}
+use Rattle.kx_pages.specs.Bytes.{Mem}
 use Rattle.page_pool.specs.Pages.{usable_of}
 use Rattle.segments.specs.Values.{is_destination, want, pages, need}
 use Rattle.segments.proofs.Laws.{Has-from_is_destination, Has-from_want}

@@ -1,7 +1,7 @@
 -- What a run with context preserved does to memory: each pair's two pages exchange their bytes (as the kernel's
 -- relocate_kernel does; the words are this project's own).
 use Rattle.std.specs.Prelude.{ℕ, cond, eqb, List, [], ◌∷◌}
-use Rattle.page_memory.specs.Memory.{Mem}
+use Rattle.kx_pages.specs.Bytes.{Mem}
 
 -- the page whose bytes page p gets: the other page of its pair of destination and source, or itself
 abbrev pub partner : List (ℕ × ℕ) → ℕ → ℕ

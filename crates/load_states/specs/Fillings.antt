@@ -5,7 +5,7 @@ use Rattle.kx_pages.specs.Lists.{has, count, sources}
 use Rattle.kx_pages.specs.Spans.{in_spans}
 use Rattle.kx_pages.specs.declared.image.Wish.{Wish}
 use Rattle.page_memory.specs.Contents.{at}
-use Rattle.page_memory.specs.Memory.{Mem}
+use Rattle.kx_pages.specs.Bytes.{Mem}
 use Rattle.page_pool.specs.Pages.{Pages, is_filed, usable_of}
 use Rattle.kimage_list.specs.Load.{Loading, Entry, pages_of}
 use Rattle.kimage_list.specs.Laying.{image_of, list_of}

@@ -2,7 +2,7 @@
 use Rattle.std.specs.Prelude.{◌≡◌, ℕ, ◌+◌, ◌/◌, ◌<◌, ◌≤◌, ◌^◌, List, [], ◌∷◌, ◌++◌, length, Option, Some, IsSome, ◌↔◌}
 use Rattle.kx_pages.specs.Lists.{count, sources}
 use Rattle.kx_pages.specs.declared.image.Wish.{Wish}
-use Rattle.page_memory.specs.Memory.{Mem}
+use Rattle.kx_pages.specs.Bytes.{Mem}
 use Rattle.kimage_list.specs.Load.{Loading, Entry, Start, page_entries, loaded}
 use Rattle.kimage_list.specs.Laying.{laid, head_of, control_of, load_mode, list_of}
 use Rattle.segments.specs.Values.{SegmentValue, page_count, is_destination, need, want}

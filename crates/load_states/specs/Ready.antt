@@ -5,7 +5,7 @@ use Rattle.kx_pages.specs.declared.image.Mode.{Mode}
 use Rattle.kx_pages.specs.declared.image.Mode.TheVariants.{Plain, Kept}
 use Rattle.kx_pages.specs.Lists.{Each, Has, destinations, sources}
 use Rattle.page_memory.specs.Contents.{Contents, at}
-use Rattle.page_memory.specs.Memory.{Mem}
+use Rattle.kx_pages.specs.Bytes.{Mem}
 use Rattle.relocate_machine.specs.Writes.{AreHeld, move_writes}
 use Rattle.segments.specs.Values.{want}
 use Rattle.list_checker.specs.Walk.{AcceptedKept, IsAccepted, links, pairs}

@@ -5,7 +5,7 @@ ghost use Rattle.kx_pages.specs.Lists.{Has};
 ghost use Rattle.kx_pages.specs.Spans.{AreApart, in_spans};
 ghost use Rattle.kx_pages.specs.declared.image.Wish.{Wish as WishOf};
 ghost use Rattle.page_memory.specs.Contents.{at, IsHeld};
-ghost use Rattle.page_memory.specs.Memory.{Mem};
+ghost use Rattle.kx_pages.specs.Bytes.{Mem};
 ghost use Rattle.page_pool.specs.Pages.{is_filed, usable_of};
 ghost use Rattle.kimage_list.specs.Load.{Entry, Move, pages_of};
 ghost use Rattle.kimage_list.specs.Held.{HoldSame};
@@ -50,7 +50,7 @@ pub struct Filling {
 
 impl Model for Filling {
     ghost use Rattle.std.specs.Prelude.{ℕ, List};
-    ghost use Rattle.page_memory.specs.Memory.{Mem};
+    ghost use Rattle.kx_pages.specs.Bytes.{Mem};
     ghost use Rattle.kx_pages.specs.declared.image.Wish.{Wish};
     ghost use Rattle.load_states.specs.Fillings.{Fill, fill_code, FillsFrom};
 

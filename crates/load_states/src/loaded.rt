@@ -2,7 +2,8 @@
 
 ghost use Rattle.std.specs.Prelude.{◌≡◌, ◌≤◌, ◌⊎◌, ℕ, length, map, IfOk, IfErr, OnOk};
 ghost use Rattle.kx_pages.specs.Lists.{Each, Has};
-ghost use Rattle.page_memory.specs.Contents.{IsHeld, after_set, page_of};
+ghost use Rattle.kx_pages.specs.Bytes.{page_of};
+ghost use Rattle.page_memory.specs.Contents.{IsHeld, after_set};
 ghost use Rattle.relocate_machine.specs.Writes.{AreHeld, move_writes};
 ghost use Rattle.list_checker.specs.Checked.{as_pair, IsAccept, IsCheckFault};
 ghost use Rattle.segments.specs.Rules.{IsBare};

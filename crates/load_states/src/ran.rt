@@ -2,8 +2,8 @@
 
 ghost use Rattle.std.specs.Prelude.{◌≡◌, ◌≢◌, ℕ, ◌≤◌, None, IsSome, length};
 ghost use Rattle.kx_pages.specs.Lists.{Each, Has, sources};
-ghost use Rattle.page_memory.specs.Contents.{at, after_set, page_of};
-ghost use Rattle.page_memory.specs.Memory.{Mem};
+ghost use Rattle.kx_pages.specs.Bytes.{page_of, Mem};
+ghost use Rattle.page_memory.specs.Contents.{at, after_set};
 ghost use Rattle.segments.specs.Values.{want};
 ghost use Rattle.load_states.specs.Exchange.{exchange};
 ghost use Rattle.load_states.specs.States.{swap_of, with_memory, checked_of};

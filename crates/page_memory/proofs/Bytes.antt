@@ -5,8 +5,7 @@ use Rattle.std.proofs.lemmas.List.{length-replicate, length-append}
 use Rattle.kx_fields.specs.Fields.{IsBlock, with_field, zeros}
 use Rattle.kx_fields.proofs.Fields.{length-with_field}
 use Rattle.kx_fields.proofs.Bytes.{AreBytes-zeros, AreBytes-with_field}
-use Rattle.page_memory.specs.Contents.{page_of, page_with_word, zero_page}
-use Rattle.page_memory.proofs.Laws.{page_of-fits}
+use Rattle.page_memory.specs.Contents.{page_with_word, zero_page}
 
 pub IsBlock-zero_page : IsBlock 4096 zero_page
 unfolding zero_page zeros
@@ -18,6 +17,3 @@ IsBlock-page_with_word xs place v fits page = record {
   long = length-with_field place 8 v xs (omega (arith, fits, page.long)) ∙ page.long;
   each = AreBytes-with_field place 8 v xs page.each;
 }
-
-pub length-page_of : (xs : List ℕ) → length xs ≤ 4096 → length (page_of xs) ≡ 4096
-length-page_of xs fits = ap length (page_of-fits xs fits) ∙ omega (arith, length-append xs (replicate (4096 - length xs) 0), length-replicate {A = ℕ} (4096 - length xs) 0)

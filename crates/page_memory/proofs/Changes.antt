@@ -17,14 +17,16 @@ use Rattle.std.specs.BTreeMap as tree
 use Rattle.std.specs.FinMap.{FinMap, get, insert, same_map, empty, nat_cmp-IsAntisymmetric}
 use Rattle.std.proofs.lemmas.List.{length-append, length-drop, take-append-drop}
 use Rattle.page_memory.specs.View.{pages_by, AreFrames}
-use Rattle.page_memory.proofs.Laws.{frame_at-found, frame_at-insert_other, frame_at-insert_same, page_of-fits}
+use Rattle.kx_pages.proofs.Bytes.{page_of-fits}
+use Rattle.page_memory.proofs.Laws.{frame_at-found, frame_at-insert_other, frame_at-insert_same}
 use Rattle.page_memory.proofs.OneFile.{list_zeros, zeros_are}
 use Rattle.kx_fields.specs.Fields.{AreBytes, IsBlock}
 use Rattle.kx_fields.proofs.Bytes.{AreBytes-append}
 use Rattle.kx_laws.proofs.Booleans.{true_false}
 use Rattle.kx_laws.proofs.Lists.{take_front, drop_front}
 use Rattle.kx_laws.proofs.Options.{none_some, some_same}
-use Rattle.page_memory.specs.Contents.{frame_at, page_of}
+use Rattle.kx_pages.specs.Bytes.{page_of}
+use Rattle.page_memory.specs.Contents.{frame_at}
 use Rattle.page_memory.specs.Frames.{frame_in, IsTable, pages_in, Differs}
 use Rattle.page_memory.specs.InPlace.{AreInSlots, slots_of}
 use Rattle.page_memory.proofs.Stored.{all_kept, distinct_kept, kept_in}

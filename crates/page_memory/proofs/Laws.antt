@@ -11,8 +11,9 @@ use Rattle.std.specs.Prelude.{◌⊎◌, eqb, replicate}
 use Rattle.std.proofs.Common.{inl, inr, ◌-◌}
 use Rattle.std.proofs.lemmas.Bool.Decides.{eqb_tells}
 use Rattle.std.proofs.lemmas.List.{take_all, length-take}
-use Rattle.page_memory.specs.Contents.{page_of, Contents, at, with_page, after_set, with_word, page_with_word, frame_at, zero_page}
-use Rattle.page_memory.specs.Memory.{Mem, word, put, set_word}
+use Rattle.kx_pages.specs.Bytes.{page_of, Mem}
+use Rattle.page_memory.specs.Contents.{Contents, at, with_page, after_set, with_word, page_with_word, frame_at, zero_page}
+use Rattle.page_memory.specs.Memory.{word, put, set_word}
 use Rattle.kx_laws.proofs.Booleans.{is_eq-false}
 
 pub frame_at-found : (m : FinMap nat_cmp (List ℕ)) (p : ℕ) (bytes : List ℕ) → Some bytes ≡ get m p → frame_at m p ≡ bytes
@@ -97,19 +98,6 @@ at-after_set m p b = at-with_page m p b
 
 pub at-with_word : (m : Contents) (a v : ℕ) → at (with_word m a v) ≡ set_word (at m) a v
 at-with_word m a v = at-after_set m (a / 4096) (page_with_word (at m (a / 4096)) (a % 4096) v)
-
--- bytes that fit a page are not cut
-pub page_of-fits : (xs : List ℕ) → length xs ≤ 4096 → page_of xs ≡ xs ++ replicate (4096 - length xs) 0
-unfolding page_of
-page_of-fits xs fits = ap (λ ys. ys ++ replicate (4096 - length xs) 0) (take_all 4096 xs fits)
-
--- what is cut off does not matter
-pub page_of-take : (xs : List ℕ) → page_of (take 4096 xs) ≡ page_of xs
-unfolding page_of
-page_of-take xs =
-    let short : length (take 4096 xs) ≤ 4096 = omega (arith, length-take 4096 xs) in
-    let rest : 4096 - length (take 4096 xs) ≡ 4096 - length xs = omega (arith, length-take 4096 xs) in
-    ap (λ ys. ys ++ replicate (4096 - length (take 4096 xs)) 0) (take_all 4096 (take 4096 xs) short) ∙ ap (λ n. take 4096 xs ++ replicate n 0) rest
 
 -- a word is told by its page
 pub word-same_page : (M N : ℕ → List ℕ) (a : ℕ) → M (a / 4096) ≡ N (a / 4096) → word M a ≡ word N a

@@ -2,9 +2,10 @@
 use Rattle.std.proofs.Common.{◌≡◌, ℕ, ◌+◌, ◌-◌, ◌≤◌, List, [], ◌++◌, length, take, drop, append_assoc, refl, sym, ap, ◌∙◌, arith}
 use Rattle.std.specs.Prelude.{replicate}
 use Rattle.std.proofs.lemmas.List.{append-nil, drop-append-le, take-append-le, take-append-drop, length-take, length-drop}
-use Rattle.page_memory.specs.Contents.{page_of, zero_page}
+use Rattle.kx_pages.specs.Bytes.{page_of}
+use Rattle.page_memory.specs.Contents.{zero_page}
 use Rattle.page_memory.specs.Frames.{frame_in, put_frame}
-use Rattle.page_memory.proofs.Laws.{page_of-fits}
+use Rattle.kx_pages.proofs.Bytes.{page_of-fits}
 use Rattle.page_memory.proofs.Frames.{frame_in-append}
 
 pub page_of-full : (xs : List ℕ) → length xs ≡ 4096 → page_of xs ≡ xs

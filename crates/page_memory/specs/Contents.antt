@@ -35,10 +35,6 @@ at m p = frame_at m.pages p
 abbrev pub IsHeld : Contents → ℕ → Type 0
 IsHeld m p = IsSome (finite.get m.pages p)
 
--- the bytes, cut at or filled with zeros to a whole page
-unfoldable pub page_of : List ℕ → List ℕ
-page_of bytes = take 4096 bytes ++ replicate (4096 - length bytes) 0
-
 -- m with these bytes at page p
 abbrev pub with_page : Contents → ℕ → List ℕ → Contents
 with_page m p bytes = record { pages = finite.insert m.pages p bytes; sets = m.sets }

@@ -1,16 +1,9 @@
--- Memory as a function: what each page reads as. The definitions of lists, loads and runs speak of memory so. This
--- project's own.
-use Rattle.std.specs.Prelude.{◌≡◌, ℕ, ◌/◌, ◌%◌, List, drop, eqb, cond, Option}
+-- Memory as a function, and how it changes. The definitions of lists, loads and runs speak of memory so. This project's
+-- own.
+use Rattle.std.specs.Prelude.{◌≡◌, ℕ, ◌/◌, ◌%◌, List, drop, eqb, cond}
 use Rattle.byteorder.specs.Endian.{little_number}
+use Rattle.kx_pages.specs.Bytes.{Mem}
 use Rattle.page_memory.specs.Contents.{page_with_word}
-
--- what each page number reads as
-abbrev pub Mem : Type 0
-Mem = ℕ → List ℕ
-
--- the bytes that a page of the new kernel is to have: none where it is no page of the new kernel
-abbrev pub Wants : Type 0
-Wants = ℕ → Option (List ℕ)
 
 -- the little-endian number in the eight bytes at this address, which is a multiple of 8
 unfoldable pub word : Mem → ℕ → ℕ

@@ -6,7 +6,8 @@ ghost use Rattle.std.specs.Ordering.{nat_cmp};
 ghost use Rattle.std.specs.BTreeMap as tree;
 ghost use Rattle.std.specs.Vec.{vec_capacity};
 ghost use Rattle.kx_fields.specs.Fields.{IsBlock};
-ghost use Rattle.page_memory.specs.Contents.{frame_at, page_of, page_with_word};
+ghost use Rattle.kx_pages.specs.Bytes.{page_of};
+ghost use Rattle.page_memory.specs.Contents.{frame_at, page_with_word};
 ghost use Rattle.page_memory.specs.Frames.{frame_in, put_frame, put_word_in, pages_in, AreExchanged, HaveSamePages, IsAdded, IsCopied, IsSet, IsTable, IsWordSet};
 
 use crate::layout::{FIRST_FRAME, FRAME_SIZE, SLOT};

@@ -7,7 +7,8 @@ ghost use Rattle.kx_fields.specs.Fields.{IsBlock};
 ghost use Rattle.kx_laws.specs.Results.{Gives};
 ghost use Rattle.kx_pages.specs.Lists.{Has};
 ghost use Rattle.page_memory.specs.File.{HasNoFile, IsFileOf, reading, stored, file};
-ghost use Rattle.page_memory.specs.Contents.{IsMemory, Contents, at, IsHeld, page_of, with_page, with_word, after_set, swapped};
+ghost use Rattle.kx_pages.specs.Bytes.{page_of};
+ghost use Rattle.page_memory.specs.Contents.{IsMemory, Contents, at, IsHeld, with_page, with_word, after_set, swapped};
 ghost use Rattle.page_memory.specs.Memory.{word};
 ghost use Rattle.page_memory.specs.Frames.{frame_in, put_frame, pages_in, IsTable};
 

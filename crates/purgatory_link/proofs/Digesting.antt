@@ -10,7 +10,7 @@ use Rattle.byteorder.specs.Numbers.{length-bytes_low_first}
 use Rattle.kx_pages.specs.Lists.{Each}
 use Rattle.kx_fields.specs.Fields.{zeros, with_field}
 use Rattle.kx_fields.proofs.Fields.{next_field}
-use Rattle.page_memory.specs.Memory.{Wants}
+use Rattle.kx_pages.specs.Bytes.{Wants}
 use Rattle.segments.specs.Values.{SegmentValue, want, pages, pages_of_segment, page_count}
 use Rattle.segments.specs.Rules.{IsBare}
 use Rattle.segments.proofs.Laws.{IsPlaced, AreSegments-from_IsBare}

@@ -5,8 +5,7 @@ use Rattle.std.proofs.lemmas.Bool.Decides.{nat_tests}
 use Rattle.std.proofs.lemmas.Bool.{false_from_ne_true, false≢true, or_cases}
 use Rattle.sha2.specs.Sha256.{sha256}
 use Rattle.kx_pages.specs.Lists.{Each, Has}
-use Rattle.page_memory.specs.Memory.{Wants}
-use Rattle.page_memory.specs.Contents.{page_of}
+use Rattle.kx_pages.specs.Bytes.{Wants, page_of}
 use Rattle.segments.specs.Values.{SegmentValue, stop, is_page_of_segment, is_destination, bytes_from, want, pages, pages_of_segment}
 use Rattle.segments.specs.Rules.{IsBare, overlap_each_other}
 use Rattle.kx_pages.proofs.Lists.{Has-range, Has-either}

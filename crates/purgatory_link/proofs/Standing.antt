@@ -9,13 +9,12 @@ use Rattle.kx_laws.proofs.Lists.{take_front, drop_front}
 use Rattle.kx_laws.proofs.Options.{some_same}
 use Rattle.kx_pages.specs.Lists.{Each, Has}
 use Rattle.kx_fields.specs.Fields.{zeros, bytes_at}
-use Rattle.page_memory.specs.Memory.{Mem}
-use Rattle.page_memory.specs.Contents.{page_of}
+use Rattle.kx_pages.specs.Bytes.{Mem, page_of}
 use Rattle.segments.specs.Values.{SegmentValue, stop, is_page_of_segment, bytes_from, want, pages, pages_of_segment}
 use Rattle.segments.specs.Rules.{IsBare, overlap_each_other}
 use Rattle.kx_pages.proofs.Lists.{range-Has, Has-left, Has-right, Has-either}
 use Rattle.segments.proofs.Laws.{IsPlaced, Apart, AreSegments-from_IsBare}
-use Rattle.purgatory_link.proofs.Wanted.{length-page_of}
+use Rattle.kx_pages.proofs.Bytes.{length-page_of}
 use Rattle.purgatory_link.specs.declared.region_test.RegionTest.TheVariants as answers
 use Rattle.purgatory_link.specs.Regions.{others}
 use Rattle.purgatory_link.specs.RegionTest.{bytes_in, test}

@@ -15,7 +15,7 @@ use Rattle.sha2.specs.Sha256.{sha256}
 use Rattle.kx_pages.specs.Lists.{Each, Has}
 use Rattle.kx_fields.specs.Fields.{zeros, field}
 use Rattle.kx_fields.proofs.Fields.{field_behind}
-use Rattle.page_memory.specs.Memory.{Mem, Wants}
+use Rattle.kx_pages.specs.Bytes.{Mem, Wants}
 use Rattle.segments.specs.Values.{SegmentValue, want, pages, pages_of_segment}
 use Rattle.segments.specs.Rules.{IsBare}
 use Rattle.kx_pages.proofs.Lists.{Each-append, Each-left, Each-right, Has-left, Has-right}

@@ -4,12 +4,9 @@ use Rattle.std.specs.Prelude.{replicate}
 use Rattle.std.proofs.lemmas.Option.{none-some}
 use Rattle.std.proofs.lemmas.List.{length-take, length-replicate}
 use Rattle.kx_laws.proofs.Options.{some_same}
-use Rattle.page_memory.specs.Contents.{page_of}
+use Rattle.kx_pages.specs.Bytes.{page_of}
+use Rattle.kx_pages.proofs.Bytes.{length-page_of}
 use Rattle.segments.specs.Values.{SegmentValue, is_page_of_segment, bytes_from, want}
-
-pub length-page_of : (xs : List ℕ) → length (page_of xs) ≡ 4096
-unfolding page_of
-length-page_of xs = omega (arith, length-append {A = ℕ} (take 4096 xs) (replicate (4096 - length xs) 0), length-take 4096 xs, length-replicate {A = ℕ} (4096 - length xs) 0)
 
 pub length-want : (ss : List SegmentValue) (p : ℕ) (bytes : List ℕ) → want ss p ≡ Some bytes → length bytes ≡ 4096
 length-want [] p bytes e = absurd (none-some bytes e)

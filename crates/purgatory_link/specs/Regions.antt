@@ -4,7 +4,7 @@ use Rattle.std.specs.List.{flat_map}
 use Rattle.byteorder.specs.Endian.{little_bytes}
 use Rattle.sha2.specs.Sha256.{sha256}
 use Rattle.kx_fields.specs.Fields.{zeros}
-use Rattle.page_memory.specs.Memory.{Wants}
+use Rattle.kx_pages.specs.Bytes.{Wants}
 use Rattle.segments.specs.Values.{SegmentValue, want, pages}
 
 -- the segments but number g, in order

@@ -2,7 +2,7 @@
 use Rattle.std.specs.Prelude.{◌≡◌, ℕ, ◌+◌, ◌-◌, ◌≤◌, ◌⊎◌, ◌^◌, List, Some, length, slice_get}
 use Rattle.kx_pages.specs.Lists.{Has}
 use Rattle.kx_fields.specs.Fields.{bytes_at, with_bytes}
-use Rattle.page_memory.specs.Memory.{Mem}
+use Rattle.kx_pages.specs.Bytes.{Mem}
 use Rattle.segments.specs.Values.{SegmentValue, want, pages}
 use Rattle.purgatory_link.specs.Regions.{others, region_table}
 use Rattle.purgatory_link.specs.Regions as regions

@@ -4,7 +4,7 @@ ghost use Rattle.std.specs.Prelude.{◌≡◌, ℕ, ◌+◌, ◌-◌, ◌*◌, �
 ghost use Rattle.std.specs.List.{range_with_len};
 ghost use Rattle.sha2.specs.Hashers.{Holds256};
 ghost use Rattle.sha2.specs.Sha256.{sha256};
-ghost use Rattle.page_memory.specs.Contents.{page_of};
+ghost use Rattle.kx_pages.specs.Bytes.{page_of};
 ghost use Rattle.segments.specs.Values.{SegmentValue, want, pages};
 ghost use Rattle.segments.specs.Rules.{IsBare};
 ghost use Rattle.purgatory_link.specs.Regions.{others, wanted_bytes, digest, region_table};

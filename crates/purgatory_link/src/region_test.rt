@@ -4,7 +4,7 @@ ghost use Rattle.std.specs.Prelude.{◌≡◌, ℕ, ◌+◌, ◌-◌, ◌*◌, �
 ghost use Rattle.sha2.specs.Hashers.{Holds256};
 ghost use Rattle.sha2.specs.Sha256.{sha256};
 ghost use Rattle.page_memory.specs.Contents.{at};
-ghost use Rattle.page_memory.specs.Memory.{Mem};
+ghost use Rattle.kx_pages.specs.Bytes.{Mem};
 ghost use Rattle.segments.specs.Values.{SegmentValue};
 ghost use Rattle.segments.specs.Rules.{IsBare};
 ghost use Rattle.purgatory_link.specs.Regions.{others, digest};

@@ -8,9 +8,11 @@ use Rattle.std.proofs.lemmas.Grind.{flat_map-append}
 use Rattle.page_pool.proofs.Adding.{range_more}
 use Rattle.std.specs.Ordering.{nat_cmp}
 use Rattle.std.specs.FinMap as finite
-use Rattle.page_memory.specs.Contents.{page_of, zero_page, at}
-use Rattle.page_memory.specs.Memory.{Mem, Agree, put}
-use Rattle.page_memory.proofs.Laws.{page_of-fits, frame_at-none}
+use Rattle.kx_pages.specs.Bytes.{page_of, Mem}
+use Rattle.page_memory.specs.Contents.{zero_page, at}
+use Rattle.page_memory.specs.Memory.{Agree, put}
+use Rattle.kx_pages.proofs.Bytes.{page_of-fits}
+use Rattle.page_memory.proofs.Laws.{frame_at-none}
 use Rattle.sample_load.specs.Samples.{filled_before, page_full_of, pages_of}
 
 -- one more page is full

@@ -9,8 +9,8 @@ use Rattle.std.proofs.lemmas.Option.{none-some}
 use Rattle.kx_laws.proofs.Options.{some_of}
 use Rattle.std.proofs.lemmas.List.Sums.{fails_before_first}
 use Rattle.kx_pages.specs.Lists.{Each, Has, Distinct}
-use Rattle.page_memory.specs.Contents.{page_of}
-use Rattle.page_memory.proofs.Laws.{page_of-take}
+use Rattle.kx_pages.specs.Bytes.{page_of}
+use Rattle.kx_pages.proofs.Bytes.{page_of-take}
 use Rattle.segments.specs.declared.fault.SegFault.{SegFault}
 use Rattle.segments.specs.declared.fault.Kind.{Kind}
 use Rattle.kx_pages.specs.Spans.{Run}

@@ -4,8 +4,7 @@ use Rattle.std.specs.List.{list_any, flat_map, range_with_len}
 use Rattle.kx_pages.specs.declared.image.Wish.{Wish}
 use Rattle.kx_pages.specs.Needs.{need_of}
 use Rattle.kx_pages.specs.Spans.{Run}
-use Rattle.page_memory.specs.Memory.{Mem, Wants}
-use Rattle.page_memory.specs.Contents.{page_of}
+use Rattle.kx_pages.specs.Bytes.{Mem, Wants, page_of}
 
 -- a segment: its bytes, the address that they go to, and how many bytes of memory it takes from there on
 -- (`buf` and `bufsz`, `mem`, `memsz` of kexec_load(2)'s struct kexec_segment)

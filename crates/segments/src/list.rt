@@ -2,7 +2,7 @@
 
 ghost use Rattle.std.specs.Prelude.{◌≡◌, ℕ, ◌<◌, ◌≤◌, List, length, Some, slice_get, IfSome, MatchResult};
 ghost use Rattle.std.specs.Option.{option_map};
-ghost use Rattle.page_memory.specs.Contents.{page_of};
+ghost use Rattle.kx_pages.specs.Bytes.{page_of};
 ghost use Rattle.kx_pages.specs.Spans.{in_spans};
 ghost use Rattle.segments.specs.Values.{IsAsLong, IsReplaced, is_destination, span_of, want, wanted, pages, need};
 ghost use Rattle.segments.specs.Rules.{IsBare, Answers, bare_refusal, refusal};

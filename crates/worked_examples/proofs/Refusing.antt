@@ -1,6 +1,6 @@
 -- A list with a fault is not accepted.
 use Rattle.std.proofs.Common.{ℕ, List, Option, refl}
-use Rattle.page_memory.specs.Memory.{Mem}
+use Rattle.kx_pages.specs.Bytes.{Mem}
 use Rattle.segments.specs.Values.{SegmentValue, want, pages}
 use Rattle.segments.specs.Rules.{bare_refusal, shape_refusal}
 use Rattle.list_checker.specs.Laws.{ListsWanted}

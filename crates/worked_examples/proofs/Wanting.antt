@@ -2,7 +2,7 @@
 use Rattle.std.proofs.Common.{◌≡◌, ℕ, List, Option, Some, None, refl, ap}
 use Rattle.std.specs.Prelude.{unwrap_or}
 use Rattle.kx_pages.specs.Lists.{Has}
-use Rattle.page_memory.specs.Memory.{Mem, Wants}
+use Rattle.kx_pages.specs.Bytes.{Mem, Wants}
 use Rattle.segments.specs.Values.{overlay}
 use Rattle.list_checker.specs.Laws.{ListsWanted}
 

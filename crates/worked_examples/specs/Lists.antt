@@ -2,7 +2,8 @@
 use Rattle.std.specs.Prelude.{◌≡◌, ℕ, ◌+◌, List, [], ◌∷◌, Option, Some, None}
 use Rattle.kx_pages.specs.declared.item.Item.{Item}
 use Rattle.kx_pages.specs.declared.item.Item.TheVariants.{Link, Destination, Source, Done}
-use Rattle.page_memory.specs.Memory.{Mem, word}
+use Rattle.kx_pages.specs.Bytes.{Mem}
+use Rattle.page_memory.specs.Memory.{word}
 use Rattle.segments.specs.Values.{SegmentValue, want, pages}
 use Rattle.list_checker.specs.Walk.{IsAccepted}
 use Rattle.list_checker.specs.Faults.{Faulty, Earlier, nothing_earlier, reason}

@@ -2,7 +2,8 @@
 //! and page 11 is the swap page.
 
 ghost use Rattle.std.specs.Prelude.{◌≡◌, ◌≢◌, ℕ, List};
-ghost use Rattle.page_memory.specs.Memory.{Mem, put};
+ghost use Rattle.kx_pages.specs.Bytes.{Mem};
+ghost use Rattle.page_memory.specs.Memory.{put};
 ghost use Rattle.load_states.specs.Exchange.{exchange};
 ghost use Rattle.worked_examples.specs.Runs.{one_pair_at_home};
 

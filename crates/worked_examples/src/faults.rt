@@ -3,8 +3,7 @@
 
 ghost use Rattle.std.specs.Prelude.{◌≡◌, ◌^◌, ◌∷◌, [], Some, None, codes};
 ghost use Rattle.kx_pages.specs.declared.item.Item.TheVariants.{Link, Destination, Source, Done};
-ghost use Rattle.page_memory.specs.Contents.{page_of};
-ghost use Rattle.page_memory.specs.Memory.{Mem};
+ghost use Rattle.kx_pages.specs.Bytes.{page_of, Mem};
 ghost use Rattle.list_checker.specs.Faults.{nothing_earlier};
 ghost use Rattle.list_checker.specs.declared.fault.Why.TheVariants.{HeadKind, LinkAgain, RunsOff, NoDestination, NotWanted, TwiceWritten, SourceSpoiled, LinkSpoiled, ControlTouched, PairsMeet, SwapTouched, WrongBytes, Missing, PastLimit};
 ghost use Rattle.worked_examples.specs.Kernels.{two_pages, no_bytes};

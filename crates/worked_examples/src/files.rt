@@ -3,7 +3,7 @@
 ghost use Rattle.std.specs.Prelude.{◌≡◌, ◌++◌, ◌^◌, ◌∷◌, [], Ok, Err, length, codes, replicate};
 ghost use Rattle.std.specs.FinMap as finite;
 ghost use Rattle.byteorder.specs.Endian.{little_bytes};
-ghost use Rattle.page_memory.specs.Contents.{page_of};
+ghost use Rattle.kx_pages.specs.Bytes.{page_of};
 ghost use Rattle.page_memory.specs.File.{pages_read, text_of};
 ghost use Rattle.page_memory.specs.declared.fault.MemFault.TheVariants as mem_faults;
 ghost use Rattle.page_pool.specs.File.{pool_reading};

@@ -2,7 +2,7 @@
 
 ghost use Rattle.std.specs.Prelude.{◌≡◌, ◌++◌, ◌∷◌, [], Some, None, codes, replicate};
 ghost use Rattle.kx_pages.specs.declared.image.Wish.TheVariants.{Plain, Kept};
-ghost use Rattle.page_memory.specs.Memory.{Mem};
+ghost use Rattle.kx_pages.specs.Bytes.{Mem};
 ghost use Rattle.segments.specs.Values.{need, want, overlay, pages};
 ghost use Rattle.segments.specs.Rules.{bare_refusal, refusal, errno};
 ghost use Rattle.segments.specs.declared.fault.SegFault.TheVariants as faults;

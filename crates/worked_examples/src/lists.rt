@@ -4,8 +4,7 @@ ghost use Rattle.std.specs.Prelude.{◌≡◌, ◌∷◌, [], Some, None, List, 
 ghost use Rattle.kx_pages.specs.Items.{decode};
 ghost use Rattle.kx_pages.specs.declared.image.Wish.TheVariants.{Plain};
 ghost use Rattle.kx_pages.specs.declared.item.Item.{Item};
-ghost use Rattle.page_memory.specs.Contents.{page_of};
-ghost use Rattle.page_memory.specs.Memory.{Mem};
+ghost use Rattle.kx_pages.specs.Bytes.{page_of, Mem};
 ghost use Rattle.segments.specs.Values.{want, pages};
 ghost use Rattle.kimage_list.specs.Laying.{list_of, head_of, control_of};
 ghost use Rattle.list_checker.specs.Walk.{Walk, Accepted, AcceptedKept, InOrder, PairsApart, pairs};

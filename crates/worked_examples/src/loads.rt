@@ -5,7 +5,7 @@ ghost use Rattle.std.specs.List.{range_with_len};
 ghost use Rattle.std.specs.Option.{option_map};
 ghost use Rattle.kx_pages.specs.declared.image.Wish.TheVariants.{Plain, Kept};
 ghost use Rattle.kx_pages.specs.declared.image.Mode.TheVariants as mode;
-ghost use Rattle.page_memory.specs.Memory.{Mem};
+ghost use Rattle.kx_pages.specs.Bytes.{Mem};
 ghost use Rattle.page_pool.specs.Pages.{left_among, usable_among};
 ghost use Rattle.segments.specs.Values.{is_destination};
 ghost use Rattle.kimage_list.specs.Load.{Start, Move, begun, requests, taken};

@@ -2,8 +2,9 @@
 
 ghost use Rattle.std.specs.Prelude.{◌≡◌, ℕ, ◌∷◌, [], codes};
 ghost use Rattle.kx_pages.specs.declared.image.Mode.TheVariants.{Plain, Kept};
-ghost use Rattle.page_memory.specs.Contents.{Contents, at, page_of};
-ghost use Rattle.page_memory.specs.Memory.{Mem, copied_page};
+ghost use Rattle.kx_pages.specs.Bytes.{page_of, Mem};
+ghost use Rattle.page_memory.specs.Contents.{Contents, at};
+ghost use Rattle.page_memory.specs.Memory.{copied_page};
 ghost use Rattle.segments.specs.Values.{want, overlay};
 ghost use Rattle.relocate_machine.specs.declared.step.Outcome.TheVariants.{Done, Running, Off};
 ghost use Rattle.load_states.specs.Exchange.{exchange};

@@ -4,7 +4,7 @@ ghost use Rattle.std.specs.Prelude.{◌≡◌, ◌++◌, ◌∷◌, [], Some, No
 ghost use Rattle.byteorder.specs.Endian.{little_bytes};
 ghost use Rattle.kx_pages.specs.Items.{code, decode};
 ghost use Rattle.kx_pages.specs.declared.item.Item.TheVariants.{Link, Destination, Source, Done};
-ghost use Rattle.page_memory.specs.Contents.{page_of};
+ghost use Rattle.kx_pages.specs.Bytes.{page_of};
 ghost use Rattle.page_memory.specs.Memory.{word, set_word};
 ghost use Rattle.kimage_list.specs.Laying.{in_bytes};
 ghost use Rattle.relocate_machine.specs.Machine.{kind_of, word_address};

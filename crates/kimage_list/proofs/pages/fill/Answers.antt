@@ -1,5 +1,6 @@
 use Rattle.std.proofs.Common.{ap, ◌∙◌}
-use Rattle.page_memory.specs.Contents.{at, page_of}
+use Rattle.kx_pages.specs.Bytes.{page_of}
+use Rattle.page_memory.specs.Contents.{at}
 use Rattle.page_memory.proofs.Laws.{at-after_set}
 use Rattle.kimage_list.proofs.Held.{held_before}
 use Rattle.kimage_list.proofs.pages.fill.Goals as goal

@@ -1,6 +1,7 @@
 use Rattle.std.proofs.Common.{◌≡◌, sym, subst}
 use Rattle.std.specs.Prelude.{Some}
-use Rattle.page_memory.specs.Contents.{Contents, IsHeld, at, page_of}
+use Rattle.kx_pages.specs.Bytes.{page_of}
+use Rattle.page_memory.specs.Contents.{Contents, IsHeld, at}
 use Rattle.segments.specs.Values.{want}
 use Rattle.load_states.specs.Laying.{Lays}
 use Rattle.load_states.proofs.Laying.{lays_page, right_page, set_holds}

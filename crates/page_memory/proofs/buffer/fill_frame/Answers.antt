@@ -1,6 +1,6 @@
 use Rattle.std.proofs.Common.{◌≡◌, ◌++◌, ◌-◌, length, ap, sym, ◌∙◌, arith}
 use Rattle.std.specs.Prelude.{replicate}
-use Rattle.page_memory.proofs.Laws.{page_of-fits}
+use Rattle.kx_pages.proofs.Bytes.{page_of-fits}
 use Rattle.page_memory.proofs.buffer.fill_frame.Goals as goal
 
 pub returns : goal.returns

@@ -1,7 +1,7 @@
 use Rattle.std.proofs.Common.{◌≡◌, sym, ap, ◌∙◌, arith, length}
-use Rattle.page_memory.specs.Contents.{page_of}
+use Rattle.kx_pages.specs.Bytes.{page_of}
 use Rattle.page_memory.specs.Frames.{frame_in, put_frame}
-use Rattle.page_memory.proofs.Bytes.{length-page_of}
+use Rattle.kx_pages.proofs.Bytes.{length-page_of}
 use Rattle.page_memory.proofs.Tables.{none_held}
 use Rattle.page_memory.proofs.Frames.{inside_found, frame_in-put_same, other_page, pages_by-written, vec_back}
 use Rattle.page_memory.proofs.buffer.write_frame.Goals as goal
@@ -20,7 +20,7 @@ returns-clause-value c =
     let i = c.in-Some.place in
     let ys = page_of c.args.bytes.now in
     let found = inside_found xs c.args.table.now.places c.args.p i c.requires.old c.in-Some.ensures.value in
-    let whole = length-page_of c.args.bytes.now c.requires.fits in
+    let whole = length-page_of c.args.bytes.now in
     let written : c.fill.new.frames ≡ put_frame xs i ys = c.fill.ensures ∙ ap (λ xs. put_frame xs i ys) c.deref_mut.ensures.value in
     let all : c.args.frames.now.len ≡ length c.fill.new.frames = omega (arith, c.args.frames.now.ok.0, c.fill.auto.frames, c.deref_mut.ensures.len) in
     let back = vec_back c.args.frames.now.len xs c.fill.new.frames all ∙ written in

@@ -2,8 +2,8 @@ use Rattle.std.proofs.Common.{◌≡◌, ℕ, ◌-◌, ◌++◌, List, length, s
 use Rattle.std.specs.Prelude.{replicate}
 use Rattle.std.proofs.lemmas.List.{take-replicate}
 use Rattle.sha2.specs.Hashers.{Holds256}
-use Rattle.page_memory.specs.Contents.{page_of}
-use Rattle.page_memory.proofs.Laws.{page_of-fits}
+use Rattle.kx_pages.specs.Bytes.{page_of}
+use Rattle.kx_pages.proofs.Bytes.{page_of-fits}
 use Rattle.purgatory_link.proofs.digests.feed_page.Goals as goal
 
 pub returns : goal.returns

@@ -1,7 +1,7 @@
 use Rattle.std.proofs.Common.{◌++◌, sym, ap, ◌∙◌, subst}
 use Rattle.std.proofs.lemmas.List.{append-nil}
 use Rattle.sha2.specs.Hashers.{Holds256}
-use Rattle.page_memory.specs.Contents.{page_of}
+use Rattle.kx_pages.specs.Bytes.{page_of}
 use Rattle.segments.specs.Values.{want}
 use Rattle.purgatory_link.proofs.Digesting.{wanted_is, wanted_not}
 use Rattle.purgatory_link.proofs.digests.feed_wanted.Goals as goal

@@ -2,7 +2,7 @@
 use Rattle.std.proofs.Common.{◌≡◌, ℕ, refl, subst, inl, inr, false}
 use Rattle.std.specs.Prelude.{◌≢◌, eqb}
 use Rattle.std.proofs.lemmas.Bool.Decides.{eqb_tells}
-use Rattle.page_memory.specs.Memory.{Mem}
+use Rattle.kx_pages.specs.Bytes.{Mem}
 use Rattle.load_states.specs.Exchange.{exchange}
 use Rattle.worked_examples.specs.Runs.{one_pair_at_home}
 use Rattle.worked_examples.proofs.exchanges.exchanged_twice.Goals as goal

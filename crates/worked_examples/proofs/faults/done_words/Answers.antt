@@ -1,6 +1,6 @@
 -- By computing.
 use Rattle.std.specs.Prelude.{refl}
-use Rattle.page_memory.specs.Contents.{page_of}
+use Rattle.kx_pages.specs.Bytes.{page_of}
 use Rattle.worked_examples.proofs.faults.done_words.Goals as goal
 
 pub returns-clause-none_yet : goal.returns-clause-none_yet

@@ -1,6 +1,6 @@
 -- By computing.
 use Rattle.std.specs.Prelude.{refl}
-use Rattle.page_memory.specs.Contents.{page_of}
+use Rattle.kx_pages.specs.Bytes.{page_of}
 use Rattle.worked_examples.proofs.faults.words_that_link.Goals as goal
 
 pub returns-clause-again : goal.returns-clause-again

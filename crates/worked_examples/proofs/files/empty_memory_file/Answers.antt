@@ -1,6 +1,6 @@
 -- By computing.
 use Rattle.std.specs.Prelude.{refl}
-use Rattle.page_memory.specs.Contents.{page_of}
+use Rattle.kx_pages.specs.Bytes.{page_of}
 use Rattle.kx_fields.specs.Fields.{field}
 use Rattle.page_memory.specs.File.{pages_read, pages_onto, entry_at, text_of}
 use Rattle.worked_examples.proofs.files.empty_memory_file.Goals as goal

@@ -1,6 +1,6 @@
 -- By computing.
 use Rattle.std.specs.Prelude.{refl}
-use Rattle.page_memory.specs.Contents.{page_of}
+use Rattle.kx_pages.specs.Bytes.{page_of}
 use Rattle.segments.specs.Rules.{bare_refusal, refusal, shape_refusal}
 use Rattle.worked_examples.proofs.kernels.pages_needed.Goals as goal
 

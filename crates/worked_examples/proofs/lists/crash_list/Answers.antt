@@ -1,8 +1,7 @@
 -- Page 2 is the only page that is wanted; the rest by computing.
 use Rattle.std.proofs.Common.{◌≡◌, ℕ, List, refl, sym, ap, ◌∙◌, Some, inl, inr}
 use Rattle.std.specs.Prelude.{◌⊎◌, codes}
-use Rattle.page_memory.specs.Contents.{page_of}
-use Rattle.page_memory.specs.Memory.{Mem}
+use Rattle.kx_pages.specs.Bytes.{page_of, Mem}
 use Rattle.segments.specs.Values.{want}
 use Rattle.kx_laws.proofs.Options.{some_same}
 use Rattle.worked_examples.specs.Kernels.{three_bytes}

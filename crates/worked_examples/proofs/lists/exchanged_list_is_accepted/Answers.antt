@@ -1,6 +1,6 @@
 -- Each part of acceptance, by computing.
 use Rattle.std.proofs.Common.{refl, sym, ap, Some, arith}
-use Rattle.page_memory.specs.Contents.{page_of}
+use Rattle.kx_pages.specs.Bytes.{page_of}
 use Rattle.worked_examples.proofs.Refusing.{two_pages-listed}
 use Rattle.worked_examples.proofs.lists.exchanged_list_is_accepted.Goals as goal
 

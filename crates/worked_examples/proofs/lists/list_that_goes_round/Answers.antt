@@ -1,7 +1,8 @@
 -- By induction over a walk: each word that is read is the same link.
 use Rattle.std.proofs.Common.{◌≡◌, ◌+◌, ◌*◌, ℕ, List, refl, sym, ap, ◌∙◌, None, arith}
 use Rattle.std.specs.Prelude.{◌∷◌, []}
-use Rattle.page_memory.specs.Memory.{Mem, word}
+use Rattle.kx_pages.specs.Bytes.{Mem}
+use Rattle.page_memory.specs.Memory.{word}
 use Rattle.kx_pages.specs.declared.item.Item.{Item}
 use Rattle.kx_pages.specs.declared.item.Item.TheVariants.{Link, Destination, Source, Done}
 use Rattle.list_checker.specs.Walk.{Walk, Reads}

@@ -1,6 +1,6 @@
 -- By computing, and by the list's own acceptance.
 use Rattle.std.proofs.Common.{refl, arith}
-use Rattle.page_memory.specs.Contents.{page_of}
+use Rattle.kx_pages.specs.Bytes.{page_of}
 use Rattle.page_memory.specs.Memory.{word}
 use Rattle.worked_examples.proofs.Refusing.{three_bytes-listed}
 use Rattle.worked_examples.proofs.lists.loaded_list_is_accepted.Goals as goal

@@ -1,6 +1,6 @@
 -- Each part of acceptance, by computing.
 use Rattle.std.proofs.Common.{refl, sym, ap, Some, arith}
-use Rattle.page_memory.specs.Contents.{page_of}
+use Rattle.kx_pages.specs.Bytes.{page_of}
 use Rattle.worked_examples.proofs.Refusing.{three_bytes-listed}
 use Rattle.worked_examples.proofs.lists.one_page_list.Goals as goal
 

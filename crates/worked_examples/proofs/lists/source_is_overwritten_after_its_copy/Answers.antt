@@ -1,6 +1,6 @@
 -- Each part of acceptance, by computing.
 use Rattle.std.proofs.Common.{refl, sym, ap, Some, arith, inl, inr, ⊎_elim}
-use Rattle.page_memory.specs.Contents.{page_of}
+use Rattle.kx_pages.specs.Bytes.{page_of}
 use Rattle.worked_examples.proofs.Refusing.{two_more_pages-listed}
 use Rattle.worked_examples.proofs.lists.source_is_overwritten_after_its_copy.Goals as goal
 

@@ -1,8 +1,7 @@
 -- The words up to the faulty one have no reason.
 use Rattle.std.proofs.Common.{◌≡◌, refl, ap, None, arith}
 use Rattle.std.specs.Prelude.{◌∷◌, [], codes}
-use Rattle.page_memory.specs.Contents.{page_of}
-use Rattle.page_memory.specs.Memory.{Mem}
+use Rattle.kx_pages.specs.Bytes.{page_of, Mem}
 use Rattle.kx_pages.specs.Items.{decode}
 use Rattle.kx_pages.specs.declared.item.Item.TheVariants.{Link, Destination, Source}
 use Rattle.list_checker.specs.declared.fault.Why.TheVariants.{SourceSpoiled}

@@ -1,7 +1,7 @@
 -- The head has no reason, and the word after it has one.
 use Rattle.std.proofs.Common.{refl, None}
 use Rattle.std.specs.Prelude.{◌∷◌, []}
-use Rattle.page_memory.specs.Memory.{Mem}
+use Rattle.kx_pages.specs.Bytes.{Mem}
 use Rattle.kx_pages.specs.declared.item.Item.TheVariants.{Link}
 use Rattle.list_checker.specs.declared.fault.Why.TheVariants.{Flags}
 use Rattle.worked_examples.specs.Kernels.{three_bytes}

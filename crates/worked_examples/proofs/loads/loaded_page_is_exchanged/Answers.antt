@@ -1,6 +1,6 @@
 -- By computing.
 use Rattle.std.specs.Prelude.{refl}
-use Rattle.page_memory.specs.Contents.{page_of}
+use Rattle.kx_pages.specs.Bytes.{page_of}
 use Rattle.worked_examples.proofs.loads.loaded_page_is_exchanged.Goals as goal
 
 pub returns-clause-exchanged : goal.returns-clause-exchanged

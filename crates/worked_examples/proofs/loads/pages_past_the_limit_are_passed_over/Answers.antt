@@ -1,6 +1,6 @@
 -- By computing.
 use Rattle.std.specs.Prelude.{refl}
-use Rattle.page_memory.specs.Contents.{page_of}
+use Rattle.kx_pages.specs.Bytes.{page_of}
 use Rattle.page_pool.specs.Pages.{left_among, usable_among}
 use Rattle.worked_examples.proofs.loads.pages_past_the_limit_are_passed_over.Goals as goal
 

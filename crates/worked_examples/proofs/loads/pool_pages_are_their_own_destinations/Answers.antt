@@ -1,6 +1,6 @@
 -- By computing.
 use Rattle.std.specs.Prelude.{refl}
-use Rattle.page_memory.specs.Contents.{page_of}
+use Rattle.kx_pages.specs.Bytes.{page_of}
 use Rattle.worked_examples.proofs.loads.pool_pages_are_their_own_destinations.Goals as goal
 
 pub returns-clause-requests : goal.returns-clause-requests

@@ -3,8 +3,9 @@ use Rattle.std.proofs.Common.{◌≡◌, ℕ, [], ◌∷◌, refl, sym, ap, ◌�
 use Rattle.std.specs.Prelude.{◌≢◌, ◌⊎◌, eqb, codes}
 use Rattle.std.proofs.lemmas.Bool.Decides.{eqb_tells}
 use Rattle.kx_pages.specs.declared.image.Mode.TheVariants.{Plain}
-use Rattle.page_memory.specs.Contents.{Contents, at, page_of}
-use Rattle.page_memory.specs.Memory.{Mem, word, copied_page}
+use Rattle.kx_pages.specs.Bytes.{page_of, Mem}
+use Rattle.page_memory.specs.Contents.{Contents, at}
+use Rattle.page_memory.specs.Memory.{word, copied_page}
 use Rattle.segments.specs.Values.{want, overlay, pages}
 use Rattle.relocate_machine.specs.declared.step.Outcome.TheVariants.{Done}
 use Rattle.relocate_machine.specs.Machine.{kind_of, step_of}

@@ -1,7 +1,8 @@
 -- By computing.
 use Rattle.std.specs.Prelude.{refl}
 use Rattle.page_memory.specs.Memory.{word}
-use Rattle.page_memory.specs.Contents.{page_of, page_with_word}
+use Rattle.kx_pages.specs.Bytes.{page_of}
+use Rattle.page_memory.specs.Contents.{page_with_word}
 use Rattle.relocate_machine.specs.Machine.{kind_of}
 use Rattle.worked_examples.proofs.words.words_in_memory.Goals as goal
 

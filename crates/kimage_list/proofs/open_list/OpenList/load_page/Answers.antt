@@ -9,7 +9,7 @@ use Rattle.kimage_list.specs.Load.{Move}
 use Rattle.kimage_list.specs.Tables.{Slots, slot}
 use Rattle.kx_pages.specs.Items.{code}
 use Rattle.kx_pages.specs.declared.item.Item.TheVariants.{Source}
-use Rattle.page_memory.specs.Contents.{page_of}
+use Rattle.kx_pages.specs.Bytes.{page_of}
 use Rattle.page_memory.specs.Memory.{put, set_word}
 use Rattle.page_memory.proofs.Laws.{put-same}
 

@@ -6,7 +6,7 @@ use Rattle.kimage_list.proofs.Linking.{link_held, next_held, next_low, next_alig
 use Rattle.kimage_list.specs.Drafts.{Renders, linked, HeadIs}
 use Rattle.kx_pages.specs.Items.{code}
 use Rattle.kx_pages.specs.declared.item.Item.TheVariants.{Link}
-use Rattle.page_memory.specs.Contents.{page_of}
+use Rattle.kx_pages.specs.Bytes.{page_of}
 use Rattle.page_memory.specs.Memory.{put, set_word}
 
 pub fill-requires-clause-held : goal.fill-requires-clause-held

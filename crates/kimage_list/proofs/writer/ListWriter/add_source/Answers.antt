@@ -1,5 +1,5 @@
 use Rattle.std.proofs.Common.{◌≡◌, ℕ, ◌∙◌, ◌+◌, Some, sym, subst, ap, refl}
-use Rattle.page_memory.specs.Contents.{page_of}
+use Rattle.kx_pages.specs.Bytes.{page_of}
 use Rattle.kimage_list.specs.Writers.{History, Writer, StandsAt, IsAwaited, with_source, draft_of}
 use Rattle.kimage_list.specs.Calls.{writer_of}
 use Rattle.kimage_list.proofs.Awaiting.{awaited, rebytes, source_ready, source_added, given_bytes, is_next}

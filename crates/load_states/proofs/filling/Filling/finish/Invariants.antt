@@ -1,6 +1,6 @@
 use Rattle.std.proofs.Common.{◌≡◌, ℕ, List}
 use Rattle.kx_pages.specs.declared.image.Wish.{Wish}
-use Rattle.page_memory.specs.Memory.{Mem}
+use Rattle.kx_pages.specs.Bytes.{Mem}
 use Rattle.kimage_list.specs.Held.{HoldSame}
 use Rattle.kimage_list.specs.Tracking.{whole_pool}
 use Rattle.load_states.specs.Fillings.{FillsFrom, left}

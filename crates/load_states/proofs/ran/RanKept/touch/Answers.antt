@@ -1,6 +1,6 @@
 use Rattle.std.proofs.Common.{sym, subst}
 use Rattle.std.specs.Prelude.{IsSome}
-use Rattle.page_memory.specs.Contents.{page_of}
+use Rattle.kx_pages.specs.Bytes.{page_of}
 use Rattle.segments.specs.Values.{want}
 use Rattle.load_states.specs.States.{Checked, checked_of}
 use Rattle.load_states.proofs.Ready.{wanted_held, touched}

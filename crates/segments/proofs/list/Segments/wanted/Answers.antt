@@ -1,6 +1,6 @@
 use Rattle.std.proofs.Common.{◌≡◌, ℕ, Option, List, Some, None, sym, ap, ◌∙◌, arith, length, ◌≤◌}
 use Rattle.std.specs.Option.{option_map}
-use Rattle.page_memory.specs.Contents.{page_of}
+use Rattle.kx_pages.specs.Bytes.{page_of}
 use Rattle.segments.specs.Values.{SegmentValue, want, wanted}
 use Rattle.segments.proofs.Laws.{want-wanted}
 use Rattle.segments.proofs.Steps.{want_here, drop_all}
