@@ -25,6 +25,8 @@ mod reloc;
 mod section;
 mod symbol;
 #[cfg(test)]
+mod test_files;
+#[cfg(test)]
 mod tests;
 
 pub use exec::{Exec, read_exec};
