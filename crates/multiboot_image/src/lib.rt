@@ -8,6 +8,8 @@
 mod fault;
 mod header;
 mod info;
+#[cfg(test)]
+mod info_tests;
 mod map_rows;
 mod modules;
 mod parts;
