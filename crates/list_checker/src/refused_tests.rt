@@ -1,142 +1,125 @@
-//! A list for each reason: page 0x30 is b, and page 2 is to be b.
-
-ghost use Rattle.std.specs.Prelude.{◌<◌};
+//! A list for each reason: page 0x30 is b, the words are in page 0x20, and page 2 is to be b.
 
 use super::*;
+use crate::tests::put;
 use kx_pages::{Image, Mode, Page};
 use page_memory::Memory;
 use segments::{Segment, Segments};
 use std::alloc::Global;
 use std::test::*;
 
-#[derive(Clone, Copy, Debug, PartialEq, Eq)]
-enum Answer {
-    Accepted,
-    Fault(u64, Why),
+/// A head that links to the words.
+const HEAD: u64 = 0x20002;
+
+/// Words that are accepted.
+const GOOD: &[u64] = &[0x2001, 0x30008, 4];
+
+fn page(n: u64) -> Result<Page, &'static str> {
+    Page::new(n).ok_or("a page")
 }
 
-fn put(memory: &mut Memory, n: u64, bytes: &[u8]) -> Result<(), Fail> {
-    let page = Page::new(n).ok_or("a page")?;
-    if bytes.len() > 4096 {
-        return Err("too many bytes".into());
+fn memory_with(alloc: Global, words: &[u64]) -> Result<Memory, Fail> {
+    let mut bytes = Vec::new(alloc);
+    for word in words {
+        bytes.extend_from_slice(&word.to_le_bytes())?;
     }
-    memory.hold(page)?;
-    memory.set(page, bytes);
-    Ok(())
+    let mut memory = Memory::empty(alloc);
+    put(&mut memory, 0x20, &bytes)?;
+    put(&mut memory, 0x30, b"b")?;
+    Ok(memory)
 }
 
-fn says(
+// The page at this address is to be b.
+fn b_at(alloc: Global, mem: u64) -> Result<Segments, Fail> {
+    let segment = Segment {
+        bytes: b"b".to_vec(alloc)?,
+        mem,
+        memsz: 4096,
+    };
+    Ok(
+        Segments::bare(alloc, vec![in alloc; segment]?)
+            .ok()
+            .ok_or("segments")?,
+    )
+}
+
+// The word of this list that is refused, and why, where the page at `wanted` is to be b.
+fn refusal(
     alloc: Global,
     words: &[u64],
     head: u64,
-    wanted: u32,
-    swap: Option<u64>,
-) -> Result<Answer, Fail> {
-    let mut bytes = Vec::new(alloc);
-    for w in words {
-        bytes.extend_from_slice(&w.to_le_bytes())?;
-    }
-    let mut memory = Memory::empty(alloc);
-    put(&mut memory, 0x30, b"b")?;
-    put(&mut memory, 0x20, &bytes)?;
-    let mut wanted_bytes = Vec::new(alloc);
-    wanted_bytes.push(b'b')?;
-    let mut list = Vec::new(alloc);
-    list.push(Segment {
-        bytes: wanted_bytes,
-        mem: 4096 * u64::from(wanted),
-        memsz: 4096,
-    })?;
-    let segments = Segments::bare(alloc, list).ok().ok_or("segments")?;
-    let mode = match swap {
-        None => Mode::Plain,
-        Some(n) => Mode::Kept {
-            swap: Page::new(n).ok_or("a page")?,
-        },
-    };
+    mode: Mode,
+    wanted: u64,
+) -> Result<Option<(u64, Why)>, Fail> {
     let image = Image {
         head,
         mode,
-        control: Page::new(0x21).ok_or("a page")?,
+        control: page(0x21)?,
     };
-    match check(alloc, &memory, &image, &segments) {
-        Ok(_) => Ok(Answer::Accepted),
-        Err(CheckFault::List { fault }) => Ok(Answer::Fault(fault.word, fault.why)),
+    let memory = memory_with(alloc, words)?;
+    match check(alloc, &memory, &image, &b_at(alloc, wanted)?) {
+        Ok(_) => Ok(None),
+        Err(CheckFault::List { fault }) => Ok(Some((fault.word, fault.why))),
         Err(CheckFault::Memory) => Err("no memory".into()),
     }
 }
 
 #[test]
-fn each_reason_has_its_word(rt: HostRuntime) -> Result<(), Fail> {
-    let a = rt.alloc();
-    let h = 0x20002;
-    let good = [0x2001, 0x30008, 4];
-    let two = Page::new(2).ok_or("a page")?;
-    assert_eq!(rt; says(a, &good, h, 2, None)?, Answer::Accepted);
-    assert_eq!(rt;
-        says(a, &good, 4, 2, None)?,
-        Answer::Fault(0, Why::Missing { page: two })
-    );
-    assert_eq!(rt;
-        says(a, &good, 0x2001, 2, None)?,
-        Answer::Fault(0, Why::HeadKind)
-    );
-    assert_eq!(rt; says(a, &good, 0, 2, None)?, Answer::Fault(0, Why::Flags));
-    assert_eq!(rt;
-        says(a, &[0x30008, 4], h, 2, None)?,
-        Answer::Fault(1, Why::NoDestination)
-    );
-    assert_eq!(rt;
-        says(a, &[0x2001, 0x30008, 0x30008, 4], h, 2, None)?,
-        Answer::Fault(3, Why::NotWanted)
-    );
-    assert_eq!(rt;
-        says(a, &[0x2001, 0x30008, 0x2001, 0x30008, 4], h, 2, None)?,
-        Answer::Fault(4, Why::TwiceWritten)
-    );
-    assert_eq!(rt;
-        says(a, &[0x20001, 0x30008, 4], h, 0x20, None)?,
-        Answer::Fault(2, Why::LinkSpoiled)
-    );
-    assert_eq!(rt;
-        says(a, &[0x2001, 0x21008, 4], h, 2, None)?,
-        Answer::Fault(2, Why::ControlTouched)
-    );
-    assert_eq!(rt;
-        says(a, &[0x2001, 0x31008, 4], h, 2, None)?,
-        Answer::Fault(2, Why::WrongBytes)
-    );
-    assert_eq!(rt;
-        says(a, &[0x2001, 4], h, 2, None)?,
-        Answer::Fault(2, Why::Missing { page: two })
-    );
-    assert_eq!(rt;
-        says(a, &[0x2001; 512], h, 2, None)?,
-        Answer::Fault(512, Why::RunsOff)
-    );
-    assert_eq!(rt;
-        says(a, &[0x4000_0000_0001, 0x30008, 4], h, 2, None)?,
-        Answer::Fault(1, Why::PastLimit)
-    );
-    assert_eq!(rt;
-        says(a, &good, h, 2, Some(0x30))?,
-        Answer::Fault(2, Why::SwapTouched)
-    );
-    assert_eq!(rt;
-        says(a, &good, h, 2, Some(0x21))?,
-        Answer::Fault(0, Why::SwapTouched)
-    );
-    assert_eq!(rt;
-        says(a, &[0x20002], h, 2, None)?,
-        Answer::Fault(1, Why::LinkAgain)
-    );
-    assert_eq!(rt;
-        says(a, &[0x2009, 0x30008, 4], h, 2, None)?,
-        Answer::Fault(1, Why::Flags)
-    );
-    assert_eq!(rt;
-        says(a, &good, 0x4000_0000_0002, 2, None)?,
-        Answer::Fault(0, Why::PastLimit)
-    );
+fn words_have_their_reasons(rt: HostRuntime) -> Result<(), Fail> {
+    let missing = Why::Missing { page: page(2)? };
+    let rows: [(&[u64], Option<(u64, Why)>); 11] = [
+        (GOOD, None),
+        (&[0x30008, 4], Some((1, Why::NoDestination))),
+        (&[0x2001, 0x30008, 0x30008, 4], Some((3, Why::NotWanted))),
+        (
+            &[0x2001, 0x30008, 0x2001, 0x30008, 4],
+            Some((4, Why::TwiceWritten)),
+        ),
+        (&[0x2001, 0x21008, 4], Some((2, Why::ControlTouched))),
+        (&[0x2001, 0x31008, 4], Some((2, Why::WrongBytes))),
+        (&[0x2001, 4], Some((2, missing))),
+        (&[0x2001; 512], Some((512, Why::RunsOff))),
+        (&[0x4000_0000_0001, 0x30008, 4], Some((1, Why::PastLimit))),
+        (&[0x20002], Some((1, Why::LinkAgain))),
+        (&[0x2009, 0x30008, 4], Some((1, Why::Flags))),
+    ];
+    for (words, wanted) in rows {
+        let found = refusal(rt.alloc(), words, HEAD, Mode::Plain, 0x2000)?;
+        assert_eq!(rt; found, wanted, "{words:?}");
+    }
+    Ok(())
+}
+
+#[test]
+fn heads_have_their_reasons(rt: HostRuntime) -> Result<(), Fail> {
+    let rows = [
+        (4, Why::Missing { page: page(2)? }),
+        (0x2001, Why::HeadKind),
+        (0, Why::Flags),
+        (0x4000_0000_0002, Why::PastLimit),
+    ];
+    for (head, why) in rows {
+        let found = refusal(rt.alloc(), GOOD, head, Mode::Plain, 0x2000)?;
+        assert_eq!(rt; found, Some((0, why)), "{head:x}");
+    }
+    Ok(())
+}
+
+#[test]
+fn a_link_page_is_not_written(rt: HostRuntime) -> Result<(), Fail> {
+    let words = [0x20001, 0x30008, 4];
+    let found = refusal(rt.alloc(), &words, HEAD, Mode::Plain, 0x20000)?;
+    assert_eq!(rt; found, Some((2, Why::LinkSpoiled)));
+    Ok(())
+}
+
+// The swap page is a source, and the control page.
+#[test]
+fn the_swap_page_is_no_other(rt: HostRuntime) -> Result<(), Fail> {
+    for (swap, word) in [(0x30, 2), (0x21, 0)] {
+        let mode = Mode::Kept { swap: page(swap)? };
+        let found = refusal(rt.alloc(), GOOD, HEAD, mode, 0x2000)?;
+        assert_eq!(rt; found, Some((word, Why::SwapTouched)), "{swap:x}");
+    }
     Ok(())
 }

@@ -5,7 +5,8 @@ use segments::{Segment, Segments};
 use std::alloc::Global;
 use std::test::*;
 
-fn put(memory: &mut Memory, n: u64, bytes: &[u8]) -> Result<(), Fail> {
+// The page becomes these bytes, then zeros.
+pub(crate) fn put(memory: &mut Memory, n: u64, bytes: &[u8]) -> Result<(), Fail> {
     let page = Page::new(n).ok_or("a page")?;
     if bytes.len() > 4096 {
         return Err("too many bytes".into());
@@ -60,36 +61,37 @@ fn a_source_may_be_written_later(rt: HostRuntime) -> Result<(), Fail> {
     let accept = check(rt.alloc(), &memory, &image(Mode::Plain)?, &segments)
         .ok()
         .ok_or("accepted")?;
-    assert_eq!(rt; accept.words, 6);
-    assert_eq!(rt; accept.links, 1);
-    assert_eq!(rt; accept.pairs.len(), 2);
+    assert_eq!(rt; (accept.words, accept.links, accept.pairs.len()), (6, 1, 2));
     Ok(())
+}
+
+// Why these words are refused in this mode.
+fn refusal(alloc: Global, words: &[u8], mode: Mode) -> Result<Option<CheckFault>, Fail> {
+    let memory = memory_with(alloc, words)?;
+    let segments = b_and_c(alloc)?;
+    Ok(check(alloc, &memory, &image(mode)?, &segments).err())
 }
 
 #[test]
 fn a_source_may_not_be_written_before(rt: HostRuntime) -> Result<(), Fail> {
-    let memory = memory_with(rt.alloc(), DOWNWARDS)?;
-    let segments = b_and_c(rt.alloc())?;
-    let answer = check(rt.alloc(), &memory, &image(Mode::Plain)?, &segments);
     let fault = ListFault {
         word: 3,
         why: Why::SourceSpoiled,
     };
-    assert_eq!(rt; answer.err(), Some(CheckFault::List { fault }));
+    let found = refusal(rt.alloc(), DOWNWARDS, Mode::Plain)?;
+    assert_eq!(rt; found, Some(CheckFault::List { fault }));
     Ok(())
 }
 
 #[test]
 fn kept_pairs_may_not_meet(rt: HostRuntime) -> Result<(), Fail> {
-    let memory = memory_with(rt.alloc(), UPWARDS)?;
-    let segments = b_and_c(rt.alloc())?;
     let swap = Page::new(0x22).ok_or("a page")?;
-    let answer = check(rt.alloc(), &memory, &image(Mode::Kept { swap })?, &segments);
     let fault = ListFault {
         word: 4,
         why: Why::PairsMeet,
     };
-    assert_eq!(rt; answer.err(), Some(CheckFault::List { fault }));
+    let found = refusal(rt.alloc(), UPWARDS, Mode::Kept { swap })?;
+    assert_eq!(rt; found, Some(CheckFault::List { fault }));
     Ok(())
 }
 
@@ -97,23 +99,32 @@ fn kept_pairs_may_not_meet(rt: HostRuntime) -> Result<(), Fail> {
 fn a_walk_goes_up_to_its_done_word(rt: HostRuntime) -> Result<(), Fail> {
     let memory = memory_with(rt.alloc(), UPWARDS)?;
     let read = walk(rt.alloc(), &memory, 0x20002)?;
-    assert_eq!(rt; read.words.len(), 6);
-    assert!(rt; read.fault.is_none());
+    assert_eq!(rt; (read.words.len(), read.fault), (6, None));
+    Ok(())
+}
+
+// What is said of the crash list of this head, which is refused.
+fn crash_refusal(alloc: Global, head: u64) -> Result<String, Fail> {
+    let memory = memory_with(alloc, UPWARDS)?;
+    let fault = check_crash(&memory, head, &b_and_c(alloc)?)
+        .err()
+        .ok_or("refused")?;
+    Ok(format!(in alloc; "{fault}")?)
+}
+
+#[test]
+fn a_crash_list_without_its_pages_is_refused(rt: HostRuntime) -> Result<(), Fail> {
+    for (head, said) in [(4, "word 0: Missing 3000"), (0x20002, "word 0: HeadKind")] {
+        assert_eq!(rt; crash_refusal(rt.alloc(), head)?.as_str(), said);
+    }
     Ok(())
 }
 
 #[test]
 fn a_crash_list_has_its_pages_already(rt: HostRuntime) -> Result<(), Fail> {
     let mut memory = memory_with(rt.alloc(), UPWARDS)?;
-    let segments = b_and_c(rt.alloc())?;
-    let missing = check_crash(&memory, 4, &segments).err().ok_or("refused")?;
-    assert!(rt; format!(in rt.alloc(); "{missing}")?.as_str() == "word 0: Missing 3000");
-    let head = check_crash(&memory, 0x20002, &segments)
-        .err()
-        .ok_or("refused")?;
-    assert!(rt; format!(in rt.alloc(); "{head}")?.as_str() == "word 0: HeadKind");
     put(&mut memory, 3, b"b")?;
     put(&mut memory, 4, b"c")?;
-    assert!(rt; check_crash(&memory, 4, &segments).is_ok());
+    assert!(rt; check_crash(&memory, 4, &b_and_c(rt.alloc())?).is_ok());
     Ok(())
 }
