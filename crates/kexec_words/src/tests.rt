@@ -111,20 +111,22 @@ fn reads_boot(rt: HostRuntime) -> Result<(), Fail> {
     let Ok(Command::Boot(boot)) = read(alloc, &words) else {
         return Err(Fail::from("refused"));
     };
-    assert!(rt; boot.inputs.memory.as_str() == "m");
-    assert!(rt; boot.inputs.pool.as_str() == "p");
-    assert!(rt; boot.inputs.below == Page::new(0x100));
-    assert!(rt; boot.inputs.kernel.as_str() == "k");
-    assert!(rt; boot.out.as_str() == "o");
-    assert!(rt; boot.kept == Some(Runs::Twice));
-    assert!(rt;
-        boot.image
-            == ImageType::Raw {
-                at: 0x1f00,
-                entry: 0x1f00
-            }
+    let inputs = boot.inputs;
+    assert_eq!(rt;
+        (
+            inputs.memory.as_str(),
+            inputs.pool.as_str(),
+            inputs.kernel.as_str()
+        ),
+        ("m", "p", "k")
     );
-    assert!(rt; boot.inputs.modules.len() == 3);
+    assert!(rt; inputs.below == Page::new(0x100) && inputs.modules.len() == 3);
+    assert!(rt; boot.out.as_str() == "o" && boot.kept == Some(Runs::Twice));
+    let image = ImageType::Raw {
+        at: 0x1f00,
+        entry: 0x1f00,
+    };
+    assert!(rt; boot.image == image);
     Ok(())
 }
 
