@@ -6,12 +6,33 @@ use std::test::Fail;
 /// Where the object is linked.
 const BASE: u64 = 0x10000;
 
-// Puts bytes into a file.
+/// The file header and the sections' bytes, each with its place.
+const BYTES: [(usize, &[u8]); 8] = [
+    (0, &[0x7f, b'E', b'L', b'F', 2, 1, 1]),
+    (16, &[1, 0, 62, 0]),
+    (40, &[152]),
+    (58, &[64, 0, 5]),
+    (64, &[7; 8]),
+    // R_X86_64_32.
+    (72, &[0, 0, 0, 0, 0, 0, 0, 0, 10, 0, 0, 0, 1]),
+    (120, &[1, 0, 0, 0, 0x10, 0, 1, 0, 4]),
+    (144, b"\0entry\0"),
+];
+
+/// The section headers: the place, and the type, flags, offset, size, sh_link and sh_info of each.
+const SECTIONS: [(usize, [u8; 6]); 4] = [
+    (216, [1, 2, 64, 8, 0, 0]),
+    (280, [4, 0, 72, 24, 3, 1]),
+    (344, [2, 0, 96, 48, 4, 0]),
+    (408, [3, 0, 144, 7, 0, 0]),
+];
+
+// Puts bytes into a file, if it has room for all of them.
 fn put(file: &mut [u8], at: usize, bytes: &[u8]) {
-    for (i, b) in bytes.iter().enumerate() {
-        if let Some(place) = file.get_mut(at.saturating_add(i)) {
-            *place = *b;
-        }
+    if let Some((_, behind)) = file.split_at_mut_checked(at)
+        && let Some((place, _)) = behind.split_at_mut_checked(bytes.len())
+    {
+        place.copy_from_slice(bytes);
     }
 }
 
@@ -30,19 +51,12 @@ fn put_section(file: &mut [u8], at: usize, [kind, flags, offset, size, link, inf
 // symbol table and its strings.
 fn object(alloc: Global) -> Result<Vec<u8>, Fail> {
     let mut file = vec![in alloc; 0u8; 472]?;
-    put(&mut file, 0, &[0x7f, b'E', b'L', b'F', 2, 1, 1]);
-    put(&mut file, 16, &[1, 0, 62, 0]);
-    put(&mut file, 40, &[152]);
-    put(&mut file, 58, &[64, 0, 5]);
-    put(&mut file, 64, &[7; 8]);
-    put_section(&mut file, 216, [1, 2, 64, 8, 0, 0]);
-    put_section(&mut file, 280, [4, 0, 72, 24, 3, 1]);
-    put_section(&mut file, 344, [2, 0, 96, 48, 4, 0]);
-    put_section(&mut file, 408, [3, 0, 144, 7, 0, 0]);
-    // R_X86_64_32.
-    put(&mut file, 72, &[0, 0, 0, 0, 0, 0, 0, 0, 10, 0, 0, 0, 1]);
-    put(&mut file, 120, &[1, 0, 0, 0, 0x10, 0, 1, 0, 4]);
-    put(&mut file, 144, b"\0entry\0");
+    for (at, bytes) in BYTES {
+        put(&mut file, at, bytes);
+    }
+    for (at, numbers) in SECTIONS {
+        put_section(&mut file, at, numbers);
+    }
     Ok(file)
 }
 
@@ -55,10 +69,8 @@ fn linked(alloc: Global, file: &[u8]) -> Result<Linked, Fail> {
 
 #[test]
 fn a_file_is_read_and_linked(rt: HostRuntime) -> Result<(), Fail> {
-    let file = object(rt.alloc())?;
-    let linked = linked(rt.alloc(), &file)?;
+    let linked = linked(rt.alloc(), &object(rt.alloc())?)?;
     assert_eq!(rt; linked.symbol(b"entry"), Some((BASE + 4, 0)));
-    let front = linked.bytes.get(..8).ok_or("the loaded bytes")?;
-    assert_eq!(rt; front, [4, 0, 1, 0, 7, 7, 7, 7].as_slice());
+    assert!(rt; linked.bytes.starts_with(&[4, 0, 1, 0, 7, 7, 7, 7]));
     Ok(())
 }

@@ -28,6 +28,8 @@ mod reloc;
 mod relocate;
 mod symbols;
 #[cfg(test)]
+mod test_objects;
+#[cfg(test)]
 mod tests;
 
 pub use digests::{digest_of, regions_of};

@@ -27,24 +27,43 @@ const PAGE_OF_ZEROS: [u8; 32] = [
 /// The greatest address that a region may end at.
 const LIMIT: u64 = 0x4000_0000_0000;
 
-fn segment(alloc: Global, bytes: &[u8], mem: u64, memsz: u64) -> Result<Segment, Fail> {
-    Ok(Segment {
-        bytes: bytes.to_vec(alloc)?,
-        mem,
-        memsz,
-    })
-}
+/// The bytes, the address and the size of three segments, of which number 1 is the purgatory.
+const SEGMENTS: [(&[u8], u64, u64); 3] = [
+    (b"abc", 0x1000, 0x2000),
+    (b"code", 0x8000, 0x1000),
+    (b"de", 0x4000, 0x1000),
+];
 
-// Three segments, of which number 1 is the purgatory.
-fn three(alloc: Global) -> Result<Segments, Fail> {
+fn segments(alloc: Global) -> Result<Segments, Fail> {
     let mut list = Vec::new(alloc);
-    list.push(segment(alloc, b"abc", 0x1000, 0x2000)?)?;
-    list.push(segment(alloc, b"code", 0x8000, 0x1000)?)?;
-    list.push(segment(alloc, b"de", 0x4000, 0x1000)?)?;
+    for (bytes, mem, memsz) in SEGMENTS {
+        let bytes = bytes.to_vec(alloc)?;
+        list.push(Segment { bytes, mem, memsz })?;
+    }
     Ok(Segments::bare(alloc, list).ok().ok_or("segments")?)
 }
 
-// Memory holds these bytes in a page, then zeros.
+// The table and the digest of all segments but the purgatory.
+fn tie(alloc: Global) -> Result<(Block<256>, Block<32>), Fail> {
+    let segments = segments(alloc)?;
+    if segments.count() < 2 {
+        return Err(Fail::new("there is a purgatory"));
+    }
+    Ok((regions_of(&segments, 1), digest_of(&segments, 1)))
+}
+
+// A table with these regions, and rows of zeros behind them.
+fn table(alloc: Global, regions: &[(u64, u64)]) -> Result<Vec<u8>, Fail> {
+    let mut table = Vec::new(alloc);
+    for (start, size) in regions {
+        table.extend_from_slice(&start.to_le_bytes())?;
+        table.extend_from_slice(&size.to_le_bytes())?;
+    }
+    table.resize(256, 0)?;
+    Ok(table)
+}
+
+// Holds these bytes in the page of this number, and zeros behind them.
 fn put(memory: &mut Memory, number: u64, bytes: &[u8]) -> Result<(), Fail> {
     let page = Page::new(number).ok_or("a page")?;
     memory.hold(page)?;
@@ -54,38 +73,28 @@ fn put(memory: &mut Memory, number: u64, bytes: &[u8]) -> Result<(), Fail> {
     Ok(())
 }
 
-// A table with these three regions.
-fn table(first: (u64, u64), second: (u64, u64), third: (u64, u64)) -> Block<256> {
-    let mut table = Block::zeros();
-    table.put_u64(0, first.0);
-    table.put_u64(8, first.1);
-    table.put_u64(16, second.0);
-    table.put_u64(24, second.1);
-    table.put_u64(32, third.0);
-    table.put_u64(40, third.1);
-    table
-}
-
-// The number of the wild region, and 99 where none is wild.
-fn wild(answer: &RegionTest) -> usize {
-    match answer {
-        RegionTest::Wild { region } => *region,
-        _ => 99,
-    }
-}
-
-// The test of these three regions, whose table stands in page 1, against the digest in page 2.
-fn answer(
-    alloc: Global,
-    first: (u64, u64),
-    second: (u64, u64),
-    third: (u64, u64),
-    digest: &[u8],
-) -> Result<RegionTest, Fail> {
+// A memory that holds such bytes in pages of these numbers.
+fn memory_of(alloc: Global, pages: &[(u64, &[u8])]) -> Result<Memory, Fail> {
     let mut memory = Memory::empty(alloc);
-    put(&mut memory, 1, table(first, second, third).bytes())?;
-    put(&mut memory, 2, digest)?;
+    for (number, bytes) in pages {
+        put(&mut memory, *number, bytes)?;
+    }
+    Ok(memory)
+}
+
+// The test of these regions against this digest.
+fn answer(alloc: Global, regions: &[(u64, u64)], digest: &[u8]) -> Result<RegionTest, Fail> {
+    let table = table(alloc, regions)?;
+    let memory = memory_of(alloc, &[(1, &table), (2, digest)])?;
     Ok(test_regions(&memory, 0x1000, 0x2000))
+}
+
+// The number of the wild region, if one is wild.
+fn wild(answer: &RegionTest) -> Option<usize> {
+    match answer {
+        RegionTest::Wild { region } => Some(*region),
+        _ => None,
+    }
 }
 
 // Whether both digests are these.
@@ -102,67 +111,78 @@ fn same(answer: &RegionTest) -> bool {
 
 #[test]
 fn all_segments_but_the_purgatory_are_digested(rt: HostRuntime) -> Result<(), Fail> {
-    let segments = three(rt.alloc())?;
-    if 1 < segments.count() {
-        assert_eq!(rt; digest_of(&segments, 1).bytes(), DIGEST.as_slice());
-        let wanted = table((0x1000, 0x2000), (0x4000, 0x1000), (0, 0));
-        assert_eq!(rt; regions_of(&segments, 1).bytes(), wanted.bytes());
-    }
+    let wanted = table(rt.alloc(), &[(0x1000, 0x2000), (0x4000, 0x1000)])?;
+    let (regions, digest) = tie(rt.alloc())?;
+    assert_eq!(rt; regions.bytes(), wanted.as_slice());
+    assert_eq!(rt; digest.bytes(), DIGEST.as_slice());
     Ok(())
+}
+
+// What the test finds where the first segment's bytes are these.
+fn found(alloc: Global, first: &[u8]) -> Result<RegionTest, Fail> {
+    let (table, digest) = tie(alloc)?;
+    let pages = [
+        (1, first),
+        (4, b"de"),
+        (8, table.bytes()),
+        (9, digest.bytes()),
+    ];
+    let memory = memory_of(alloc, &pages)?;
+    Ok(test_regions(&memory, 0x8000, 0x9000))
 }
 
 #[test]
 fn what_was_digested_is_found(rt: HostRuntime) -> Result<(), Fail> {
-    let segments = three(rt.alloc())?;
-    let mut memory = Memory::empty(rt.alloc());
-    put(&mut memory, 1, b"abc")?;
-    put(&mut memory, 4, b"de")?;
-    if 1 < segments.count() {
-        put(&mut memory, 8, regions_of(&segments, 1).bytes())?;
-        put(&mut memory, 9, digest_of(&segments, 1).bytes())?;
-    }
-    assert!(rt; same(&test_regions(&memory, 0x8000, 0x9000)));
-    put(&mut memory, 1, b"abd")?;
-    assert!(rt; differs(&test_regions(&memory, 0x8000, 0x9000), &OTHER, &DIGEST));
+    assert!(rt; same(&found(rt.alloc(), b"abc")?));
+    assert!(rt; differs(&found(rt.alloc(), b"abd")?, &OTHER, &DIGEST));
     Ok(())
 }
+
+/// Where the table and the digest stand, and the wild region.
+const PLACES: [(u64, u64, Option<usize>); 5] = [
+    (LIMIT - 8, 0x9000, Some(16)),
+    (LIMIT - 256, 0x9000, None),
+    (0x8000, LIMIT - 31, Some(16)),
+    (0x8000, LIMIT - 32, None),
+    (u64::MAX, u64::MAX, Some(16)),
+];
 
 #[test]
 fn table_and_digest_end_below_the_limit(rt: HostRuntime) -> Result<(), Fail> {
     let memory = Memory::empty(rt.alloc());
-    assert_eq!(rt; wild(&test_regions(&memory, LIMIT - 8, 0x9000)), 16);
-    assert_eq!(rt; wild(&test_regions(&memory, LIMIT - 256, 0x9000)), 99);
-    assert_eq!(rt; wild(&test_regions(&memory, 0x8000, LIMIT - 31)), 16);
-    assert_eq!(rt; wild(&test_regions(&memory, 0x8000, LIMIT - 32)), 99);
-    assert_eq!(rt; wild(&test_regions(&memory, u64::MAX, u64::MAX)), 16);
+    for (table, digest, wanted) in PLACES {
+        assert_eq!(rt; wild(&test_regions(&memory, table, digest)), wanted);
+    }
     Ok(())
 }
 
 #[test]
 fn a_region_may_end_at_the_limit(rt: HostRuntime) -> Result<(), Fail> {
-    let a = rt.alloc();
-    let none = (0, 0);
-    let last = (LIMIT - 4096, 4096);
-    assert!(rt; same(&answer(a, last, none, none, &PAGE_OF_ZEROS)?));
-    assert_eq!(rt; wild(&answer(a, (LIMIT - 4096, 4097), none, none, &[])?), 0);
-    assert_eq!(rt;
-        wild(&answer(a, (0, 1), (u64::MAX, u64::MAX), none, &[])?),
-        1
-    );
-    assert_eq!(rt; wild(&answer(a, (LIMIT, 0), (LIMIT + 1, 0), none, &[])?), 1);
+    let last = [(LIMIT - 4096, 4096)];
+    assert!(rt; same(&answer(rt.alloc(), &last, &PAGE_OF_ZEROS)?));
     Ok(())
 }
 
+/// Half of the most bytes that regions have.
+const HALF: u64 = 0x800_0000;
+
+/// Regions, and the wild one among them.
+const WILD: [(&[(u64, u64)], usize); 7] = [
+    (&[(LIMIT - 4096, 4097)], 0),
+    (&[(0, 1), (u64::MAX, u64::MAX)], 1),
+    (&[(LIMIT, 0), (LIMIT + 1, 0)], 1),
+    // A sum of 2^28 is not wild, so that the third region is told.
+    (&[(0x1000_0000, HALF), (0, HALF), (LIMIT, 1)], 2),
+    (&[(0x1000_0000, HALF), (0, HALF), (0, 1)], 2),
+    (&[(0x1000_0000, HALF), (0, HALF + 1)], 1),
+    (&[(0, 2 * HALF + 1)], 0),
+];
+
 #[test]
-fn lengths_have_a_sum(rt: HostRuntime) -> Result<(), Fail> {
-    let a = rt.alloc();
-    let none = (0, 0);
-    let half = 0x800_0000;
-    let first = (0x1000_0000, half);
-    // A sum of 2^28 is not wild, so that the third region is told
-    assert_eq!(rt; wild(&answer(a, first, (0, half), (LIMIT, 1), &[])?), 2);
-    assert_eq!(rt; wild(&answer(a, first, (0, half), (0, 1), &[])?), 2);
-    assert_eq!(rt; wild(&answer(a, first, (0, half + 1), none, &[])?), 1);
-    assert_eq!(rt; wild(&answer(a, (0, 2 * half + 1), none, none, &[])?), 0);
+fn the_first_wild_region_is_told(rt: HostRuntime) -> Result<(), Fail> {
+    for (regions, wanted) in WILD {
+        let answer = answer(rt.alloc(), regions, &[])?;
+        assert_eq!(rt; wild(&answer), Some(wanted), "in {regions:?}");
+    }
     Ok(())
 }
