@@ -35,6 +35,8 @@ mod files;
 #[cfg(test)]
 mod first_example;
 mod inputs;
+#[cfg(test)]
+mod kept_tests;
 pub mod laws;
 #[cfg(test)]
 mod limit_tests;
@@ -42,20 +44,20 @@ mod load;
 mod load_inputs;
 mod load_panic;
 mod loading;
-mod migrate;
 #[cfg(test)]
-mod migrate_tests;
+mod long_list_tests;
+mod migrate;
 mod output;
 #[cfg(test)]
 mod refused_memory_tests;
 mod run;
 mod running;
 mod sample;
+#[cfg(test)]
+mod scene;
 mod status;
 #[cfg(test)]
 mod status_tests;
-#[cfg(test)]
-mod tests;
 mod text;
 mod trace;
 #[cfg(test)]

@@ -1,13 +1,72 @@
 //! Each status comes where it has to: contracts leave want of memory free, so tables show that no other cause is told as
 //! it.
 
-use crate::first_example::{first_record, memory_start, numbers, push_page, run, split, spoil};
-use kx_edge::{MemoryShelf, Shelf, ShelfFault};
+use crate::first_example::{ABC, ABC_DIGEST, MAP, NO_PAGES, RECORD_NUMBERS};
+use crate::scene::Piece::{Bytes, List, Numbers, Page, Repeated};
+use crate::scene::{Files, Pieces, add, joined, refuse, refuse_all, shelf};
+use kx_edge::MemoryShelf;
 use std::alloc::{AllocError, Global};
 use std::test::Fail;
 
-/// The words, the exit status and the status, of commands that are refused: nothing is written or said.
-const REFUSALS: [(&str, u8, &str); 35] = [
+// Records of version 1, of two pages from page 2 on, which begin with "abc": of kind 1; of a plain list; of one whose head
+// is no link; of one with context preserved.
+const CRASH: Pieces = &[
+    Bytes(b"KXREC001\x01\0\0\0\0\0\0\0"),
+    Numbers(&[4, 0, 0, 0x2000, 0, 0, 0, 0, 0, 1, 0x2000, 0x2000, 3]),
+    Bytes(b"abc"),
+];
+
+const PLAIN: Pieces = &[
+    Bytes(b"KXREC001\0\0\0\0\0\0\0\0"),
+    Numbers(&[
+        0x11002, 0x10000, 0, 0x2000, 0, 0, 0, 0, 0, 1, 0x2000, 0x2000, 3,
+    ]),
+    Bytes(b"abc"),
+];
+
+const ENTERED: Pieces = &[
+    Bytes(b"KXREC001\0\0\0\0\0\0\0\0"),
+    Numbers(&[
+        0x11001, 0x10000, 0, 0x2000, 0, 0, 0, 0, 0, 1, 0x2000, 0x2000, 3,
+    ]),
+    Bytes(b"abc"),
+];
+
+const KEPT: Pieces = &[
+    Bytes(b"KXREC001\0\0\0\0\x01\0\0\0"),
+    Numbers(&[
+        0x11002, 0x10000, 0x13000, 0x2000, 0, 0, 0, 0, 0, 1, 0x2000, 0x2000, 3,
+    ]),
+    Bytes(b"abc"),
+];
+
+const FILES: Files = &[
+    ("m", NO_PAGES),
+    ("p", &[Bytes(b"10-12\n")]),
+    ("few", &[Bytes(b"10-11\n")]),
+    ("four", &[Bytes(b"10-13\n")]),
+    ("none-free", &[]),
+    ("k", ABC),
+    ("pages", &[Repeated(b'b', 4097)]),
+    ("f", MAP),
+    ("small", &[Bytes(b"00000000-00001fff : System RAM\n")]),
+    ("long", &[Repeated(b'\n', 1_048_577)]),
+    ("crash", CRASH),
+    ("plain", PLAIN),
+    // The last byte is not the one that has the digest.
+    (
+        "spoiled",
+        &[
+            Bytes(b"KXREC002"),
+            Numbers(RECORD_NUMBERS),
+            Bytes(ABC_DIGEST),
+            Bytes(b"abb"),
+        ],
+    ),
+];
+
+/// Commands that are refused, with the exit status and the status.
+const REFUSALS: &[(&str, u8, &str)] = &[
     ("", 2, "Usage { why: Command }"),
     ("reboot m p o k", 2, "Usage { why: Command }"),
     ("boot m p o", 2, "Usage { why: Parse }"),
@@ -139,201 +198,144 @@ const REFUSALS: [(&str, u8, &str); 35] = [
         9,
         "NoPages { pool: 4, need: 5 }",
     ),
+    ("exec --twice m plain o", 11, "NotKept"),
 ];
 
-/// The list of the record, the name of the record and the fault that is told of it.
-const FAULTS: [(&[u64], &str, &str, &str); 14] = [
+#[test]
+fn each_refusal_is_told_and_leaves_nothing(rt: HostRuntime) -> Result<(), Fail> {
+    refuse_all(&rt, rt.alloc(), FILES, REFUSALS)
+}
+
+/// The words of a list in page 0x11, its record, the fault in the status, and the line that is said of it.
+const FAULTS: [(&[u64], Pieces, &str, &str); 14] = [
     (
         &[0x2003],
-        "plain",
-        "ListFault { word: 1, why: Flags }",
+        PLAIN,
+        "{ word: 1, why: Flags }",
         "word 1: Flags\n",
     ),
     (
         &[4],
-        "entered",
-        "ListFault { word: 0, why: HeadKind }",
+        ENTERED,
+        "{ word: 0, why: HeadKind }",
         "word 0: HeadKind\n",
     ),
     (
         &[0x11002],
-        "plain",
-        "ListFault { word: 1, why: LinkAgain }",
+        PLAIN,
+        "{ word: 1, why: LinkAgain }",
         "word 1: LinkAgain\n",
     ),
     (
         &[0x12008],
-        "plain",
-        "ListFault { word: 1, why: NoDestination }",
+        PLAIN,
+        "{ word: 1, why: NoDestination }",
         "word 1: NoDestination\n",
     ),
     (
         &[0x5001, 0x12008],
-        "plain",
-        "ListFault { word: 2, why: NotWanted }",
+        PLAIN,
+        "{ word: 2, why: NotWanted }",
         "word 2: NotWanted\n",
     ),
     (
         &[0x2001, 0x12008, 0x2001, 0x12008],
-        "plain",
-        "ListFault { word: 4, why: TwiceWritten }",
+        PLAIN,
+        "{ word: 4, why: TwiceWritten }",
         "word 4: TwiceWritten\n",
     ),
     (
         &[0x2001, 0x12008, 0x2008],
-        "plain",
-        "ListFault { word: 3, why: SourceSpoiled }",
+        PLAIN,
+        "{ word: 3, why: SourceSpoiled }",
         "word 3: SourceSpoiled\n",
     ),
     (
         &[0x3001, 0x14008, 0x3002],
-        "plain",
-        "ListFault { word: 3, why: LinkSpoiled }",
+        PLAIN,
+        "{ word: 3, why: LinkSpoiled }",
         "word 3: LinkSpoiled\n",
     ),
     (
         &[0x2001, 0x10008],
-        "plain",
-        "ListFault { word: 2, why: ControlTouched }",
+        PLAIN,
+        "{ word: 2, why: ControlTouched }",
         "word 2: ControlTouched\n",
     ),
     (
         &[0x2001, 0x12008, 0x12008],
-        "kept",
-        "ListFault { word: 3, why: PairsMeet }",
+        KEPT,
+        "{ word: 3, why: PairsMeet }",
         "word 3: PairsMeet\n",
     ),
     (
         &[0x2001, 0x13008],
-        "kept",
-        "ListFault { word: 2, why: SwapTouched }",
+        KEPT,
+        "{ word: 2, why: SwapTouched }",
         "word 2: SwapTouched\n",
     ),
     (
         &[0x2001, 0x14008],
-        "plain",
-        "ListFault { word: 2, why: WrongBytes }",
+        PLAIN,
+        "{ word: 2, why: WrongBytes }",
         "word 2: WrongBytes\n",
     ),
     (
         &[0x2001, 0x12008, 4],
-        "plain",
-        "ListFault { word: 3, why: Missing { page: Page { number: 3 } } }",
+        PLAIN,
+        "{ word: 3, why: Missing { page: Page { number: 3 } } }",
         "word 3: Missing 3000\n",
     ),
     (
         &[0x4000_0000_0001],
-        "plain",
-        "ListFault { word: 1, why: PastLimit }",
+        PLAIN,
+        "{ word: 1, why: PastLimit }",
         "word 1: PastLimit\n",
     ),
 ];
 
-// A record of two pages from page 2 on, which begin with "abc", with this kind, mode, head and swap page.
-fn record_file(
+// A shelf with the memory of this list, which has the source page also, and the record.
+fn list_shelf(
     alloc: Global,
-    kind: u8,
-    mode: u8,
-    head: u64,
-    control: u64,
-    swap: u64,
-) -> Result<Vec<u8>, AllocError> {
-    let mut file = b"KXREC001".to_vec(alloc)?;
-    file.extend_from_slice(&[kind, 0, 0, 0, mode, 0, 0, 0])?;
-    let fields = [
-        head, control, swap, 0x2000, 0, 0, 0, 0, 0, 1, 0x2000, 0x2000, 3,
+    words: &'static [u64],
+    record: Pieces,
+) -> Result<MemoryShelf, AllocError> {
+    let list = [
+        Bytes(b"KXMEM001"),
+        Numbers(&[2]),
+        List(0x11, words),
+        Page(0x12, b"abc"),
     ];
-    file.extend_from_slice(&numbers(alloc, &fields)?)?;
-    file.extend_from_slice(b"abc")?;
-    Ok(file)
-}
-
-// The file of a memory with this list, and the source page.
-fn list_file(alloc: Global, list: &[u64]) -> Result<Vec<u8>, AllocError> {
-    let mut file = memory_start(alloc, 2)?;
-    push_page(&mut file, 0x11, &numbers(alloc, list)?)?;
-    push_page(&mut file, 0x12, b"abc")?;
-    Ok(file)
-}
-
-fn shelf(alloc: Global) -> Result<MemoryShelf, AllocError> {
     let mut files = Vec::new(alloc);
-    let long = vec![in alloc; b'\n'; 1_048_577]?;
-    for (name, bytes) in [
-        ("m", memory_start(alloc, 0)?),
-        ("p", b"10-12\n".to_vec(alloc)?),
-        ("few", b"10-11\n".to_vec(alloc)?),
-        ("four", b"10-13\n".to_vec(alloc)?),
-        ("none-free", Vec::new(alloc)),
-        ("pages", vec![in alloc; b'b'; 4097]?),
-        ("small", b"00000000-00001fff : System RAM\n".to_vec(alloc)?),
-        ("k", b"abc".to_vec(alloc)?),
-        ("spoiled", spoil(first_record(alloc)?)),
-        ("f", b"00000000-01ffffff : System RAM\n".to_vec(alloc)?),
-        ("long", long),
-        ("crash", record_file(alloc, 1, 0, 4, 0, 0)?),
-        ("plain", record_file(alloc, 0, 0, 0x11002, 0x10000, 0)?),
-        ("entered", record_file(alloc, 0, 0, 0x11001, 0x10000, 0)?),
-        ("kept", record_file(alloc, 0, 1, 0x11002, 0x10000, 0x13000)?),
-    ] {
-        files.push((String::from_str(alloc, name)?, bytes))?;
-    }
-    let mut shelf = MemoryShelf::new(alloc, files, Vec::new(alloc));
-    shelf.reserve("o", 100_000)?;
-    shelf.reserve("list", 100_000)?;
-    Ok(shelf)
-}
-
-#[test]
-fn each_refusal_is_told_and_leaves_nothing(rt: HostRuntime) -> Result<(), Fail> {
-    let alloc = rt.alloc();
-    for (line, code, wanted) in REFUSALS {
-        let mut shelf = shelf(alloc)?;
-        let (status, sink) = run(alloc, &split(alloc, line)?, &mut shelf, &[])?;
-        assert_eq!(rt; status.code(), code, "{line}");
-        let told = format!(in alloc; "{status:?}")?;
-        assert!(rt; told.as_str() == wanted, "{line}: {told}");
-        assert_eq!(rt; sink.said().len(), 0);
-        assert!(rt; matches!(shelf.take(alloc, "o", 1), Err(ShelfFault::Failed)));
-    }
-    Ok(())
+    add(alloc, &mut files, "list", joined(alloc, &list)?)?;
+    add(alloc, &mut files, "record", joined(alloc, record)?)?;
+    shelf(alloc, files, &[])
 }
 
 #[test]
 fn each_fault_of_a_list_is_told_and_nothing_is_run(rt: HostRuntime) -> Result<(), Fail> {
     let alloc = rt.alloc();
-    for (list, name, fault, line) in FAULTS {
-        let wanted = format!(in alloc; "NotAccepted {{ fault: {fault} }}")?;
-        for command in [
-            ["check", "list", name].as_slice(),
-            ["exec", "list", name, "o"].as_slice(),
-        ] {
-            let mut shelf = shelf(alloc)?;
-            shelf
-                .put("list", &list_file(alloc, list)?)
-                .ok()
-                .ok_or("a put")?;
-            let (status, sink) = run(alloc, command, &mut shelf, &[])?;
-            assert_eq!(rt; status.code(), 1, "{line}");
-            let told = format!(in alloc; "{status:?}")?;
-            assert!(rt; told == wanted, "{line}: {told}");
-            assert_eq!(rt; sink.said(), line.as_bytes());
-            assert!(rt; matches!(shelf.take(alloc, "o", 1), Err(ShelfFault::Failed)));
-        }
+    for (words, record, fault, said) in FAULTS {
+        let status = format!(in alloc; "NotAccepted {{ fault: ListFault {fault} }}")?;
+        let mut shelf = list_shelf(alloc, words, record)?;
+        refuse(
+            &rt,
+            alloc,
+            &mut shelf,
+            "check list record",
+            1,
+            &status,
+            said,
+        )?;
+        refuse(
+            &rt,
+            alloc,
+            &mut shelf,
+            "exec list record o",
+            1,
+            &status,
+            said,
+        )?;
     }
-    Ok(())
-}
-
-#[test]
-fn a_plain_list_is_not_run_twice(rt: HostRuntime) -> Result<(), Fail> {
-    let alloc = rt.alloc();
-    let mut shelf = shelf(alloc)?;
-    let (status, _) = run(
-        alloc,
-        &["exec", "--twice", "m", "plain", "o"],
-        &mut shelf,
-        &[],
-    )?;
-    assert_eq!(rt; status.code(), 11);
     Ok(())
 }

@@ -1,36 +1,17 @@
 //! Wild lists: what `check` says of them, and how the machine comes out of them.
 
-use crate::first_example::{memory_start, numbers, push_page, run};
-use kx_edge::{MemoryShelf, Shelf};
+use crate::scene::Piece::{Bytes, List, Numbers, Page, Repeated};
+use crate::scene::{Files, Pieces, Step, add, joined, play, push_numbers, run, shelf};
+use kx_edge::MemoryShelf;
 use std::alloc::{AllocError, Global};
 use std::test::Fail;
 
 const GOOD: &[u64] = &[0x2001, 0x30008, 4];
 
-// The memory file "m" with a list, and its record "r", with context preserved where there is a swap page.
-fn shelf(
-    alloc: Global,
-    words: &[u64],
-    head: u64,
-    segment: u64,
-    swap: Option<u64>,
-) -> Result<MemoryShelf, AllocError> {
-    let mut memory = memory_start(alloc, 2)?;
-    push_page(&mut memory, 0x20, &numbers(alloc, words)?)?;
-    push_page(&mut memory, 0x30, b"b")?;
-    let mut load_record = b"KXREC001\0\0\0\0".to_vec(alloc)?;
-    load_record.extend_from_slice(&[u8::from(swap.is_some()), 0, 0, 0])?;
-    let swap = swap.unwrap_or(0);
-    let fields = [head, 0x21000, swap, 0, 0, 0, 0, 0, 0, 1, segment, 0x1000, 1];
-    load_record.extend_from_slice(&numbers(alloc, &fields)?)?;
-    load_record.push(b'b')?;
-    let mut files = Vec::new(alloc);
-    files.push((String::from_str(alloc, "m")?, memory))?;
-    files.push((String::from_str(alloc, "r")?, load_record))?;
-    let mut shelf = MemoryShelf::new(alloc, files, Vec::new(alloc));
-    shelf.reserve("o", 100_000)?;
-    Ok(shelf)
-}
+// The kind, 0, and behind it the mode.
+const PLAIN: u64 = 0;
+
+const KEPT: u64 = 0x1_0000_0000;
 
 /// A list, its head word and its segment's address, what `check` says of it, and how a trace of so many steps comes out.
 const WILD: [(&[u64], u64, u64, &str, &str, &str); 12] = [
@@ -118,18 +99,44 @@ const WILD: [(&[u64], u64, u64, &str, &str, &str); 12] = [
     ),
 ];
 
+// The memory "m" with a list in page 0x20, and its record "r", whose control page is 0x21.
+fn wild_shelf(
+    alloc: Global,
+    words: &'static [u64],
+    mode: u64,
+    head: u64,
+    swap: u64,
+    segment: u64,
+) -> Result<MemoryShelf, AllocError> {
+    let memory = [
+        Bytes(b"KXMEM001"),
+        Numbers(&[2]),
+        List(0x20, words),
+        Page(0x30, b"b"),
+    ];
+    let numbers = [
+        mode, head, 0x21000, swap, 0, 0, 0, 0, 0, 0, 1, segment, 0x1000, 1,
+    ];
+    let mut record = b"KXREC001".to_vec(alloc)?;
+    push_numbers(&mut record, &numbers)?;
+    record.push(b'b')?;
+    let mut files = Vec::new(alloc);
+    add(alloc, &mut files, "m", joined(alloc, &memory)?)?;
+    add(alloc, &mut files, "r", record)?;
+    shelf(alloc, files, &[])
+}
+
 // What `check` says of a list, and then what `trace` does.
 fn said_of(
     alloc: Global,
-    words: &[u64],
+    words: &'static [u64],
     head: u64,
     segment: u64,
     limit: &str,
 ) -> Result<Vec<u8>, AllocError> {
-    let mut shelf = shelf(alloc, words, head, segment, None)?;
-    let (_, checked) = run(alloc, &["check", "m", "r"], &mut shelf, &[])?;
-    let head = format!(in alloc; "{head:x}")?;
-    let trace = ["trace", "m", "o", head.as_str(), limit];
+    let mut shelf = wild_shelf(alloc, words, PLAIN, head, 0, segment)?;
+    let (_, checked) = run(alloc, "check m r", &mut shelf, &[])?;
+    let trace = format!(in alloc; "trace m o {head:x} {limit}")?;
     let (_, traced) = run(alloc, &trace, &mut shelf, &[])?;
     let mut said = checked.said().to_vec(alloc)?;
     said.extend_from_slice(traced.said())?;
@@ -147,16 +154,13 @@ fn each_wild_list_is_told_and_traced(rt: HostRuntime) -> Result<(), Fail> {
     Ok(())
 }
 
-// A page in which each of the 512 words is the same destination: there is no way on from its last slot.
+// There is no way on from the last slot of the page.
+const ENDLESS: [u64; 512] = [0x2001; 512];
+
 #[test]
 fn a_list_without_a_link_onward_runs_off(rt: HostRuntime) -> Result<(), Fail> {
-    let alloc = rt.alloc();
-    let words = vec![in alloc; 0x2001; 512]?;
-    let said = said_of(alloc, &words, 0x20002, 0x2000, "600")?;
-    assert_eq!(rt;
-        said.as_slice(),
-        b"word 512: RunsOff\nrunning 600\n".as_slice()
-    );
+    let said = said_of(rt.alloc(), &ENDLESS, 0x20002, 0x2000, "600")?;
+    assert!(rt; said.as_slice() == b"word 512: RunsOff\nrunning 600\n".as_slice());
     Ok(())
 }
 
@@ -164,90 +168,146 @@ fn a_list_without_a_link_onward_runs_off(rt: HostRuntime) -> Result<(), Fail> {
 #[test]
 fn a_swap_page_that_is_in_use_is_told(rt: HostRuntime) -> Result<(), Fail> {
     let alloc = rt.alloc();
-    for (swap, line) in [
-        (0x30000u64, "word 2: SwapTouched\n"),
+    for (swap, wanted) in [
+        (0x30000, "word 2: SwapTouched\n"),
         (0x21000, "word 0: SwapTouched\n"),
     ] {
-        let mut shelf = shelf(alloc, GOOD, 0x20002, 0x2000, Some(swap))?;
-        let (status, sink) = run(alloc, &["check", "m", "r"], &mut shelf, &[])?;
-        assert_eq!(rt; status.code(), 1);
-        assert_eq!(rt; sink.said(), line.as_bytes());
+        let mut shelf = wild_shelf(alloc, GOOD, KEPT, 0x20002, swap, 0x2000)?;
+        let (status, sink) = run(alloc, "check m r", &mut shelf, &[])?;
+        assert!(rt;
+            status.code() == 1 && sink.said() == wanted.as_bytes(),
+            "{wanted}"
+        );
     }
     Ok(())
 }
 
 // Page 2 begins with "b", page 3 with "c": a list moves them up by a page, to the segment at 0x3000, from the end or from
-// the front. With a swap page context is preserved.
-fn moving_shelf(
-    alloc: Global,
-    words: &[u64],
-    swap: Option<u64>,
-) -> Result<MemoryShelf, AllocError> {
-    let mut memory = memory_start(alloc, 3)?;
-    push_page(&mut memory, 2, b"b")?;
-    push_page(&mut memory, 3, b"c")?;
-    push_page(&mut memory, 0x20, &numbers(alloc, words)?)?;
-    let mut load_record = b"KXREC001\0\0\0\0".to_vec(alloc)?;
-    load_record.extend_from_slice(&[u8::from(swap.is_some()), 0, 0, 0])?;
-    let swap = swap.unwrap_or(0);
-    let fields = [
-        0x20002, 0x21000, swap, 0, 0, 0, 0, 0, 0, 1, 0x3000, 0x2000, 4097,
-    ];
-    load_record.extend_from_slice(&numbers(alloc, &fields)?)?;
-    load_record.push(b'b')?;
-    load_record.extend_from_slice(&vec![in alloc; 0; 4095]?)?;
-    load_record.push(b'c')?;
-    let mut files = Vec::new(alloc);
-    files.push((String::from_str(alloc, "m")?, memory))?;
-    files.push((String::from_str(alloc, "r")?, load_record))?;
-    let mut shelf = MemoryShelf::new(alloc, files, Vec::new(alloc));
-    shelf.reserve("o", 100_000)?;
-    Ok(shelf)
-}
+// the front.
+const FROM_THE_END: &[u64] = &[0x4001, 0x3008, 0x3001, 0x2008, 4];
 
-// The memory after the moves: pages 2, 3 and 4 begin with these bytes.
-fn moved(alloc: Global, pages: [&[u8]; 3], words: &[u64]) -> Result<Vec<u8>, AllocError> {
-    let mut file = memory_start(alloc, 4)?;
-    for (number, bytes) in (2u64..).zip(pages) {
-        push_page(&mut file, number, bytes)?;
-    }
-    push_page(&mut file, 0x20, &numbers(alloc, words)?)?;
-    Ok(file)
-}
+const FROM_THE_FRONT: &[u64] = &[0x3001, 0x2008, 0x3008, 4];
+
+// The records of such a list, in plain mode and with context preserved.
+const MOVED_PLAIN: Pieces = &[
+    Bytes(b"KXREC001"),
+    Numbers(&[
+        PLAIN, 0x20002, 0x21000, 0, 0, 0, 0, 0, 0, 0, 1, 0x3000, 0x2000, 4097,
+    ]),
+    Bytes(b"b"),
+    Repeated(0, 4095),
+    Bytes(b"c"),
+];
+
+const MOVED_KEPT: Pieces = &[
+    Bytes(b"KXREC001"),
+    Numbers(&[
+        KEPT, 0x20002, 0x21000, 0x22000, 0, 0, 0, 0, 0, 0, 1, 0x3000, 0x2000, 4097,
+    ]),
+    Bytes(b"b"),
+    Repeated(0, 4095),
+    Bytes(b"c"),
+];
+
+const MOVES_FROM_THE_END: Files = &[
+    (
+        "m",
+        &[
+            Bytes(b"KXMEM001"),
+            Numbers(&[3]),
+            Page(2, b"b"),
+            Page(3, b"c"),
+            List(0x20, FROM_THE_END),
+        ],
+    ),
+    ("plain", MOVED_PLAIN),
+    ("kept", MOVED_KEPT),
+];
+
+const ALL_MOVED: Pieces = &[
+    Bytes(b"KXMEM001"),
+    Numbers(&[4]),
+    Page(2, b"b"),
+    Page(3, b"b"),
+    Page(4, b"c"),
+    List(0x20, FROM_THE_END),
+];
+
+const CHECKED_FROM_THE_END: [Step; 3] = [
+    Step {
+        line: "check m plain",
+        code: 0,
+        status: "Done",
+        said: "accepted words 6 links 1 pairs 2\n",
+        outputs: [None, None, None],
+    },
+    Step {
+        line: "check m kept",
+        code: 1,
+        status: "NotAccepted { fault: ListFault { word: 4, why: PairsMeet } }",
+        said: "word 4: PairsMeet\n",
+        outputs: [None, None, None],
+    },
+    Step {
+        line: "exec m plain o",
+        code: 0,
+        status: "Done",
+        said: "accepted words 6 links 1 pairs 2\nhead 20002 control 21000\nstart entry 0 rax 0 rbx 0 rsi 0\nran 6\n",
+        outputs: [Some(ALL_MOVED), None, None],
+    },
+];
 
 #[test]
 fn pages_that_overlap_are_moved_from_the_end(rt: HostRuntime) -> Result<(), Fail> {
-    let alloc = rt.alloc();
-    let words = [0x4001, 0x3008, 0x3001, 0x2008, 4];
-    let mut shelf = moving_shelf(alloc, &words, None)?;
-    let (status, sink) = run(alloc, &["check", "m", "r"], &mut shelf, &[])?;
-    assert_eq!(rt; status.code(), 0);
-    assert_eq!(rt;
-        sink.said(),
-        b"accepted words 6 links 1 pairs 2\n".as_slice()
-    );
-    let (status, _) = run(alloc, &["exec", "m", "r", "o"], &mut shelf, &[])?;
-    assert_eq!(rt; status.code(), 0);
-    assert!(rt; shelf.take(alloc, "o", 100_000)? == moved(alloc, [b"b", b"b", b"c"], &words)?);
-    let mut kept = moving_shelf(alloc, &words, Some(0x22000))?;
-    let (status, sink) = run(alloc, &["check", "m", "r"], &mut kept, &[])?;
-    assert_eq!(rt; status.code(), 1);
-    assert_eq!(rt; sink.said(), b"word 4: PairsMeet\n".as_slice());
-    Ok(())
+    play(&rt, rt.alloc(), MOVES_FROM_THE_END, &CHECKED_FROM_THE_END)
 }
+
+const MOVES_FROM_THE_FRONT: Files = &[
+    (
+        "m",
+        &[
+            Bytes(b"KXMEM001"),
+            Numbers(&[3]),
+            Page(2, b"b"),
+            Page(3, b"c"),
+            List(0x20, FROM_THE_FRONT),
+        ],
+    ),
+    ("plain", MOVED_PLAIN),
+];
+
+const ONE_LOST: Pieces = &[
+    Bytes(b"KXMEM001"),
+    Numbers(&[4]),
+    Page(2, b"b"),
+    Page(3, b"b"),
+    Page(4, b"b"),
+    List(0x20, FROM_THE_FRONT),
+];
+
+const CHECKED_FROM_THE_FRONT: [Step; 2] = [
+    Step {
+        line: "check m plain",
+        code: 1,
+        status: "NotAccepted { fault: ListFault { word: 3, why: SourceSpoiled } }",
+        said: "word 3: SourceSpoiled\n",
+        outputs: [None, None, None],
+    },
+    Step {
+        line: "trace m o 20002 10",
+        code: 0,
+        status: "Done",
+        said: "done 5\n",
+        outputs: [Some(ONE_LOST), None, None],
+    },
+];
 
 #[test]
 fn pages_that_are_moved_from_the_front_are_spoiled(rt: HostRuntime) -> Result<(), Fail> {
-    let alloc = rt.alloc();
-    let words = [0x3001, 0x2008, 0x3008, 4];
-    let mut shelf = moving_shelf(alloc, &words, None)?;
-    let (status, sink) = run(alloc, &["check", "m", "r"], &mut shelf, &[])?;
-    assert_eq!(rt; status.code(), 1);
-    assert_eq!(rt; sink.said(), b"word 3: SourceSpoiled\n".as_slice());
-    let trace = ["trace", "m", "o", "20002", "10"];
-    let (status, sink) = run(alloc, &trace, &mut shelf, &[])?;
-    assert_eq!(rt; status.code(), 0);
-    assert_eq!(rt; sink.said(), b"done 5\n".as_slice());
-    assert!(rt; shelf.take(alloc, "o", 100_000)? == moved(alloc, [b"b", b"b", b"b"], &words)?);
-    Ok(())
+    play(
+        &rt,
+        rt.alloc(),
+        MOVES_FROM_THE_FRONT,
+        &CHECKED_FROM_THE_FRONT,
+    )
 }
