@@ -11,8 +11,8 @@ pub(crate) const RESERVED: Pieces = &[Bytes(
 pub(crate) const NOTES: Pieces = &[Bytes(b"200000 400\n")];
 
 /// A Linux kernel: the fields of the setup header (Linux/x86 boot protocol, "The Real-Mode Kernel Header"), which are one
-/// sector of setup, the signatures, version 2.12, the header's end, loaded high, relocatable by 2 MiB, the 64-bit entry, a
-/// command of 2,047 bytes, the preferred address 16 MiB, and 12,288 bytes of memory; and behind its two sectors the
+/// sector of setup, the signatures, version 2.12, the header's end, loaded high, relocatable by 2 MiB, the 64-bit entry,
+/// a command of 2,047 bytes, the preferred address 16 MiB, and 12,288 bytes of memory; and behind its two sectors the
 /// protected-mode part.
 pub(crate) const LINUX_KERNEL: Pieces = &[
     At(0x1f1, &[1]),

@@ -76,8 +76,8 @@ fn a_crash_record_tells_its_kind_and_its_segments(rt: HostRuntime) -> Result<(),
     Ok(())
 }
 
-/// Commands over the load, each with the exit status, the status and what is said: it is accepted in its memory; in the memory
-/// before it the kernel's first page is missing; it runs, and only once.
+/// Commands over the load, each with the exit status, the status and what is said. The load is accepted in its memory; in
+/// the memory before it the kernel's first page is missing; it runs, and only once.
 const COMMANDS: [(&str, u8, &str, &str); 4] = [
     ("check o r", 0, "Done", "accepted crash pages 6\n"),
     (

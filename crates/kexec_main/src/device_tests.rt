@@ -1,6 +1,6 @@
 //! Failing devices: each call of the shelf and of the sink fails in turn, for each command, and the answer names that
-//! call. What was put before stays whole, what would have come later is not there, and nothing is said. `sample` makes one
-//! call, its say, behind the moves of 64 MiB, which no test makes: scripts/attack-devices tries it.
+//! call. What was put before stays whole, what would have come later is not there, and nothing is said. `sample` makes
+//! one call, its say, behind the moves of 64 MiB, which no test makes: scripts/attack-devices tries it.
 
 use crate::crash_example::{BEFORE, LINUX_KERNEL, NOTES, RESERVED};
 use crate::first_example::{ABC, LOADED, MAP, NO_PAGES, RECORD};

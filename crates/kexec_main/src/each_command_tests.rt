@@ -1,5 +1,5 @@
-//! Each command is Done where it is in order, and leaves what it has to. Contracts leave want of memory free, so a test shows
-//! that it does not come with ample memory.
+//! Each command is Done where it is in order, and leaves what it has to. Contracts leave want of memory free, so a test
+//! shows that it does not come with ample memory.
 
 use crate::first_example::{
     BOOT, BOOT_TEXT, EXEC, FILES, LOAD, LOADED, RECORD, RECORD_NUMBERS, RUN,

@@ -36,8 +36,9 @@ pub(crate) const ABC_DIGEST: &[u8] = &[
     0xb0, 0x03, 0x61, 0xa3, 0x96, 0x17, 0x7a, 0x9c, 0xb4, 0x10, 0xff, 0x61, 0xf2, 0x00, 0x15, 0xad,
 ];
 
-/// The numbers of the load's record: kind and mode, the head, the control and the swap page, the entry, three registers, the
-/// regions and the digest, and of the one segment its address, its bytes of memory and the number of its bytes.
+/// The numbers of the load's record: kind and mode, the head, the control and the swap page, the entry, three registers,
+/// the regions and the digest, the number of segments, and of the one segment its address, its bytes of memory and the
+/// number of its bytes.
 pub(crate) const RECORD_NUMBERS: &[u64] = &[
     0, 0x11002, 0x10000, 0, 0x2000, 0, 0, 0, 0, 0, 1, 0x2000, 0x1000, 3,
 ];

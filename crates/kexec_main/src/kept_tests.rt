@@ -6,7 +6,8 @@ use std::test::Fail;
 
 const OLD: &[u8] = b"the old page 3";
 
-// A memory with the page that the kernel's second page goes to, a pool with the page that its first goes to, and the kernel.
+// A memory with the page that the kernel's second page goes to, a pool with the one that its first goes to, and the
+// kernel.
 const FILES: Files = &[
     ("m", &[Bytes(b"KXMEM001"), Numbers(&[1]), Page(3, OLD)]),
     ("p", &[Bytes(b"10-13\n2\n")]),

@@ -20,8 +20,8 @@ fn is_done(rt: &impl Abort, step: &Step, status: Status, sink: MemorySink) -> bo
     true
 }
 
-// Runs commands one after the other until one wants memory. Each is Done, with its outputs and its text, or Memory, with no
-// output of its own and no text; and all files stay.
+// Runs commands one after the other until one wants memory. Each is Done, with its outputs and its text, or Memory, with
+// no output of its own and no text; and all files stay.
 fn play_in_want(
     rt: &(impl Abort + Print),
     alloc: Global,

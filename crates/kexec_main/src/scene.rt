@@ -1,4 +1,4 @@
-//! Scenes, for tests: files in memory, commands that are run over them one after the other, and what each of these leaves.
+//! Scenes, for tests: files in memory, commands that are run over them, and what has to come of each.
 
 use crate::{Status, kexec};
 use kx_edge::{MemoryShelf, MemorySink, Shelf, ShelfFault};

@@ -8,8 +8,8 @@ use kx_edge::MemoryShelf;
 use std::alloc::{AllocError, Global};
 use std::test::Fail;
 
-// Records of version 1, of two pages from page 2 on, which begin with "abc": of kind 1; of a plain list; of one whose head
-// is no link; of one with context preserved.
+// Records of version 1, of two pages from page 2 on, which begin with "abc": of kind 1; of a plain list; of one whose
+// head is no link; of one with context preserved.
 const CRASH: Pieces = &[
     Bytes(b"KXREC001\x01\0\0\0\0\0\0\0"),
     Numbers(&[4, 0, 0, 0x2000, 0, 0, 0, 0, 0, 1, 0x2000, 0x2000, 3]),
