@@ -3,6 +3,7 @@
 ghost use Rattle.std.specs.Prelude.{◌≡◌, ℕ, false, IfOk};
 ghost use Rattle.page_pool.specs.Pages.{is_filed};
 
+use crate::tests::{KEPT_LIST, page};
 use crate::{Accepted, Filling, Loaded};
 use kx_pages::{Mode, Page, Wish};
 use page_memory::Memory;
@@ -11,7 +12,7 @@ use segments::{Segment, Segments};
 use std::alloc::Global;
 use std::test::*;
 
-fn pool_of(alloc: Global, numbers: &[u64]) -> Result<Pool, Fail>
+pub(crate) fn pool_of(alloc: Global, numbers: &[u64]) -> Result<Pool, Fail>
     ensures { IfOk result (λ p. (q : ℕ) → is_filed p q ≡ false) }
 {
     let mut free = Vec::new(alloc);
@@ -27,21 +28,24 @@ fn pool_of(alloc: Global, numbers: &[u64]) -> Result<Pool, Fail>
     }
 }
 
-// One segment of the two pages from 0x2000 on, of which the second has one byte.
-fn two_pages(alloc: Global) -> Result<Segments, Fail> {
-    let mut list = Vec::new(alloc);
-    list.push(Segment {
-        bytes: Vec::from_array(alloc, [b'k'; 4097])?,
-        mem: 0x2000,
-        memsz: 0x2000,
-    })?;
-    match Segments::bare(alloc, list) {
+pub(crate) fn one_segment(
+    alloc: Global,
+    bytes: Vec<u8>,
+    mem: u64,
+    memsz: u64,
+) -> Result<Segments, Fail> {
+    match Segments::bare(alloc, vec![in alloc; Segment { bytes, mem, memsz }]?) {
         Ok(segments) => Ok(segments),
         Err(_) => Err("segments".into()),
     }
 }
 
-fn load(alloc: Global, pool: Pool, segments: Segments, wish: Wish) -> Result<Loaded, Fail>
+pub(crate) fn load(
+    alloc: Global,
+    pool: Pool,
+    segments: Segments,
+    wish: Wish,
+) -> Result<Loaded, Fail>
     requires { (q : ℕ) → is_filed pool q ≡ false }
 {
     match Filling::begin(alloc, Memory::empty(alloc), pool, segments, wish) {
@@ -50,18 +54,32 @@ fn load(alloc: Global, pool: Pool, segments: Segments, wish: Wish) -> Result<Loa
     }
 }
 
+// A load of two pages, of which the second has one byte.
+fn two_pages(alloc: Global) -> Result<Loaded, Fail> {
+    let bytes = vec![in alloc; b'k'; 4097]?;
+    let pages = one_segment(alloc, bytes, 0x2000, 0x2000)?;
+    let pool = pool_of(alloc, &[0x10, 0x11, 0x12, 0x13, 2])?;
+    load(alloc, pool, pages, Wish::Kept)
+}
+
 #[test]
 fn loads_two_pages_with_context_preserved(rt: HostRuntime) -> Result<(), Fail> {
-    let pool = pool_of(rt.alloc(), &[0x10, 0x11, 0x12, 0x13, 2])?;
-    let loaded = load(rt.alloc(), pool, two_pages(rt.alloc())?, Wish::Kept)?;
-    let swap = Page::new(0x11).ok_or("a page")?;
+    let loaded = two_pages(rt.alloc())?;
+    let swap = page(0x11)?;
     let image = loaded.image();
-    assert_eq!(rt; image.head, 0x12002);
-    assert_eq!(rt; image.control.number(), 0x10);
-    assert_eq!(rt; image.mode, Mode::Kept { swap });
-    assert_eq!(rt; loaded.memory().word(0x12000), 0x2001);
-    assert_eq!(rt; loaded.memory().word(0x12010), 0x13008);
-    assert_eq!(rt; loaded.memory().word(0x13000), 0x6b);
+    assert_eq!(rt;
+        (image.head, image.control.number(), image.mode),
+        (0x12002, 0x10, Mode::Kept { swap })
+    );
     assert!(rt; matches!(loaded.accept(rt.alloc()), Ok(Accepted::Kept(_))));
+    Ok(())
+}
+
+#[test]
+fn the_list_and_the_second_page_lie_in_pages_of_the_pool(rt: HostRuntime) -> Result<(), Fail> {
+    let loaded = two_pages(rt.alloc())?;
+    let (list, second) = (page(0x12)?, page(0x13)?);
+    assert!(rt; loaded.memory().equals(list, KEPT_LIST));
+    assert!(rt; loaded.memory().equals(second, b"k"));
     Ok(())
 }

@@ -7,14 +7,21 @@ use segments::{Segment, Segments};
 use std::alloc::Global;
 use std::test::*;
 
-fn put(memory: &mut Memory, n: u64, bytes: &[u8]) -> Result<(), Fail> {
-    let page = Page::new(n).ok_or("a page")?;
-    if bytes.len() > 4096 {
-        return Err("too many bytes".into());
+pub(crate) fn page(n: u64) -> Result<Page, &'static str> {
+    Page::new(n).ok_or("a page")
+}
+
+// A memory whose pages of these numbers are these bytes, then zeros.
+fn memory_of(alloc: Global, pages: &[(u64, &[u8])]) -> Result<Memory, Fail> {
+    let mut memory = Memory::empty(alloc);
+    for (number, bytes) in pages {
+        let page = page(*number)?;
+        memory.hold(page)?;
+        if memory.held(page) && bytes.len() <= 4096 {
+            memory.set(page, bytes);
+        }
     }
-    memory.hold(page)?;
-    memory.set(page, bytes);
-    Ok(())
+    Ok(memory)
 }
 
 // Two pages from this address on are to be b and c.
@@ -36,73 +43,93 @@ fn load(alloc: Global, memory: Memory, image: Image, mem: u64) -> Result<Loaded,
     Ok(Loaded::from_parts(memory, pool, image, b_and_c(alloc, mem)?))
 }
 
-// The list 0x4001, 0x3008, 0x3001, 0x2008, 4: page 3 is a source before it is a destination.
-#[test]
-fn a_plain_run_leaves_what_is_wanted(rt: HostRuntime) -> Result<(), Fail> {
-    let alloc = rt.alloc();
-    let mut memory = Memory::empty(alloc);
-    put(&mut memory, 2, b"b")?;
-    put(&mut memory, 3, b"c")?;
-    let words =
-        b"\x01\x40\0\0\0\0\0\0\x08\x30\0\0\0\0\0\0\x01\x30\0\0\0\0\0\0\x08\x20\0\0\0\0\0\0\x04";
-    put(&mut memory, 0x20, words)?;
-    let image = Image {
+fn plain_image() -> Result<Image, &'static str> {
+    Ok(Image {
         head: 0x20002,
         mode: Mode::Plain,
-        control: Page::new(0x21).ok_or("a page")?,
+        control: page(0x21)?,
+    })
+}
+
+// The list 0x4001, 0x3008, 0x3001, 0x2008, 4: page 3 is a source before it is a destination.
+const PLAIN: [(u64, &[u8]); 3] = [
+    (2, b"b"),
+    (3, b"c"),
+    (
+        0x20,
+        b"\x01\x40\0\0\0\0\0\0\x08\x30\0\0\0\0\0\0\x01\x30\0\0\0\0\0\0\x08\x20\0\0\0\0\0\0\x04",
+    ),
+];
+
+fn plain(alloc: Global) -> Result<AcceptedPlain, Fail> {
+    let memory = memory_of(alloc, &PLAIN)?;
+    match load(alloc, memory, plain_image()?, 0x3000)?.accept(alloc) {
+        Ok(Accepted::Plain(accepted)) => Ok(accepted),
+        _ => Err("accepted".into()),
+    }
+}
+
+// The list 0x2001, 0x2008, 0x13008, 4: page 2 is its own source, page 0x13 is the source of page 3.
+pub(crate) const KEPT_LIST: &[u8] =
+    b"\x01\x20\0\0\0\0\0\0\x08\x20\0\0\0\0\0\0\x08\x30\x01\0\0\0\0\0\x04";
+
+const KEPT: [(u64, &[u8]); 4] = [(2, b"b"), (3, b"old"), (0x13, b"c"), (0x12, KEPT_LIST)];
+
+fn kept(alloc: Global) -> Result<AcceptedKept, Fail> {
+    let memory = memory_of(alloc, &KEPT)?;
+    let swap = page(0x11)?;
+    let image = Image {
+        head: 0x12002,
+        mode: Mode::Kept { swap },
+        control: page(0x10)?,
     };
-    let loaded = load(alloc, memory, image, 0x3000)?;
-    let Ok(Accepted::Plain(accepted)) = loaded.accept(alloc) else {
-        return Err("accepted".into());
-    };
+    match load(alloc, memory, image, 0x2000)?.accept(alloc) {
+        Ok(Accepted::Kept(accepted)) => Ok(accepted),
+        _ => Err("accepted".into()),
+    }
+}
+
+#[test]
+fn a_plain_run_leaves_what_is_wanted(rt: HostRuntime) -> Result<(), Fail> {
+    let accepted = plain(rt.alloc())?;
     assert_eq!(rt; accepted.accept_data().words, 6);
     let ran = accepted.exec();
-    assert_eq!(rt; ran.steps(), 6);
-    assert_eq!(rt; ran.memory().byte(0x2000), b'b');
-    assert_eq!(rt; ran.memory().byte(0x3000), b'b');
-    assert_eq!(rt; ran.into_memory().byte(0x4000), b'c');
+    let steps = ran.steps();
+    let found = (ran.memory().byte(0x2000), ran.memory().byte(0x3000));
+    let last = ran.into_memory().byte(0x4000);
+    assert_eq!(rt; (steps, found, last), (6, (b'b', b'b'), b'c'));
     Ok(())
 }
 
-// Page 2 is its own source, page 0x13 is the source of page 3: the list 0x2001, 0x2008, 0x13008, 4.
-fn kept(alloc: Global) -> Result<AcceptedKept, Fail> {
-    let mut memory = Memory::empty(alloc);
-    put(&mut memory, 2, b"b")?;
-    put(&mut memory, 3, b"old")?;
-    put(&mut memory, 0x13, b"c")?;
-    let words = b"\x01\x20\0\0\0\0\0\0\x08\x20\0\0\0\0\0\0\x08\x30\x01\0\0\0\0\0\x04";
-    put(&mut memory, 0x12, words)?;
-    let image = Image {
-        head: 0x12002,
-        mode: Mode::Kept {
-            swap: Page::new(0x11).ok_or("a page")?,
-        },
-        control: Page::new(0x10).ok_or("a page")?,
-    };
-    let loaded = load(alloc, memory, image, 0x2000)?;
-    let Ok(Accepted::Kept(accepted)) = loaded.accept(alloc) else {
-        return Err("accepted".into());
-    };
-    Ok(accepted)
+// The first bytes of pages 2, 3 and 13 (hexadecimal).
+fn first_bytes(memory: &Memory) -> [u8; 3] {
+    [
+        memory.byte(0x2000),
+        memory.byte(0x3000),
+        memory.byte(0x13000),
+    ]
+}
+
+#[test]
+fn a_run_exchanges_a_page_and_its_source(rt: HostRuntime) -> Result<(), Fail> {
+    let ran = kept(rt.alloc())?.exec();
+    let bytes = first_bytes(ran.memory());
+    assert_eq!(rt; (ran.steps(), bytes), (5, [b'b', b'c', b'o']));
+    Ok(())
 }
 
 #[test]
 fn a_second_run_restores(rt: HostRuntime) -> Result<(), Fail> {
-    let ran = kept(rt.alloc())?.exec();
-    assert_eq!(rt; ran.steps(), 5);
-    assert_eq!(rt; ran.memory().byte(0x3000), b'c');
-    assert_eq!(rt; ran.memory().byte(0x13000), b'o');
-    let back = ran.back();
-    assert_eq!(rt; back.steps(), 5);
-    assert_eq!(rt; back.memory().byte(0x3000), b'o');
-    assert_eq!(rt; back.memory().byte(0x13000), b'c');
+    let back = kept(rt.alloc())?.exec().back();
+    let bytes = first_bytes(back.memory());
+    assert_eq!(rt; (back.steps(), bytes), (5, [b'b', b'o', b'c']));
     assert!(rt; back.loaded().accept(rt.alloc()).is_ok());
     Ok(())
 }
 
 #[test]
 fn a_write_to_an_own_source_stays(rt: HostRuntime) -> Result<(), Fail> {
-    let two = Page::new(2).ok_or("a page")?;
+    let two = page(2)?;
     let accepted = kept(rt.alloc())?;
     if accepted.segments().wanted(two).is_none() {
         return Err("wanted".into());
@@ -110,57 +137,74 @@ fn a_write_to_an_own_source_stays(rt: HostRuntime) -> Result<(), Fail> {
     let mut ran = accepted.exec();
     ran.touch(two, b"z");
     let back = ran.back();
-    assert_eq!(rt; back.memory().byte(0x2000), b'z');
-    assert_eq!(rt; back.memory().byte(0x3000), b'o');
-    assert_eq!(rt; back.memory().byte(0x13000), b'c');
+    assert_eq!(rt; first_bytes(back.memory()), [b'z', b'o', b'c']);
+    Ok(())
+}
+
+// The head links to a page of zeros, whose first word has no flag.
+fn refused(alloc: Global) -> Result<NotAccepted, Fail> {
+    let loaded = load(alloc, Memory::empty(alloc), plain_image()?, 0x3000)?;
+    match loaded.accept(alloc) {
+        Ok(_) => Err("refused".into()),
+        Err(refused) => Ok(refused),
+    }
+}
+
+#[test]
+fn a_word_without_a_flag_is_refused(rt: HostRuntime) -> Result<(), Fail> {
+    let NotAccepted { why, .. } = refused(rt.alloc())?;
+    let fault = ListFault {
+        word: 1,
+        why: Why::Flags,
+    };
+    assert_eq!(rt; why, CheckFault::List { fault });
     Ok(())
 }
 
 #[test]
 fn a_refused_list_comes_back(rt: HostRuntime) -> Result<(), Fail> {
-    let alloc = rt.alloc();
-    let image = Image {
-        head: 0x20002,
-        mode: Mode::Plain,
-        control: Page::new(0x21).ok_or("a page")?,
-    };
-    let loaded = load(alloc, Memory::empty(alloc), image, 0x3000)?;
-    let Err(refused) = loaded.accept(alloc) else {
-        return Err("refused".into());
-    };
-    // the head links to a page of zeros, whose first word has no flag
-    let fault = ListFault {
-        word: 1,
-        why: Why::Flags,
-    };
-    assert_eq!(rt; refused.why, CheckFault::List { fault });
-    let (_, pool, image, segments) = refused.loaded.parts();
-    assert_eq!(rt; pool.left(), 0);
-    assert_eq!(rt; image.head, 0x20002);
-    assert_eq!(rt; segments.count(), 1);
+    let NotAccepted { loaded, .. } = refused(rt.alloc())?;
+    let (_, pool, image, segments) = loaded.parts();
+    assert_eq!(rt;
+        (pool.left(), image.head, segments.count()),
+        (0, 0x20002, 1)
+    );
     Ok(())
+}
+
+// The crash kernel b and c.
+fn crash(alloc: Global) -> Result<CrashLoaded, Fail> {
+    let segments = b_and_c(alloc, 0x2000)?;
+    Ok(
+        load_crash(alloc, Memory::empty(alloc), segments)
+            .ok()
+            .ok_or("memory")?,
+    )
 }
 
 #[test]
 fn a_crash_kernel_lies_in_its_place(rt: HostRuntime) -> Result<(), Fail> {
-    let alloc = rt.alloc();
-    let segments = b_and_c(alloc, 0x2000)?;
-    let loaded = load_crash(alloc, Memory::empty(alloc), segments)
-        .ok()
-        .ok_or("memory")?;
+    let loaded = crash(rt.alloc())?;
     assert_eq!(rt; loaded.memory().byte(0x3000), b'c');
     let accepted = loaded.accept().ok().ok_or("accepted")?;
     assert_eq!(rt; accepted.memory().byte(0x2000), b'b');
-    let ran = accepted.exec();
-    assert_eq!(rt; ran.steps(), 1);
-    let again = CrashLoaded::from_parts(ran.into_memory(), 0x20002, b_and_c(alloc, 0x2000)?);
+    assert_eq!(rt; accepted.exec().steps(), 1);
+    Ok(())
+}
+
+#[test]
+fn a_refused_crash_kernel_comes_back(rt: HostRuntime) -> Result<(), Fail> {
+    let ran = crash(rt.alloc())?.accept().ok().ok_or("accepted")?.exec();
+    let segments = b_and_c(rt.alloc(), 0x2000)?;
+    let again = CrashLoaded::from_parts(ran.into_memory(), 0x20002, segments);
     let Err((given_back, fault)) = again.accept() else {
         return Err("refused".into());
     };
     assert_eq!(rt; fault.why, Why::HeadKind);
     let (memory, head, segments) = given_back.parts();
-    assert_eq!(rt; memory.byte(0x2000), b'b');
-    assert_eq!(rt; head, 0x20002);
-    assert_eq!(rt; segments.count(), 1);
+    assert_eq!(rt;
+        (memory.byte(0x2000), head, segments.count()),
+        (b'b', 0x20002, 1)
+    );
     Ok(())
 }
