@@ -6,17 +6,17 @@ use crate::scene::{Files, Pieces, add, joined, named, push_page, refuse, shelf};
 use std::alloc::{AllocError, Global};
 use std::test::Fail;
 
-/// The words, and the most bytes that the file x can have, which is one byte too long. The kernel, the initrd and the
-/// modules have 256 MiB together, half of which the files "half" and "rest" have each.
+/// The words, and the most bytes that the file "long" can have, which is one byte too long. The kernel, the initrd and
+/// the modules have 256 MiB together, half of which the files "half" and "rest" have each.
 const LIMITS: [(&str, usize); 8] = [
-    ("boot --type raw --at 2000 x p o k", 537_919_504),
-    ("check m x", 268_436_448),
-    ("load-panic --map f --notes x m o r k", 1_048_576),
-    ("boot --map x --type raw --at 2000 m p o k", 1_048_576),
-    ("boot --type raw --at 2000 m p o x", 268_435_456),
-    ("boot --map f --initrd x m p o half", 134_217_728),
-    ("boot --map f m p o half rest x", 0),
-    ("boot --map f --purgatory x m p o k", 16_777_216),
+    ("boot --type raw --at 2000 long p o k", 537_919_504),
+    ("check m long", 268_436_448),
+    ("load-panic --map f --notes long m o r k", 1_048_576),
+    ("boot --map long --type raw --at 2000 m p o k", 1_048_576),
+    ("boot --type raw --at 2000 m p o long", 268_435_456),
+    ("boot --map f --initrd long m p o half", 134_217_728),
+    ("boot --map f m p o half rest long", 0),
+    ("boot --map f --purgatory long m p o k", 16_777_216),
 ];
 
 const HALF: Pieces = &[Repeated(0, 134_217_728)];
@@ -36,9 +36,9 @@ fn a_file_past_its_limit_is_told_with_it(rt: HostRuntime) -> Result<(), Fail> {
     for (line, limit) in LIMITS {
         let mut files = named(alloc, FILES)?;
         let longer = joined(alloc, &[Repeated(0, limit.saturating_add(1))])?;
-        add(alloc, &mut files, "x", longer)?;
+        add(alloc, &mut files, "long", longer)?;
         let mut shelf = shelf(alloc, files, &[])?;
-        let status = format!(in alloc; "TooLong {{ name: \"x\", limit: {limit} }}")?;
+        let status = format!(in alloc; "TooLong {{ name: \"long\", limit: {limit} }}")?;
         refuse(&rt, alloc, &mut shelf, line, 6, &status, "")?;
     }
     Ok(())
