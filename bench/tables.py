@@ -13,7 +13,7 @@ import kexec_files
 
 KEXEC = f"{TOP}/kexec"
 MIB = 1 << 20
-RUNS = 3
+RUNS = 5
 # what ./kexec asks the C library for
 HUGE_PAGES = ["env", "GLIBC_TUNABLES=glibc.malloc.hugetlb=1"]
 # what is touched before the runs of a command: more than a command and its outputs take
@@ -65,17 +65,20 @@ def build(folder, source, variable, compiler, *flags):
     return program
 
 
-def yardstick(folder, inputs, outputs, digested=()):
-    """The same bytes read and written by dd, and the digests by sha256sum: seconds, the best of three."""
+def copying_time(folder, inputs, outputs):
+    """The same bytes read and written by dd: seconds, the best runs."""
     total = 0.0
     for file in inputs:
         total += best(["dd", f"if={file}", "of=/dev/null", "bs=64K", "status=none"], folder, [])[0]
     for file in outputs:
         total += best(["dd", f"if={file}", "of=copied", "bs=64K", "status=none"], folder, ["copied"])[0]
         os.remove(f"{folder}/copied")
-    for file in digested:
-        total += best(["sha256sum", file], folder, [])[0]
     return total
+
+
+def digest_time(folder, digested):
+    """The digests by sha256sum: seconds, the best runs."""
+    return sum(best(["sha256sum", file], folder, [])[0] for file in digested)
 
 
 def remove(folder, *files):
@@ -112,18 +115,22 @@ class Table:
         os.remove(f"{self.folder}/bare-out")
         return took
 
+    def bytes_of(self, held):
+        return held if isinstance(held, int) else os.path.getsize(f"{self.folder}/{held}")
+
     def add(self, what, words, inputs, outputs, moments, digested=(), before=None, bare=None, program=(KEXEC,)):
-        """Measures a command. Each moment is a list of files whose bytes are held together: a memory's, a kernel's or a
-        record's, once each, and twice only where a file is made beside what it is made of. `bare` has what bare_time
-        takes."""
+        """Measures a command. Each moment is a list of what is held together: files, of which each byte of a memory, a kernel
+        or a record stands once, and twice only where a file is made beside what it is made of; and as a number the bytes
+        that stand in no file. `bare` has what bare_time takes."""
         took, own, peak = best([*program, *words], self.folder, outputs)
-        beside = yardstick(self.folder, inputs, outputs, digested)
-        held = max(sum(os.path.getsize(f"{self.folder}/{it}") for it in moment) for moment in moments)
+        digests = digest_time(self.folder, digested)
+        beside = copying_time(self.folder, inputs, outputs) + digests
+        held = max(sum(map(self.bytes_of, moment)) for moment in moments)
         beside_cells = f"{beside:.3f} | {took / beside:.1f} | {own / beside:.1f}" if beside else " |  | "
         growth = f"{took / before:.2f}" if before else ""
         of_held = f"{peak / held:.2f}" if held >= MIB else ""
         least_work = self.bare_time(*bare) if bare else None
-        bare_cells = f"{least_work:.3f} | {took / least_work:.1f}" if least_work else " | "
+        bare_cells = f"{least_work + digests:.3f} | {took / (least_work + digests):.2f}" if least_work else " | "
         # the system counts the pages of this script, which starts the process, as the process's own
         script = resource.getrusage(resource.RUSAGE_SELF).ru_maxrss * 1024
         most = f"{peak / MIB:.0f}" if peak > script else f"below {script / MIB:.0f}"
