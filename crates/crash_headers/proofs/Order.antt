@@ -1,19 +1,19 @@
 -- Ranges in order, and the notes that lie in them.
-use Rattle.std.proofs.Common.{◌≡◌, ℕ, ◌+◌, ◌-◌, ◌<◌, ◌≤◌, List, [], ◌∷◌, ◌++◌, length, take, get_or, Bool, true, false, cond, not, Some, None, refl, sym, ap, ◌∙◌, subst, inl, inr, arith, ltb}
+use Rattle.std.proofs.Common.{◌≡◌, ℕ, ◌+◌, ◌-◌, ◌<◌, ◌≤◌, List, [], ◌∷◌, ◌++◌, length, take, get_or, Bool, true, false, cond, not, refl, sym, ap, ◌∙◌, subst, inl, inr, arith}
 use Rattle.std.specs.Prelude.{◌||◌}
-use Rattle.std.specs.List.{list_any, position, position_or_len}
+use Rattle.std.specs.List.{list_any, position_or_len}
 use Rattle.std.specs.List.Sorted.{IsPermutation, IsNonDecreasingBy}
 use Rattle.std.proofs.lemmas.Bool.{cases_lt}
 use Rattle.std.proofs.lemmas.Bool.Decides.{nat_tests}
 use Rattle.std.proofs.lemmas.Grind.{common_steps}
-use Rattle.std.proofs.lemmas.List.{take_all, get_or_default}
+use Rattle.std.proofs.lemmas.List.{get_or_default}
 use Rattle.std.proofs.lemmas.List.Folds.{list_any_at, list_any_more, list_any-append, Any-from_list_any}
-use Rattle.std.proofs.lemmas.List.Sorted.{IsNonDecreasingBy-short, IsNonDecreasingBy-push, list_any-IsPermutation}
+use Rattle.std.proofs.lemmas.List.Sorted.{IsNonDecreasingBy-push, list_any-IsPermutation}
 use Rattle.kx_laws.proofs.Booleans.{or_false, or_true}
 use Rattle.memory_map.specs.declared.row.Row.{Row}
 use Rattle.memory_map.specs.Rows.{row_end}
 use Rattle.crash_headers.specs.declared.note.Note.{Note}
-use Rattle.crash_headers.specs.Notes.{lies_in, is_outside}
+use Rattle.crash_headers.specs.Notes.{lies_in}
 use Rattle.crash_headers.specs.Ranges.{AreSorted, AreRising, HoldSameNotes, IsBehind, IsNotBehind}
 
 -- the first that passes, by tests that agree
@@ -22,10 +22,6 @@ places_same f g h [] = refl
 places_same f g h (x ∷ xs) =
     ap (λ t. cond (not t) (1 + position_or_len f xs) 0) (h x)
     ∙ ap (λ n. cond (not (g x)) (1 + n) 0) (places_same f g h xs)
-
-pub outside_same : (rows ranges : List Row) (notes : List Note) → HoldSameNotes rows ranges → position (is_outside rows) notes ≡ position (is_outside ranges) notes
-outside_same rows ranges notes h =
-    ap (λ n. cond (ltb n (length notes)) (Some n) None) (places_same (is_outside rows) (is_outside ranges) (λ n. ap not (h n)) notes)
 
 pub same_sorted : (rows sorted ranges : List Row) → HoldSameNotes rows sorted → IsPermutation ranges sorted → HoldSameNotes rows ranges
 same_sorted rows sorted ranges h p n = h n ∙ sym (list_any-IsPermutation (lies_in n) ranges sorted p)
@@ -77,18 +73,6 @@ pub record IsOuter (sorted outer : List Row) (i : ℕ) : Type 0 where
   pub before : (d : Row) (j : ℕ) → 0 < length outer → i ≤ j → j < length sorted → (get_or outer (length outer - 1) d).start ≤ (get_or sorted j d).start
   pub notes : HoldSameNotes outer (take i sorted)
 
-pub outer_none : (sorted outer : List Row) → outer ≡ [] → IsOuter sorted outer 0
-outer_none sorted outer e =
-    let none = ap length e in
-    record {
-      rising = record {
-        starts = IsNonDecreasingBy-short (λ (r : Row). r.start) outer (omega (arith, none));
-        ends = IsNonDecreasingBy-short row_end outer (omega (arith, none));
-      };
-      before = λ d j some le l. absurd (omega (arith, none, some));
-      notes = λ n. ap (list_any (lies_in n)) e;
-    }
-
 pub outer_push : (sorted outer new : List Row) (i : ℕ) (d : Row) → AreSorted sorted → i < length sorted → new ≡ outer ++ get_or sorted i d ∷ [] → IsBehind outer (get_or sorted i d) → IsOuter sorted outer i → IsOuter sorted new (i + 1)
 outer_push sorted outer new i d up l e behind o =
     let r = get_or sorted i d in
@@ -124,6 +108,3 @@ outer_skip sorted outer i d l not_behind o =
         let t = held n (get_or sorted i d) (get_or outer (length outer - 1) d) (omega (arith, before, first)) (not_behind.last d) e in
         list_any_at (lies_in n) outer (length outer - 1) d (omega (arith, some)) t
         ∙ sym (ap (λ b. list_any (lies_in n) (take i sorted) || b) e ∙ or_true (list_any (lies_in n) (take i sorted)))
-
-pub outer_notes : (sorted outer : List Row) (i : ℕ) → i ≡ length sorted → IsOuter sorted outer i → HoldSameNotes outer sorted
-outer_notes sorted outer i e o n = o.notes n ∙ ap (list_any (lies_in n)) (take_all i sorted (omega (arith, e)))

@@ -1,13 +1,12 @@
 -- The ranges of the loads that have memory, and the loads.
-use Rattle.std.proofs.Common.{◌≡◌, ℕ, ◌<◌, ◌≤◌, List, [], ◌∷◌, ◌++◌, Bool, true, false, refl, sym, ap, ◌∙◌, arith, inl, inr}
-use Rattle.std.specs.Prelude.{◌&&◌, ◌||◌, nat_lt, min, max}
+use Rattle.std.proofs.Common.{◌≡◌, ◌<◌, List, [], ◌∷◌, refl, sym, ap, ◌∙◌, arith, inl, inr}
+use Rattle.std.specs.Prelude.{◌&&◌, ◌||◌}
 use Rattle.std.specs.List.{list_any}
-use Rattle.std.proofs.lemmas.List.Folds.{list_any-append}
 use Rattle.std.proofs.lemmas.Bool.{cases_lt, lt-ltb, le-ltb}
 use Rattle.kx_laws.proofs.Booleans.{or_false}
 use Rattle.range_index.specs.Ranges.{Range, ranges_meet, meets_any as meets_range, AreWith}
 use Rattle.elf_image.specs.declared.load.Load.{Load}
-use Rattle.elf_image.specs.Loads.{load_stop, loads_meet, has_memory, meets_any}
+use Rattle.elf_image.specs.Loads.{load_stop, loads_meet, meets_any}
 use Rattle.elf_image.specs.Index.{passes, AreRanges, HasMore}
 
 -- ---- a load meets a load exactly where it meets its range
@@ -26,15 +25,6 @@ pub meets_loads : (x : Load) (ls : List Load) (rs : List Range) → AreRanges ls
 meets_loads x ls rs are = are.same (ranges_meet (x.paddr, load_stop x)) ∙ all_meet x ls
 
 -- ---- one more load
-pub no_ranges : AreRanges [] []
-no_ranges = record { same = λ test. refl }
-
-pub more_load : (x : Load) (ls : List Load) (old new : List Range) → AreRanges ls old → HasMore x old new → AreRanges (ls ++ x ∷ []) new
-more_load x ls old new are more = record { same = λ test. more.same test ∙ ap (λ b. b || passes test x) (are.same test) ∙ sym (behind test) }
-  where
-    behind : (test : Range → Bool) → list_any (passes test) (ls ++ x ∷ []) ≡ (list_any (passes test) ls || passes test x)
-    behind test = list_any-append (passes test) ls (x ∷ []) ∙ ap (λ b. list_any (passes test) ls || b) (or_false (passes test x))
-
 -- without memory it is none more
 pub none_more : (x : Load) (old : List Range) → x.memsz ≡ 0 → HasMore x old old
 none_more x old none = record { same = λ test. sym (ap (λ b. list_any test old || (b && test (x.paddr, load_stop x))) (le-ltb 0 x.memsz (omega (arith, none))) ∙ or_false (list_any test old)) }

@@ -1,7 +1,6 @@
 -- The steps of the walk from the back.
-use Rattle.std.proofs.Common.{◌≡◌, ℕ, ◌+◌, ◌-◌, ◌*◌, ◌/◌, ◌<◌, ◌≤◌, true, false, Some, List, length, take, min, sym, ap, ◌∙◌, inl, inr, arith}
+use Rattle.std.proofs.Common.{◌≡◌, ℕ, ◌+◌, ◌-◌, ◌*◌, ◌/◌, ◌<◌, ◌≤◌, true, false, Some, List, length, take, min, sym, ◌∙◌, inl, inr, arith}
 use Rattle.std.proofs.lemmas.Bool.{cases_lt, both_ways}
-use Rattle.std.proofs.lemmas.List.{take_all}
 use Rattle.std.specs.List.{slice_get}
 use Rattle.kx_pages.specs.Spans.{Run, end, in_spans, AreApart, IsMaximal}
 use Rattle.hole_search.specs.declared.search.Wanted.{Wanted}
@@ -10,9 +9,6 @@ use Rattle.hole_search.specs.Walk.{IsClear, AreAhead}
 use Rattle.hole_search.proofs.Rising.{inside, none_behind, same_before}
 
 -- ---- taken spans
-pub all_ahead : (rs : List Run) (n b : ℕ) → length rs ≤ n → AreAhead rs n b
-all_ahead rs n b h = λ q k. ap (λ (ys : List Run). in_spans ys q) (sym (take_all n rs h))
-
 pub still_ahead : (rs : List Run) (n b c : ℕ) → AreAhead rs n b → c ≤ b → AreAhead rs n c
 still_ahead rs n b c p h = λ q k. p q (omega arith)
 
@@ -31,9 +27,6 @@ clear_ahead rs w r a x s m t f h =
 
 pub clear_behind : (rs : List Run) (n i a size : ℕ) (r : Run) → n ≡ i + 1 → 0 < size → AreApart 0 rs → AreAhead rs n (a + size) → i < length rs → slice_get rs i ≡ Some r → 4096 * end r ≤ a → EachPage (λ q. in_spans rs q ≡ false) a size
 clear_behind rs n i a size r t s e p l g h = λ q k m. p q (omega arith) ∙ none_behind rs n i r q t e l g (omega arith)
-
-pub clear_at_front : (rs : List Run) (n a size : ℕ) → n ≡ 0 → 0 < size → AreAhead rs n (a + size) → EachPage (λ q. in_spans rs q ≡ false) a size
-clear_at_front rs n a size t s p = λ q k m. p q (omega arith) ∙ ap (λ j. in_spans (take j rs) q) t
 
 -- ---- spans of RAM
 -- what ends in span number i or earlier ends where this ends or earlier

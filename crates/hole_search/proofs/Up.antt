@@ -6,7 +6,7 @@ use Rattle.kx_pages.specs.Spans.{Run, end, in_spans, AreApart, IsMaximal}
 use Rattle.hole_search.specs.declared.search.Wanted.{Wanted}
 use Rattle.hole_search.specs.Holes.{EachPage}
 use Rattle.hole_search.specs.Walk.{IsClear, ArePassed}
-use Rattle.hole_search.proofs.Rising.{inside, none_before, same_behind, none_left}
+use Rattle.hole_search.proofs.Rising.{inside, none_before, same_behind}
 
 -- ---- taken spans
 pub still_passed : (rs : List Run) (i a b : ℕ) → ArePassed rs i a → a ≤ b → ArePassed rs i b
@@ -27,9 +27,6 @@ clear_behind rs w r a x s m t f h =
 
 pub clear_before : (rs : List Run) (i a size : ℕ) (r : Run) → 0 < size → AreApart 0 rs → ArePassed rs i a → i < length rs → slice_get rs i ≡ Some r → a + size ≤ 4096 * r.first → EachPage (λ q. in_spans rs q ≡ false) a size
 clear_before rs i a size r s e p l g h = λ q k m. p q k ∙ none_before rs i r q e l g (omega arith)
-
-pub clear_at_end : (rs : List Run) (i a size : ℕ) → ArePassed rs i a → length rs ≤ i → EachPage (λ q. in_spans rs q ≡ false) a size
-clear_at_end rs i a size p h = λ q k m. p q k ∙ none_left rs i q h
 
 -- ---- spans of RAM
 -- what begins in span number i or later begins where this begins or later

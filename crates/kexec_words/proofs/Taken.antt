@@ -46,11 +46,6 @@ pub exits_mapped : {A B C : Type 0} (value : B → A) (f : C → A) (said : Resu
     → IsErrAnd r (λ e. e ≡ Usage w) → Err w ≡ said → Answers value (map_answer f said) r
 exits_mapped value f said w r h e = exits value (map_answer f said) r (Usage w) h (ap (map_answer f) (sym e))
 
--- a number out of its form
-pub exits_number : {A B C : Type 0} (value : B → A) (go : C → Result A UsageWhy) (said : Result C Which) (w : Which) (r : Result B WordsFault)
-    → IsErrAnd r (λ e. e ≡ Usage (why.Number w)) → Err w ≡ said → Answers value (with_numbers said go) r
-exits_number value go said w r h e = exits value (with_numbers said go) r (Usage (why.Number w)) h (ap (λ s. with_numbers s go) (sym e))
-
 -- numbers in their forms
 pub goes_on : {A B C : Type 0} (value : B → A) (go : C → Result A UsageWhy) (said : Result C Which) (n : C) (r : Result B WordsFault)
     → Ok n ≡ said → Answers value (go n) r → Answers value (with_numbers said go) r

@@ -288,9 +288,3 @@ gives-filed D r l pool pool' table d p s w e f n =
     let k : taken D (Some d) l ≡ Some (d, record l { filed = without d l.filed }) = rw (h, taken) refl in
     gives_at D l (taken D r l) (d, record l { filed = without d l.filed }) (record { page = p; moved = None }) pool' table table (ap (λ x. taken D x l) w ∙ k)
     (record { page = e; tracks = tracks-taken D l pool pool' table d s n; exchanged = refl; places = λ p. refl })
-
-pub taken-unfiled : (D : ℕ → Bool) (r : Option ℕ) (l : Loading) (pool : Pages) (table : Slots) (d : ℕ) → Tracks D l pool table → r ≡ Some d → is_filed pool d ≡ false → taken D r l ≡ draw D r l.pairs l.spare l.filed l.left
-taken-unfiled D r l pool table d s w f =
-    let h : has d l.filed ≡ false = sym (s.filed d) ∙ f in
-    let k : taken D (Some d) l ≡ draw D (Some d) l.pairs l.spare l.filed l.left = rw (h, taken) refl in
-    ap (λ x. taken D x l) w ∙ k ∙ ap (λ x. draw D x l.pairs l.spare l.filed l.left) (sym w)

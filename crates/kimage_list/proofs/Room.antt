@@ -1,5 +1,5 @@
 -- How many link pages a reading may have.
-use Rattle.std.proofs.Common.{◌≡◌, ℕ, zero, suc, ◌^◌, ◌<◌, ◌≤◌, List, [], ◌∷◌, length, refl, ap, inl, inr, arith}
+use Rattle.std.proofs.Common.{◌≡◌, ℕ, zero, suc, ◌<◌, ◌≤◌, List, [], ◌∷◌, length, refl, ap, inl, inr, arith}
 use Rattle.std.specs.Prelude.{◌≢◌, ◌⊎◌, true, false, eqb}
 use Rattle.std.proofs.lemmas.Bool.Decides.{eqb_tells}
 use Rattle.kimage_list.proofs.Counting.{counted_fit}
@@ -25,6 +25,3 @@ length-below (suc n) = ap suc (length-below n)
 -- distinct numbers below n are at most n
 pub room : (n : ℕ) (xs : List ℕ) → ((x : ℕ) → count x xs ≤ 1) → Each (λ x. x < n) xs → length xs ≤ n
 room n xs c h = let r = counted_fit xs (below n) c (Each-map xs (λ x l. has_below n x l) h) in omega (arith, r, length-below n)
-
-pub room_34 : (xs : List ℕ) → ((x : ℕ) → count x xs ≤ 1) → Each (λ x. x < 2 ^ 34) xs → length xs ≤ 2 ^ 34
-room_34 xs c h = room (2 ^ 34) xs c h

@@ -1,19 +1,15 @@
 -- Laws of counting: how often a number stands in a list, lists of distinct numbers, and how many of these there can be.
-use Rattle.std.proofs.Common.{◌≡◌, ℕ, zero, suc, ◌+◌, ◌<◌, ◌≤◌, ◌++◌, List, [], ◌∷◌, length, take, drop, refl, sym, ap, ◌∙◌, subst, inl, inr, arith, true, false, cond}
+use Rattle.std.proofs.Common.{◌≡◌, ℕ, zero, suc, ◌+◌, ◌<◌, ◌≤◌, ◌++◌, List, [], ◌∷◌, length, refl, sym, ap, ◌∙◌, subst, inl, inr, arith, true, false, cond}
 use Rattle.std.specs.Prelude.{◌≢◌, ◌⊎◌, eqb}
 use Rattle.std.specs.List.{range_with_len}
 use Rattle.std.proofs.lemmas.Bool.{or_parts}
 use Rattle.std.proofs.lemmas.Bool.Decides.{eqb_tells}
-use Rattle.std.proofs.lemmas.List.{take-append-drop}
 use Rattle.kx_pages.specs.Lists.{Each, Has, has, Distinct, count}
 use Rattle.kx_pages.proofs.Lists.{Each-map, Each-both, Each-append, Each-right, Each-from_Has, Has-range, range-Has}
 
 pub count-append : (x : ℕ) (xs ys : List ℕ) → count x (xs ++ ys) ≡ count x xs + count x ys
 count-append x [] ys = omega arith
 count-append x (y ∷ xs) ys = omega (arith, count-append x xs ys)
-
-pub count-take : (x n : ℕ) (xs : List ℕ) → count x (take n xs) ≤ count x xs
-count-take x n xs = omega (arith, count-append x (take n xs) (drop n xs), ap (count x) (take-append-drop n xs))
 
 pub count-from_Has : (p : ℕ) (xs : List ℕ) → Has p xs → 1 ≤ count p xs
 count-from_Has p [] h = absurd h

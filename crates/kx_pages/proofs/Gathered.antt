@@ -8,14 +8,11 @@ use Rattle.std.proofs.lemmas.List.{drop_more, drop_all, take_all}
 use Rattle.std.proofs.lemmas.List.Folds.{list_any_more}
 use Rattle.std.proofs.lemmas.List.Sorted.{list_any-IsPermutation}
 use Rattle.kx_pages.specs.Spans.{Run, end, in_span, in_spans, AreApart}
-use Rattle.kx_pages.specs.Edits.{hull, if_some}
+use Rattle.kx_pages.specs.Edits.{if_some}
 use Rattle.kx_pages.proofs.Counted.{low_none}
-use Rattle.kx_pages.proofs.Sets.{in_hull, or_shift, in_if_some, has-append, some_ahead, apart_lower}
+use Rattle.kx_pages.proofs.Sets.{in_if_some, has-append, some_ahead, apart_lower}
 
 -- ---- spans taken in one after another
-pub hull_in : (a : Bool) (r s : Run) (q : ℕ) → s.first ≤ end r → r.first ≤ end s → (a || in_span (hull r s) q) ≡ ((a || in_span r q) || in_span s q)
-hull_in a r s q h k = ap (λ b. a || b) (in_hull r s q h k) ∙ or_shift a (in_span r q) (in_span s q)
-
 pub gather_step : (xs : List Run) (i : ℕ) (s : Run) (q : ℕ) (b c : Bool) → i < length xs → s ≡ get_or xs i s → c ≡ (b || in_span s q) → b ≡ in_spans (take i xs) q → c ≡ in_spans (take (i + 1) xs) q
 gather_step xs i s q b c l is new old =
     new ∙ ap (λ x. x || in_span s q) old ∙ ap (λ (r : Run). in_spans (take i xs) q || in_span r q) is ∙ sym (list_any_more (λ r. in_span r q) xs i s l)

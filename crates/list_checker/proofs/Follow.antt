@@ -12,7 +12,7 @@ use Rattle.kx_pages.specs.Bytes.{Mem}
 use Rattle.page_memory.specs.Memory.{word}
 use Rattle.kx_pages.specs.Items.{code, decode}
 use Rattle.list_checker.specs.Walk.{Reads, Walk, links}
-use Rattle.kx_pages.specs.Lists.{Distinct, has}
+use Rattle.kx_pages.specs.Lists.{Distinct}
 use Rattle.list_checker.specs.Faults.{Earlier, nothing_earlier, with_item, with_pair, following, why_by, walk_reasons, FaultyBy}
 use Rattle.list_checker.specs.Checked.{Leads, IsPlace}
 use Rattle.list_checker.specs.Reading.{words_from, IsWalk, ShowsLinks, FitsLinks}
@@ -91,9 +91,6 @@ module _ (M : Mem) where
 
 words_step : (M : Mem) (place : Option ℕ) (w n : ℕ) (i : Item) → decode w ≡ Some i → words_from M place w (suc n) ≡ w ∷ words_from M (Some (following place i)) (word M (following place i)) n
 words_step M place w n i e = rw e refl
-
-pub same_links : (c : BTreeSet ℕ) (s s' : Earlier) → s'.links ≡ s.links → ShowsLinks c s → ShowsLinks c s'
-same_links c s s' e h = record { links = λ p. h.links p ∙ ap (has p) (sym e); count = h.count ∙ ap length (sym e) }
 
 module _ (m : Contents) (head : ℕ) where
   -- what holds where these words were read, word number k comes next, and it is w

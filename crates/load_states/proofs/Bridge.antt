@@ -1,6 +1,6 @@
 -- The machine of relocate_machine follows an accepted list.
 use Rattle.std.proofs.Common.{◌≡◌, ℕ, suc, ◌+◌, ◌*◌, ◌/◌, ◌%◌, ◌^◌, ◌<◌, List, [], ◌∷◌, length, Bool, true, false, cond, None, refl, sym, ap, ◌∙◌, subst, inl, inr, arith}
-use Rattle.std.specs.Prelude.{◌≢◌, nat_le, bit_and, ◌==◌, eqb}
+use Rattle.std.specs.Prelude.{◌≢◌, nat_le, bit_and, eqb}
 use Rattle.std.proofs.lemmas.Bool.Decides.{nat_tests}
 use Rattle.std.proofs.lemmas.Nat.Bits.{and_pow}
 use Rattle.kx_pages.specs.declared.image.Mode.{Mode}
@@ -28,9 +28,6 @@ use Rattle.load_states.proofs.Exchange.{exchanges}
 use Rattle.kx_pages.proofs.Lists.{Each-both, Each-at}
 
 -- kinds
-test_one : (w : ℕ) → (bit_and w 1 == 1) ≡ (w % 2 == 1)
-test_one w = let h : bit_and w 1 ≡ w / 1 % 2 * 1 = and_pow w 0 in let e : w / 1 % 2 * 1 ≡ w % 2 = omega arith in ap (λ x. x == 1) (h ∙ e)
-
 bit_two : (w : ℕ) → bit_and w 2 ≡ w / 2 % 2 * 2
 bit_two w = and_pow w 1
 

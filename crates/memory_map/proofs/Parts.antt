@@ -6,7 +6,7 @@ use Rattle.std.proofs.lemmas.Bool.Decides.{nat_tests}
 use Rattle.std.proofs.lemmas.Bool.{cases_lt, lt-ltb, le-ltb, eq-eqb, ne_eqb, or_left, or_from, both_ways}
 use Rattle.std.proofs.lemmas.Grind.{flat_map-append}
 use Rattle.std.proofs.lemmas.List.Folds.{list_any-append, list_any_more}
-use Rattle.std.proofs.lemmas.List.{drop_more, drop_all, take_more}
+use Rattle.std.proofs.lemmas.List.{drop_more, take_more}
 use Rattle.std.specs.List.Sorted.{IsNonDecreasingBy, IsPermutation}
 use Rattle.std.proofs.lemmas.List.Sorted.{list_any-IsPermutation, All-permutation}
 use Rattle.memory_map.specs.declared.row.Row.{Row}
@@ -240,9 +240,6 @@ walk_turn made new init at e k a xs rest split less n h =
 pub walk_end : (made new init : List Row) (at e k : ℕ) (xs : List Row) → walk at e k xs ≡ part at e k → new ≡ made ++ part at e k → made ++ walk at e k xs ≡ init → new ≡ init
 walk_end made new init at e k xs stop n h = n ∙ ap (λ y. made ++ y) (sym stop) ∙ h
 
-pub walk_none : (at e k i : ℕ) (areas : List Row) → length areas ≤ i → walk at e k (drop i areas) ≡ part at e k
-walk_none at e k i areas h = ap (walk at e k) (drop_all i areas h)
-
 pub walk_stops : (at e k i : ℕ) (areas : List Row) (d : Row) → i < length areas → e ≤ (get_or areas i d).start → walk at e k (drop i areas) ≡ part at e k
 walk_stops at e k i areas d l h = ap (walk at e k) (drop_more areas i d l) ∙ walk_stop at e k (get_or areas i d) (drop (i + 1) areas) h
 
@@ -306,12 +303,6 @@ pub covers_hull : (xs : List Row) (r a h : Row) (q : ℕ) → h.start ≡ r.star
 covers_hull xs r a h q e f l k =
     covers-push xs h q ∙ ap (λ b. covers q xs || b) (ap (λ n. nat_le n q && nat_lt q (n + h.size)) e ∙ ap (λ n. nat_le r.start q && nat_lt q (r.start + n)) f ∙ hull_is r.start r.size a.start a.size q l k)
     ∙ sym (or_shift (covers q xs) (is_inside q r) (is_inside q a)) ∙ ap (λ b. b || is_inside q a) (sym (covers-push xs r q))
-
-pub covers_empty : (b : Bool) (a : Row) (q : ℕ) → a.size ≡ 0 → b ≡ (b || is_inside q a)
-covers_empty b a q h = sym (ap (λ z. b || z) (no_bytes a q h) ∙ or_none b)
-  where
-    no_bytes : (a : Row) (q : ℕ) → a.size ≡ 0 → is_inside q a ≡ false
-    no_bytes a q h = grind (arith, nat_tests)
 
 pub covers_more : (xs : List Row) (i q : ℕ) (d : Row) (b c : Bool) → i < length xs → c ≡ (b || is_inside q (get_or xs i d)) → b ≡ covers q (take i xs) → c ≡ covers q (take (i + 1) xs)
 covers_more xs i q d b c l new old = new ∙ ap (λ z. z || is_inside q (get_or xs i d)) old ∙ sym (list_any_more (is_inside q) xs i d l)

@@ -126,7 +126,8 @@ impl Table {
     pub fn insert(&mut self, p: Page, place: usize) -> Result<(), AllocError>
         requires { tree.get nat_cmp self.old.places p ≡ None }
         ensures differs { OnOk result (Differs self.old.places self.new.places p place) }
-        ensures length { OnOk result (length self.new.places.entries ≡ length self.old.places.entries + 1) }
+        ensures length { OnOk result
+            (length self.new.places.entries ≡ length self.old.places.entries + 1) }
         ensures err { OnErr result (self.new.places.entries ≡ self.old.places.entries) }
     {
         self.places.insert(p, place)?;

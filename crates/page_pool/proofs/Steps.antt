@@ -14,7 +14,7 @@ use Rattle.kx_pages.specs.Lists.{count}
 use Rattle.kx_pages.proofs.Counting.{count-append}
 use Rattle.page_pool.specs.Repeats.{IsFirstRepeat}
 use Rattle.page_pool.specs.Marks.{marks_of, FiledAreAmong, AreMarks, IsPool}
-use Rattle.page_pool.specs.Queue.{pages_at, IsQueue}
+use Rattle.page_pool.specs.Queue.{pages_at}
 use Rattle.page_pool.proofs.Left.{usable_undrawn}
 use Rattle.page_pool.proofs.Queueing.{queue_drawn, gone_more, gone_among, count_among}
 use Rattle.page_pool.proofs.Made.{marks_none, pool_made, count-any, some-fresh}
@@ -29,18 +29,6 @@ drawn_pool xs queue flags next stop limit m h less = record {
   queued = queue_drawn xs queue flags next stop limit h.once h.queued less;
   have = h.have;
   filed = record { each = λ x f. omega (arith, h.filed.each x f, ap (count x) (gone_more xs queue flags next stop limit h.once h.queued less), count-append x (pages_at xs (take next queue)) (get_or xs (get_or queue next 0) 0 ∷ [])) };
-}
-
--- another limit
-pub pool_below : (xs queue to : List ℕ) (flags : List Bool) (next stop until limit other : ℕ) (m : tree.BTreeMap ℕ Bool) → IsPool xs queue flags next stop limit m → IsQueue xs to flags next until other xs → take next to ≡ take next queue
-    → IsPool xs to flags next until other m
-pool_below xs queue to flags next stop until limit other m h lined same = record {
-  once = h.once;
-  low = h.low;
-  few = h.few;
-  queued = lined;
-  have = h.have;
-  filed = subst (λ ps. FiledAreAmong (pages_at xs ps) m) (sym same) h.filed;
 }
 
 equal : (r : Ordering) → is_eq r ≡ true → r ≡ Equal

@@ -108,9 +108,6 @@ pub found : (base : ℕ) (o : Relocatable) (starts : List (Option ℕ)) (puts : 
 unfolding put_of
 found base o starts puts r p h = found_in base o starts puts r p (start_at starts r.target) refl h
 
-fits_by : (w v m : ℕ) → (w ≡ 4) ⊎ (w ≡ 8) → v ≡ m → m < 256 ^ w → v < 256 ^ w
-fits_by w v m s e l = subst (λ n. n < 256 ^ w) (sym e) l
-
 pow_some : (w : ℕ) → (w ≡ 4) ⊎ (w ≡ 8) → 0 < 256 ^ w
 pow_some w (inl e) = subst (λ n. 0 < 256 ^ n) (sym e) (omega arith)
 pow_some w (inr e) = subst (λ n. 0 < 256 ^ n) (sym e) (omega arith)

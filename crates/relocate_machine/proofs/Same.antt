@@ -18,7 +18,6 @@ use Rattle.relocate_machine.specs.declared.word.WordKind.{WordKind}
 use Rattle.relocate_machine.specs.declared.word.WordKind.TheVariants as kinds
 use Rattle.relocate_machine.specs.Machine.{State, Registers, after_move, after_word, kind_of, next_word, past_word, step_by, step_of, word_address}
 use Rattle.relocate_machine.specs.Writes.{IsHeldFor, IsWritten, move_writes, no_writes, word_writes, writes_by, writes_of}
-use Rattle.relocate_machine.proofs.Stays.{stays_then}
 
 -- the word to handle, and what the step writes, in memories that read alike
 pub next_word-same : (first : Option ℕ) (cursor : ℕ) (m n : Contents) → Agree (at m) (at n)
@@ -143,14 +142,3 @@ unfolding step_of writes_of
 step_of-same r m n h =
     ap (step_by (record { machine = r; memory = n })) (next_word-same r.first r.cursor m n h.reads)
     ∙ fetch-same r m n (next_word r.first r.cursor m) (off_held _ m n h)
-
--- holding more and more
-pub held_nothing : (P : ℕ → Type 0) (m : Contents) → IsHeldFor P m m
-held_nothing P m = record { reads = λ q. refl; stays = record { sets = refl; held = λ q h. h }; only = λ q h. inl h }
-
-pub held_then : (P Q : ℕ → Type 0) (l m n : Contents) → ((q : ℕ) → Q q → P q) → IsHeldFor P l m → IsHeldFor Q m n → IsHeldFor P l n
-held_then P Q l m n f h k = record {
-  reads = λ q. h.reads q ∙ k.reads q;
-  stays = stays_then l m n h.stays k.stays;
-  only = λ q x. ⊎_elim (λ y. h.only q y) (λ y. inr (f q y)) (k.only q x);
-}
