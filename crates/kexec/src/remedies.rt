@@ -8,11 +8,10 @@ use kexec_plan::PlanFault;
 use load_record::RecFault;
 use purgatory_link::LinkFault;
 
-fn elf_remedy(fault: &ElfFault) -> Option<&'static str> {
+// An ELF file of another kind than the one that is wanted.
+fn elf_remedy(fault: &ElfFault, wanted: &'static str) -> Option<&'static str> {
     match fault {
-        ElfFault::Class | ElfFault::Machine | ElfFault::Kind => Some(
-            "a kernel has to be an executable (ET_EXEC) and a purgatory an object (ET_REL), both ELF64 for x86-64",
-        ),
+        ElfFault::Class | ElfFault::Machine | ElfFault::Kind => Some(wanted),
         _ => None,
     }
 }
@@ -57,7 +56,14 @@ fn params_remedy(fault: &ParamsFault, is_crash: bool) -> Option<&'static str> {
 
 fn plan_remedy(fault: &PlanFault, is_crash: bool) -> Option<&'static str> {
     match fault {
-        PlanFault::Elf { fault } => elf_remedy(fault),
+        PlanFault::Elf { fault } => elf_remedy(
+            fault,
+            "a kernel has to be an executable (ET_EXEC), in ELF64 for x86-64",
+        ),
+        PlanFault::Object { fault } => elf_remedy(
+            fault,
+            "a purgatory has to be an object (ET_REL), in ELF64 for x86-64",
+        ),
         PlanFault::Bzimage { fault } => bzimage_remedy(fault),
         PlanFault::Link { fault } => link_remedy(fault),
         PlanFault::Params { fault } => params_remedy(fault, is_crash),

@@ -62,7 +62,7 @@ impl Display for Report<'_> {
             let first = self.words.first().map(|word| word.as_str());
             return write_refusal(why, first, self.help, &self.answer, f);
         }
-        if let Some(name) = file_of(self.status, self.is_crash(), &self.answer.given) {
+        if let Some(name) = file_of(self.status, &self.answer.given) {
             write!(f, "{name:?}: ")?;
         }
         self.write_status(f)?;

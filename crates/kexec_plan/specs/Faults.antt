@@ -24,6 +24,10 @@ abbrev pub of_elf : ElfFault → PlanFault
 of_elf elf.Memory = faults.Memory
 of_elf e = faults.Elf e
 
+abbrev pub of_object : ElfFault → PlanFault
+of_object elf.Memory = faults.Memory
+of_object e = faults.Object e
+
 abbrev pub of_bzimage : BzFault → PlanFault
 of_bzimage bz.Memory = faults.Memory
 of_bzimage e = faults.Bzimage e

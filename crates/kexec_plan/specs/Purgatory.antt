@@ -20,7 +20,7 @@ use Rattle.kexec_plan.specs.declared.fault.PlanFault.{PlanFault}
 use Rattle.kexec_plan.specs.declared.places.Site.{Site}
 use Rattle.kexec_plan.specs.declared.places.PlaceRule.{PlaceRule}
 use Rattle.kexec_plan.specs.declared.symbols.Symbols.{Symbols}
-use Rattle.kexec_plan.specs.Faults.{told_by, of_elf, of_link}
+use Rattle.kexec_plan.specs.Faults.{told_by, of_object, of_link}
 use Rattle.kexec_plan.specs.Table.{highest}
 
 -- a purgatory that was read: the object, its file, and how many bytes it is linked to
@@ -39,7 +39,7 @@ pub record IsPurgatory (p : PurgatoryValue) : Type 0 where
 
 unfoldable pub purgatory_read : List ℕ → Result PurgatoryValue PlanFault
 purgatory_read file = do
-  object ← told_by of_elf (object_reading file)
+  object ← told_by of_object (object_reading file)
   size ← told_by of_link (linked_size object.sections)
   Ok (record { object = object; file = file; size = size })
 

@@ -1,7 +1,7 @@
 //! Why a request has no plan.
 
 ghost use Rattle.std.specs.Prelude.{◌≡◌};
-ghost use Rattle.kexec_plan.specs.Faults.{of_elf, of_multiboot, of_bzimage, of_params, of_crash, of_link};
+ghost use Rattle.kexec_plan.specs.Faults.{of_elf, of_object, of_multiboot, of_bzimage, of_params, of_crash, of_link};
 
 use boot_params::ParamsFault;
 use bzimage::BzFault;
@@ -54,9 +54,12 @@ pub enum PlanFault {
     /// There is no place for a part.
     #[error("there is no place for {part}: the memory map has no free run of pages where it may lie")]
     NoHole { part: Part },
-    /// The kernel or the purgatory is no ELF file that can be loaded.
+    /// The kernel is no ELF executable that can be loaded.
     #[error("{fault}")]
     Elf { fault: ElfFault },
+    /// The purgatory is no ELF object that can be linked.
+    #[error("{fault}")]
+    Object { fault: ElfFault },
     /// The kernel is no Multiboot kernel that can be loaded.
     #[error("{fault}")]
     Multiboot { fault: MbFault },
@@ -87,13 +90,23 @@ pub enum PlanFault {
 }
 
 impl PlanFault {
-    /// What a fault of an ELF file is here.
+    /// What a fault of an ELF kernel is here.
     pub(crate) fn of_elf(fault: ElfFault) -> PlanFault
         ensures { result ≡ of_elf fault }
     {
         match fault {
             ElfFault::Memory => PlanFault::Memory,
             _ => PlanFault::Elf { fault },
+        }
+    }
+
+    /// What a fault of the purgatory's object is here.
+    pub(crate) fn of_object(fault: ElfFault) -> PlanFault
+        ensures { result ≡ of_object fault }
+    {
+        match fault {
+            ElfFault::Memory => PlanFault::Memory,
+            _ => PlanFault::Object { fault },
         }
     }
 

@@ -60,7 +60,7 @@ fn read_purgatory(alloc: Global, file: Vec<u8>) -> Result<Purgatory, PlanFault>
 {
     let object = match read_object(alloc, &file) {
         Ok(object) => object,
-        Err(fault) => return Err(PlanFault::of_elf(fault)),
+        Err(fault) => return Err(PlanFault::of_object(fault)),
     };
     match size(&object) {
         Ok(size) => Ok(Purgatory { object, file, size }),

@@ -213,7 +213,7 @@ fn purgatories_are_linked(rt: HostRuntime) -> Result<(), Fail> {
 #[test]
 fn purgatories_are_read(rt: HostRuntime) -> Result<(), Fail> {
     let asked = with_spoiled(rt.alloc(), 0, &[0])?;
-    let wanted = PlanFault::Elf {
+    let wanted = PlanFault::Object {
         fault: ElfFault::NotElf,
     };
     assert_eq!(rt; fault(rt.alloc(), asked, LITTLE)?, Some(wanted));
