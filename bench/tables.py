@@ -162,11 +162,13 @@ class Traces:
         """Measures a run of `limit` steps over a memory file, in which there are so many of what is told of."""
         words = [memory, "out", head]
         took, each = self.measure([KEXEC, "trace", *(["--swap", swap] if swap else []), *words], limit, [], count)
-        cells = f"| | {each:.1f} | |"
+        plain_cells, plain_each = "|", None
         if self.plain:
             plain, plain_each = self.measure([*HUGE_PAGES, self.plain, *words], limit, [swap] if swap else [], count)
-            # a small run takes no time that the system tells
-            ratio = f"{each / plain_each:.2f}" if plain_each > 0 else ""
-            cells = f"{plain:.3f} | {took / plain:.2f} | {each:.1f} | {plain_each:.1f} | {ratio}"
-        print(f"| {what} | {took:.3f} | {cells} |", flush=True)
+            plain_cells = f"{plain:.3f} | {took / plain:.2f}"
+        # a small run takes no time that the system tells
+        told = [one if one and one > 0 else None for one in (each, plain_each)]
+        ratio = f"{each / plain_each:.2f}" if all(told) else ""
+        each_cells = " | ".join(f"{one:.1f}" if one else "" for one in told)
+        print(f"| {what} | {took:.3f} | {plain_cells} | {each_cells} | {ratio} |", flush=True)
         remove(self.folder, "out")
