@@ -6,21 +6,6 @@ use crate::old_words::command_for;
 use kexec_words::{UsageWhy, Which, help_of};
 use std::fmt::{self, Formatter, Write};
 
-// The word or option in the help.
-fn name_of(which: Which) -> &'static str {
-    match which {
-        Which::Type => "--type",
-        Which::Kept => "--kept",
-        Which::At => "--at",
-        Which::Entry => "--entry",
-        Which::Below => "--below",
-        Which::Swap => "--swap",
-        Which::Head => "HEAD",
-        Which::Limit => "LIMIT",
-        Which::Number => "NUMBER",
-    }
-}
-
 // The name of another file with this text.
 fn other_with<'a>(
     help: &'static str,
@@ -117,7 +102,7 @@ pub(crate) fn write_refusal<W: Write>(
             None => write!(f, "{why}"),
         },
         UsageWhy::Number { which } => {
-            let text = text_of(&answer.given, name_of(*which)).unwrap_or("");
+            let text = text_of(&answer.given, which.name()).unwrap_or("");
             write_number(why, *which, text, f)
         }
         UsageWhy::SameName => write_same_name(help, &answer.given, f),

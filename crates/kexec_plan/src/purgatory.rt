@@ -6,11 +6,11 @@ ghost use Rattle.kexec_plan.specs.Purgatory.{purgatory_read, some_purgatory, pur
 
 use crate::fault::{Part, PlanFault};
 use crate::places::{PlaceRule, Site};
-use crate::symbols::{Symbols, registers_of, write_at};
+use crate::symbols::{Symbols, registers_of};
 use crate::table::{highest, last_address};
 use elf_image::{Object, read_object};
 use kx_pages::{ADDRESS_LIMIT, PAGE_SIZE, Start};
-use purgatory_link::{Linked, link, size};
+use purgatory_link::{Linked, link, size, write_at};
 use segments::Kind;
 use std::alloc::Global;
 use std::marker::Model;

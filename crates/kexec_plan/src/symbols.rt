@@ -1,8 +1,6 @@
 //! The symbols of a linked purgatory.
 
-ghost use Rattle.std.specs.Prelude.{◌≡◌, ◌+◌, ◌-◌, ◌≤◌, codes, length, IfOk};
-ghost use Rattle.kx_fields.specs.Fields.{with_bytes};
-ghost use Rattle.purgatory_link.specs.Set.{is_inside};
+ghost use Rattle.std.specs.Prelude.{◌≡◌, ◌+◌, ◌≤◌, codes, length, IfOk};
 ghost use Rattle.kexec_plan.specs.Purgatory.{symbol_place, symbol_address, symbols_of, registers_text, HasSymbols};
 
 use kx_fields::Block;
@@ -31,16 +29,6 @@ pub(crate) struct Symbols {
     pub(crate) start: u64,
 }
 
-// So many bytes from this address on are linked bytes.
-fn is_inside(linked: &Linked, address: u64, size: u64) -> bool
-    ensures { result ≡ is_inside linked.now address size }
-{
-    let length = linked.bytes.len() as u64;
-    address >= linked.base
-        && address - linked.base <= length
-        && size <= length - (address - linked.base)
-}
-
 // The address of a symbol of so many bytes, which lie in the linked bytes.
 #[tactic(auto, unfolding(crate::specs::Purgatory::symbol_place))]
 fn symbol_place(linked: &Linked, name: &[u8], size: u64) -> Result<u64, LinkFault>
@@ -55,7 +43,7 @@ fn symbol_place(linked: &Linked, name: &[u8], size: u64) -> Result<u64, LinkFaul
     if size != found {
         return Err(LinkFault::WrongSize { found });
     }
-    if !is_inside(linked, address, found) {
+    if !linked.is_inside(address, found) {
         return Err(LinkFault::WrongSize { found });
     }
     Ok(address)
@@ -116,12 +104,4 @@ pub(crate) fn registers_of(start: Start) -> Block<136>
         entry: u64 @ 128,
     });
     block
-}
-
-/// Puts these bytes in place of as many from this place on.
-pub(crate) fn write_at(bytes: &mut [u8], at: usize, these: &[u8])
-    requires { at + length these.now ≤ length bytes.old }
-    ensures { bytes.new ≡ with_bytes at these.now bytes.old }
-{
-    bytes[at..at + these.len()].copy_from_slice(these);
 }

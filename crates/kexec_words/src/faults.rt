@@ -3,6 +3,7 @@
 ghost use Rattle.std.specs.Prelude.{◌≡◌};
 ghost use Rattle.kexec_words.specs.declared.faults.WordsFault.TheVariants.{Memory, Usage};
 ghost use Rattle.kexec_words.specs.declared.faults.UsageWhy.TheVariants.{Number};
+ghost use Rattle.kexec_words.specs.Texts.{which_text};
 
 use std::alloc::AllocError;
 use std::fmt::{self, Display, Formatter, Write};
@@ -69,6 +70,23 @@ pub enum WordsFault {
 }
 
 impl Which {
+    /// Its name in the help, as `--at` or HEAD.
+    pub fn name(self) -> &'static str
+        ensures { result.now ≡ which_text self }
+    {
+        match self {
+            Which::Type => "--type",
+            Which::Kept => "--kept",
+            Which::At => "--at",
+            Which::Entry => "--entry",
+            Which::Below => "--below",
+            Which::Swap => "--swap",
+            Which::Head => "HEAD",
+            Which::Limit => "LIMIT",
+            Which::Number => "NUMBER",
+        }
+    }
+
     // The form that is wanted.
     fn form(self) -> &'static str {
         match self {
@@ -118,16 +136,6 @@ impl Display for Which {
     ghost output = { λ which. Some (which_text which) };
 
     fn fmt<W: Write>(&self, f: &mut Formatter<W>) -> fmt::Result {
-        f.write_str(match self {
-            Which::Type => "--type",
-            Which::Kept => "--kept",
-            Which::At => "--at",
-            Which::Entry => "--entry",
-            Which::Below => "--below",
-            Which::Swap => "--swap",
-            Which::Head => "HEAD",
-            Which::Limit => "LIMIT",
-            Which::Number => "NUMBER",
-        })
+        f.write_str(self.name())
     }
 }

@@ -34,7 +34,7 @@ mod tests;
 
 pub use digests::{digest_of, regions_of};
 pub use fault::LinkFault;
-pub use linked::{Linked, link, size};
+pub use linked::{Linked, link, size, write_at};
 pub use names::Names;
 pub use region_test::{
     RegionTest, digested_regions_are_same, loaded_regions_are_same, test_regions,

@@ -36,8 +36,8 @@ impl Model for Linked {
     ghost view = { λ l. record { base = l.base; bytes = l.bytes.items; names = l.names } };
 }
 
-// Puts these bytes in place of as many from this place on.
-fn write_at(bytes: &mut [u8], at: usize, these: &[u8])
+/// Puts these bytes in place of as many from this place on.
+pub fn write_at(bytes: &mut [u8], at: usize, these: &[u8])
     requires { at + length these.now ≤ length bytes.old }
     ensures { bytes.new ≡ with_bytes at these.now bytes.old }
 {
@@ -53,8 +53,8 @@ impl Linked {
         self.names.find(name)
     }
 
-    // So many bytes from this address on are linked bytes.
-    fn is_inside(&self, address: u64, size: u64) -> bool
+    /// Whether so many bytes from this address on are linked bytes.
+    pub fn is_inside(&self, address: u64, size: u64) -> bool
         ensures { result ≡ is_inside self.now address size }
     {
         let length = self.bytes.len() as u64;
