@@ -1,11 +1,12 @@
-/* What Linux's own kexec code needs around it, to load and to run lists over files: for scripts/lists-by-linux, which puts
-   the lines of kernel/kexec_core.c and of arch/x86/kernel/relocate_kernel_64.S where they are named below.
+/* What Linux's own kexec code needs around it, to load and to run lists over files: for scripts/lists-by-linux, which
+   puts the lines of kernel/kexec_core.c and of arch/x86/kernel/relocate_kernel_64.S where they are named below.
 
-       load MEMORY POOL SEGMENTS OUT plain|kept   loads the segments; prints the head word, the control page, the swap page
-       run MEMORY OUT HEAD SWAP                   runs the list of the head word; SWAP is an address, or 0 for some page apart
+       load MEMORY POOL SEGMENTS OUT plain|kept   loads segments; prints the head word, the control page, the swap page
+       crash MEMORY FIRST LAST SEGMENTS OUT       loads segments of a crash kernel, whose area has these bytes
+       run MEMORY OUT HEAD SWAP                   runs a head word's list; SWAP is an address, or 0 for a page apart
 
-   The machine's memory is the pages from FIRST on, each at its own address, so that an address needs no translation. The
-   allocator gives the pages of the pool in their order; a page that is given back is given next.
+   The machine's memory is the pages from FIRST on, each at its own address, so that an address needs no translation.
+   The allocator gives the pages of the pool in their order; a page that is given back is given next.
 
    SEGMENTS has the number of segments, then of each mem, memsz and bufsz, as 8 bytes each, and its bytes. */
 #define _GNU_SOURCE
@@ -235,6 +236,13 @@ static void read_segments(const char *name, struct kimage *image) {
     fclose(file);
 }
 
+static void load_segments(struct kimage *image) {
+    for (unsigned long i = 0; i < image->nr_segments; i++)
+        if (kimage_load_segment(image, &image->segment[i]))
+            fail("no pages");
+    kimage_terminate(image);
+}
+
 static unsigned long control_page(struct kimage *image) {
     struct page *page = kimage_alloc_control_pages(image, 0);
     if (!page)
@@ -252,12 +260,24 @@ static void load(char **words) {
         fail("bad segments");
     unsigned long control = control_page(image);
     unsigned long swap = strcmp(words[4], "kept") ? 0 : control_page(image);
-    for (unsigned long i = 0; i < image->nr_segments; i++)
-        if (kimage_load_segment(image, &image->segment[i]))
-            fail("no pages");
-    kimage_terminate(image);
+    load_segments(image);
     printf("%lx %lx %lx\n", image->head, control, swap);
     write_memory(words[3]);
+}
+
+/* As kexec_load(2) with KEXEC_ON_CRASH does, without the pages beside the segments. */
+static void crash(char **words) {
+    struct kimage *image = do_kimage_alloc_init();
+    image->type = KEXEC_TYPE_CRASH;
+    crashk_res.start = strtoul(words[1], 0, 16);
+    crashk_res.end = strtoul(words[2], 0, 16);
+    read_memory(words[0]);
+    read_segments(words[3], image);
+    if (sanity_check_segment_list(image))
+        fail("bad segments");
+    load_segments(image);
+    printf("%lx\n", image->head);
+    write_memory(words[4]);
 }
 
 static void run(char **words) {
@@ -275,9 +295,11 @@ static void run(char **words) {
 int main(int count, char **words) {
     if (count == 7 && !strcmp(words[1], "load"))
         load(words + 2);
+    else if (count == 7 && !strcmp(words[1], "crash"))
+        crash(words + 2);
     else if (count == 6 && !strcmp(words[1], "run"))
         run(words + 2);
     else
-        fail("usage: load MEMORY POOL SEGMENTS OUT plain|kept, or run MEMORY OUT HEAD SWAP");
+        fail("the words are not those of load, crash or run");
     return 0;
 }
