@@ -137,7 +137,3 @@ put_clear base o starts puts r p f =
 pub some_put : (base : ℕ) (o : Relocatable) (starts : List (Option ℕ)) (puts : List Put) (r : Reloc) (x : Option Put) (n : ℕ) → HasRoom o starts n → put_of base o starts puts r ≡ Ok x → IfSome x (λ p. IsPut n p)
 some_put base o starts puts r None n room h = tt
 some_put base o starts puts r (Some p) n room h = put_is base o starts puts r p n room (found base o starts puts r p h)
-
-pub some_clear : (base : ℕ) (o : Relocatable) (starts : List (Option ℕ)) (puts : List Put) (r : Reloc) (x : Option Put) → put_of base o starts puts r ≡ Ok x → IfSome x (λ p. meets p.at p.wide puts ≡ false)
-some_clear base o starts puts r None h = tt
-some_clear base o starts puts r (Some p) h = put_clear base o starts puts r p (found base o starts puts r p h)

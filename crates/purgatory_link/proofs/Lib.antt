@@ -1,5 +1,6 @@
 pub mod Ending
 pub mod Laying
+pub mod Bits
 pub mod Taking
 pub mod Putting
 pub mod Found

@@ -1,26 +1,51 @@
--- The ranges of the fields so far, and the fields.
-use Rattle.std.proofs.Common.{◌≡◌, ℕ, ◌+◌, List, [], ◌∷◌, ◌++◌, Bool, false, Option, Some, None, refl, sym, ap, ◌∙◌}
-use Rattle.std.specs.Prelude.{◌||◌, IfSome}
+-- The bits of the fields so far, and the fields.
+use Rattle.std.proofs.Common.{◌≡◌, ℕ, ◌+◌, List, [], ◌∷◌, Bool, true, false, refl, sym, ◌∙◌, inl, inr, ◌⊎◌, arith}
+use Rattle.std.specs.Prelude.{min, max}
 use Rattle.std.specs.List.{list_any}
-use Rattle.std.proofs.lemmas.List.Folds.{list_any-append}
-use Rattle.kx_laws.proofs.Booleans.{or_false}
-use Rattle.range_index.specs.Ranges.{Range, ranges_meet, meets_any, AreWith}
+use Rattle.std.proofs.lemmas.Bool.{cases_Bool, or_cases, or_left, or_right, or_parts, or_from, both_ways, lt-ltb, ltb-true}
 use Rattle.purgatory_link.specs.declared.put.Put.{Put}
-use Rattle.purgatory_link.specs.Relocs.{meets}
-use Rattle.purgatory_link.specs.Index.{places, AreRanges}
+use Rattle.purgatory_link.specs.Relocs.{meets_one, meets}
+use Rattle.purgatory_link.specs.Taken.{is_taken, is_among, has, AreTaken}
+use Rattle.purgatory_link.proofs.Bits.{inside, where_among}
 
-pub meets_fields : (at w : ℕ) (puts : List Put) (rs : List Range) → AreRanges puts rs → meets_any (at, at + w) rs ≡ meets at w puts
-meets_fields at w puts rs are = are.same (ranges_meet (at, at + w))
+-- a byte that is shared is one of both
+meets_at : (at w k : ℕ) (p : Put) → is_among at w k ≡ true → has k p ≡ true → meets_one at w p ≡ true
+meets_at at w k p a b =
+    let x = where_among at w k a in
+    let y = where_among p.at p.wide k b in
+    lt-ltb (max at p.at) (min (at + w) (p.at + p.wide)) (omega (arith, x, y))
 
-pub some_apart : (x : Option Put) (puts : List Put) (rs : List Range) → AreRanges puts rs → IfSome x (λ p. meets p.at p.wide puts ≡ false) → IfSome x (λ p. meets_any (places p) rs ≡ false)
-some_apart None puts rs are h = tt
-some_apart (Some p) puts rs are h = meets_fields p.at p.wide puts rs are ∙ h
-
-pub no_fields : AreRanges [] []
-no_fields = record { same = λ test. refl }
-
-pub one_field : (x : Put) (puts : List Put) (old new : List Range) → AreRanges puts old → AreWith old (places x) new → AreRanges (puts ++ x ∷ []) new
-one_field x puts old new are more = record { same = λ test. more test ∙ ap (λ b. b || test (places x)) (are.same test) ∙ sym (behind test) }
+any_at : (at w k : ℕ) (puts : List Put) → is_among at w k ≡ true → list_any (has k) puts ≡ true → meets at w puts ≡ true
+any_at at w k [] a h = h
+any_at at w k (p ∷ ps) a h = by (or_cases (has k p) (list_any (has k) ps) h) (any_at at w k ps a)
   where
-    behind : (test : Range → Bool) → list_any (λ p. test (places p)) (puts ++ x ∷ []) ≡ (list_any (λ p. test (places p)) puts || test (places x))
-    behind test = list_any-append (λ p. test (places p)) puts (x ∷ []) ∙ ap (λ b. list_any (λ p. test (places p)) puts || b) (or_false (test (places x)))
+    by : (has k p ≡ true) ⊎ (list_any (has k) ps ≡ true) → (list_any (has k) ps ≡ true → meets at w ps ≡ true) → meets at w (p ∷ ps) ≡ true
+    by (inl b) ih = or_left (meets_one at w p) (meets at w ps) (meets_at at w k p a b)
+    by (inr b) ih = or_right (meets_one at w p) (meets at w ps) (ih b)
+
+-- where fields meet, the later start is one of both
+meets_none : (at w : ℕ) (p : Put) → ((k : ℕ) → is_among at w k ≡ true → has k p ≡ false) → meets_one at w p ≡ false
+meets_none at w p none = by (cases_Bool (meets_one at w p))
+  where
+    by : (meets_one at w p ≡ true) ⊎ (meets_one at w p ≡ false) → meets_one at w p ≡ false
+    by (inr b) = b
+    by (inl b) =
+        let l = ltb-true (max at p.at) (min (at + w) (p.at + p.wide)) b in
+        let k = max at p.at in
+        absurd (both_ways (has k p) (none k (inside at w k (omega (arith, l)) (omega (arith, l)))) (inside p.at p.wide k (omega (arith, l)) (omega (arith, l))))
+
+none_at : (at w : ℕ) (puts : List Put) → ((k : ℕ) → is_among at w k ≡ true → list_any (has k) puts ≡ false) → meets at w puts ≡ false
+none_at at w [] none = refl
+none_at at w (p ∷ ps) none =
+    or_from (meets_one at w p) (meets at w ps) (meets_none at w p (λ k a. (parts k a).0)) (none_at at w ps (λ k a. (parts k a).1))
+  where
+    parts : (k : ℕ) → is_among at w k ≡ true → (has k p ≡ false) × (list_any (has k) ps ≡ false)
+    parts k a = or_parts (has k p) (list_any (has k) ps) (none k a)
+
+-- the test of the bits is that of the fields
+pub meets_fields : (at w : ℕ) (puts : List Put) (words : List ℕ) (r : Bool) → AreTaken puts words
+    → (r ≡ true → (k : ℕ) × (is_among at w k ≡ true) × (is_taken words k ≡ true))
+    → (r ≡ false → (k : ℕ) → is_among at w k ≡ true → is_taken words k ≡ false)
+    → r ≡ meets at w puts
+meets_fields at w puts words true are some none = let s = some refl in sym (any_at at w s.0 puts s.1 (sym (are.same s.0) ∙ s.2))
+meets_fields at w puts words false are some none = sym (none_at at w puts (λ k a. sym (are.same k) ∙ none refl k a))

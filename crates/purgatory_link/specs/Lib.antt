@@ -3,7 +3,7 @@ pub mod Layout
 pub mod Symbols
 pub mod Formulas
 pub mod Relocs
-pub mod Index
+pub mod Taken
 pub mod Link
 pub mod Set
 pub mod Meaning

@@ -27,6 +27,7 @@ mod region_tests;
 mod reloc;
 mod relocate;
 mod symbols;
+mod taken;
 #[cfg(test)]
 mod test_objects;
 #[cfg(test)]

@@ -4,15 +4,15 @@ ghost use Rattle.std.specs.Prelude.{◌≡◌, ℕ, List, ◌+◌, ◌<◌, ◌�
 ghost use Rattle.purgatory_link.specs.declared.put.Put.{Put};
 ghost use Rattle.purgatory_link.specs.Formulas.{formula, wide};
 ghost use Rattle.purgatory_link.specs.Symbols.{start_at};
-ghost use Rattle.purgatory_link.specs.Relocs.{HasRoom, meets, size_at, placed, put_value, put_of};
-ghost use Rattle.purgatory_link.specs.Index.{AreRanges};
+ghost use Rattle.purgatory_link.specs.Relocs.{HasRoom, size_at, placed, put_value, put_of};
+ghost use Rattle.purgatory_link.specs.Taken.{AreTaken};
 
 use crate::fault::LinkFault;
 use crate::form::Form;
 use crate::put::Put;
 use crate::symbols::{start_at, symbol_value};
+use crate::taken::Taken;
 use elf_image::{Object, Reloc};
-use range_index::RangeIndex;
 
 // The size of the section of this index.
 fn size_at(object: &Object, index: usize) -> u64
@@ -24,21 +24,13 @@ fn size_at(object: &Object, index: usize) -> u64
     }
 }
 
-// Whether one of the `wide` bytes at this place is an earlier field's.
-fn meets(taken: &RangeIndex, at: u64, wide: u64) -> bool
-    requires { at + wide < 2 ^ 64 }
-    ensures { (puts : List Put) → AreRanges puts taken.now → result ≡ meets at wide puts }
-{
-    taken.meets(at, at + wide)
-}
-
 // Refuses a field of `wide` bytes in the section that starts at this place, where it does not lie in the section or
 // meets an earlier one.
 #[tactic(auto, unfolding(crate::specs::Relocs::placed))]
 fn placed(
     base: u64,
     object: &Object,
-    taken: &RangeIndex,
+    taken: &Taken,
     reloc: &Reloc,
     start: u64,
     wide: u64,
@@ -46,7 +38,7 @@ fn placed(
     requires base { base < 2 ^ 46 }
     requires wide { wide ≤ 8 }
     requires room { start + size_at object.now reloc.now.target ≤ 16777216 }
-    ensures exact { (puts : List Put) → AreRanges puts taken.now
+    ensures exact { (puts : List Put) → AreTaken puts taken.now
         → result ≡ placed base object.now puts reloc.now (start + reloc.now.offset) wide }
     ensures within { IfOk result (λ _. 0 < wide
         → reloc.now.offset + wide ≤ size_at object.now reloc.now.target) }
@@ -62,7 +54,7 @@ fn placed(
         });
     }
     let at = start + reloc.offset;
-    if meets(taken, at, wide) {
+    if taken.meets(at as usize, wide as usize) {
         return Err(LinkFault::RelocsMeet { place: base + at });
     }
     Ok(())
@@ -100,12 +92,12 @@ pub fn put_of(
     base: u64,
     object: &Object,
     starts: &[Option<u64>],
-    taken: &RangeIndex,
+    taken: &Taken,
     reloc: &Reloc,
 ) -> Result<Option<Put>, LinkFault>
     requires base { base < 2 ^ 46 }
     requires room { HasRoom object.now starts.now 16777216 }
-    ensures { (puts : List Put) → AreRanges puts taken.now
+    ensures { (puts : List Put) → AreTaken puts taken.now
         → result ≡ put_of base object.now starts.now puts reloc.now }
 {
     let start = match start_at(starts, reloc.target) {

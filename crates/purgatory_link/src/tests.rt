@@ -148,6 +148,42 @@ fn fields_do_not_meet(rt: HostRuntime) -> Result<(), Fail> {
     Ok(())
 }
 
+// Why a field of 4 bytes, so far behind the start of a section that stands from place 36 on, is refused behind one of 8
+// bytes at place 60, which the row of taken bytes has in two words.
+fn meeting_over_64(rt: &HostRuntime, offset: u64) -> Result<Option<LinkFault>, Fail> {
+    let wide = Reloc {
+        target: 5,
+        ..reloc(1, 24, 1, 0)
+    };
+    let other = Reloc {
+        target: 5,
+        ..reloc(10, offset, 1, 0)
+    };
+    let mut object = object(rt.alloc(), 0, &[wide, other])?;
+    object.sections.push(section(8, true, 64, 0))?;
+    Ok(linked(rt, &object).err())
+}
+
+/// How far the 4 bytes are behind the start of the section, and the fault.
+const OVER_64: [(u64, Option<LinkFault>); 8] = [
+    (20, None),
+    (21, Some(LinkFault::RelocsMeet { place: BASE + 57 })),
+    (24, Some(LinkFault::RelocsMeet { place: BASE + 60 })),
+    (27, Some(LinkFault::RelocsMeet { place: BASE + 63 })),
+    (28, Some(LinkFault::RelocsMeet { place: BASE + 64 })),
+    (31, Some(LinkFault::RelocsMeet { place: BASE + 67 })),
+    (32, None),
+    (60, None),
+];
+
+#[test]
+fn fields_meet_over_two_words(rt: HostRuntime) -> Result<(), Fail> {
+    for (offset, wanted) in OVER_64 {
+        assert_eq!(rt; meeting_over_64(&rt, offset)?, wanted);
+    }
+    Ok(())
+}
+
 // Each row is a section behind those of the rows above, and the size with it.
 #[test]
 fn sections_are_refused_in_order(rt: HostRuntime) -> Result<(), Fail> {
