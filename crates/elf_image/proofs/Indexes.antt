@@ -1,17 +1,17 @@
 -- The indexes in an object that was read are those of sections and symbols.
-use Rattle.std.proofs.Common.{◌≡◌, ℕ, ◌+◌, ◌*◌, ◌/◌, ◌%◌, ◌^◌, ◌<◌, List, [], ◌∷◌, ◌++◌, length, Bool, true, false, cond, refl, sym, ap, ◌∙◌, subst, Ok, Err, Result, Option, Some, None, inl, inr, arith}
+use Rattle.std.proofs.Common.{◌≡◌, ℕ, ◌+◌, ◌*◌, ◌/◌, ◌<◌, ◌≤◌, List, [], ◌∷◌, ◌++◌, length, Bool, true, false, cond, refl, sym, ap, ◌∙◌, subst, Ok, Err, Result, Option, Some, None, inl, inr, arith}
 use Rattle.std.specs.Prelude.{◌⊎◌, nat_lt, not, ◌==◌, ◌||◌, map}
 use Rattle.std.specs.List.{All, slice_get, range_with_len}
 use Rattle.std.proofs.lemmas.Bool.Decides.{nat_tests}
 use Rattle.std.proofs.lemmas.Bool.{or_cases}
 use Rattle.std.proofs.lemmas.List.{length-map}
+use Rattle.std.proofs.lemmas.Option.{get_or_from_slice_get, slice_get_within}
 use Rattle.std.proofs.lemmas.List.Elements.{All-nil, All-cons, All-append, All-map}
 use Rattle.kx_fields.specs.Fields.{bytes_at}
 use Rattle.kx_fields.specs.Formats.{read}
 use Rattle.elf_image.specs.declared.section.SectionHeader.{SectionHeader}
 use Rattle.elf_image.specs.declared.symbol.SymbolEntry.{SymbolEntry}
-use Rattle.elf_image.specs.declared.reloc.Reloc.{Reloc}
-use Rattle.elf_image.specs.declared.reloc.Rela.{Rela}
+use Rattle.elf_image.specs.declared.reloc.RelocSection.{RelocSection}
 use Rattle.elf_image.specs.declared.fault.ElfFault.{ElfFault}
 use Rattle.elf_image.specs.declared.fault.ElfFault.TheVariants as faults
 use Rattle.kx_laws.specs.Results.{◌>>=◌, unless}
@@ -21,9 +21,10 @@ use Rattle.elf_image.specs.Numbers.{sht_symtab}
 use Rattle.elf_image.specs.Table.{Table}
 use Rattle.elf_image.specs.Section.{section_of, place_of, first_of, is_of, read_in, IsInside, IsTable}
 use Rattle.elf_image.specs.Symbol.{symbol_entry, name_in, is_index, symbol_of, symbol_in, entries_in, strings_of, symbols_in, second_refused, symbols_at, symbols_read}
-use Rattle.elf_image.specs.Reloc.{rela, reloc_of, reloc_in, rela_fault, relocs_of, relocs_in, relocs_at, relocs_read}
-use Rattle.elf_image.specs.Object.{Relocatable, IsDefined, IsReloc, IsObject}
+use Rattle.elf_image.specs.Reloc.{AreInside, rela_fault, symbols_tested, reloc_section, relocs_in, relocs_at, relocs_read}
+use Rattle.elf_image.specs.Object.{Relocatable, IsDefined, IsRelocSection, IsObject}
 use Rattle.elf_image.proofs.Walk.{peel}
+use Rattle.elf_image.proofs.Strays.{all_symbols}
 use Rattle.kx_laws.proofs.Results.{bind_ok, ok_same}
 
 -- ---- what was gathered was given by the steps
@@ -89,17 +90,6 @@ symbols_defined file t ss e = at_defined file t (first_of sht_symtab 0 t.headers
 less_of : (n m : ℕ) → nat_lt n m ≡ true → n < m
 less_of n m h = grind (arith, nat_tests)
 
-reloc_is : (sections symbols target i at k : ℕ) (r : Rela) (x : Reloc) → target < sections → reloc_of symbols target i at k r ≡ Ok x → IsReloc sections symbols x
-reloc_is sections symbols target i at k r x below h = by (nat_lt (r.info / 2 ^ 32) symbols) refl h
-  where
-    by : (b : Bool) → nat_lt (r.info / 2 ^ 32) symbols ≡ b → ◌≡◌ {A = Result Reloc ElfFault} (cond b (Ok (record { target = target; offset = r.offset; kind = r.info % 2 ^ 32; symbol = r.info / 2 ^ 32; addend = r.addend; section = i; entry = k })) (Err (faults.BadIndex (at + 8)))) (Ok x) → IsReloc sections symbols x
-    by true t h = subst (IsReloc sections symbols) (ok_same _ x h) (record { target = below; symbol = less_of (r.info / 2 ^ 32) symbols t })
-    by false t h = cc
-
-reloc_in_is : (file : List ℕ) (sections symbols target i at k : ℕ) (x : Reloc) → target < sections → reloc_in file symbols target i at k ≡ Ok x → IsReloc sections symbols x
-unfolding reloc_in
-reloc_in_is file sections symbols target i at k x below h = reloc_is sections symbols target i at k (read rela (bytes_at at 24 file)) x below h
-
 target_below : (t : Table) (place : ℕ) (h : SectionHeader) → unless (rela_fault t place h) ≡ Ok tt → h.info < length t.headers
 unfolding rela_fault
 target_below t place h e =
@@ -112,30 +102,52 @@ target_below t place h e =
     below true t h = less_of _ _ t
     below false t h = cc
 
-section_is : (file : List ℕ) (t : Table) (symbols i : ℕ) (h : SectionHeader) (rs : List Reloc) → relocs_in file t symbols i h ≡ Ok rs → All (IsReloc (length t.headers) symbols) rs
-unfolding relocs_in
-section_is file t symbols i h rs e = by (h.kind == 4) e
-  where
-    by : (b : Bool) → cond b (unless (rela_fault t (place_of t i) h) >>= λ _. relocs_of file symbols i h) (Ok []) ≡ Ok rs → All (IsReloc (length t.headers) symbols) rs
-    by false e = subst (All (IsReloc (length t.headers) symbols)) (ok_same [] rs e) (All-nil (IsReloc (length t.headers) symbols))
-    by true e =
-        let a = bind_ok (unless (rela_fault t (place_of t i) h)) (λ _. relocs_of file symbols i h) rs e in
-        let below = target_below t (place_of t i) h a.1 in
-        each_all (IsReloc (length t.headers) symbols) (λ k. reloc_in file symbols h.info i (h.offset + 24 * k) k) (range_with_len 0 (h.size / 24)) rs
-        (λ k r is. reloc_in_is file (length t.headers) symbols h.info i (h.offset + 24 * k) k r below is) a.2
+-- the entries of a section whose bytes lie in the file do
+entries_inside : (file : List ℕ) (i : ℕ) (h : SectionHeader) → h.kind ≡ 4 → IsInside file (section_of h) → AreInside file (reloc_section i h)
+entries_inside file i h kind inside =
+    let within : h.offset + h.size ≤ length file = inside.inside (λ e. absurd (omega (arith, e, kind))) (λ e. absurd (omega (arith, e, kind))) in omega (arith, within)
 
-pub relocs_are : (file : List ℕ) (t : Table) (symbols : ℕ) (rs : List Reloc) → relocs_read file t symbols ≡ Ok rs → All (IsReloc (length t.headers) symbols) rs
+of_kind : (file : List ℕ) (t : Table) (symbols i : ℕ) (h : SectionHeader) → h.kind ≡ 4 → IsInside file (section_of h) → (rs : List RelocSection)
+    → (unless (rela_fault t (place_of t i) h) >>= λ _. symbols_tested file symbols (reloc_section i h) >>= λ _. Ok (reloc_section i h ∷ [])) ≡ Ok rs
+    → All (IsRelocSection file (length t.headers) symbols) rs
+of_kind file t symbols i h kind inside rs e =
+    let a = bind_ok (unless (rela_fault t (place_of t i) h)) (λ _. symbols_tested file symbols (reloc_section i h) >>= λ _. Ok (reloc_section i h ∷ [])) rs e in
+    let b = bind_ok (symbols_tested file symbols (reloc_section i h)) (λ _. Ok (reloc_section i h ∷ [])) rs a.2 in
+    let P = IsRelocSection file (length t.headers) symbols in
+    let is : P (reloc_section i h) = record {
+      target = target_below t (place_of t i) h a.1;
+      inside = entries_inside file i h kind inside;
+      symbol = all_symbols file symbols (reloc_section i h) b.1;
+    } in
+    subst (All P) (ok_same (reloc_section i h ∷ []) rs b.2) (All-cons P (reloc_section i h) [] is (All-nil P))
+
+section_is : (file : List ℕ) (t : Table) (symbols i : ℕ) (h : SectionHeader) (rs : List RelocSection) → IsInside file (section_of h) → relocs_in file t symbols i h ≡ Ok rs → All (IsRelocSection file (length t.headers) symbols) rs
+unfolding relocs_in
+section_is file t symbols i h rs inside e = by (h.kind == 4) refl e
+  where
+    by : (b : Bool) → (h.kind == 4) ≡ b → cond b (unless (rela_fault t (place_of t i) h) >>= λ _. symbols_tested file symbols (reloc_section i h) >>= λ _. Ok (reloc_section i h ∷ [])) (Ok []) ≡ Ok rs → All (IsRelocSection file (length t.headers) symbols) rs
+    by false k e = subst (All (IsRelocSection file (length t.headers) symbols)) (ok_same [] rs e) (All-nil (IsRelocSection file (length t.headers) symbols))
+    by true k e = of_kind file t symbols i h (grind (arith, nat_tests)) inside rs e
+
+pub relocs_are : (file : List ℕ) (t : Table) (symbols : ℕ) (rs : List RelocSection) → IsTable file t → relocs_read file t symbols ≡ Ok rs → All (IsRelocSection file (length t.headers) symbols) rs
 unfolding relocs_read
-relocs_are file t symbols rs e =
-    gathered_all (IsReloc (length t.headers) symbols) (relocs_at file t symbols) (range_with_len 0 (length t.headers)) rs
-    (λ i zs is. read_all (IsReloc (length t.headers) symbols) (relocs_in file t symbols i) (slice_get t.headers i) zs (λ h is. section_is file t symbols i h zs is) is) e
+relocs_are file t symbols rs table e =
+    let P = IsRelocSection file (length t.headers) symbols in
+    gathered_all P (relocs_at file t symbols) (range_with_len 0 (length t.headers)) rs (λ i zs is. at i (slice_get t.headers i) refl zs is) e
+  where
+    inside_at : (i : ℕ) (h : SectionHeader) → slice_get t.headers i ≡ Some h → IsInside file (section_of h)
+    inside_at i h there = subst (λ h. IsInside file (section_of h)) (get_or_from_slice_get t.headers i h h there) (table.each i h (slice_get_within t.headers i h there))
+
+    at : (i : ℕ) (o : Option SectionHeader) → slice_get t.headers i ≡ o → (zs : List RelocSection) → read_in (relocs_in file t symbols i) o ≡ Ok zs → All (IsRelocSection file (length t.headers) symbols) zs
+    at i None none zs is = subst (All (IsRelocSection file (length t.headers) symbols)) (ok_same [] zs is) (All-nil (IsRelocSection file (length t.headers) symbols))
+    at i (Some h) there zs is = section_is file t symbols i h zs (inside_at i h there) is
 
 -- ---- the object
-pub object_is : (file : List ℕ) (t : Table) (o : Relocatable) → IsTable file t → o.sections ≡ map section_of t.headers → symbols_read file t ≡ Ok o.symbols → relocs_read file t (length o.symbols) ≡ Ok o.relocs → IsObject o file
+pub object_is : (file : List ℕ) (t : Table) (o : Relocatable) → IsTable file t → o.sections ≡ map section_of t.headers → symbols_read file t ≡ Ok o.symbols → relocs_read file t (length o.symbols) ≡ Ok o.reloc_sections → IsObject o file
 object_is file t o table sections symbols relocs =
     let long : length t.headers ≡ length o.sections = sym (ap length sections ∙ length-map t.headers section_of) in
     record {
       sections = subst (All (IsInside file)) (sym sections) (All-map (IsInside file) section_of t.headers table.each);
       symbols = subst (λ n. All (IsDefined n) o.symbols) long (symbols_defined file t o.symbols symbols);
-      relocs = subst (λ n. All (IsReloc n (length o.symbols)) o.relocs) long (relocs_are file t (length o.symbols) o.relocs relocs);
+      relocs = subst (λ n. All (IsRelocSection file n (length o.symbols)) o.reloc_sections) long (relocs_are file t (length o.symbols) o.reloc_sections table relocs);
     }

@@ -9,5 +9,6 @@ pub mod Order
 pub mod Sound
 pub mod Gathering
 pub mod Sections
+pub mod Strays
 pub mod Objects
 pub mod Indexes

@@ -1,9 +1,9 @@
 -- The symbols and the relocations of an object that were read.
-use Rattle.std.proofs.Common.{◌≡◌, ℕ, List, [], ◌++◌, length, Bool, true, false, cond, refl, sym, ap, ◌∙◌, subst, Ok, Err, Result, Some, None, append-nil}
+use Rattle.std.proofs.Common.{◌≡◌, ℕ, List, [], ◌∷◌, ◌++◌, length, Bool, true, false, cond, refl, sym, ap, ◌∙◌, subst, Ok, Err, Result, Some, None, append-nil}
 use Rattle.std.specs.Prelude.{◌==◌, map}
 use Rattle.std.specs.List.{slice_get}
 use Rattle.elf_image.specs.declared.section.SectionHeader.{SectionHeader}
-use Rattle.elf_image.specs.declared.reloc.Reloc.{Reloc}
+use Rattle.elf_image.specs.declared.reloc.RelocSection.{RelocSection}
 use Rattle.elf_image.specs.declared.fault.ElfFault.{ElfFault}
 use Rattle.kx_laws.specs.Results.{◌>>=◌, unless}
 use Rattle.elf_image.specs.Gathered.{onto}
@@ -12,7 +12,7 @@ use Rattle.elf_image.specs.Numbers.{sht_symtab}
 use Rattle.elf_image.specs.Table.{Table}
 use Rattle.elf_image.specs.Section.{section_of, place_of, first_of, read_in, table_read}
 use Rattle.elf_image.specs.Symbol.{entries_in, strings_of, symbols_in, second_refused, symbols_at, symbols_read}
-use Rattle.elf_image.specs.Reloc.{rela_fault, relocs_of, relocs_in, relocs_at, relocs_read}
+use Rattle.elf_image.specs.Reloc.{rela_fault, symbols_tested, reloc_section, relocs_in, relocs_at, relocs_read}
 use Rattle.elf_image.specs.Object.{Relocatable, object_reading}
 use Rattle.elf_image.proofs.Failing.{Fails, fails_err, fails_on}
 
@@ -51,29 +51,44 @@ symbols_told file t i h symbols at is got second =
     there file t i h at is ∙ ap (λ r. r >>= after_symbols t i) got ∙ ap (λ r. r >>= λ _. Ok symbols) second
 
 -- ---- a section of relocations
-pub no_section : (file : List ℕ) (t : Table) (symbols i : ℕ) (out : List Reloc) → slice_get t.headers i ≡ None → onto out (relocs_at file t symbols i) ≡ Ok out
+pub no_section : (file : List ℕ) (t : Table) (symbols i : ℕ) (out : List RelocSection) → slice_get t.headers i ≡ None → onto out (relocs_at file t symbols i) ≡ Ok out
 no_section file t symbols i out e = ap (λ o. onto out (read_in (relocs_in file t symbols i) o)) e ∙ ap Ok (append-nil out)
 
-by_kind : (file : List ℕ) (t : Table) (symbols i : ℕ) (h : SectionHeader) (b : Bool) → (h.kind == 4) ≡ b → relocs_in file t symbols i h ≡ cond b (unless (rela_fault t (place_of t i) h) >>= λ _. relocs_of file symbols i h) (Ok [])
-unfolding relocs_in
-by_kind file t symbols i h b e = ap (λ b. cond b (unless (rela_fault t (place_of t i) h) >>= λ _. relocs_of file symbols i h) (Ok [])) e
+after_fault : List ℕ → ℕ → ℕ → SectionHeader → Result (List RelocSection) ElfFault
+after_fault file symbols i h = symbols_tested file symbols (reloc_section i h) >>= λ _. Ok (reloc_section i h ∷ [])
 
-pub other_type : (file : List ℕ) (t : Table) (symbols i : ℕ) (h : SectionHeader) (out : List Reloc) → slice_get t.headers i ≡ Some h → (h.kind == 4) ≡ false → onto out (relocs_at file t symbols i) ≡ Ok out
+by_kind : (file : List ℕ) (t : Table) (symbols i : ℕ) (h : SectionHeader) (b : Bool) → (h.kind == 4) ≡ b → relocs_in file t symbols i h ≡ cond b (unless (rela_fault t (place_of t i) h) >>= λ _. after_fault file symbols i h) (Ok [])
+unfolding relocs_in after_fault
+by_kind file t symbols i h b e = ap (λ b. cond b (unless (rela_fault t (place_of t i) h) >>= λ _. after_fault file symbols i h) (Ok [])) e
+
+pub other_type : (file : List ℕ) (t : Table) (symbols i : ℕ) (h : SectionHeader) (out : List RelocSection) → slice_get t.headers i ≡ Some h → (h.kind == 4) ≡ false → onto out (relocs_at file t symbols i) ≡ Ok out
 other_type file t symbols i h out is e =
     ap (λ o. onto out (read_in (relocs_in file t symbols i) o)) is ∙ ap (onto out) (by_kind file t symbols i h false e) ∙ ap Ok (append-nil out)
 
-pub relocs_told : (file : List ℕ) (t : Table) (symbols i : ℕ) (h : SectionHeader) → slice_get t.headers i ≡ Some h → (h.kind == 4) ≡ true → unless (rela_fault t (place_of t i) h) ≡ Ok tt → relocs_at file t symbols i ≡ relocs_of file symbols i h
-relocs_told file t symbols i h is e fit =
-    ap (read_in (relocs_in file t symbols i)) is ∙ by_kind file t symbols i h true e ∙ ap (λ r. r >>= λ _. relocs_of file symbols i h) fit
+of_type : (file : List ℕ) (t : Table) (symbols i : ℕ) (h : SectionHeader) → slice_get t.headers i ≡ Some h → (h.kind == 4) ≡ true → relocs_at file t symbols i ≡ (unless (rela_fault t (place_of t i) h) >>= λ _. after_fault file symbols i h)
+of_type file t symbols i h is e = ap (read_in (relocs_in file t symbols i)) is ∙ by_kind file t symbols i h true e
 
-pub section_fails : (file : List ℕ) (t : Table) (symbols i : ℕ) (h : SectionHeader) (out : List Reloc) (fault : ElfFault) → slice_get t.headers i ≡ Some h → (h.kind == 4) ≡ true → unless (rela_fault t (place_of t i) h) ≡ Err fault → Fails fault (onto out (relocs_at file t symbols i))
-section_fails file t symbols i h out fault is e f =
-    fails_on fault _ (λ ys. Ok (out ++ ys))
-    (fails_err fault _ (ap (read_in (relocs_in file t symbols i)) is ∙ by_kind file t symbols i h true e ∙ ap (λ r. r >>= λ _. relocs_of file symbols i h) f))
+pub header_fails : (file : List ℕ) (t : Table) (symbols i : ℕ) (h : SectionHeader) (out : List RelocSection) (fault : ElfFault) → slice_get t.headers i ≡ Some h → (h.kind == 4) ≡ true → unless (rela_fault t (place_of t i) h) ≡ Err fault → onto out (relocs_at file t symbols i) ≡ Err fault
+header_fails file t symbols i h out fault is e f =
+    ap (onto out) (of_type file t symbols i h is e ∙ ap (λ r. r >>= λ _. after_fault file symbols i h) f)
+
+with_header : (file : List ℕ) (t : Table) (symbols i : ℕ) (h : SectionHeader) → slice_get t.headers i ≡ Some h → (h.kind == 4) ≡ true → unless (rela_fault t (place_of t i) h) ≡ Ok tt → relocs_at file t symbols i ≡ after_fault file symbols i h
+with_header file t symbols i h is e fit =
+    of_type file t symbols i h is e ∙ ap (λ r. r >>= λ _. after_fault file symbols i h) fit
+
+pub symbol_fails : (file : List ℕ) (t : Table) (symbols i : ℕ) (h : SectionHeader) (out : List RelocSection) (fault : ElfFault) → slice_get t.headers i ≡ Some h → (h.kind == 4) ≡ true → unless (rela_fault t (place_of t i) h) ≡ Ok tt → symbols_tested file symbols (reloc_section i h) ≡ Err fault → onto out (relocs_at file t symbols i) ≡ Err fault
+unfolding after_fault
+symbol_fails file t symbols i h out fault is e fit f =
+    ap (onto out) (with_header file t symbols i h is e fit ∙ ap (λ r. r >>= λ _. Ok (reloc_section i h ∷ [])) f)
+
+pub section_told : (file : List ℕ) (t : Table) (symbols i : ℕ) (h : SectionHeader) (out : List RelocSection) → slice_get t.headers i ≡ Some h → (h.kind == 4) ≡ true → unless (rela_fault t (place_of t i) h) ≡ Ok tt → symbols_tested file symbols (reloc_section i h) ≡ Ok tt → onto out (relocs_at file t symbols i) ≡ Ok (out ++ reloc_section i h ∷ [])
+unfolding after_fault
+section_told file t symbols i h out is e fit right =
+    ap (onto out) (with_header file t symbols i h is e fit ∙ ap (λ r. r >>= λ _. Ok (reloc_section i h ∷ [])) right)
 
 -- ---- the object
-after_relocs : Table → List Sym → List Reloc → Result Relocatable ElfFault
-after_relocs t symbols relocs = Ok (record { sections = map section_of t.headers; symbols = symbols; relocs = relocs })
+after_relocs : Table → List Sym → List RelocSection → Result Relocatable ElfFault
+after_relocs t symbols relocs = Ok (record { sections = map section_of t.headers; symbols = symbols; reloc_sections = relocs })
 
 after_list : List ℕ → Table → List Sym → Result Relocatable ElfFault
 after_list file t symbols = relocs_read file t (length symbols) >>= after_relocs t symbols
@@ -103,7 +118,7 @@ pub object_relocs_fail : (file : List ℕ) (t : Table) (symbols : List Sym) (e :
 object_relocs_fail file t symbols e is got f =
     subst (Fails e) (sym (with_symbols file t symbols is got)) (fails_on e (relocs_read file t (length symbols)) (after_relocs t symbols) f)
 
-pub object_told : (file : List ℕ) (t : Table) (symbols : List Sym) (relocs : List Reloc) → table_read file ≡ Ok t → symbols_read file t ≡ Ok symbols → relocs_read file t (length symbols) ≡ Ok relocs → object_reading file ≡ Ok (record { sections = map section_of t.headers; symbols = symbols; relocs = relocs })
+pub object_told : (file : List ℕ) (t : Table) (symbols : List Sym) (relocs : List RelocSection) → table_read file ≡ Ok t → symbols_read file t ≡ Ok symbols → relocs_read file t (length symbols) ≡ Ok relocs → object_reading file ≡ Ok (record { sections = map section_of t.headers; symbols = symbols; reloc_sections = relocs })
 unfolding after_relocs
 object_told file t symbols relocs is got all =
     with_symbols file t symbols is got ∙ ap (λ r. r >>= after_relocs t symbols) all

@@ -1,22 +1,27 @@
 -- A relocatable object (ELF gABI, "Sections", "Symbol Table", "Relocation"; the order of the refusals is this project's
 -- own).
 use Rattle.std.specs.Prelude.{◌≡◌, ℕ, ◌<◌, ◌⊎◌, List, length, map, Result, Ok}
-use Rattle.std.specs.List.{All}
+use Rattle.std.specs.List.{All, flat_map}
 use Rattle.elf_image.specs.declared.fault.ElfFault.{ElfFault}
 use Rattle.elf_image.specs.declared.section.Section.{Section}
 use Rattle.elf_image.specs.declared.reloc.Reloc.{Reloc}
+use Rattle.elf_image.specs.declared.reloc.RelocSection.{RelocSection}
 use Rattle.kx_laws.specs.Results.{◌>>=◌}
 use Rattle.elf_image.specs.Numbers.{shn_abs, shn_common}
 use Rattle.elf_image.specs.Sym.{Sym}
 use Rattle.elf_image.specs.Section.{section_of, IsInside, table_read}
 use Rattle.elf_image.specs.Symbol.{symbols_read}
-use Rattle.elf_image.specs.Reloc.{relocs_read}
+use Rattle.elf_image.specs.Reloc.{AreInside, entry_of, entries_of, relocs_read}
 
 -- what contracts see of an object
 pub record Relocatable : Type 0 where
   pub sections : List Section
   pub symbols : List Sym
-  pub relocs : List Reloc
+  pub reloc_sections : List RelocSection
+
+-- the relocations of an object that this file has, in the order of their sections and entries
+abbrev pub relocs_of : List ℕ → Relocatable → List Reloc
+relocs_of file o = flat_map (entries_of file) o.reloc_sections
 
 -- what a file reads as, or its first fault: that of the headers, then of the symbols, then of the relocations
 unfoldable pub object_reading : List ℕ → Result Relocatable ElfFault
@@ -24,19 +29,21 @@ object_reading file = do
   t ← table_read file
   symbols ← symbols_read file t
   relocs ← relocs_read file t (length symbols)
-  Ok (record { sections = map section_of t.headers; symbols = symbols; relocs = relocs })
+  Ok (record { sections = map section_of t.headers; symbols = symbols; reloc_sections = relocs })
 
 -- a symbol's section is one of so many, or SHN_ABS or SHN_COMMON
 pub record IsDefined (sections : ℕ) (s : Sym) : Type 0 where
   pub index : (s.section < sections) ⊎ ((s.section ≡ shn_abs) ⊎ (s.section ≡ shn_common))
 
--- a relocation's target is one of so many sections, its symbol one of so many symbols
-pub record IsReloc (sections symbols : ℕ) (r : Reloc) : Type 0 where
-  pub target : r.target < sections
-  pub symbol : r.symbol < symbols
+-- a section of relocations lies in the file, its target is one of so many sections, and the symbol of each of its
+-- entries one of so many symbols
+pub record IsRelocSection (file : List ℕ) (sections symbols : ℕ) (s : RelocSection) : Type 0 where
+  pub target : s.target < sections
+  pub inside : AreInside file s
+  pub symbol : (k : ℕ) → k < s.count → (entry_of file s k).symbol < symbols
 
 -- the sections' bytes lie in the file, and each index is one
 pub record IsObject (o : Relocatable) (file : List ℕ) : Type 0 where
   pub sections : All (IsInside file) o.sections
   pub symbols : All (IsDefined (length o.sections)) o.symbols
-  pub relocs : All (IsReloc (length o.sections) (length o.symbols)) o.relocs
+  pub relocs : All (IsRelocSection file (length o.sections) (length o.symbols)) o.reloc_sections

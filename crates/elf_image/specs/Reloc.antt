@@ -1,15 +1,16 @@
 -- Relocations with addends (ELF gABI, "Relocation": Elf64_Rela).
-use Rattle.std.specs.Prelude.{ℕ, ◌+◌, ◌*◌, ◌/◌, ◌%◌, ◌^◌, ◌==◌, not, List, [], ◌∷◌, length, nat_lt, if◌then◌else◌, Option, Some, None, Result, Ok, Err}
+use Rattle.std.specs.Prelude.{ℕ, ◌+◌, ◌*◌, ◌/◌, ◌%◌, ◌^◌, ◌≤◌, ◌==◌, not, Bool, List, [], ◌∷◌, length, map, position, nat_lt, if◌then◌else◌, Option, Some, None, Result, Ok}
 use Rattle.std.specs.List.{slice_get, range_with_len}
-use Rattle.kx_fields.specs.Fields.{bytes_at, signed, unsigned}
+use Rattle.kx_fields.specs.Fields.{bytes_at, signed}
 use Rattle.kx_fields.specs.Formats.{Format, read}
 use Rattle.elf_image.specs.declared.section.SectionHeader.{SectionHeader}
 use Rattle.elf_image.specs.declared.reloc.Reloc.{Reloc}
+use Rattle.elf_image.specs.declared.reloc.RelocSection.{RelocSection}
 use Rattle.elf_image.specs.declared.reloc.Rela.{Rela}
 use Rattle.elf_image.specs.declared.fault.ElfFault.{ElfFault}
 use Rattle.elf_image.specs.declared.fault.ElfFault.TheVariants as faults
-use Rattle.kx_laws.specs.Results.{◌>>=◌, unless}
-use Rattle.elf_image.specs.Gathered.{gathered, each}
+use Rattle.kx_laws.specs.Results.{◌>>=◌, unless, unless_at}
+use Rattle.elf_image.specs.Gathered.{gathered}
 use Rattle.elf_image.specs.Numbers.{sht_symtab, sht_rela}
 use Rattle.elf_image.specs.Table.{Table}
 use Rattle.elf_image.specs.Section.{place_of, is_of, read_in}
@@ -20,26 +21,42 @@ rela = record {
   numbers = λ r. [];
 }
 
--- entry k of section i, which stands at this place of the file. Of its r_info the low 32 bits are the type, and the
--- high 32 the symbol, one of so many.
-abbrev pub reloc_of : ℕ → ℕ → ℕ → ℕ → ℕ → Rela → Result Reloc ElfFault
-reloc_of symbols target i at k r =
-    if nat_lt (r.info / 2 ^ 32) symbols then
-    Ok
-    (record {
-      target = target;
-      offset = r.offset;
-      kind = r.info % 2 ^ 32;
-      symbol = r.info / 2 ^ 32;
-      addend = r.addend;
-      section = i;
-      entry = k;
-    })
-    else Err (faults.BadIndex (at + 8))
+-- where entry k of a section of relocations stands in the file
+abbrev pub entry_place : RelocSection → ℕ → ℕ
+entry_place s k = s.offset + 24 * k
 
-unfoldable pub reloc_in : List ℕ → ℕ → ℕ → ℕ → ℕ → ℕ → Result Reloc ElfFault
-reloc_in file symbols target i at k =
-    reloc_of symbols target i at k (read rela (bytes_at at 24 file))
+-- entry k. Of its r_info the low 32 bits are the type, and the high 32 the symbol.
+abbrev pub reloc_of : RelocSection → ℕ → Rela → Reloc
+reloc_of s k r = record {
+  target = s.target;
+  offset = r.offset;
+  kind = r.info % 2 ^ 32;
+  symbol = r.info / 2 ^ 32;
+  addend = r.addend;
+  section = s.section;
+  entry = k;
+}
+
+unfoldable pub entry_of : List ℕ → RelocSection → ℕ → Reloc
+entry_of file s k = reloc_of s k (read rela (bytes_at (entry_place s k) 24 file))
+
+-- the entries of a section
+abbrev pub entries_of : List ℕ → RelocSection → List Reloc
+entries_of file s = map (entry_of file s) (range_with_len 0 s.count)
+
+-- the entries lie in the file
+abbrev pub AreInside : List ℕ → RelocSection → Type 0
+AreInside file s = s.offset + 24 * s.count ≤ length file
+
+-- the symbol of entry k is none of so many
+abbrev pub is_stray : List ℕ → ℕ → RelocSection → ℕ → Bool
+is_stray file symbols s k = not (nat_lt (entry_of file s k).symbol symbols)
+
+-- a section in which one is, is refused for the first
+unfoldable pub symbols_tested : List ℕ → ℕ → RelocSection → Result (Unit {0}) ElfFault
+symbols_tested file symbols s =
+    unless_at (λ k. faults.BadIndex (entry_place s k + 8))
+    (position (is_stray file symbols s) (range_with_len 0 s.count))
 
 -- the first fault of a section of relocations, whose header stands at this place: its sh_link is a symbol table
 -- (SHT_SYMTAB), and its sh_info a section
@@ -51,23 +68,23 @@ rela_fault t place h =
     else if not (nat_lt h.info (length t.headers)) then Some (faults.BadIndex (place + 44))
     else None
 
--- the whole entries of section i
-abbrev pub relocs_of : List ℕ → ℕ → ℕ → SectionHeader → Result (List Reloc) ElfFault
-relocs_of file symbols i h =
-    each (λ k. reloc_in file symbols h.info i (h.offset + 24 * k) k)
-    (range_with_len 0 (h.size / 24))
+-- section i, as one of relocations: it has whole entries alone
+abbrev pub reloc_section : ℕ → SectionHeader → RelocSection
+reloc_section i h = record { section = i; target = h.info; offset = h.offset; count = h.size / 24 }
 
--- the relocations of section i: none where it has another type than SHT_RELA
-unfoldable pub relocs_in : List ℕ → Table → ℕ → ℕ → SectionHeader → Result (List Reloc) ElfFault
+-- the same, if it is one: it has the type SHT_RELA; or its first fault
+unfoldable pub relocs_in : List ℕ → Table → ℕ → ℕ → SectionHeader
+    → Result (List RelocSection) ElfFault
 relocs_in file t symbols i h =
     if h.kind == sht_rela
-    then (unless (rela_fault t (place_of t i) h) >>= λ _. relocs_of file symbols i h)
+    then (unless (rela_fault t (place_of t i) h) >>= λ _.
+    symbols_tested file symbols (reloc_section i h) >>= λ _. Ok (reloc_section i h ∷ []))
     else Ok []
 
-abbrev pub relocs_at : List ℕ → Table → ℕ → ℕ → Result (List Reloc) ElfFault
+abbrev pub relocs_at : List ℕ → Table → ℕ → ℕ → Result (List RelocSection) ElfFault
 relocs_at file t symbols i = read_in (relocs_in file t symbols i) (slice_get t.headers i)
 
--- the relocations of an object that has so many symbols, or the first fault
-unfoldable pub relocs_read : List ℕ → Table → ℕ → Result (List Reloc) ElfFault
+-- the sections of relocations of an object that has so many symbols, or the first fault
+unfoldable pub relocs_read : List ℕ → Table → ℕ → Result (List RelocSection) ElfFault
 relocs_read file t symbols =
     gathered (relocs_at file t symbols) (range_with_len 0 (length t.headers))

@@ -1,5 +1,5 @@
 -- Symbols and their names (ELF gABI, "Symbol Table": Elf64_Sym; "String Table").
-use Rattle.std.specs.Prelude.{ℕ, ◌+◌, ◌*◌, ◌/◌, ◌==◌, ◌||◌, not, Bool, List, [], ◌∷◌, length, take, drop, position, nat_lt, if◌then◌else◌, Option, Some, None, Result, Ok, Err}
+use Rattle.std.specs.Prelude.{ℕ, ◌+◌, ◌*◌, ◌/◌, ◌==◌, ◌||◌, not, Bool, List, [], length, take, drop, position, nat_lt, if◌then◌else◌, Option, Some, None, Result, Ok, Err}
 use Rattle.std.specs.Option.{option_map}
 use Rattle.std.specs.List.{slice_get, range_with_len}
 use Rattle.kx_fields.specs.Fields.{bytes_at}

@@ -35,6 +35,6 @@ pub use image::image_pages;
 pub use load::Load;
 pub use numbers::{SHN_ABS, SHN_COMMON, SHN_UNDEF, SHT_NOBITS, SHT_NULL, SHT_REL};
 pub use object::{Object, read_object};
-pub use reloc::Reloc;
+pub use reloc::{Reloc, RelocSection};
 pub use section::Section;
 pub use symbol::Symbol;

@@ -159,17 +159,12 @@ impl Loads {
     }
 }
 
-/// The loads that have memory.
-fn with_memory(alloc: Global, loads: &[Load]) -> Result<Vec<Load>, AllocError>
-    ensures { IfOk result (λ v. v.items ≡ filter has_memory loads.now) }
+// The loads that have memory.
+fn with_memory(mut loads: Vec<Load>) -> Vec<Load>
+    ensures { result.items ≡ filter has_memory loads.items }
 {
-    let mut out = Vec::new(alloc);
-    for load in loads {
-        if load.memsz > 0 {
-            out.push(*load)?;
-        }
-    }
-    Ok(out)
+    loads.retain(|load| load.memsz > 0);
+    loads
 }
 
 /// The PT_LOADs of a file that have memory, or the first fault of one.
@@ -182,7 +177,7 @@ pub(crate) fn read_loads(
     ensures { Gives Memory (λ v. v.items) result (loads_read header.now bytes.now) }
 {
     match Loads::read(alloc, header, bytes) {
-        Ok(loads) => Ok(with_memory(alloc, &loads.list)?),
+        Ok(loads) => Ok(with_memory(loads.list)),
         Err(fault) => Err(fault),
     }
 }

@@ -6,7 +6,7 @@ ghost use Rattle.elf_image.specs.declared.fault.ElfFault.TheVariants.{Memory};
 ghost use Rattle.elf_image.specs.Object.{object_reading, IsObject};
 
 use crate::fault::ElfFault;
-use crate::reloc::{Reloc, read_relocs};
+use crate::reloc::{RelocSection, read_relocs};
 use crate::section::{Section, SectionTable};
 use crate::symbol::{Symbol, read_symbols};
 use std::alloc::Global;
@@ -19,8 +19,8 @@ pub struct Object {
     pub sections: Vec<Section>,
     /// The symbols, in the order of their indexes.
     pub symbols: Vec<Symbol>,
-    /// The relocations with addends, in the order of their sections and entries.
-    pub relocs: Vec<Reloc>,
+    /// The sections of relocations with addends, in the order of their indexes.
+    pub reloc_sections: Vec<RelocSection>,
 }
 
 impl Model for Object {
@@ -31,7 +31,7 @@ impl Model for Object {
     ghost view = { λ o. record {
       sections = o.sections.items;
       symbols = o.symbols.items;
-      relocs = o.relocs.items;
+      reloc_sections = o.reloc_sections.items;
     } };
 }
 
@@ -51,13 +51,13 @@ pub fn read_object(alloc: Global, bytes: &[u8]) -> Result<Object, ElfFault>
         Ok(symbols) => symbols,
         Err(fault) => return Err(fault),
     };
-    let relocs = match read_relocs(alloc, bytes, &table, symbols.len()) {
-        Ok(relocs) => relocs,
+    let reloc_sections = match read_relocs(alloc, bytes, &table, symbols.len()) {
+        Ok(sections) => sections,
         Err(fault) => return Err(fault),
     };
     Ok(Object {
         sections: table.sections(alloc)?,
         symbols,
-        relocs,
+        reloc_sections,
     })
 }

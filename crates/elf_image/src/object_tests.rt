@@ -1,5 +1,5 @@
 use crate::test_files::{file_of, put};
-use crate::{ElfFault, ElfPart, Object, Reloc, Section, Symbol, read_object};
+use crate::{ElfFault, ElfPart, Object, Reloc, RelocSection, Section, Symbol, read_object};
 use std::alloc::Global;
 use std::test::Fail;
 
@@ -118,6 +118,14 @@ fn symbols_are_read(rt: HostRuntime) -> Result<(), Fail> {
     Ok(())
 }
 
+/// The section of relocations.
+const RELOCATIONS: RelocSection = RelocSection {
+    section: 2,
+    target: 1,
+    offset: 80,
+    count: 2,
+};
+
 #[test]
 fn relocations_are_read(rt: HostRuntime) -> Result<(), Fail> {
     let first = Reloc {
@@ -139,7 +147,13 @@ fn relocations_are_read(rt: HostRuntime) -> Result<(), Fail> {
         entry: 1,
     };
     let object = object(rt.alloc())?;
-    assert_eq!(rt; object.relocs.as_slice(), [first, second].as_slice());
+    assert_eq!(rt; object.reloc_sections.as_slice(), [RELOCATIONS].as_slice());
+    let file = object_file(rt.alloc())?;
+    let entries = file.get(..128).ok_or("the entries lie in the file")?;
+    assert_eq!(rt;
+        [RELOCATIONS.reloc(entries, 0), RELOCATIONS.reloc(entries, 1)],
+        [first, second]
+    );
     Ok(())
 }
 

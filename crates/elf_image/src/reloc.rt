@@ -9,7 +9,7 @@ ghost use Rattle.elf_image.specs.declared.fault.ElfFault.TheVariants.{Memory};
 ghost use Rattle.elf_image.specs.Gathered.{Adds};
 ghost use Rattle.elf_image.specs.Numbers.{sht_symtab};
 ghost use Rattle.elf_image.specs.Section.{IsTable, is_of};
-ghost use Rattle.elf_image.specs.Reloc.{rela, reloc_in, rela_fault, relocs_of, relocs_in, relocs_at, relocs_read};
+ghost use Rattle.elf_image.specs.Reloc.{AreInside, rela, rela_fault, entry_of, reloc_section, relocs_at, relocs_read, symbols_tested};
 
 use crate::fault::ElfFault;
 use crate::numbers::{SHT_RELA, SHT_SYMTAB};
@@ -74,55 +74,65 @@ impl Rela {
     }
 }
 
-// Entry `entry` of a section, which stands at this place of the file.
-#[tactic(auto, unfolding(crate::specs::Reloc::reloc_in))]
-fn read_reloc(
-    file: &[u8],
-    symbols: usize,
-    target: usize,
-    section: usize,
-    at: usize,
-    entry: usize,
-) -> Result<Reloc, ElfFault>
-    requires { at + 24 ≤ length file.now }
-    ensures { result ≡ reloc_in file.now symbols target section at entry }
-{
-    let rela = Rela::read(file, at);
-    let symbol = (rela.info / HALF) as usize;
-    if symbol >= symbols {
-        return Err(ElfFault::BadIndex { at: at as u64 + 8 });
-    }
-    Ok(Reloc {
-        target,
-        offset: rela.offset,
-        kind: (rela.info % HALF) as u32,
-        symbol,
-        addend: rela.addend,
-        section,
-        entry,
-    })
+/// A section of relocations (`SHT_RELA`). Its entries stay in the file, and each is read when it is asked for: an object
+/// may have very many of them.
+#[derive(Clone, Copy, Debug, Drop, PartialEq, Eq)]
+pub struct RelocSection {
+    /// Its index.
+    pub section: usize,
+    /// The section that it relocates (`sh_info`).
+    pub target: usize,
+    /// Where its first entry stands in the file (`sh_offset`).
+    pub offset: usize,
+    /// How many whole entries it has.
+    pub count: usize,
 }
 
-// Puts the whole entries of a section behind the others.
-fn add_entries(
-    out: &mut Vec<Reloc>,
-    file: &[u8],
-    symbols: usize,
-    i: usize,
-    header: &SectionHeader,
-) -> Result<(), ElfFault>
-    requires { header.now.offset + header.now.size ≤ length file.now }
-    ensures { Adds out.old.items out.new.items result (relocs_of file.now symbols i header.now) }
-{
-    let target = header.info as usize;
-    for k in 0..(header.size / 24) as usize {
-        let at = header.offset as usize + 24 * k;
-        match read_reloc(file, symbols, target, i, at, k) {
-            Ok(reloc) => out.push(reloc)?,
-            Err(fault) => return Err(fault),
+impl RelocSection {
+    /// The relocation of this number, in the file that the object was read from.
+    #[tactic(auto, unfolding(crate::specs::Reloc::entry_of))]
+    pub fn reloc(&self, file: &[u8], entry: usize) -> Reloc
+        requires inside { AreInside file.now self.now }
+        requires entry { entry < self.now.count }
+        ensures { result ≡ entry_of file.now self.now entry }
+    {
+        let rela = Rela::read(file, self.offset + 24 * entry);
+        Reloc {
+            target: self.target,
+            offset: rela.offset,
+            kind: (rela.info % HALF) as u32,
+            symbol: (rela.info / HALF) as usize,
+            addend: rela.addend,
+            section: self.section,
+            entry,
         }
     }
-    Ok(())
+
+    // Refuses the first relocation whose symbol is none of so many.
+    fn test_symbols(&self, file: &[u8], symbols: usize) -> Result<(), ElfFault>
+        requires { AreInside file.now self.now }
+        ensures { result ≡ symbols_tested file.now symbols self.now }
+    {
+        for entry in 0..self.count {
+            if self.reloc(file, entry).symbol >= symbols {
+                let at = self.offset + 24 * entry + 8;
+                return Err(ElfFault::BadIndex { at: at as u64 });
+            }
+        }
+        Ok(())
+    }
+}
+
+// The section of this index and header, as one of relocations.
+fn reloc_section(section: usize, header: &SectionHeader) -> RelocSection
+    ensures { result ≡ reloc_section section header.now }
+{
+    RelocSection {
+        section,
+        target: header.info as usize,
+        offset: header.offset as usize,
+        count: (header.size / 24) as usize,
+    }
 }
 
 // Whether the section of this index is a symbol table.
@@ -153,9 +163,9 @@ fn test_section(table: &SectionTable, place: u64, header: &SectionHeader) -> Res
     Ok(())
 }
 
-// Puts the relocations of a section behind the others, if it is one of relocations.
+// Puts the section of this index behind the others, if it is one of relocations.
 fn add_section(
-    out: &mut Vec<Reloc>,
+    out: &mut Vec<RelocSection>,
     file: &[u8],
     table: &SectionTable,
     symbols: usize,
@@ -172,27 +182,34 @@ fn add_section(
         return Ok(());
     }
     match test_section(table, table.place(i), &header) {
-        Ok(()) => add_entries(out, file, symbols, i, &header),
-        Err(fault) => Err(fault),
+        Ok(()) => (),
+        Err(fault) => return Err(fault),
     }
+    let section = reloc_section(i, &header);
+    match section.test_symbols(file, symbols) {
+        Ok(()) => (),
+        Err(fault) => return Err(fault),
+    }
+    out.push(section)?;
+    Ok(())
 }
 
-/// The relocations of an object that has so many symbols, or the first fault.
+/// The sections of relocations of an object that has so many symbols, or the first fault.
 pub(crate) fn read_relocs(
     alloc: Global,
     file: &[u8],
     table: &SectionTable,
     symbols: usize,
-) -> Result<Vec<Reloc>, ElfFault>
+) -> Result<Vec<RelocSection>, ElfFault>
     requires { IsTable file.now table.now }
     ensures { Gives Memory (λ v. v.items) result (relocs_read file.now table.now symbols) }
 {
-    let mut relocs = Vec::new(alloc);
+    let mut sections = Vec::new(alloc);
     for i in 0..table.len() {
-        match add_section(&mut relocs, file, table, symbols, i) {
+        match add_section(&mut sections, file, table, symbols, i) {
             Ok(()) => (),
             Err(fault) => return Err(fault),
         }
     }
-    Ok(relocs)
+    Ok(sections)
 }

@@ -6,11 +6,10 @@ use Rattle.elf_image.specs.Loads.{has_memory, loads_onto, loads_read}
 use Rattle.elf_image.proofs.Failing.{fails_on}
 use Rattle.elf_image.proofs.loads.read_loads.Goals as goal
 
-pub returns-in_ok-with_memory-in-Ok : goal.returns-in_ok-with_memory-in-Ok
+pub returns-in-Ok : goal.returns-in-Ok
 unfolding loads_read
-returns-in_ok-with_memory-in-Ok c =
-    ap (λ r. r >>= λ ls. Ok (filter has_memory ls)) c.in-Ok.ensures
-    ∙ ap Ok (ap (filter has_memory) (sym c.deref.ensures.value) ∙ sym c.in_ok-with_memory-in-Ok.ensures)
+returns-in-Ok c =
+    ap (λ r. r >>= λ ls. Ok (filter has_memory ls)) c.in-Ok.ensures ∙ ap Ok (sym c.with_memory.ensures)
 
 pub returns-in-Err : goal.returns-in-Err
 unfolding loads_read

@@ -20,9 +20,9 @@ returns-in-Err-read_relocs-clause-exact c =
 pub returns-clause-exact : goal.returns-clause-exact
 returns-clause-exact c =
     let n : c.len.result ≡ length c.in-Ok-read_symbols.symbols.items = omega (arith, c.in-Ok-read_symbols.symbols.ok.0) in
-    object_told c.args.bytes.now c.in-Ok.table c.in-Ok-read_symbols.symbols.items c.in-Ok-read_relocs.relocs.items c.in-Ok.ensures.exact c.in-Ok-read_symbols.ensures
+    object_told c.args.bytes.now c.in-Ok.table c.in-Ok-read_symbols.symbols.items c.in-Ok-read_relocs.sections.items c.in-Ok.ensures.exact c.in-Ok-read_symbols.ensures
     (ap (relocs_read c.args.bytes.now c.in-Ok.table) (sym n) ∙ c.in-Ok-read_relocs.ensures)
-    ∙ ap (λ l. Ok (record { sections = l; symbols = c.in-Ok-read_symbols.symbols.items; relocs = c.in-Ok-read_relocs.relocs.items })) (sym c.in_ok-sections.ensures)
+    ∙ ap (λ l. Ok (record { sections = l; symbols = c.in-Ok-read_symbols.symbols.items; reloc_sections = c.in-Ok-read_relocs.sections.items })) (sym c.in_ok-sections.ensures)
 
 pub returns-clause-object : goal.returns-clause-object
 returns-clause-object c =
