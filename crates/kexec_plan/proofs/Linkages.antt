@@ -29,7 +29,7 @@ told_ok (Err e) x h = cc
 base_of : (base : ℕ) (o : Relocatable) (file : List ℕ) (n : ℕ) (image : Image) → linked base o file n ≡ Ok image → image.base ≡ base
 unfolding linked
 base_of base o file n image h =
-    let a = bind_ok (relocated base o (starts_of o) (unlinked o file n)) (λ bytes. Ok (record { base = base; bytes = bytes; names = names_of base (starts_of o) o.symbols })) image h in
+    let a = bind_ok (relocated base o file (starts_of o) (unlinked o file n)) (λ bytes. Ok (record { base = base; bytes = bytes; names = names_of base (starts_of o) o.symbols })) image h in
     sym (ap (λ (i : Image). i.base) (ok_same (record { base = base; bytes = a.0; names = names_of base (starts_of o) o.symbols }) image a.2))
 
 base_is : (base : ℕ) (o : Relocatable) (file : List ℕ) (image : Image) → linking base o file ≡ Ok image → image.base ≡ base

@@ -1,5 +1,5 @@
 -- Tables of regions row by row, and what is wanted page by page.
-use Rattle.std.proofs.Common.{◌≡◌, ℕ, zero, suc, ◌+◌, ◌-◌, ◌*◌, ◌/◌, ◌%◌, ◌^◌, ◌<◌, ◌≤◌, ◌++◌, List, [], ◌∷◌, Option, Some, None, refl, sym, ap, ◌∙◌, subst, arith, length, take, drop, get_or, append_assoc, length-append}
+use Rattle.std.proofs.Common.{◌≡◌, ℕ, zero, suc, ◌+◌, ◌-◌, ◌*◌, ◌/◌, ◌^◌, ◌<◌, ◌≤◌, ◌++◌, List, [], ◌∷◌, Some, None, refl, sym, ap, ◌∙◌, subst, arith, length, take, drop, get_or, append_assoc, length-append}
 use Rattle.std.specs.Prelude.{slice_get, unwrap_or, replicate}
 use Rattle.std.specs.List.{flat_map, range_with_len}
 use Rattle.std.proofs.lemmas.List.{append-nil, flat_map_more, take_more, take_rest, get_or-drop, drop-drop, drop-replicate, length-drop, length-take}
@@ -11,7 +11,7 @@ use Rattle.kx_pages.specs.Lists.{Each}
 use Rattle.kx_fields.specs.Fields.{zeros, with_field}
 use Rattle.kx_fields.proofs.Fields.{next_field}
 use Rattle.kx_pages.specs.Bytes.{Wants}
-use Rattle.segments.specs.Values.{SegmentValue, want, pages, pages_of_segment, page_count}
+use Rattle.segments.specs.Values.{SegmentValue, pages, pages_of_segment}
 use Rattle.segments.specs.Rules.{IsBare}
 use Rattle.segments.proofs.Laws.{IsPlaced, AreSegments-from_IsBare}
 use Rattle.purgatory_link.specs.Regions.{others, wanted_bytes, row, region_table}

@@ -29,22 +29,21 @@ pub room_for : (o : Relocatable) (sts : List (Option ℕ)) (n : ℕ) → sts ≡
 room_for o sts n is size =
     subst (λ l. HasRoom o l n) (sym is) (subst (HasRoom o (starts_of o)) (sym size) (room_more o (starts_of o) (end 0 o.sections) (in_pages (end 0 o.sections)) (pages_hold (end 0 o.sections)) (record { fits = λ i s e. starts_fit 0 o.sections i s e })))
 
-pub same_relocated : (base : ℕ) (o : Relocatable) (file : List ℕ) (n : ℕ) (sts : List (Option ℕ)) (old : List ℕ) (r : Result (List ℕ) LinkFault) → sts ≡ starts_of o → old ≡ unlinked o file n → relocated base o sts old ≡ r → relocated base o (starts_of o) (unlinked o file n) ≡ r
+pub same_relocated : (base : ℕ) (o : Relocatable) (file : List ℕ) (n : ℕ) (sts : List (Option ℕ)) (old : List ℕ) (r : Result (List ℕ) LinkFault) → sts ≡ starts_of o → old ≡ unlinked o file n → relocated base o file sts old ≡ r → relocated base o file (starts_of o) (unlinked o file n) ≡ r
 same_relocated base o file n sts old r is laid h =
-    sym (ap (λ l. relocated base o l old) is ∙ ap (relocated base o (starts_of o)) laid) ∙ h
+    sym (ap (λ l. relocated base o file l old) is ∙ ap (relocated base o file (starts_of o)) laid) ∙ h
 
-pub linked_fails : (base : ℕ) (o : Relocatable) (file : List ℕ) (n : ℕ) (sts : List (Option ℕ)) (old : List ℕ) (e : LinkFault) → sts ≡ starts_of o → old ≡ unlinked o file n → (relocated base o sts old ≡ Err e) ⊎ (e ≡ faults.Memory) → (linked base o file n ≡ Err e) ⊎ (e ≡ faults.Memory)
+pub linked_fails : (base : ℕ) (o : Relocatable) (file : List ℕ) (n : ℕ) (sts : List (Option ℕ)) (old : List ℕ) (e : LinkFault) → sts ≡ starts_of o → old ≡ unlinked o file n → (relocated base o file sts old ≡ Err e) ⊎ (e ≡ faults.Memory) → (linked base o file n ≡ Err e) ⊎ (e ≡ faults.Memory)
 unfolding linked
 linked_fails base o file n sts old e is laid (inl h) =
     inl (ap (λ r. r >>= λ bytes. Ok (record { base = base; bytes = bytes; names = names_of base (starts_of o) o.symbols })) (same_relocated base o file n sts old (Err e) is laid h))
 linked_fails base o file n sts old e is laid (inr h) = inr h
 
-pub linked_ok : (base : ℕ) (o : Relocatable) (file : List ℕ) (n : ℕ) (sts : List (Option ℕ)) (old new items : List ℕ) (names : List Named) → sts ≡ starts_of o → old ≡ unlinked o file n → relocated base o sts old ≡ Ok new → items ≡ new → names ≡ names_of base sts o.symbols → linked base o file n ≡ Ok (record { base = base; bytes = items; names = names })
+pub linked_ok : (base : ℕ) (o : Relocatable) (file : List ℕ) (n : ℕ) (sts : List (Option ℕ)) (old new : List ℕ) (names : List Named) → sts ≡ starts_of o → old ≡ unlinked o file n → relocated base o file sts old ≡ Ok new → names ≡ names_of base sts o.symbols → linked base o file n ≡ Ok (record { base = base; bytes = new; names = names })
 unfolding linked
-linked_ok base o file n sts old new items names is laid h same named =
+linked_ok base o file n sts old new names is laid h named =
     ap (λ r. r >>= λ bytes. Ok (record { base = base; bytes = bytes; names = names_of base (starts_of o) o.symbols })) (same_relocated base o file n sts old (Ok new) is laid h)
-    ∙ ap (λ l. Ok (record { base = base; bytes = l; names = names_of base (starts_of o) o.symbols })) (sym same)
-    ∙ ap (λ l. Ok (record { base = base; bytes = items; names = l })) (sym (named ∙ ap (λ l. names_of base l o.symbols) is))
+    ∙ ap (λ l. Ok (record { base = base; bytes = new; names = l })) (sym (named ∙ ap (λ l. names_of base l o.symbols) is))
 
 pub linking_rel : (base : ℕ) (o : Relocatable) (file : List ℕ) (e : LinkFault) → Err e ≡ unless_at faults.RelSection (position (is_rel o.sections) o.sections) → linking base o file ≡ Err e
 unfolding linking

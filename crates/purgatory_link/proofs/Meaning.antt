@@ -8,7 +8,7 @@ use Rattle.std.proofs.lemmas.Bool.Decides.{nat_tests}
 use Rattle.kx_fields.specs.Fields.{field, with_field, IsApart}
 use Rattle.kx_fields.proofs.Fields.{read_back, other_field, length-with_field}
 use Rattle.elf_image.specs.declared.reloc.Reloc.{Reloc}
-use Rattle.elf_image.specs.Object.{Relocatable}
+use Rattle.elf_image.specs.Object.{Relocatable, relocs_of}
 use Rattle.purgatory_link.specs.declared.form.Form.{Form}
 use Rattle.purgatory_link.specs.declared.form.Form.TheVariants as forms
 use Rattle.purgatory_link.specs.declared.put.Put.{Put}
@@ -216,15 +216,15 @@ all_other base o ps (r ∷ rs) all n k old room s e away =
     ∙ one_other base o ps r a.0 n k (with_puts ps old) room s.long a.1 both.0
 
 -- ---- together
-record Relocated (base : ℕ) (o : Relocatable) (old new : List ℕ) : Type 0 where
+record Relocated (base : ℕ) (o : Relocatable) (file old new : List ℕ) : Type 0 where
   puts : List Put
-  given : puts_of base o (starts_of o) [] o.relocs ≡ Ok puts
+  given : puts_of base o (starts_of o) [] (relocs_of file o) ≡ Ok puts
   same : with_puts puts old ≡ new
 
-relocated_by : (base : ℕ) (o : Relocatable) (old new : List ℕ) → relocated base o (starts_of o) old ≡ Ok new → Relocated base o old new
+relocated_by : (base : ℕ) (o : Relocatable) (file old new : List ℕ) → relocated base o file (starts_of o) old ≡ Ok new → Relocated base o file old new
 unfolding relocated
-relocated_by base o old new h =
-    let a = bind_ok (puts_of base o (starts_of o) [] o.relocs) (λ ps. Ok (with_puts ps old)) new h in
+relocated_by base o file old new h =
+    let a = bind_ok (puts_of base o (starts_of o) [] (relocs_of file o)) (λ ps. Ok (with_puts ps old)) new h in
     record { puts = a.0; given = a.1; same = bytes_same (with_puts a.0 old) new a.2 }
   where
     bytes_same : (x y : List ℕ) → (let r : Result (List ℕ) LinkFault = Ok x in r ≡ Ok y) → x ≡ y
@@ -234,17 +234,16 @@ sofar_none : (n : ℕ) (old : List ℕ) → length old ≡ n → Sofar n [] old
 unfolding with_puts
 sofar_none n old long = record { long = long }
 
-pub fields_by : (base : ℕ) (o : Relocatable) (n : ℕ) (old new items : List ℕ) → HasRoom o (starts_of o) n → length old ≡ n → relocated base o (starts_of o) old ≡ Ok new → items ≡ new → AllHold base o items
-fields_by base o n old new items room long h is =
-    let r = relocated_by base o old new h in
-    subst (AllHold base o) (r.same ∙ sym is) (all_hold base o [] o.relocs r.puts n old room (sofar_none n old long) r.given)
+pub fields_by : (base : ℕ) (o : Relocatable) (file : List ℕ) (n : ℕ) (old new : List ℕ) → HasRoom o (starts_of o) n → length old ≡ n → relocated base o file (starts_of o) old ≡ Ok new → AllHold base o file new
+fields_by base o file n old new room long h =
+    let r = relocated_by base o file old new h in
+    subst (AllHold base o file) r.same (all_hold base o [] (relocs_of file o) r.puts n old room (sofar_none n old long) r.given)
 
-pub others_by : (base : ℕ) (o : Relocatable) (file : List ℕ) (n : ℕ) (new items : List ℕ) → All (IsInside file) o.sections → HasRoom o (starts_of o) n → length (unlinked o file n) ≡ n → relocated base o (starts_of o) (unlinked o file n) ≡ Ok new → items ≡ new → KeepsOthers o file items
+pub others_by : (base : ℕ) (o : Relocatable) (file : List ℕ) (n : ℕ) (new : List ℕ) → All (IsInside file) o.sections → HasRoom o (starts_of o) n → length (unlinked o file n) ≡ n → relocated base o file (starts_of o) (unlinked o file n) ≡ Ok new → KeepsOthers o file new
 unfolding with_puts
-others_by base o file n new items inside room long h is =
+others_by base o file n new inside room long h =
     let old = unlinked o file n in
-    let r = relocated_by base o old new h in
-    let e = r.same ∙ sym is in
+    let r = relocated_by base o file old new h in
     record {
-      others = λ k away. ap (λ l. get_or l k 0) (sym e) ∙ all_other base o [] o.relocs r.puts n k old room (sofar_none n old long) r.given away ∙ unlinked_byte file o.sections n k inside;
+      others = λ k away. ap (λ l. get_or l k 0) (sym r.same) ∙ all_other base o [] (relocs_of file o) r.puts n k old room (sofar_none n old long) r.given away ∙ unlinked_byte file o.sections n k inside;
     }

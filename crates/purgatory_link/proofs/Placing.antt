@@ -1,6 +1,6 @@
 -- The table and the digest are put among the bytes of the purgatory's segment.
-use Rattle.std.proofs.Common.{◌≡◌, ℕ, zero, suc, ◌+◌, ◌-◌, ◌*◌, ◌≤◌, ◌++◌, List, [], ◌∷◌, Option, Some, refl, sym, ap, ◌∙◌, inl, inr, ⊎_elim, arith, length, take, drop, set, length-drop, length-append, append_assoc, take-append-drop}
-use Rattle.std.specs.Prelude.{◌⊎◌, slice_get, replicate}
+use Rattle.std.proofs.Common.{◌≡◌, ℕ, zero, suc, ◌+◌, ◌-◌, ◌*◌, ◌≤◌, ◌++◌, List, [], ◌∷◌, Some, refl, sym, ap, ◌∙◌, inl, inr, ⊎_elim, arith, length, take, drop, set, length-drop, length-append, append_assoc, take-append-drop}
+use Rattle.std.specs.Prelude.{slice_get, replicate}
 use Rattle.std.specs.List.{flat_map}
 use Rattle.std.proofs.Math.Seq.{drop-append-add}
 use Rattle.std.proofs.lemmas.List.{drop-drop, length-replicate, length-take-le, take-append-le, drop-append-le}

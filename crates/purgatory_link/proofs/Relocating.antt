@@ -1,30 +1,23 @@
 -- All relocations, step by step.
-use Rattle.std.proofs.Common.{◌≡◌, ℕ, ◌+◌, ◌<◌, ◌≤◌, List, [], ◌∷◌, ◌++◌, length, drop, get_or, refl, sym, ap, ◌∙◌, Option, Some, None, Ok, Err, arith}
-use Rattle.std.proofs.lemmas.List.{at_drop_more, at_drop_all}
+use Rattle.std.proofs.Common.{◌≡◌, ℕ, ◌+◌, ◌<◌, ◌≤◌, List, [], ◌∷◌, ◌++◌, append_assoc, length, take, drop, get_or, refl, sym, ap, subst, ◌∙◌, Option, Some, None, Result, Ok, Err, arith}
+use Rattle.std.specs.List.{flat_map}
+use Rattle.std.proofs.lemmas.List.{at_drop_more, at_drop_all, take_more, drop_more, take_all, take-append-drop}
+use Rattle.std.proofs.lemmas.List.FromFn.{length-map-range_with_len, get_or-map-range_with_len}
 use Rattle.kx_fields.specs.Fields.{with_field}
 use Rattle.elf_image.specs.declared.reloc.Reloc.{Reloc}
-use Rattle.elf_image.specs.Object.{Relocatable}
+use Rattle.elf_image.specs.declared.reloc.RelocSection.{RelocSection}
+use Rattle.elf_image.specs.Reloc.{entry_of, entries_of}
+use Rattle.elf_image.specs.Object.{Relocatable, relocs_of}
 use Rattle.purgatory_link.specs.declared.put.Put.{Put}
+use Rattle.purgatory_link.specs.declared.relocate.LinkBuffer.{LinkBuffer}
 use Rattle.purgatory_link.specs.declared.fault.LinkFault.{LinkFault}
 use Rattle.kx_laws.specs.Results.{◌>>=◌}
 use Rattle.purgatory_link.specs.Relocs.{HasRoom, with_one, with_put, with_puts, put_of, puts_of, relocated}
-use Rattle.purgatory_link.specs.Taken.{room, AreTaken}
+use Rattle.purgatory_link.specs.Taken.{AreTaken}
+use Rattle.purgatory_link.specs.Progress.{PutSo, ArePut, Refuses}
 
 pub room_more : (o : Relocatable) (starts : List (Option ℕ)) (n m : ℕ) → n ≤ m → HasRoom o starts n → HasRoom o starts m
 room_more o starts n m h r = record { fits = λ i s e. let f = r.fits i s e in omega (arith, f, h) }
-
--- the fields so far: the row of bits has them, and room for all bytes; the rest gives what all give, and the bytes have
--- their numbers
-pub record PutSo (base : ℕ) (o : Relocatable) (starts : List (Option ℕ)) (taken old now : List ℕ) (rest : List Reloc) : Type 0 where
-  pub puts : List Put
-  pub are : AreTaken puts taken
-  pub enough : length old ≤ room taken
-  pub same : puts_of base o starts puts rest ≡ puts_of base o starts [] o.relocs
-  pub bytes : now ≡ with_puts puts old
-
-pub put_first : (base : ℕ) (o : Relocatable) (starts : List (Option ℕ)) (taken old : List ℕ) → AreTaken [] taken → length old ≤ room taken → PutSo base o starts taken old old o.relocs
-unfolding with_puts
-put_first base o starts taken old none enough = record { puts = []; are = none; enough = enough; same = refl; bytes = refl }
 
 with_puts-more : (ps : List Put) (p : Put) (b : List ℕ) → with_puts (ps ++ p ∷ []) b ≡ with_field p.at p.wide p.value (with_puts ps b)
 unfolding with_puts
@@ -35,36 +28,83 @@ pub with_puts-one : (ps : List Put) (x : Option Put) (b : List ℕ) → with_put
 with_puts-one ps None b = refl
 with_puts-one ps (Some p) b = with_puts-more ps p b
 
-puts_here : (base : ℕ) (o : Relocatable) (starts : List (Option ℕ)) (puts : List Put) (rs : List Reloc) (i : ℕ) (d : Reloc) → i < length rs → puts_of base o starts puts (drop i rs) ≡ (put_of base o starts puts (get_or rs i d) >>= λ x. puts_of base o starts (with_one puts x) (drop (i + 1) rs))
+-- ---- one relocation
+puts_here : (base : ℕ) (o : Relocatable) (starts : List (Option ℕ)) (puts : List Put) (r : Reloc) (left : List Reloc) → puts_of base o starts puts (r ∷ left) ≡ (put_of base o starts puts r >>= λ x. puts_of base o starts (with_one puts x) left)
 unfolding puts_of
-puts_here base o starts puts rs i d h = at_drop_more (puts_of base o starts puts) rs i d h
+puts_here base o starts puts r left = refl
 
-pub put_more : (base : ℕ) (o : Relocatable) (starts : List (Option ℕ)) (taken more old bytes next : List ℕ) (i : ℕ) (d : Reloc) (x : Option Put) → i < length o.relocs
-    → (k : PutSo base o starts taken old bytes (drop i o.relocs))
-    → put_of base o starts k.puts (get_or o.relocs i d) ≡ Ok x
-    → AreTaken (with_one k.puts x) more
-    → room more ≡ room taken
-    → next ≡ with_put x bytes
-    → PutSo base o starts more old next (drop (i + 1) o.relocs)
-put_more base o starts taken more old bytes next i d x h k is are same e = record {
-  puts = with_one k.puts x;
-  are = are;
-  enough = omega (arith, k.enough, same);
-  same = sym (puts_here base o starts k.puts o.relocs i d h ∙ ap (λ y. y >>= λ x. puts_of base o starts (with_one k.puts x) (drop (i + 1) o.relocs)) is) ∙ k.same;
-  bytes = e ∙ ap (with_put x) k.bytes ∙ sym (with_puts-one k.puts x old);
+pub one_put : (base : ℕ) (o : Relocatable) (starts : List (Option ℕ)) (old new : LinkBuffer) (r : Reloc) (x : Option Put)
+    → ((puts : List Put) → AreTaken puts old.taken → Ok x ≡ put_of base o starts puts r)
+    → ((puts : List Put) → AreTaken puts old.taken → AreTaken (with_one puts x) new.taken)
+    → new.bytes.items ≡ with_put x old.bytes.items
+    → ArePut base o starts old new (r ∷ [])
+one_put base o starts old new r x is taken bytes = λ before all left so. record {
+  puts = with_one so.puts x;
+  taken = taken so.puts so.taken;
+  bytes = bytes ∙ ap (with_put x) so.bytes ∙ sym (with_puts-one so.puts x before);
+  same = ap (λ y. y >>= λ x. puts_of base o starts (with_one so.puts x) left) (is so.puts so.taken) ∙ sym (puts_here base o starts so.puts r left) ∙ so.same;
 }
 
-pub put_fails : (base : ℕ) (o : Relocatable) (starts : List (Option ℕ)) (taken old bytes : List ℕ) (i : ℕ) (d : Reloc) (f : LinkFault) → i < length o.relocs
-    → (k : PutSo base o starts taken old bytes (drop i o.relocs))
-    → put_of base o starts k.puts (get_or o.relocs i d) ≡ Err f
-    → relocated base o starts old ≡ Err f
-unfolding relocated
-put_fails base o starts taken old bytes i d f h k is =
-    ap (λ y. y >>= λ ps. Ok (with_puts ps old)) (sym k.same ∙ puts_here base o starts k.puts o.relocs i d h ∙ ap (λ y. y >>= λ x. puts_of base o starts (with_one k.puts x) (drop (i + 1) o.relocs)) is)
+then_one : (base : ℕ) (o : Relocatable) (starts : List (Option ℕ)) (old now new : LinkBuffer) (rs : List Reloc) (r : Reloc) → ArePut base o starts old now rs → ArePut base o starts now new (r ∷ []) → ArePut base o starts old new (rs ++ r ∷ [])
+then_one base o starts old now new rs r first one = λ before all left so.
+    one before all left (first before all (r ∷ left) (subst (PutSo base o starts old before all) (append_assoc rs (r ∷ []) left) so))
 
-pub put_last : (base : ℕ) (o : Relocatable) (starts : List (Option ℕ)) (taken old bytes : List ℕ) (i : ℕ) → length o.relocs ≤ i
-    → (k : PutSo base o starts taken old bytes (drop i o.relocs))
-    → relocated base o starts old ≡ Ok bytes
+then_none : (base : ℕ) (o : Relocatable) (starts : List (Option ℕ)) (old now : LinkBuffer) (rs : List Reloc) (r : Reloc) (more : List Reloc) (f : LinkFault) → ArePut base o starts old now rs → ((puts : List Put) → AreTaken puts now.taken → Err f ≡ put_of base o starts puts r) → Refuses base o starts old (rs ++ r ∷ more) f
+then_none base o starts old now rs r more f first is = λ before all left so.
+    let k = first before all (r ∷ more ++ left) (subst (PutSo base o starts old before all) (append_assoc rs (r ∷ more) left) so) in
+    sym k.same ∙ puts_here base o starts k.puts r (more ++ left) ∙ ap (λ y. y >>= λ x. puts_of base o starts (with_one k.puts x) (more ++ left)) (sym (is k.puts k.taken))
+
+-- ---- the entries of a section
+long : (file : List ℕ) (s : RelocSection) → length (entries_of file s) ≡ s.count
+long file s = length-map-range_with_len (entry_of file s) 0 s.count
+
+there : (file : List ℕ) (s : RelocSection) (k : ℕ) (d : Reloc) → k < s.count → get_or (entries_of file s) k d ≡ entry_of file s k
+there file s k d below = get_or-map-range_with_len (entry_of file s) 0 s.count k k d below (omega arith)
+
+pub none_put : (base : ℕ) (o : Relocatable) (starts : List (Option ℕ)) (b : LinkBuffer) (file : List ℕ) (s : RelocSection) → ArePut base o starts b b (take 0 (entries_of file s))
+none_put base o starts b file s = λ before all left so. so
+
+pub entry_put : (base : ℕ) (o : Relocatable) (starts : List (Option ℕ)) (old now new : LinkBuffer) (file : List ℕ) (s : RelocSection) (k : ℕ) → k < s.count → ArePut base o starts old now (take k (entries_of file s)) → ArePut base o starts now new (entry_of file s k ∷ []) → ArePut base o starts old new (take (k + 1) (entries_of file s))
+entry_put base o starts old now new file s k below first one =
+    let es = entries_of file s in
+    let d = entry_of file s k in
+    let more : take (k + 1) es ≡ take k es ++ d ∷ [] = take_more es k d (omega (arith, below, long file s)) ∙ ap (λ r. take k es ++ r ∷ []) (there file s k d below) in
+    subst (ArePut base o starts old new) (sym more) (then_one base o starts old now new (take k es) d first one)
+
+pub entry_refused : (base : ℕ) (o : Relocatable) (starts : List (Option ℕ)) (old now : LinkBuffer) (file : List ℕ) (s : RelocSection) (k : ℕ) (f : LinkFault) → k < s.count → ArePut base o starts old now (take k (entries_of file s)) → ((puts : List Put) → AreTaken puts now.taken → Err f ≡ put_of base o starts puts (entry_of file s k)) → Refuses base o starts old (entries_of file s) f
+entry_refused base o starts old now file s k f below first is =
+    let es = entries_of file s in
+    let d = entry_of file s k in
+    let whole : take k es ++ d ∷ drop (k + 1) es ≡ es =
+    sym (ap (λ r. take k es ++ r ∷ drop (k + 1) es) (there file s k d below)) ∙ sym (ap (λ l. take k es ++ l) (drop_more es k d (omega (arith, below, long file s)))) ∙ take-append-drop k es in
+    subst (λ l. Refuses base o starts old l f) whole (then_none base o starts old now (take k es) d (drop (k + 1) es) f first is)
+
+pub entries_put : (base : ℕ) (o : Relocatable) (starts : List (Option ℕ)) (old new : LinkBuffer) (file : List ℕ) (s : RelocSection) (k : ℕ) → s.count ≤ k → ArePut base o starts old new (take k (entries_of file s)) → ArePut base o starts old new (entries_of file s)
+entries_put base o starts old new file s k past are = subst (ArePut base o starts old new) (take_all k (entries_of file s) (omega (arith, past, long file s))) are
+
+-- ---- the sections
+-- all that the relocations of an object put, or the first fault
+abbrev pub all_of : ℕ → Relocatable → List ℕ → List (Option ℕ) → Result (List Put) LinkFault
+all_of base o file starts = puts_of base o starts [] (relocs_of file o)
+
+pub first_so : (base : ℕ) (o : Relocatable) (file : List ℕ) (starts : List (Option ℕ)) (b : LinkBuffer) (before : List ℕ) → b.bytes.items ≡ before → AreTaken [] b.taken → PutSo base o starts b before (all_of base o file starts) (flat_map (entries_of file) (drop 0 o.reloc_sections))
+unfolding with_puts
+first_so base o file starts b before is none = record { puts = []; taken = none; bytes = is; same = refl }
+
+pub section_put : (base : ℕ) (o : Relocatable) (file : List ℕ) (starts : List (Option ℕ)) (old new : LinkBuffer) (before : List ℕ) (i : ℕ) (d : RelocSection) → i < length o.reloc_sections → ArePut base o starts old new (entries_of file (get_or o.reloc_sections i d)) → PutSo base o starts old before (all_of base o file starts) (flat_map (entries_of file) (drop i o.reloc_sections)) → PutSo base o starts new before (all_of base o file starts) (flat_map (entries_of file) (drop (i + 1) o.reloc_sections))
+section_put base o file starts old new before i d below are so =
+    let next = flat_map (entries_of file) (drop (i + 1) o.reloc_sections) in
+    let e = at_drop_more (flat_map (entries_of file)) o.reloc_sections i d below in
+    are before (all_of base o file starts) next (subst (PutSo base o starts old before (all_of base o file starts)) e so)
+
+pub section_refused : (base : ℕ) (o : Relocatable) (file : List ℕ) (starts : List (Option ℕ)) (old : LinkBuffer) (before : List ℕ) (i : ℕ) (d : RelocSection) (f : LinkFault) → i < length o.reloc_sections → Refuses base o starts old (entries_of file (get_or o.reloc_sections i d)) f → PutSo base o starts old before (all_of base o file starts) (flat_map (entries_of file) (drop i o.reloc_sections)) → relocated base o file starts before ≡ Err f
+unfolding relocated
+section_refused base o file starts old before i d f below refused so =
+    let next = flat_map (entries_of file) (drop (i + 1) o.reloc_sections) in
+    let e = at_drop_more (flat_map (entries_of file)) o.reloc_sections i d below in
+    ap (λ y. y >>= λ ps. Ok (with_puts ps before)) (refused before (all_of base o file starts) next (subst (PutSo base o starts old before (all_of base o file starts)) e so))
+
+pub all_put : (base : ℕ) (o : Relocatable) (file : List ℕ) (starts : List (Option ℕ)) (b : LinkBuffer) (before : List ℕ) (i : ℕ) → length o.reloc_sections ≤ i → PutSo base o starts b before (all_of base o file starts) (flat_map (entries_of file) (drop i o.reloc_sections)) → relocated base o file starts before ≡ Ok b.bytes.items
 unfolding relocated puts_of
-put_last base o starts taken old bytes i h k =
-    ap (λ y. y >>= λ ps. Ok (with_puts ps old)) (sym k.same ∙ at_drop_all (puts_of base o starts k.puts) o.relocs i h) ∙ ap (λ b. Ok b) (sym k.bytes)
+all_put base o file starts b before i past so =
+    ap (λ y. y >>= λ ps. Ok (with_puts ps before)) (sym so.same ∙ at_drop_all (λ l. puts_of base o starts so.puts (flat_map (entries_of file) l)) o.reloc_sections i past) ∙ ap (λ l. Ok l) (sym so.bytes)

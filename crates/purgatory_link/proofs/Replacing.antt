@@ -1,14 +1,13 @@
 -- A segment whose bytes are replaced: the other segments, their table and their digest stay.
-use Rattle.std.proofs.Common.{◌≡◌, ℕ, zero, suc, ◌+◌, ◌*◌, ◌<◌, ◌≤◌, ◌++◌, List, [], ◌∷◌, Bool, true, false, cond, Option, Some, None, refl, sym, ap, ◌∙◌, subst, inl, inr, arith, take, drop, set}
+use Rattle.std.proofs.Common.{◌≡◌, ℕ, zero, suc, ◌+◌, ◌*◌, ◌++◌, List, [], ◌∷◌, true, false, cond, Some, refl, sym, ap, ◌∙◌, subst, inl, inr, arith, take, drop, set}
 use Rattle.std.specs.Prelude.{slice_get, ◌&&◌, ◌||◌, nat_le, nat_lt, unwrap_or}
-use Rattle.std.proofs.lemmas.Bool.Decides.{nat_tests}
 use Rattle.std.proofs.lemmas.Bool.{false_from_ne_true, false≢true, or_cases}
 use Rattle.sha2.specs.Sha256.{sha256}
 use Rattle.kx_pages.specs.Lists.{Each, Has}
 use Rattle.kx_pages.specs.Bytes.{Wants, page_of}
-use Rattle.segments.specs.Values.{SegmentValue, stop, is_page_of_segment, is_destination, bytes_from, want, pages, pages_of_segment}
+use Rattle.segments.specs.Values.{SegmentValue, is_page_of_segment, is_destination, bytes_from, want, pages, pages_of_segment}
 use Rattle.segments.specs.Rules.{IsBare, overlap_each_other}
-use Rattle.kx_pages.proofs.Lists.{Has-range, Has-either}
+use Rattle.kx_pages.proofs.Lists.{Has-either}
 use Rattle.segments.proofs.Laws.{IsPlaced, Apart, AreSegments-from_IsBare, is_destination-from_Has}
 use Rattle.purgatory_link.specs.Regions.{others, wanted_bytes, digest}
 use Rattle.purgatory_link.proofs.Standing.{at_index, one_page}

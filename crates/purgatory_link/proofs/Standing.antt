@@ -1,6 +1,6 @@
 -- Where memory has what is wanted of a segment, the segment's bytes stand there and zeros behind them: so the table and
 -- the digest that stand among them stand in memory.
-use Rattle.std.proofs.Common.{◌≡◌, ℕ, zero, suc, ◌+◌, ◌-◌, ◌*◌, ◌/◌, ◌%◌, ◌^◌, ◌<◌, ◌≤◌, ◌++◌, List, [], ◌∷◌, Bool, true, false, cond, Option, Some, None, refl, sym, ap, ◌∙◌, subst, inl, inr, arith, length, take, drop, append_assoc, append-nil, length-drop, take-append-drop}
+use Rattle.std.proofs.Common.{◌≡◌, ℕ, zero, suc, ◌+◌, ◌-◌, ◌*◌, ◌/◌, ◌<◌, ◌≤◌, ◌++◌, List, [], ◌∷◌, true, false, cond, Some, refl, sym, ap, ◌∙◌, subst, inl, inr, arith, length, take, drop, append_assoc, append-nil, length-drop, take-append-drop}
 use Rattle.std.specs.Prelude.{slice_get, replicate}
 use Rattle.std.proofs.lemmas.Bool.Decides.{nat_tests}
 use Rattle.std.proofs.lemmas.Bool.{cases_lt, false_from_ne_true}
@@ -10,7 +10,7 @@ use Rattle.kx_laws.proofs.Options.{some_same}
 use Rattle.kx_pages.specs.Lists.{Each, Has}
 use Rattle.kx_fields.specs.Fields.{zeros, bytes_at}
 use Rattle.kx_pages.specs.Bytes.{Mem, page_of}
-use Rattle.segments.specs.Values.{SegmentValue, stop, is_page_of_segment, bytes_from, want, pages, pages_of_segment}
+use Rattle.segments.specs.Values.{SegmentValue, is_page_of_segment, bytes_from, want, pages, pages_of_segment}
 use Rattle.segments.specs.Rules.{IsBare, overlap_each_other}
 use Rattle.kx_pages.proofs.Lists.{range-Has, Has-left, Has-right, Has-either}
 use Rattle.segments.proofs.Laws.{IsPlaced, Apart, AreSegments-from_IsBare}

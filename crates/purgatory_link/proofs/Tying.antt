@@ -1,8 +1,7 @@
 -- A memory that holds what was digested passes the test.
-use Rattle.std.proofs.Common.{◌≡◌, ℕ, zero, suc, ◌+◌, ◌-◌, ◌*◌, ◌/◌, ◌%◌, ◌^◌, ◌<◌, ◌≤◌, ◌++◌, List, [], ◌∷◌, Bool, true, false, Option, Some, None, refl, sym, ap, ◌∙◌, subst, inl, inr, ⊎_elim, arith, length, take, drop, map, get_or, append_assoc, length-append}
+use Rattle.std.proofs.Common.{◌≡◌, ℕ, zero, suc, ◌+◌, ◌-◌, ◌*◌, ◌/◌, ◌%◌, ◌^◌, ◌<◌, ◌≤◌, ◌++◌, List, [], ◌∷◌, Bool, true, false, Some, None, refl, sym, ap, ◌∙◌, subst, inl, inr, arith, length, take, drop, map, get_or, append_assoc, length-append}
 use Rattle.std.specs.Prelude.{◌||◌, nat_lt, unwrap_or, replicate}
 use Rattle.std.specs.List.{flat_map, range_with_len, sum_by}
-use Rattle.std.specs.Str.{bytes_eq}
 use Rattle.std.proofs.lemmas.Bool.Decides.{nat_tests}
 use Rattle.std.proofs.lemmas.List.{append-nil, take-append-drop, drop-drop, length-drop, length-take, length-replicate, replicate-append-replicate, take_all}
 use Rattle.std.proofs.lemmas.List.FromFn.{length-range_with_len}
@@ -21,7 +20,6 @@ use Rattle.segments.specs.Rules.{IsBare}
 use Rattle.kx_pages.proofs.Lists.{Each-append, Each-left, Each-right, Has-left, Has-right}
 use Rattle.segments.proofs.Laws.{IsPlaced, AreSegments-from_IsBare}
 use Rattle.purgatory_link.proofs.Wanted.{length-want}
-use Rattle.purgatory_link.specs.declared.region_test.RegionTest.{RegionTest}
 use Rattle.purgatory_link.specs.declared.region_test.RegionTest.TheVariants as answers
 use Rattle.purgatory_link.specs.Regions.{others, wanted_bytes, digest, row, region_table}
 use Rattle.purgatory_link.specs.RegionTest.{Region, nowhere, region, regions, bytes_in, regions_in, passes, is_wild, first_wild, verdict, unless_wild, test_table, test}

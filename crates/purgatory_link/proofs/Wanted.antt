@@ -1,8 +1,6 @@
 -- What is wanted of a page is a whole page.
-use Rattle.std.proofs.Common.{◌≡◌, ℕ, ◌-◌, ◌*◌, List, [], ◌∷◌, length, take, Some, Bool, true, false, refl, sym, ap, ◌∙◌, arith, length-append}
-use Rattle.std.specs.Prelude.{replicate}
+use Rattle.std.proofs.Common.{◌≡◌, ℕ, List, [], ◌∷◌, length, Some, Bool, true, false, refl, sym, ap, ◌∙◌}
 use Rattle.std.proofs.lemmas.Option.{none-some}
-use Rattle.std.proofs.lemmas.List.{length-take, length-replicate}
 use Rattle.kx_laws.proofs.Options.{some_same}
 use Rattle.kx_pages.specs.Bytes.{page_of}
 use Rattle.kx_pages.proofs.Bytes.{length-page_of}

@@ -4,6 +4,7 @@ pub mod Symbols
 pub mod Formulas
 pub mod Relocs
 pub mod Taken
+pub mod Progress
 pub mod Link
 pub mod Set
 pub mod Meaning

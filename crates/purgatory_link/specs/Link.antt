@@ -21,7 +21,7 @@ starts_of o = starts 0 o.sections
 -- the object of n bytes, linked at base
 unfoldable pub linked : ℕ → Relocatable → List ℕ → ℕ → Result Image LinkFault
 linked base o file n = do
-  bytes ← relocated base o (starts_of o) (unlinked o file n)
+  bytes ← relocated base o file (starts_of o) (unlinked o file n)
   Ok (record { base = base; bytes = bytes; names = names_of base (starts_of o) o.symbols })
 
 -- the object of this file, linked at base, or the first fault

@@ -5,7 +5,7 @@ use Rattle.std.specs.List.{list_any, AllByRecursion}
 use Rattle.kx_fields.specs.Fields.{field}
 use Rattle.elf_image.specs.declared.section.Section.{Section}
 use Rattle.elf_image.specs.declared.reloc.Reloc.{Reloc}
-use Rattle.elf_image.specs.Object.{Relocatable}
+use Rattle.elf_image.specs.Object.{Relocatable, relocs_of}
 use Rattle.purgatory_link.specs.declared.form.Form.{Form}
 use Rattle.purgatory_link.specs.Symbols.{start_at, symbol_value}
 use Rattle.purgatory_link.specs.Formulas.{form_of, wide, formula, modulo}
@@ -22,8 +22,8 @@ pub record Holds (base : ℕ) (o : Relocatable) (bytes : List ℕ) (r : Reloc) :
       ≡ modulo (256 ^ wide form) (formula form s r.addend (base + (start + r.offset)))
 
 -- each relocation's field does
-abbrev pub AllHold : ℕ → Relocatable → List ℕ → Type 0
-AllHold base o bytes = AllByRecursion (Holds base o bytes) o.relocs
+abbrev pub AllHold : ℕ → Relocatable → List ℕ → List ℕ → Type 0
+AllHold base o file bytes = AllByRecursion (Holds base o bytes) (relocs_of file o)
 
 -- byte k is one of a field
 abbrev pub is_in_field : ℕ → ℕ → Option ℕ → Option Form → Bool
@@ -32,10 +32,10 @@ is_in_field k offset (Some start) (Some form) =
 is_in_field k offset start form = false
 
 -- or of one of the relocations' fields
-abbrev pub is_relocated : Relocatable → ℕ → Bool
-is_relocated o k =
+abbrev pub is_relocated : Relocatable → List ℕ → ℕ → Bool
+is_relocated o file k =
     list_any (λ r. is_in_field k r.offset (start_at (starts_of o) r.target) (form_of r.kind))
-    o.relocs
+    (relocs_of file o)
 
 -- byte k of a section that starts at this place, or else another
 abbrev pub section_byte : List ℕ → ℕ → Section → Option ℕ → ℕ → ℕ
@@ -54,5 +54,5 @@ laid_byte file k (s ∷ ss) (start ∷ starts) =
 -- every other byte is its section's, or zero
 pub record KeepsOthers (o : Relocatable) (file bytes : List ℕ) : Type 0 where
   pub others : (k : ℕ)
-      → is_relocated o k ≡ false
+      → is_relocated o file k ≡ false
       → slice_index bytes k ≡ laid_byte file k o.sections (starts_of o)

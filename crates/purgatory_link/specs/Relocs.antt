@@ -5,7 +5,7 @@ use Rattle.std.specs.List.{slice_get, list_any}
 use Rattle.kx_fields.specs.Fields.{with_field}
 use Rattle.elf_image.specs.declared.section.Section.{Section}
 use Rattle.elf_image.specs.declared.reloc.Reloc.{Reloc}
-use Rattle.elf_image.specs.Object.{Relocatable}
+use Rattle.elf_image.specs.Object.{Relocatable, relocs_of}
 use Rattle.purgatory_link.specs.declared.form.Form.{Form}
 use Rattle.purgatory_link.specs.declared.form.Form.TheVariants as forms
 use Rattle.purgatory_link.specs.declared.put.Put.{Put}
@@ -96,10 +96,11 @@ abbrev pub with_put : Option Put → List ℕ → List ℕ
 with_put None bytes = bytes
 with_put (Some p) bytes = with_field p.at p.wide p.value bytes
 
--- the bytes with what all relocations put, or the first fault
-unfoldable pub relocated : ℕ → Relocatable → List (Option ℕ) → List ℕ → Result (List ℕ) LinkFault
-relocated base o starts bytes = do
-  ps ← puts_of base o starts [] o.relocs
+-- the bytes with what all relocations of the object in this file put, or the first fault
+unfoldable pub relocated : ℕ → Relocatable → List ℕ → List (Option ℕ) → List ℕ
+    → Result (List ℕ) LinkFault
+relocated base o file starts bytes = do
+  ps ← puts_of base o starts [] (relocs_of file o)
   Ok (with_puts ps bytes)
 
 -- a field of 4 or 8 bytes that lies within n bytes, and whose number fits it

@@ -27,3 +27,7 @@ has k p = is_among p.at p.wide k
 -- the bits that are 1 are those of the fields' bytes
 pub record AreTaken (puts : List Put) (words : List ℕ) : Type 0 where
   pub same : (k : ℕ) → is_taken words k ≡ list_any (has k) puts
+
+-- the bits of a row that are 1 are those of some fields
+abbrev pub IsRow : List ℕ → Type 0
+IsRow words = (puts : List Put) × AreTaken puts words

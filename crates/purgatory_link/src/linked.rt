@@ -108,15 +108,15 @@ fn link_sized(
     requires size { size ≡ in_pages (end 0 object.now.sections) }
     requires small { end 0 object.now.sections ≤ 16777216 }
     ensures exact { Gives Memory (λ l. l) result (linked base object.now file.now size) }
-    ensures fields { IfOk result (λ l. AllHold base object.now l.bytes) }
+    ensures fields { IfOk result (λ l. AllHold base object.now file.now l.bytes) }
     ensures others { IfOk result (λ l. KeepsOthers object.now file.now l.bytes) }
 {
     let starts = layout::starts(alloc, &object.sections)?;
-    let mut bytes = layout::laid(alloc, &object.sections, file, size)?;
-    match relocate::relocate(alloc, base, object, &starts, &mut bytes) {
-        Ok(()) => (),
+    let bytes = layout::laid(alloc, &object.sections, file, size)?;
+    let bytes = match relocate::relocate(alloc, base, object, file, &starts, bytes) {
+        Ok(bytes) => bytes,
         Err(fault) => return Err(fault),
-    }
+    };
     let names = Names::new(symbols::names_of(alloc, base, &starts, &object.symbols)?);
     Ok(Linked { base, bytes, names })
 }
@@ -129,7 +129,7 @@ pub fn link(alloc: Global, object: &Object, file: &[u8], base: u64) -> Result<Li
     // What it is, or the first fault.
     ensures exact { Gives Memory (λ l. l) result (linking base object.now file.now) }
     // Each relocated field holds the value of its formula.
-    ensures fields { IfOk result (λ l. AllHold base object.now l.bytes) }
+    ensures fields { IfOk result (λ l. AllHold base object.now file.now l.bytes) }
     // Every other byte is its section's, or zero.
     ensures others { IfOk result (λ l. KeepsOthers object.now file.now l.bytes) }
 {

@@ -1,19 +1,20 @@
 //! Objects of the tests.
 
-ghost use Rattle.std.specs.Prelude.{◌≡◌, ℕ, List, true, length};
+ghost use Rattle.std.specs.Prelude.{◌≡◌, ℕ, ◌<◌, List, true, length};
 ghost use Rattle.std.specs.List.{All};
 ghost use Rattle.elf_image.specs.Section.{IsInside};
-ghost use Rattle.elf_image.specs.Object.{IsDefined, IsReloc, IsObject};
+ghost use Rattle.elf_image.specs.Reloc.{AreInside, entry_of};
+ghost use Rattle.elf_image.specs.Object.{IsDefined, IsRelocSection, IsObject};
 
 use crate::{LinkFault, Linked, link, size};
-use elf_image::{Object, Reloc, Section, Symbol};
+use elf_image::{Object, Reloc, RelocSection, Section, Symbol};
 use std::alloc::Global;
 use std::test::Fail;
 
 /// Where the objects are linked.
 pub(crate) const BASE: u64 = 0x10000;
 
-/// The file: its bytes are those of the objects' sections.
+/// The front of the files: its bytes are those of the objects' sections. The relocations follow.
 const FILE: [u8; 64] = [7; 64];
 
 fn is_inside(section: &Section, size: u64) -> bool
@@ -53,17 +54,34 @@ fn are_defined(sections: usize, symbols: &[Symbol]) -> bool
     true
 }
 
-fn is_reloc(sections: usize, symbols: usize, reloc: &Reloc) -> bool
-    ensures { result ≡ true → IsReloc sections symbols reloc.now }
+// Whether the symbol of each entry is one of so many.
+fn have_symbols(section: &RelocSection, file: &[u8], symbols: usize) -> bool
+    requires { AreInside file.now section.now }
+    ensures { result ≡ true → (k : ℕ) → k < section.now.count
+        → (entry_of file.now section.now k).symbol < symbols }
 {
-    reloc.target < sections && reloc.symbol < symbols
+    for entry in 0..section.count {
+        if section.reloc(file, entry).symbol >= symbols {
+            return false;
+        }
+    }
+    true
 }
 
-fn are_relocs(sections: usize, symbols: usize, relocs: &[Reloc]) -> bool
-    ensures { result ≡ true → All (IsReloc sections symbols) relocs.now }
+fn is_reloc_section(sections: usize, symbols: usize, section: &RelocSection, file: &[u8]) -> bool
+    ensures { result ≡ true → IsRelocSection file.now sections symbols section.now }
 {
-    for reloc in relocs {
-        if !is_reloc(sections, symbols, reloc) {
+    section.target < sections
+        && section.count <= file.len() / 24
+        && section.offset <= file.len() - 24 * section.count
+        && have_symbols(section, file, symbols)
+}
+
+fn are_reloc_sections(sections: usize, symbols: usize, relocs: &[RelocSection], file: &[u8]) -> bool
+    ensures { result ≡ true → All (IsRelocSection file.now sections symbols) relocs.now }
+{
+    for section in relocs {
+        if !is_reloc_section(sections, symbols, section, file) {
             return false;
         }
     }
@@ -77,16 +95,38 @@ fn is_object(object: &Object, file: &[u8]) -> bool
     let symbols = object.symbols.len();
     are_inside(&object.sections, file)
         && are_defined(sections, &object.symbols)
-        && are_relocs(sections, symbols, &object.relocs)
+        && are_reloc_sections(sections, symbols, &object.reloc_sections, file)
+}
+
+/// An object, and the file that it is read from.
+#[derive(Drop)]
+pub(crate) struct Example {
+    pub(crate) object: Object,
+    pub(crate) file: Vec<u8>,
+}
+
+impl Example {
+    /// Puts all relocations, which follow one another in the file, into one section of them.
+    pub(crate) fn join_relocs(&mut self, alloc: Global, target: usize) -> Result<(), Fail> {
+        let joined = RelocSection {
+            section: 5,
+            target,
+            offset: FILE.len(),
+            count: self.object.reloc_sections.len(),
+        };
+        self.object.reloc_sections = [joined].to_vec(alloc)?;
+        Ok(())
+    }
 }
 
 /// The object linked.
-pub(crate) fn linked(rt: &HostRuntime, object: &Object) -> Result<Linked, LinkFault> {
-    if !is_object(object, &FILE) {
+pub(crate) fn linked(rt: &HostRuntime, example: &Example) -> Result<Linked, LinkFault> {
+    let Example { object, file } = example;
+    if !is_object(object, file) {
         return Err(LinkFault::Memory);
     }
     match size(object) {
-        Ok(_) => link(rt.alloc(), object, &FILE, BASE),
+        Ok(_) => link(rt.alloc(), object, file, BASE),
         Err(fault) => Err(fault),
     }
 }
@@ -132,7 +172,7 @@ pub(crate) fn symbols_of(
     Ok(symbols)
 }
 
-/// A relocation of section 1, by the symbol of this index.
+/// A relocation of section 1, by the symbol of this index, which stands alone in section 5.
 pub(crate) fn reloc(kind: u32, offset: u64, symbol: usize, addend: i64) -> Reloc {
     Reloc {
         target: 1,
@@ -141,14 +181,44 @@ pub(crate) fn reloc(kind: u32, offset: u64, symbol: usize, addend: i64) -> Reloc
         symbol,
         addend,
         section: 5,
-        entry: 3,
+        entry: 0,
     }
+}
+
+// The file that has these relocations one after another.
+fn file_with(alloc: Global, relocs: &[Reloc]) -> Result<Vec<u8>, Fail> {
+    let mut file = FILE.to_vec(alloc)?;
+    for reloc in relocs {
+        file.extend_from_slice(&reloc.offset.to_le_bytes())?;
+        file.extend_from_slice(&reloc.kind.to_le_bytes())?;
+        file.extend_from_slice(
+            &u32::try_from(reloc.symbol)
+                .unwrap_or(u32::MAX)
+                .to_le_bytes(),
+        )?;
+        file.extend_from_slice(&reloc.addend.to_le_bytes())?;
+    }
+    Ok(file)
+}
+
+// The sections of these relocations, each of which has one.
+fn sections_of(alloc: Global, relocs: &[Reloc]) -> Result<Vec<RelocSection>, Fail> {
+    let mut sections = Vec::new(alloc);
+    for (number, reloc) in relocs.iter().enumerate() {
+        sections.push(RelocSection {
+            section: reloc.section,
+            target: reloc.target,
+            offset: number.saturating_mul(24).saturating_add(FILE.len()),
+            count: 1,
+        })?;
+    }
+    Ok(sections)
 }
 
 /// An object whose section 1 has 16 bytes of the file, section 2 has 3 zeros at the next multiple of 8, section 3 is not
 /// loaded and section 4 has 4 bytes behind a gap; with this absolute symbol 1, symbol 2 in section 4, symbol 3 in section
 /// 3, a symbol 4 that is undefined and a symbol 5 that is common; and these relocations.
-pub(crate) fn object(alloc: Global, value: u64, relocs: &[Reloc]) -> Result<Object, Fail> {
+pub(crate) fn object(alloc: Global, value: u64, relocs: &[Reloc]) -> Result<Example, Fail> {
     let null = section(0, false, 0, 0);
     let zeros = section(8, true, 3, 0);
     let other = section(1, false, 8, 0);
@@ -161,9 +231,11 @@ pub(crate) fn object(alloc: Global, value: u64, relocs: &[Reloc]) -> Result<Obje
         (b"missing", 0, 0, 0),
         (b"common", 0xfff2, 8, 8),
     ];
-    Ok(Object {
+    let object = Object {
         sections: sections.to_vec(alloc)?,
         symbols: symbols_of(alloc, &symbols)?,
-        relocs: relocs.to_vec(alloc)?,
-    })
+        reloc_sections: sections_of(alloc, relocs)?,
+    };
+    let file = file_with(alloc, relocs)?;
+    Ok(Example { object, file })
 }

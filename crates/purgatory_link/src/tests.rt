@@ -1,4 +1,4 @@
-use crate::test_objects::{BASE, linked, loaded, object, reloc, section, symbols_of};
+use crate::test_objects::{BASE, Example, linked, loaded, object, reloc, section, symbols_of};
 use crate::{LinkFault, Linked, size};
 use elf_image::Reloc;
 use std::test::Fail;
@@ -39,7 +39,7 @@ const LAID_OUT: [u8; 29] = [
 fn sections_are_laid_out(rt: HostRuntime) -> Result<(), Fail> {
     // Relocation type 0 stands for none.
     assert!(rt; fills(&rt, 0, reloc(0, 99, 1, 0), &LAID_OUT)?);
-    assert_eq!(rt; size(&object(rt.alloc(), 0, &[])?), Ok(4096));
+    assert_eq!(rt; size(&object(rt.alloc(), 0, &[])?.object), Ok(4096));
     Ok(())
 }
 
@@ -87,10 +87,10 @@ fn values_that_do_not_fit_are_refused(rt: HostRuntime) -> Result<(), Fail> {
     Ok(())
 }
 
-/// The fault of the tests' relocations, which name section 5 and entry 3.
+/// The fault of a relocation that stands alone in section 5.
 const OUTSIDE: LinkFault = LinkFault::OutsideSection {
     section: 5,
-    entry: 3,
+    entry: 0,
 };
 
 /// Type, place and symbol of a relocation, and its fault.
@@ -126,25 +126,34 @@ fn fields_may_touch(rt: HostRuntime) -> Result<(), Fail> {
     Ok(())
 }
 
-// Why two fields that touch are refused with a third at this place.
-fn meeting(rt: &HostRuntime, offset: u64) -> Result<Option<LinkFault>, Fail> {
+// Why two fields that touch are refused with a third at this place, the last relocation of their section.
+fn third(rt: &HostRuntime, offset: u64) -> Result<Option<LinkFault>, Fail> {
     let relocs = [
         reloc(10, 8, 1, 0),
         reloc(10, 0, 1, 0),
         reloc(10, offset, 4, 0),
     ];
-    Ok(linked(rt, &object(rt.alloc(), 0, &relocs)?).err())
+    let mut example = object(rt.alloc(), 0, &relocs)?;
+    example.join_relocs(rt.alloc(), 1)?;
+    Ok(linked(rt, &example).err())
 }
 
 #[test]
 fn fields_do_not_meet(rt: HostRuntime) -> Result<(), Fail> {
     for offset in [0, 3, 5, 8, 11] {
         let place = BASE + offset;
-        assert_eq!(rt;
-            meeting(&rt, offset)?,
-            Some(LinkFault::RelocsMeet { place })
-        );
+        assert_eq!(rt; third(&rt, offset)?, Some(LinkFault::RelocsMeet { place }));
     }
+    Ok(())
+}
+
+#[test]
+fn an_entry_is_named_by_its_number(rt: HostRuntime) -> Result<(), Fail> {
+    let outside = LinkFault::OutsideSection {
+        section: 5,
+        entry: 2,
+    };
+    assert_eq!(rt; third(&rt, 13)?, Some(outside));
     Ok(())
 }
 
@@ -159,9 +168,9 @@ fn meeting_over_64(rt: &HostRuntime, offset: u64) -> Result<Option<LinkFault>, F
         target: 5,
         ..reloc(10, offset, 1, 0)
     };
-    let mut object = object(rt.alloc(), 0, &[wide, other])?;
-    object.sections.push(section(8, true, 64, 0))?;
-    Ok(linked(rt, &object).err())
+    let mut example = object(rt.alloc(), 0, &[wide, other])?;
+    example.object.sections.push(section(8, true, 64, 0))?;
+    Ok(linked(rt, &example).err())
 }
 
 /// How far the 4 bytes are behind the start of the section, and the fault.
@@ -200,7 +209,7 @@ fn sections_are_refused_in_order(rt: HostRuntime) -> Result<(), Fail> {
         ),
         (loaded(0, 0, 3), Err(LinkFault::BadAlign { section: 9 })),
     ];
-    let mut object = object(rt.alloc(), 0, &[reloc(3, 0, 0, 0)])?;
+    let Example { mut object, .. } = object(rt.alloc(), 0, &[reloc(3, 0, 0, 0)])?;
     for (section, wanted) in rows {
         object.sections.push(section)?;
         assert_eq!(rt; size(&object), wanted);
@@ -210,9 +219,9 @@ fn sections_are_refused_in_order(rt: HostRuntime) -> Result<(), Fail> {
 
 // Why the object is refused with relocations without addends for this section.
 fn fault_without_addends(rt: &HostRuntime, target: u32) -> Result<Option<LinkFault>, Fail> {
-    let mut object = object(rt.alloc(), 0, &[])?;
-    object.sections.push(section(9, false, 0, target))?;
-    Ok(linked(rt, &object).err())
+    let mut example = object(rt.alloc(), 0, &[])?;
+    example.object.sections.push(section(9, false, 0, target))?;
+    Ok(linked(rt, &example).err())
 }
 
 #[test]
@@ -226,9 +235,9 @@ fn relocations_without_addends_are_refused(rt: HostRuntime) -> Result<(), Fail> 
 
 // The object linked with these symbols.
 fn linked_with(rt: &HostRuntime, symbols: &[(&[u8], u16, u64, u64)]) -> Result<Linked, Fail> {
-    let mut object = object(rt.alloc(), 0, &[])?;
-    object.symbols = symbols_of(rt.alloc(), symbols)?;
-    Ok(linked(rt, &object).ok().ok_or("a linked object")?)
+    let mut example = object(rt.alloc(), 0, &[])?;
+    example.object.symbols = symbols_of(rt.alloc(), symbols)?;
+    Ok(linked(rt, &example).ok().ok_or("a linked object")?)
 }
 
 /// The object's symbols, and behind them another of the name of symbol 2.

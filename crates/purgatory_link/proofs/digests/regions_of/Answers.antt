@@ -1,4 +1,4 @@
-use Rattle.std.proofs.Common.{◌≡◌, ◌+◌, ◌-◌, ◌*◌, ◌++◌, [], length, take, drop, refl, sym, ap, ◌∙◌, arith, length-append}
+use Rattle.std.proofs.Common.{◌≡◌, ◌-◌, [], length, take, drop, refl, ap, ◌∙◌, arith}
 use Rattle.segments.proofs.Laws.{AreSegments-from_IsBare}
 use Rattle.purgatory_link.specs.Regions.{region_table}
 use Rattle.purgatory_link.proofs.Digesting.{both_parts, length-take_step}

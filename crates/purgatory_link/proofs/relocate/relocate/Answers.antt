@@ -1,33 +1,32 @@
-use Rattle.std.proofs.Common.{length, inl, sym, subst, ap, ◌∙◌}
+use Rattle.std.proofs.Common.{ap, ◌∙◌, inl, length, arith}
 use Rattle.elf_image.specs.Object.{Relocatable}
-use Rattle.purgatory_link.specs.Relocs.{HasRoom}
-use Rattle.purgatory_link.proofs.Found.{some_put}
-use Rattle.purgatory_link.proofs.Relocating.{put_first, put_more, put_fails, put_last}
+use Rattle.purgatory_link.proofs.Relocating.{first_so, section_put, section_refused, all_put}
 use Rattle.purgatory_link.proofs.relocate.relocate.Goals as goal
 
-pub loop-reloc-init : goal.loop-reloc-init
-loop-reloc-init c = put_first c.args.base c.args.object.now c.args.starts.now c.in_ok-taken.taken c.args.bytes.now c.in_ok-taken.ensures.none c.in_ok-taken.ensures.room
+pub loop-section-init : goal.loop-section-init
+loop-section-init c = record {
+  so = first_so c.args.base c.args.object.now c.args.file.now c.args.starts.now c.in_ok-buffer.buffer c.args.bytes.items c.in_ok-buffer.ensures.bytes c.in_ok-buffer.ensures.taken;
+  enough = c.in_ok-buffer.ensures.room;
+  long = ap length c.in_ok-buffer.ensures.bytes;
+}
+
+pub loop-section-preserved : goal.loop-section-preserved
+loop-section-preserved c =
+    let here = c.deref-section-items.ensures.value ∙ ap (λ (o : Relocatable). o.reloc_sections) c.object.view_is in
+    record {
+      so = section_put c.args.base c.args.object.now c.args.file.now c.args.starts.now c.loop-section.buffer c.relocate_section.new.buffer c.args.bytes.items c.loop-section.section-index _
+          (rw here at c.loop-section-test.true) (rw here at c.in-Ok.ensures.put) c.loop-section.invariant.so;
+      enough = omega (arith, c.loop-section.invariant.enough, c.in-Ok.ensures.room);
+      long = c.in-Ok.ensures.length ∙ c.loop-section.invariant.long;
+    }
 
 pub returns-in-Err : goal.returns-in-Err
 returns-in-Err c =
-    let k = c.loop-reloc.invariant in
-    inl (put_fails c.args.base c.args.object.now c.args.starts.now c.loop-reloc.taken c.args.bytes.now c.loop-reloc.bytes c.loop-reloc.reloc-index _ c.in-Err.fault
-    (rw (c.deref-reloc-items.ensures.value ∙ ap (λ (o : Relocatable). o.relocs) c.object.view_is) at c.loop-reloc-test.true) k (sym (rw (c.deref-reloc-items.ensures.value ∙ ap (λ (o : Relocatable). o.relocs) c.object.view_is) at (c.in-Err.ensures k.puts k.are))))
-
-pub apply-requires-clause-put : goal.apply-requires-clause-put
-apply-requires-clause-put c =
-    let k = c.loop-reloc.invariant in
-    some_put c.args.base c.args.object.now c.args.starts.now k.puts _ c.in-Ok.put (length c.loop-reloc.bytes) (subst (HasRoom c.args.object.now c.args.starts.now) (sym c.loop-reloc.auto.bytes) c.requires.room) (sym (c.in-Ok.ensures k.puts k.are))
-
-pub loop-reloc-preserved : goal.loop-reloc-preserved
-loop-reloc-preserved c =
-    let k = c.loop-reloc.invariant in
-    put_more c.args.base c.args.object.now c.args.starts.now c.loop-reloc.taken c.apply.new.taken c.args.bytes.now c.loop-reloc.bytes c.apply.new.bytes c.loop-reloc.reloc-index _ c.in-Ok.put
-    (rw (c.deref-reloc-items.ensures.value ∙ ap (λ (o : Relocatable). o.relocs) c.object.view_is) at c.loop-reloc-test.true) k
-    (sym (rw (c.deref-reloc-items.ensures.value ∙ ap (λ (o : Relocatable). o.relocs) c.object.view_is) at (c.in-Ok.ensures k.puts k.are)))
-    (c.apply.ensures.taken k.puts k.are)
-    c.apply.ensures.room
-    c.apply.ensures.bytes
+    let here = c.deref-section-items.ensures.value ∙ ap (λ (o : Relocatable). o.reloc_sections) c.object.view_is in
+    inl (section_refused c.args.base c.args.object.now c.args.file.now c.args.starts.now c.loop-section.buffer c.args.bytes.items c.loop-section.section-index _ c.in-Err.fault
+    (rw here at c.loop-section-test.true) (rw here at c.in-Err.ensures.refused) c.loop-section.invariant.so)
 
 pub returns : goal.returns
-returns c = put_last c.args.base c.args.object.now c.args.starts.now c.loop-reloc.taken c.args.bytes.now c.loop-reloc.bytes c.loop-reloc.reloc-index (rw (c.deref-reloc-items.ensures.value ∙ ap (λ (o : Relocatable). o.relocs) c.object.view_is) at c.loop-reloc-test.false) c.loop-reloc.invariant
+returns c =
+    let here = c.deref-section-items.ensures.value ∙ ap (λ (o : Relocatable). o.reloc_sections) c.object.view_is in
+    all_put c.args.base c.args.object.now c.args.file.now c.args.starts.now c.loop-section.buffer c.args.bytes.items c.loop-section.section-index (rw here at c.loop-section-test.false) c.loop-section.invariant.so
