@@ -110,7 +110,7 @@ segments_spelled v total (suc n) k bytes fs small h right =
       ap (λ xs. flat_map (segment_text v) (values xs)) (sym same) ∙ ap (λ l. segment_text v one.0.0.segment ++ l) ih.1 ∙ part,
     )
 
-right_ok : (ss ts : List SegmentValue) (wrong : Option ℕ) → without_wrong ss wrong ≡ Ok ts → (wrong ≡ None) × (ss ≡ ts)
+pub right_ok : (ss ts : List SegmentValue) (wrong : Option ℕ) → without_wrong ss wrong ≡ Ok ts → (wrong ≡ None) × (ss ≡ ts)
 right_ok ss ts None h = (refl, ok_same ss ts h)
 right_ok ss ts (Some k) h = cc
 

@@ -1,19 +1,19 @@
 //! The segments in a record's file.
 
-ghost use Rattle.std.specs.Prelude.{◌≡◌, ◌↔◌, ◌+◌, ◌-◌, ◌<◌, ◌≤◌, ◌++◌, take, drop, length, IfOk, OnOk, IsSome, IfSome, Some, None, if◌then◌else◌};
+ghost use Rattle.std.specs.Prelude.{◌≡◌, ◌↔◌, ◌+◌, ◌-◌, ◌<◌, ◌≤◌, ◌∷◌, ◌++◌, take, drop, length, option_map, IfOk, OnOk, IsSome, IfSome, Some, None, if◌then◌else◌};
 ghost use Rattle.std.specs.List.{flat_map};
-ghost use Rattle.std.specs.Option.{option_or};
+ghost use Rattle.std.specs.Option.{option_or, option_to_list};
 ghost use Rattle.sha2.specs.Sha256.{sha256};
 ghost use Rattle.kx_fields.specs.Fields.{zeros};
 ghost use Rattle.kx_fields.specs.Formats.{read, written};
 ghost use Rattle.kx_laws.specs.Results.{Gives};
 ghost use Rattle.load_record.specs.declared.version.Version.TheVariants.{Second};
-ghost use Rattle.load_record.specs.File.{digest_size, file_segment, head_of_segment, is_wrong, record_file, segment_at, segment_format, segment_of, segment_text, segments_kept, segments_tested, without_wrong};
+ghost use Rattle.load_record.specs.File.{digest_made, digest_size, digests_made, digests_of, file_segment, head_of_segment, is_wrong, record_file, segment_at, segment_format, segment_of, segment_text, segments_kept, segments_tested, without_wrong};
 ghost use Rattle.kx_laws.specs.Cuts.{IsCutAt};
 
 use crate::fault::RecFault;
 use crate::load::LoadRecord;
-use crate::version::Version;
+use crate::version::{Tested, Version};
 use kx_fields::Block;
 use segments::{Segment, Segments};
 use sha2::{Digest, Sha256};
@@ -91,19 +91,20 @@ fn head_in(version: Version, own: &[u8]) -> Option<SegmentHead>
     Some(SegmentHead::numbers(&block))
 }
 
-// The head of a segment, whether its digest is wrong, its bytes, and what follows it. Its own head and digest stand apart
-// from the bytes behind them, and the file has `total` bytes.
+// The head of a segment, the test of its digest, its bytes, and what follows it. Its own head and digest stand apart from
+// the bytes behind them, and the file has `total` bytes.
 fn cut_segment<'a>(
     version: Version,
     total: u64,
     own: &[u8],
     behind: &'a [u8],
-) -> Result<(SegmentHead, bool, &'a [u8], &'a [u8]), RecFault>
+) -> Result<(SegmentHead, Tested, &'a [u8], &'a [u8]), RecFault>
     requires apart { IsCutAt (24 + digest_size version) own.now behind.now }
     ensures exact { Gives RecFault.Memory
         (λ x. (file_segment x.0 (drop 24 own.now) x.2.now, x.3.now)) result
         (segment_at version total (own.now ++ behind.now)) }
-    ensures digest { IfOk result (λ x. x.1 ≡ is_wrong version (drop 24 own.now) x.2.now) }
+    ensures made { IfOk result (λ x. x.1.made ≡ digest_made version x.2.now) }
+    ensures digest { IfOk result (λ x. x.1.is_wrong ≡ is_wrong version (drop 24 own.now) x.2.now) }
     ensures place { IfOk result (λ x. x.2.now ≡ take x.0.bufsz behind.now) }
     ensures inside { IfOk result (λ x. x.0.bufsz + length x.3.now ≡ length behind.now) }
 {
@@ -116,7 +117,7 @@ fn cut_segment<'a>(
     }
     let (_, digest) = own.split_at(24);
     let (bytes, after) = behind.split_at(head.bufsz as usize);
-    Ok((head, version.is_wrong(digest, bytes), bytes, after))
+    Ok((head, version.test(digest, bytes), bytes, after))
 }
 
 // The least number of a segment with a wrong digest, once segment `number` was looked at too.
@@ -130,9 +131,19 @@ fn least_wrong(before: Option<u64>, number: u64, is_wrong: bool) -> Option<u64>
     }
 }
 
+// Keeps the digest that was made of a segment's bytes, if one was.
+fn push_digest(digests: &mut Vec<[u8; 32]>, made: Option<[u8; 32]>) -> Result<(), AllocError>
+    ensures { OnOk result (digests.new.items ≡ digests.old.items ++ option_to_list made) }
+{
+    if let Some(digest) = made {
+        digests.push(digest)?;
+    }
+    Ok(())
+}
+
 // The segments that the bytes spell, from number `first` on to `count`, and nothing after them: the last bytes of a file
-// that has `total`. Beside them the least number of a segment with a wrong digest: `before`, where a segment before
-// them has one.
+// that has `total`. Beside them the digests that were made of their bytes, and the least number of a segment with a wrong
+// digest: `before`, where a segment before them has one.
 fn copied_segments(
     alloc: Global,
     version: Version,
@@ -141,24 +152,27 @@ fn copied_segments(
     first: u64,
     count: u64,
     bytes: &[u8],
-) -> Result<(Vec<Segment>, Option<u64>), RecFault>
+) -> Result<(Vec<Segment>, Vec<[u8; 32]>, Option<u64>), RecFault>
     requires last { length bytes.now ≤ total }
     requires order { first ≤ count }
     requires few { count ≤ 16 }
-    ensures { Gives RecFault.Memory (λ x. (x.0.items, x.1)) result
+    ensures exact { Gives RecFault.Memory (λ x. (x.0.items, x.2)) result
         (segments_kept version total first before (count - first) bytes.now) }
+    ensures digests { IfOk result (λ x. x.1.items ≡ digests_made version x.0.items) }
 {
     let mut rest = bytes;
     let mut wrong = before;
+    let mut digests = Vec::new(alloc);
     let mut list = Vec::new(alloc);
     list.reserve_exact((count - first) as usize)?;
     for number in first..count {
         let (own, behind) = rest.split_at(rest.len().min(version.front_size()));
-        let (head, is_wrong, bytes, after) = match cut_segment(version, total, own, behind) {
+        let (head, tested, bytes, after) = match cut_segment(version, total, own, behind) {
             Ok(cut) => cut,
             Err(fault) => return Err(fault),
         };
-        wrong = least_wrong(wrong, number, is_wrong);
+        wrong = least_wrong(wrong, number, tested.is_wrong);
+        push_digest(&mut digests, tested.made)?;
         list.push(head.segment(copy_of(alloc, bytes)?))?;
         rest = after;
     }
@@ -167,7 +181,7 @@ fn copied_segments(
             at: total - rest.len() as u64,
         });
     }
-    Ok((list, wrong))
+    Ok((list, digests, wrong))
 }
 
 // The segments, if none of them has a wrong digest.
@@ -196,14 +210,31 @@ pub fn read_segments(
 {
     let (_, body) = file.split_at(96);
     match copied_segments(alloc, version, file.len() as u64, None, 0, count, body) {
-        Ok((list, wrong)) => without_wrong(list, wrong),
+        Ok((list, _, wrong)) => without_wrong(list, wrong),
         Err(fault) => Err(fault),
+    }
+}
+
+// The digests of segments, if one was made of the first.
+fn with_first(
+    first: Option<[u8; 32]>,
+    mut others: Vec<[u8; 32]>,
+) -> Result<Option<Vec<[u8; 32]>>, AllocError>
+    ensures { IfOk result (λ d. option_map (λ v. v.items) d
+        ≡ option_map (λ f. f ∷ others.items) first) }
+{
+    match first {
+        Some(digest) => {
+            others.insert(0, digest)?;
+            Ok(Some(others))
+        }
+        None => Ok(None),
     }
 }
 
 /// The segments that the bytes spell, so many, with nothing after them and no wrong digest: the last bytes of a file that
 /// has `total`. Those behind the first segment's own head and digest are handed in: the first segment, mostly by far the
-/// largest, keeps their buffer.
+/// largest, keeps their buffer. Beside them their digests, where the version has them.
 pub fn take_segments(
     alloc: Global,
     version: Version,
@@ -211,31 +242,33 @@ pub fn take_segments(
     count: u64,
     own: &[u8],
     mut rest: Vec<u8>,
-) -> Result<Vec<Segment>, RecFault>
+) -> Result<(Vec<Segment>, Option<Vec<[u8; 32]>>), RecFault>
     requires apart { IsCutAt (24 + digest_size version) own.now rest.items }
     requires last { length own.now + length rest.items ≤ total }
     requires some { 0 < count }
     requires few { count ≤ 16 }
-    ensures { Gives RecFault.Memory (λ v. v.items) result
+    ensures exact { Gives RecFault.Memory (λ x. x.0.items) result
         (segments_tested version total count (own.now ++ rest.items)) }
+    ensures digests { IfOk result (λ x. IfSome x.1 (λ d. d.items ≡ digests_of x.0.items)) }
 {
-    let (head, is_wrong, _, after) = match cut_segment(version, total, own, &rest) {
+    let (head, tested, _, after) = match cut_segment(version, total, own, &rest) {
         Ok(cut) => cut,
         Err(fault) => return Err(fault),
     };
-    let before = least_wrong(None, 0, is_wrong);
-    let (mut others, wrong) = match copied_segments(
+    let before = least_wrong(None, 0, tested.is_wrong);
+    let (mut list, others, wrong) = match copied_segments(
         alloc, version, total, before, 1, count, after,
     ) {
         Ok(read) => read,
         Err(fault) => return Err(fault),
     };
-    let mut list = Vec::new(alloc);
-    list.reserve_exact(count as usize)?;
     rest.truncate(head.bufsz as usize);
-    list.push(head.segment(rest))?;
-    list.append(&mut others)?;
-    without_wrong(list, wrong)
+    list.insert(0, head.segment(rest))?;
+    let digests = with_first(tested.made, others)?;
+    match without_wrong(list, wrong) {
+        Ok(list) => Ok((list, digests)),
+        Err(fault) => Err(fault),
+    }
 }
 
 // The three numbers that stand before the bytes of a segment.
@@ -251,13 +284,14 @@ fn head_of(segment: &Segment) -> Block<24>
     head.block()
 }
 
-// Puts one segment behind the bytes.
-fn put_segment(out: &mut Vec<u8>, segment: &Segment) -> Result<(), AllocError>
+// Puts one segment and its digest behind the bytes.
+fn put_segment(out: &mut Vec<u8>, segment: &Segment, digest: &[u8; 32]) -> Result<(), AllocError>
+    requires { digest.now ≡ sha256 segment.now.bytes }
     ensures { OnOk result
         (out.new.items ≡ out.old.items ++ segment_text Second segment.now) }
 {
     out.extend_from_slice(head_of(segment).bytes())?;
-    out.extend_from_slice(&Sha256::digest(&segment.bytes))?;
+    out.extend_from_slice(digest)?;
     out.extend_from_slice(&segment.bytes)?;
     Ok(())
 }
@@ -268,7 +302,8 @@ pub fn put_segments(out: &mut Vec<u8>, segments: &Segments) -> Result<(), AllocE
         (out.new.items ≡ out.old.items ++ flat_map (segment_text Second) segments.now) }
 {
     for i in 0..segments.count() {
-        put_segment(out, segments.segment(i))?;
+        let segment = segments.segment(i);
+        put_segment(out, segment, &Sha256::digest(&segment.bytes))?;
     }
     Ok(())
 }
@@ -287,34 +322,41 @@ pub fn put_in_front(first: &[u8], mut others: Vec<u8>) -> Result<Vec<u8>, AllocE
     Ok(others)
 }
 
-// The bytes and then the segment, in the segment's buffer, which gets room for `room` bytes.
-fn put_before(bytes: &[u8], segment: Segment, room: usize) -> Result<Vec<u8>, AllocError>
+// The bytes and then the segment with its digest, in the segment's buffer, which gets room for `room` bytes.
+fn put_before(
+    bytes: &[u8],
+    segment: Segment,
+    digest: &[u8; 32],
+    room: usize,
+) -> Result<Vec<u8>, AllocError>
+    requires { digest.now ≡ sha256 segment.bytes }
     ensures { IfOk result (λ v. v.items ≡ bytes.now ++ segment_text Second segment) }
 {
     let head = head_of(&segment);
-    let digest = Sha256::digest(&segment.bytes);
     let mut out = segment.bytes;
     out.reserve_exact(room.saturating_sub(out.len()))?;
     out.extend_from_slice(bytes)?;
     out.extend_from_slice(head.bytes())?;
-    out.extend_from_slice(&digest)?;
+    out.extend_from_slice(digest)?;
     out.rotate_right(bytes.len() + Version::Second.front_size());
     Ok(out)
 }
 
-/// The bytes and then the segments, in the first segment's buffer, which gets room for `room` bytes.
+/// The bytes and then the segments with their digests, in the first segment's buffer, which gets room for `room` bytes.
 pub fn give_segments(
     bytes: &[u8],
     mut list: Vec<Segment>,
+    digests: &[[u8; 32]],
     room: usize,
 ) -> Result<Vec<u8>, AllocError>
-    requires { 0 < length list.items }
+    requires some { 0 < length list.items }
+    requires digests { digests.now ≡ digests_of list.items }
     ensures { IfOk result (λ v. v.items ≡ bytes.now ++ flat_map (segment_text Second) list.items) }
 {
     let first = list.remove(0);
-    let mut out = put_before(bytes, first, room)?;
-    for segment in &list {
-        put_segment(&mut out, segment)?;
+    let mut out = put_before(bytes, first, &digests[0], room)?;
+    for (i, segment) in list.iter().enumerate() {
+        put_segment(&mut out, segment, &digests[i + 1])?;
     }
     Ok(out)
 }

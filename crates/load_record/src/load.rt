@@ -1,16 +1,15 @@
 //! A load record, and how it is read and written.
 
-ghost use Rattle.std.specs.Prelude.{◌≡◌, ◌<◌, ◌≤◌, ◌++◌, length, None, Ok, IfOk};
+ghost use Rattle.std.specs.Prelude.{◌≡◌, ◌<◌, ◌≤◌, ◌++◌, length, None, Ok, IfOk, IfSome};
 ghost use Rattle.kx_fields.specs.Fields.{AreBytes};
 ghost use Rattle.kx_laws.specs.Results.{Gives};
 ghost use Rattle.segments.specs.Rules.{bare_refusal};
 ghost use Rattle.load_record.specs.Head.{head_fault, version_of};
-ghost use Rattle.load_record.specs.File.{IsWritable, record_reading, record_file, record_text, ruled};
+ghost use Rattle.load_record.specs.File.{IsWritable, digests_of, record_reading, record_file, record_text, ruled};
 ghost use Rattle.kx_laws.specs.Cuts.{IsCutAt};
 
-use crate::body::{
-    give_segments, put_in_front, put_segments, read_segments, room_of, take_segments,
-};
+use crate::body::{put_in_front, put_segments, read_segments, room_of, take_segments};
+use crate::digested::DigestedRecord;
 use crate::fault::RecFault;
 use crate::head::Head;
 use crate::version::Version;
@@ -72,20 +71,10 @@ impl LoadRecord {
             (λ r. record_text (version_of (front.now ++ rest.items)) r ≡ front.now ++ rest.items) }
         ensures writable { IfOk result IsWritable }
     {
-        let head = match Head::read_tested(front) {
-            Ok(head) => head,
-            Err(fault) => return Err(fault),
-        };
-        let version = Version::of(front);
-        let total = total_of(front, &rest);
-        let (_, body) = front.split_at(96);
-        let (own, first) = body.split_at(body.len().min(version.front_size()));
-        let behind = put_in_front(first, rest)?;
-        let list = match take_segments(alloc, version, total, head.segments, own, behind) {
-            Ok(list) => list,
-            Err(fault) => return Err(fault),
-        };
-        record_with(alloc, head, list)
+        match record_in_two(alloc, front, rest) {
+            Ok((record, _)) => Ok(record),
+            Err(fault) => Err(fault),
+        }
     }
 
     /// The file of the record, of version 2. A crash record is plain, and its control page is page 0, as in each record
@@ -107,16 +96,47 @@ impl LoadRecord {
 impl LoadRecord {
     /// As `write`, of a record that is given up: its file is made in the buffer of the first segment's bytes, so that
     /// these never lie in memory twice.
-    pub fn into_file(self) -> Result<Vec<u8>, AllocError>
+    pub fn into_file(self, alloc: Global) -> Result<Vec<u8>, AllocError>
         requires { IsWritable self }
         ensures file { IfOk result (λ v. v.items ≡ record_file self) }
         ensures read_back { IfOk result (λ v. record_reading v.items ≡ Ok self) }
     {
-        let room = room_of(&self);
-        let head = Head::of(&self).block();
-        let list = self.segments.into_list();
-        let file = give_segments(head.bytes(), list, room)?;
-        Ok(file)
+        let digested = DigestedRecord::of(alloc, self)?;
+        digested.into_file()
+    }
+}
+
+/// The record that a file in two parts spells, as `LoadRecord::from_file` says, and the digests of its segments where the
+/// file has them.
+pub fn record_in_two(
+    alloc: Global,
+    front: &[u8],
+    rest: Vec<u8>,
+) -> Result<(LoadRecord, Option<Vec<[u8; 32]>>), RecFault>
+    requires apart { IsCutAt 152 front.now rest.items }
+    ensures exact { Gives RecFault.Memory (λ x. x.0) result
+        (record_reading (front.now ++ rest.items)) }
+    ensures found { IfOk result
+        (λ x. record_text (version_of (front.now ++ rest.items)) x.0 ≡ front.now ++ rest.items) }
+    ensures writable { IfOk result (λ x. IsWritable x.0) }
+    ensures digests { IfOk result (λ x. IfSome x.1 (λ d. d.items ≡ digests_of x.0.segments)) }
+{
+    let head = match Head::read_tested(front) {
+        Ok(head) => head,
+        Err(fault) => return Err(fault),
+    };
+    let version = Version::of(front);
+    let total = total_of(front, &rest);
+    let (_, body) = front.split_at(96);
+    let (own, first) = body.split_at(body.len().min(version.front_size()));
+    let behind = put_in_front(first, rest)?;
+    let (list, digests) = match take_segments(alloc, version, total, head.segments, own, behind) {
+        Ok(taken) => taken,
+        Err(fault) => return Err(fault),
+    };
+    match record_with(alloc, head, list) {
+        Ok(record) => Ok((record, digests)),
+        Err(fault) => Err(fault),
     }
 }
 
@@ -133,8 +153,9 @@ fn total_of(front: &[u8], rest: &[u8]) -> u64
 // The record of a tested head and these segments, which are tested by the rules.
 fn record_with(alloc: Global, head: Head, list: Vec<Segment>) -> Result<LoadRecord, RecFault>
     requires { head_fault head ≡ None }
-    ensures { Gives RecFault.Memory (λ r. r) result
+    ensures exact { Gives RecFault.Memory (λ r. r) result
         (ruled head list.items (bare_refusal list.items)) }
+    ensures segments { IfOk result (λ r. r.segments ≡ list.items) }
 {
     match Segments::bare(alloc, list) {
         Ok(segments) => Ok(head.record(segments)),

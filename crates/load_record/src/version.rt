@@ -2,7 +2,7 @@
 
 ghost use Rattle.std.specs.Prelude.{◌≡◌, ◌+◌, length};
 ghost use Rattle.load_record.specs.Head.{version_of};
-ghost use Rattle.load_record.specs.File.{digest_size, is_wrong};
+ghost use Rattle.load_record.specs.File.{digest_made, digest_size, is_wrong};
 
 use sha2::{Digest, Sha256};
 
@@ -13,6 +13,15 @@ pub enum Version {
     First,
     /// Before the bytes of each segment stands their SHA-256. This one is written.
     Second,
+}
+
+/// What the test of the digest before a segment's bytes tells.
+#[derive(Clone, Copy)]
+pub struct Tested {
+    /// The digest of the bytes. None in the first version: there is nothing to test.
+    pub made: Option<[u8; 32]>,
+    /// Another one stands before the bytes.
+    pub is_wrong: bool,
 }
 
 /// What a file of the first version begins with.
@@ -43,14 +52,24 @@ impl Version {
         }
     }
 
-    /// Whether the digest that stands before a segment's bytes is not that of these.
-    pub fn is_wrong(self, digest: &[u8], bytes: &[u8]) -> bool
+    /// Tests the digest that stands before a segment's bytes.
+    pub fn test(self, digest: &[u8], bytes: &[u8]) -> Tested
         requires { length digest.now ≡ digest_size self }
-        ensures { result ≡ is_wrong self digest.now bytes.now }
+        ensures made { result.made ≡ digest_made self bytes.now }
+        ensures wrong { result.is_wrong ≡ is_wrong self digest.now bytes.now }
     {
         match self {
-            Version::First => false,
-            Version::Second => Sha256::digest(bytes).as_slice() != digest,
+            Version::First => Tested {
+                made: None,
+                is_wrong: false,
+            },
+            Version::Second => {
+                let made = Sha256::digest(bytes);
+                Tested {
+                    made: Some(made),
+                    is_wrong: made.as_slice() != digest,
+                }
+            }
         }
     }
 }

@@ -4,5 +4,5 @@ use Rattle.load_record.specs.declared.version.Version.TheVariants.{Second}
 use Rattle.load_record.specs.File.{segment_text}
 use Rattle.load_record.proofs.body.give_segments.Given as goal
 
-abbrev pub invariant-loop-segment : goal.invariant-loop-segment
-invariant-loop-segment l = l.out.items ++ flat_map (segment_text Second) (drop l.segment-index l.segment-items) ≡ l.fn.bytes ++ flat_map (segment_text Second) l.fn.list.items
+abbrev pub invariant-loop-i : goal.invariant-loop-i
+invariant-loop-i l = l.out.items ++ flat_map (segment_text Second) (drop l.i l.segment-items) ≡ l.fn.bytes ++ flat_map (segment_text Second) l.fn.list.items

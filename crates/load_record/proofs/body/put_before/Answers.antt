@@ -35,12 +35,11 @@ returns c =
     let n = c.extend_from_slice-3.new.self.len in
     let k = length bytes + c.front_size.result in
     let made : c.segment.inside.bytes.items ≡ first = ap (λ (s : SegmentValue). s.bytes) c.segment.view_is in
-    let hashed : c.digest-digest.result ≡ digest = c.digest-digest.ensures ∙ ap sha256 made in
     let items : c.extend_from_slice-3.new.self.items ≡ ((first ++ bytes) ++ head) ++ digest =
     c.in_ok-extend_from_slice-3.ensures.items
-    ∙ ap (λ (xs : List ℕ). xs ++ c.digest-digest.result) (c.in_ok-extend_from_slice-2.ensures.items ∙ ap (λ (xs : List ℕ). xs ++ c.bytes.result.now) (c.in_ok-extend_from_slice.ensures.items ∙ ap (λ (xs : List ℕ). xs ++ bytes) (c.in_ok-reserve_exact.ensures.items ∙ made)))
-    ∙ ap (λ (xs : List ℕ). ((first ++ bytes) ++ xs) ++ c.digest-digest.result) c.bytes.ensures.value
-    ∙ ap (λ (xs : List ℕ). ((first ++ bytes) ++ head) ++ xs) hashed in
+    ∙ ap (λ (xs : List ℕ). xs ++ c.args.digest.now) (c.in_ok-extend_from_slice-2.ensures.items ∙ ap (λ (xs : List ℕ). xs ++ c.bytes.result.now) (c.in_ok-extend_from_slice.ensures.items ∙ ap (λ (xs : List ℕ). xs ++ bytes) (c.in_ok-reserve_exact.ensures.items ∙ made)))
+    ∙ ap (λ (xs : List ℕ). ((first ++ bytes) ++ xs) ++ c.args.digest.now) c.bytes.ensures.value
+    ∙ ap (λ (xs : List ℕ). ((first ++ bytes) ++ head) ++ xs) c.requires in
     let all : n ≡ length (((first ++ bytes) ++ head) ++ digest) = c.extend_from_slice-3.new.self.ok.0 ∙ ap length items in
     let some : k ≡ length bytes + (length head + length digest) = omega (arith, c.bytes.ensures.length, ap length c.bytes.ensures.value, length-sha256 first, c.front_size.ensures) in
     c.rotate_right.ensures.items

@@ -13,6 +13,5 @@ returns c =
     let s = c.args.segment.now in
     let head = written segment_format (head_of_segment s) (zeros 24) in
     let bytes_are : c.segment.inside.bytes.items ≡ s.bytes = ap (λ (s : SegmentValue). s.bytes) c.segment.view_is in
-    let digest : c.digest.result ≡ sha256 s.bytes = c.digest.ensures ∙ ap sha256 bytes_are in
-    rw (c.in_ok-extend_from_slice-3.ensures.items, c.in_ok-extend_from_slice-2.ensures.items, c.in_ok-extend_from_slice.ensures.items, c.deref.ensures.value, c.bytes.ensures.value, c.head_of.ensures.value, digest, bytes_are)
+    rw (c.in_ok-extend_from_slice-3.ensures.items, c.in_ok-extend_from_slice-2.ensures.items, c.in_ok-extend_from_slice.ensures.items, c.deref.ensures.value, c.bytes.ensures.value, c.head_of.ensures.value, c.requires, bytes_are)
     (append_assoc (out ++ head) (sha256 s.bytes) s.bytes ∙ append_assoc out head (sha256 s.bytes ++ s.bytes))

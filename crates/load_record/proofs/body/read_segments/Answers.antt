@@ -7,9 +7,9 @@ use Rattle.load_record.proofs.body.read_segments.Goals as goal
 pub returns-in-Ok : goal.returns-in-Ok
 returns-in-Ok c =
     let all : c.args.count - 0 ≡ c.args.count = omega arith in
-    subst (λ d. Gives Memory (λ v. v.items) c.without_wrong.result d) (sym (all_read c.args.version _ c.args.count (c.args.count - 0) _ c.in-Ok.list.items c.in-Ok.wrong all (rw c.split_at.ensures.back at c.in-Ok.ensures))) c.without_wrong.ensures
+    subst (λ d. Gives Memory (λ v. v.items) c.without_wrong.result d) (sym (all_read c.args.version _ c.args.count (c.args.count - 0) _ c.in-Ok.list.items c.in-Ok.wrong all (rw c.split_at.ensures.back at c.in-Ok.ensures.exact))) c.without_wrong.ensures
 
-pub returns-in-Err : goal.returns-in-Err
-returns-in-Err c =
+pub returns : goal.returns
+returns c =
     let all : c.args.count - 0 ≡ c.args.count = omega arith in
-    all_fail c.args.version _ c.args.count (c.args.count - 0) _ c.in-Err.fault all (rw c.split_at.ensures.back at c.in-Err.ensures)
+    all_fail c.args.version _ c.args.count (c.args.count - 0) _ c.in-Err.fault all (rw c.split_at.ensures.back at c.in-Err.ensures.exact)

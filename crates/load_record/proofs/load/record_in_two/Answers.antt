@@ -1,14 +1,14 @@
-use Rattle.std.proofs.Common.{◌≡◌, ◌+◌, ◌≤◌, ◌++◌, min, length, drop, sym, ap, ◌∙◌, subst, Ok, arith}
+use Rattle.std.proofs.Common.{◌≡◌, ◌+◌, ◌≤◌, ◌++◌, ◌⊎◌, min, length, drop, sym, ap, ◌∙◌, subst, Ok, Err, arith}
 use Rattle.std.proofs.lemmas.List.{length-append, length-drop}
-use Rattle.kx_laws.specs.Results.{Gives}
 use Rattle.load_record.specs.declared.fault.RecFault.TheVariants.{Memory}
 use Rattle.load_record.specs.declared.version.Version.{Version}
 use Rattle.load_record.specs.declared.version.Version.TheVariants.{First, Second}
-use Rattle.load_record.specs.File.{Record, digest_size, head_tested}
+use Rattle.load_record.specs.File.{digest_size, head_tested}
 use Rattle.load_record.proofs.Heads.{good_head, head_found}
 use Rattle.load_record.proofs.InTwo.{head_in_two, version_in_two, behind_in_two, cut_in_two}
-use Rattle.load_record.proofs.Reading.{head_fails, segments_fail, reading_ruled, given_found, given_writable}
-use Rattle.load_record.proofs.load.LoadRecord.from_file.Goals as goal
+use Rattle.load_record.proofs.Reading.{head_fails, segments_fail, reading_ruled}
+use Rattle.load_record.proofs.Laws.{reading_found}
+use Rattle.load_record.proofs.load.record_in_two.Goals as goal
 
 pub returns-in-Err-clause-exact : goal.returns-in-Err-clause-exact
 returns-in-Err-clause-exact c =
@@ -53,23 +53,36 @@ returns-in-Err-take_segments-clause-exact c =
     let version = c.of-version.ensures ∙ version_in_two c.args.front.now c.args.rest.items long in
     let front_is = c.split_at.ensures.back in
     let body = behind_in_two c.args.front.now c.args.rest.items c.split_at-2.result.0.now c.split_at-2.result.1.now c.min.result long (rw front_is at c.split_at-2.ensures.front) (rw front_is at c.split_at-2.ensures.back) in
-    segments_fail file c.in-Ok.head c.in-Err-take_segments.fault head (rw (version, c.in_ok-behind.ensures, body, c.total_of-total.ensures.value, c.deref.ensures.value) at c.in-Err-take_segments.ensures)
+    segments_fail file c.in-Ok.head c.in-Err-take_segments.fault head (rw (version, c.in_ok-behind.ensures, body, c.total_of-total.ensures.value, c.deref.ensures.value) at c.in-Err-take_segments.ensures.exact)
 
 pub record_with-requires : goal.record_with-requires
 record_with-requires c = (head_found c.args.front.now c.in-Ok.head (sym c.in-Ok.ensures.value)).good
 
-pub returns-clause-exact : goal.returns-clause-exact
-returns-clause-exact c =
+pub returns-in-Ok-record_with-clause-exact : goal.returns-in-Ok-record_with-clause-exact
+returns-in-Ok-record_with-clause-exact c =
     let file = c.args.front.now ++ c.args.rest.items in
     let long = (head_found c.args.front.now c.in-Ok.head (sym c.in-Ok.ensures.value)).long in
     let head : Ok c.in-Ok.head ≡ head_tested file = c.in-Ok.ensures.value ∙ head_in_two c.args.front.now c.args.rest.items c.requires.apart in
     let version = c.of-version.ensures ∙ version_in_two c.args.front.now c.args.rest.items long in
     let front_is = c.split_at.ensures.back in
     let body = behind_in_two c.args.front.now c.args.rest.items c.split_at-2.result.0.now c.split_at-2.result.1.now c.min.result long (rw front_is at c.split_at-2.ensures.front) (rw front_is at c.split_at-2.ensures.back) in
-    subst (λ d. Gives Memory (λ (r : Record). r) c.record_with.result d) (sym (reading_ruled file c.in-Ok.head c.in-Ok-take_segments.list.items head (rw (version, c.in_ok-behind.ensures, body, c.total_of-total.ensures.value, c.deref.ensures.value) at c.in-Ok-take_segments.ensures))) c.record_with.ensures
+    reading_ruled file c.in-Ok.head c.in-Ok-take_segments.taken.0.items head (rw (version, c.in_ok-behind.ensures, body, c.total_of-total.ensures.value, c.deref.ensures.value) at c.in-Ok-take_segments.ensures.exact) ∙ c.in-Ok-record_with.ensures.exact
 
-pub returns-clause-found : goal.returns-clause-found
-returns-clause-found c = given_found (c.args.front.now ++ c.args.rest.items) c.record_with.result (rw c.deref.ensures.value at c.total_of-total.ensures.bytes) (returns-clause-exact c)
+pub returns-in-Ok-record_with-clause-found : goal.returns-in-Ok-record_with-clause-found
+returns-in-Ok-record_with-clause-found c = (reading_found (c.args.front.now ++ c.args.rest.items) c.in-Ok-record_with.record (rw c.deref.ensures.value at c.total_of-total.ensures.bytes) (returns-in-Ok-record_with-clause-exact c)).0
 
-pub returns-clause-writable : goal.returns-clause-writable
-returns-clause-writable c = given_writable (c.args.front.now ++ c.args.rest.items) c.record_with.result (rw c.deref.ensures.value at c.total_of-total.ensures.bytes) (returns-clause-exact c)
+pub returns-in-Ok-record_with-clause-writable : goal.returns-in-Ok-record_with-clause-writable
+returns-in-Ok-record_with-clause-writable c = (reading_found (c.args.front.now ++ c.args.rest.items) c.in-Ok-record_with.record (rw c.deref.ensures.value at c.total_of-total.ensures.bytes) (returns-in-Ok-record_with-clause-exact c)).1
+
+pub returns-in-Ok-record_with-clause-digests : goal.returns-in-Ok-record_with-clause-digests
+returns-in-Ok-record_with-clause-digests c = rw c.in-Ok-record_with.ensures.segments c.in-Ok-take_segments.ensures.digests
+
+pub returns-in-Err-record_with-clause-exact : goal.returns-in-Err-record_with-clause-exact
+returns-in-Err-record_with-clause-exact c =
+    let file = c.args.front.now ++ c.args.rest.items in
+    let long = (head_found c.args.front.now c.in-Ok.head (sym c.in-Ok.ensures.value)).long in
+    let head : Ok c.in-Ok.head ≡ head_tested file = c.in-Ok.ensures.value ∙ head_in_two c.args.front.now c.args.rest.items c.requires.apart in
+    let version = c.of-version.ensures ∙ version_in_two c.args.front.now c.args.rest.items long in
+    let front_is = c.split_at.ensures.back in
+    let body = behind_in_two c.args.front.now c.args.rest.items c.split_at-2.result.0.now c.split_at-2.result.1.now c.min.result long (rw front_is at c.split_at-2.ensures.front) (rw front_is at c.split_at-2.ensures.back) in
+    subst (λ d. (d ≡ Err c.in-Err-record_with.fault) ⊎ (c.in-Err-record_with.fault ≡ Memory)) (sym (reading_ruled file c.in-Ok.head c.in-Ok-take_segments.taken.0.items head (rw (version, c.in_ok-behind.ensures, body, c.total_of-total.ensures.value, c.deref.ensures.value) at c.in-Ok-take_segments.ensures.exact))) c.in-Err-record_with.ensures.exact
