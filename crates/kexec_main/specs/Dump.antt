@@ -13,11 +13,13 @@ use Rattle.list_checker.specs.Texts.{fault_text}
 use Rattle.sha2.specs.Sha256.{sha256}
 use Rattle.hex.specs.Hex.{encode_lower}
 use Rattle.file_commands.specs.Taking.{Refusal}
+use Rattle.kexec_main.specs.declared.dump.DumpInputs.{DumpInputs}
 use Rattle.kexec_main.specs.declared.files.CrashFiles.{CrashFiles}
 use Rattle.kexec_main.specs.declared.files.LoadFiles.{LoadFiles}
 use Rattle.kexec_main.specs.declared.files.TakenLoad.{TakenLoad}
 use Rattle.kexec_main.specs.declared.files.TakenLoad.TheVariants.{Normal, Crash}
 use Rattle.kexec_main.specs.declared.status.Reason.{Reason}
+use Rattle.kexec_main.specs.Files.{load_by}
 use Rattle.kexec_main.specs.Outputs.{Made}
 use Rattle.kexec_main.specs.Texts.{hexadecimal}
 
@@ -86,6 +88,10 @@ abbrev pub dumps_in_place : CrashFiles → Result Made (Refusal Reason) → Type
 dumps_in_place x (Ok goods) =
     goods ≡ lines_of (head_text x.head ++ flat_map segment_line x.segments)
 dumps_in_place x (Err other) = ⊥
+
+-- the load that `dump` took
+abbrev pub dump_inputs : DumpInputs → TakenLoad
+dump_inputs d = load_by d.memory d.load_record
 
 -- by the record's kind
 abbrev pub dumps : TakenLoad → Result Made (Refusal Reason) → Type 0

@@ -1,22 +1,32 @@
 //! `dump`: the words of the list that a record tells, and its segments.
 
-ghost use Rattle.std.specs.Prelude.{◌≡◌, ◌++◌, ◌∷◌, [], IfOk, OnOk, string_bytes};
+ghost use Rattle.std.specs.Prelude.{◌≡◌, ◌++◌, ◌∷◌, [], true, false, IfOk, OnOk, string_bytes};
 ghost use Rattle.std.specs.List.{flat_map};
-ghost use Rattle.file_commands.specs.Calls.{Makes, goods_of};
+ghost use Rattle.sha2.specs.Sha256.{sha256};
+ghost use Rattle.file_commands.specs.Calls.{Makes, Takes, goods_of};
 ghost use Rattle.kexec_words.specs.Values.{load_names_value};
-ghost use Rattle.kexec_main.specs.Dump.{dumps, dumps_in_place, dumps_list, head_fault, head_text, lines_of, segment_line, walk_text, word_line, word_lines};
+ghost use Rattle.kexec_main.specs.Dump.{dump_inputs, dumps, head_fault, head_text, lines_of, segment_line, walk_text, word_line, word_lines};
 ghost use Rattle.kexec_main.specs.Files.{load_files_of};
 
-use crate::files::{CrashFiles, LoadFiles, TakenLoad, take_load_files};
+use crate::files::{take_digested_record, take_memory};
 use crate::status::Reason;
 use crate::words::DumpWords;
 use file_commands::{Command, Goods, MakeFault, TakeFault};
+use kexec_words::LoadNames;
 use kx_edge::Shelf;
 use kx_pages::{Item, Page};
 use list_checker::{ListFault, Walk, Why, walk};
-use segments::{Segment, Segments};
-use sha2::{Digest, Sha256};
+use load_record::DigestedRecord;
+use page_memory::Memory;
+use segments::Segment;
 use std::alloc::{AllocError, Global};
+
+/// What `dump` took: the memory, and the record with the digests that are printed.
+#[derive(Drop)]
+pub(crate) struct DumpInputs {
+    pub(crate) memory: Memory,
+    pub(crate) load_record: DigestedRecord,
+}
 
 // The line of a word.
 #[tactic(auto, unfolding(crate::specs::Dump::word_line))]
@@ -60,12 +70,13 @@ fn push_walk(alloc: Global, text: &mut String, walk: Walk) -> Result<(), AllocEr
     Ok(())
 }
 
-// The line of a segment.
+// The line of a segment with this digest.
 #[tactic(auto, unfolding(crate::specs::Dump::segment_line))]
-fn segment_line(alloc: Global, segment: &Segment) -> Result<String, AllocError>
+fn segment_line(alloc: Global, segment: &Segment, digest: &[u8; 32]) -> Result<String, AllocError>
+    requires { digest.now ≡ sha256 segment.now.bytes }
     ensures { IfOk result (λ s. string_bytes s ≡ segment_line segment.now) }
 {
-    let digest = hex::encode(alloc, Sha256::digest(segment.bytes.as_slice()))?;
+    let digest = hex::encode(alloc, *digest)?;
     format!(in alloc;
         "segment {:x} memsz {:x} bufsz {} sha256 {digest}\n",
         segment.mem,
@@ -74,13 +85,19 @@ fn segment_line(alloc: Global, segment: &Segment) -> Result<String, AllocError>
     )
 }
 
-// Adds the lines of segments.
-fn push_segments(alloc: Global, text: &mut String, segments: &Segments) -> Result<(), AllocError>
-    ensures { OnOk result
-        (string_bytes text.new ≡ string_bytes text.old ++ flat_map segment_line segments.now) }
+// Adds the lines of a record's segments.
+fn push_segments(
+    alloc: Global,
+    text: &mut String,
+    load_record: &DigestedRecord,
+) -> Result<(), AllocError>
+    ensures { OnOk result (string_bytes text.new
+        ≡ string_bytes text.old ++ flat_map segment_line load_record.now.segments) }
 {
+    let segments = &load_record.record().segments;
     for i in 0..segments.count() {
-        text.push_str(&segment_line(alloc, segments.segment(i))?)?;
+        let line = segment_line(alloc, segments.segment(i), load_record.digest(i))?;
+        text.push_str(&line)?;
     }
     Ok(())
 }
@@ -123,42 +140,58 @@ fn lines(alloc: Global, text: String) -> Goods<ListFault>
     }
 }
 
-// Makes the lines of the list and of the segments of a normal load.
-fn dump_list(alloc: Global, files: LoadFiles) -> Result<Goods<ListFault>, MakeFault<Reason>>
-    ensures { Makes dumps_list files result }
+// Takes the memory file, then the file of the load record.
+fn take_dump<S: Shelf>(
+    alloc: Global,
+    names: LoadNames,
+    shelf: &mut S,
+) -> Result<DumpInputs, TakeFault<Reason>>
+    ensures { Takes S.Shelf (load_files_of (load_names_value names)) dump_inputs shelf.old result
+        shelf.new }
 {
-    let LoadFiles {
+    let memory = take_memory(alloc, names.memory, shelf)?;
+    let load_record = take_digested_record(alloc, names.load_record, shelf)?;
+    Ok(DumpInputs {
         memory,
         load_record,
-    } = files;
-    let walk = walk(alloc, &memory, load_record.image.head)?;
+    })
+}
+
+// Makes the lines of the list and of the segments of a normal load.
+fn dump_list(alloc: Global, dump: &DumpInputs) -> Result<Goods<ListFault>, MakeFault<Reason>>
+    requires { dump.now.load_record.crash ≡ false }
+    ensures { Makes dumps (dump_inputs dump.now) result }
+{
+    let walk = walk(alloc, &dump.memory, dump.load_record.record().image.head)?;
     let mut text = String::new(alloc);
     push_walk(alloc, &mut text, walk)?;
-    push_segments(alloc, &mut text, &load_record.segments)?;
+    push_segments(alloc, &mut text, &dump.load_record)?;
     Ok(lines(alloc, text))
 }
 
 // Makes the lines of the head and of the segments of a crash load.
-fn dump_in_place(alloc: Global, files: CrashFiles) -> Result<Goods<ListFault>, MakeFault<Reason>>
-    ensures { Makes dumps_in_place files result }
+fn dump_in_place(alloc: Global, dump: &DumpInputs) -> Result<Goods<ListFault>, MakeFault<Reason>>
+    requires { dump.now.load_record.crash ≡ true }
+    ensures { Makes dumps (dump_inputs dump.now) result }
 {
-    let mut text = head_text(alloc, files.head)?;
-    push_segments(alloc, &mut text, &files.segments)?;
+    let mut text = head_text(alloc, dump.load_record.record().image.head)?;
+    push_segments(alloc, &mut text, &dump.load_record)?;
     Ok(lines(alloc, text))
 }
 
 // Makes the lines of the load.
-fn make_dump(alloc: Global, load: TakenLoad) -> Result<Goods<ListFault>, MakeFault<Reason>>
-    ensures { Makes dumps load result }
+fn make_dump(alloc: Global, dump: DumpInputs) -> Result<Goods<ListFault>, MakeFault<Reason>>
+    ensures { Makes dumps (dump_inputs dump) result }
 {
-    match load {
-        TakenLoad::Normal(files) => dump_list(alloc, files),
-        TakenLoad::Crash(files) => dump_in_place(alloc, files),
+    if dump.load_record.record().crash {
+        dump_in_place(alloc, &dump)
+    } else {
+        dump_list(alloc, &dump)
     }
 }
 
 impl Command for DumpWords {
-    type Taken = TakenLoad;
+    type Taken = DumpInputs;
 
     type Fault = ListFault;
 
@@ -168,17 +201,17 @@ impl Command for DumpWords {
 
     ghost Inputs = { TakenLoad };
 
-    ghost inputs = { λ f. f };
+    ghost inputs = { dump_inputs };
 
     ghost takes = { λ d. load_files_of (load_names_value d.words) };
 
     ghost makes = { dumps };
 
-    fn take<S: Shelf>(self, alloc: Global, shelf: &mut S) -> Result<TakenLoad, TakeFault<Reason>> {
-        take_load_files(alloc, self.words.memory, self.words.load_record, shelf)
+    fn take<S: Shelf>(self, alloc: Global, shelf: &mut S) -> Result<DumpInputs, TakeFault<Reason>> {
+        take_dump(alloc, self.words, shelf)
     }
 
-    fn make(alloc: Global, load: TakenLoad) -> Result<Goods<ListFault>, MakeFault<Reason>> {
-        make_dump(alloc, load)
+    fn make(alloc: Global, dump: DumpInputs) -> Result<Goods<ListFault>, MakeFault<Reason>> {
+        make_dump(alloc, dump)
     }
 }

@@ -12,7 +12,7 @@ use crash_headers::{Note, NoteFault, read_notes};
 use file_commands::{FileParts, TakeFault, take_apart, take_file};
 use kx_edge::Shelf;
 use kx_pages::{Page, Start};
-use load_record::{FIRST_BYTES, LoadRecord, RecFault};
+use load_record::{DigestedRecord, FIRST_BYTES, LoadRecord, RecFault};
 use memory_map::{Map, MapFault};
 use page_memory::{MemFault, Memory};
 use page_pool::{Pool, PoolFault};
@@ -192,6 +192,25 @@ pub(crate) fn take_record<S: Shelf>(
     }
 }
 
+/// As `take_record`, with the digests of the record's segments.
+#[tactic(auto, unfolding(file_commands::specs::Taking::and_then, file_commands::specs::Taking::Took, file_commands::specs::Taking::FailedAt, file_commands::specs::Calls::TakesNot))]
+pub(crate) fn take_digested_record<S: Shelf>(
+    alloc: Global,
+    name: String,
+    shelf: &mut S,
+) -> Result<DigestedRecord, TakeFault<Reason>>
+    ensures takes { Takes S.Shelf (load_record_file (string_bytes name)) (λ r. r) shelf.old result
+        shelf.new }
+    ensures writable { IfOk result IsWritable }
+{
+    let FileParts { front, rest, .. } = take_apart(alloc, name, FIRST_BYTES, RECORD_LIMIT, shelf)?;
+    match DigestedRecord::from_file(alloc, &front, rest) {
+        Ok(record) => Ok(record),
+        Err(RecFault::Memory) => Err(TakeFault::Memory),
+        Err(fault) => Err(refused_by(InputFault::Rec { fault })),
+    }
+}
+
 /// The files of a normal load, as they were taken: the memory, and the record of its list.
 #[derive(Drop)]
 pub(crate) struct LoadFiles {
@@ -213,7 +232,7 @@ pub(crate) struct CrashFiles {
     pub(crate) digest: u64,
 }
 
-/// A load that was taken, by the kind of its record. No command looks at the kind again.
+/// A load that `check` or `exec` took, by the kind of its record. Neither looks at the kind again.
 #[derive(Drop)]
 pub(crate) enum TakenLoad {
     Normal(LoadFiles),

@@ -94,7 +94,11 @@ fn loaded_text(alloc: Global, loaded: &Loaded, start: &Start) -> Result<String, 
 }
 
 // The record of a load, as a file of this name, and the memory that it was of.
-fn record_output(kernel: LoadedKernel, name: String) -> Result<(Memory, File), AllocError>
+fn record_output(
+    alloc: Global,
+    kernel: LoadedKernel,
+    name: String,
+) -> Result<(Memory, File), AllocError>
     ensures memory { IfOk result (λ r. r.0 ≡ kernel.loaded.memory) }
     ensures record { IfOk result (λ r. file_of r.1
         ≡ (string_bytes name, record_file (record_of_load kernel.loaded (plan_of kernel)))) }
@@ -110,7 +114,7 @@ fn record_output(kernel: LoadedKernel, name: String) -> Result<(Memory, File), A
         digest: kernel.digest,
         segments,
     };
-    let bytes = record.into_file()?;
+    let bytes = record.into_file(alloc)?;
     Ok((memory, File { name, bytes }))
 }
 
@@ -126,7 +130,7 @@ fn make_load(alloc: Global, load: LoadCommand) -> Result<Goods<ListFault>, MakeF
     } = load;
     let kernel = load_request(alloc, load, wish)?;
     let text = loaded_text(alloc, &kernel.loaded, &kernel.start)?;
-    let (memory, output) = record_output(kernel, load_record)?;
+    let (memory, output) = record_output(alloc, kernel, load_record)?;
     let mut outputs = memory_output(alloc, memory, out)?;
     outputs.push(output)?;
     Ok(Goods {

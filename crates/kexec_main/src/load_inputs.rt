@@ -6,7 +6,7 @@ ghost use Rattle.load_record.specs.File.{IsWritable};
 ghost use Rattle.kexec_plan.specs.Requests.{IsMapped, request_of};
 
 use kexec_plan::Request;
-use load_record::LoadRecord;
+use load_record::DigestedRecord;
 use memory_map::Map;
 use page_memory::Memory;
 use page_pool::Pool;
@@ -24,10 +24,10 @@ pub(crate) struct LoadInputs {
     pub(crate) ghost mapped: { IsMapped (request_of request) map },
 }
 
-/// What `migrate` took, and the name of its output.
+/// What `migrate` took, whose digests are written again, and the name of its output.
 #[derive(Drop)]
 pub(crate) struct MigrateInputs {
-    pub(crate) load_record: LoadRecord,
+    pub(crate) load_record: DigestedRecord,
     pub(crate) out: String,
     /// A record that was read has a file.
     pub(crate) ghost writable: { IsWritable load_record },

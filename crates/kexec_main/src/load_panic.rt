@@ -82,7 +82,7 @@ fn record_output(
         digest: kernel.digest,
         segments,
     };
-    let bytes = record.into_file()?;
+    let bytes = record.into_file(alloc)?;
     Ok((memory, text, File { name, bytes }))
 }
 

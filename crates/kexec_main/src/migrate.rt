@@ -5,7 +5,7 @@ ghost use Rattle.file_commands.specs.Calls.{Makes, Takes};
 ghost use Rattle.kexec_words.specs.Values.{migrate_value};
 ghost use Rattle.kexec_main.specs.Migrate.{MigrateInputs as Inputs, migrate_files, migrate_inputs, migrates, segments_line};
 
-use crate::files::take_record;
+use crate::files::take_digested_record;
 use crate::load_inputs::MigrateInputs;
 use crate::output::one;
 use crate::status::Reason;
@@ -33,7 +33,7 @@ fn take_migrate<S: Shelf>(
         result shelf.new }
 {
     let Migrate { load_record, out } = migrate.words;
-    let load_record = take_record(alloc, load_record, shelf)?;
+    let load_record = take_digested_record(alloc, load_record, shelf)?;
     Ok(MigrateInputs { load_record, out })
 }
 
@@ -48,7 +48,7 @@ fn make_migrate(
         load_record,
         out: name,
     } = migrate;
-    let text = segments_line(alloc, load_record.segments.count())?;
+    let text = segments_line(alloc, load_record.record().segments.count())?;
     let bytes = load_record.into_file()?;
     let outputs = one(alloc, File { name, bytes })?;
     Ok(Goods {
