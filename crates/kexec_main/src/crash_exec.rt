@@ -9,10 +9,10 @@ ghost use Rattle.kexec_main.specs.Outputs.{HasNoFile};
 use crate::check::fault_goods;
 use crate::files::CrashFiles;
 use crate::output::memory_output;
+use crate::running::Startup;
 use crate::status::Reason;
 use crate::text::crash_ran_text;
 use file_commands::{Goods, MakeFault};
-use kx_pages::Start;
 use list_checker::ListFault;
 use load_states::{AcceptedCrash, CrashLoaded};
 use std::alloc::Global;
@@ -22,18 +22,16 @@ fn run_in_place(
     alloc: Global,
     accepted: AcceptedCrash,
     pages: u64,
-    start: &Start,
-    regions: u64,
-    digest: u64,
+    startup: Startup,
     out: String,
 ) -> Result<Goods<ListFault>, MakeFault<Reason>>
     ensures { MakesOr
-        (λ g. RunsInPlace (at accepted.memory) pages start.now regions digest
+        (λ g. RunsInPlace (at accepted.memory) pages startup.start startup.regions startup.digest
         (string_bytes out) (goods_of g))
         (HasNoFile (at accepted.memory)) result }
 {
     let ran = accepted.exec();
-    let text = crash_ran_text(alloc, &ran, pages, start, regions, digest)?;
+    let text = crash_ran_text(alloc, &ran, pages, startup)?;
     let outputs = memory_output(alloc, ran.into_memory(), out)?;
     Ok(Goods {
         outputs,
@@ -65,9 +63,14 @@ pub(crate) fn exec_in_place(
         });
     }
     let pages = segments.pages();
+    let startup = Startup {
+        start,
+        regions,
+        digest,
+    };
     let loaded = CrashLoaded::from_parts(memory, head, segments);
     match loaded.accept() {
-        Ok(accepted) => run_in_place(alloc, accepted, pages, &start, regions, digest, out),
+        Ok(accepted) => run_in_place(alloc, accepted, pages, startup, out),
         Err(refused) => fault_goods(alloc, refused.1),
     }
 }

@@ -12,14 +12,14 @@ use crate::check::unaccepted_goods;
 use crate::crash_exec::exec_in_place;
 use crate::files::{LoadFiles, TakenLoad, take_load_files};
 use crate::output::memory_output;
-use crate::running::run_accepted;
+use crate::running::{Startup, run_accepted};
 use crate::status::Reason;
 use crate::text::ran_text;
 use crate::words::ExecWords;
 use file_commands::{Command, Goods, MakeFault, TakeFault};
 use kexec_words::{Exec, Runs};
 use kx_edge::Shelf;
-use kx_pages::{Mode, Start};
+use kx_pages::Mode;
 use list_checker::ListFault;
 use load_record::LoadRecord;
 use load_states::{Accepted, Loaded};
@@ -77,18 +77,16 @@ fn run_goods(
     alloc: Global,
     accepted: Accepted,
     runs: Option<Runs>,
-    start: &Start,
-    regions: u64,
-    digest: u64,
+    startup: Startup,
     out: String,
 ) -> Result<Goods<ListFault>, MakeFault<Reason>>
     requires { (s : LoadOf) × IsAcceptedAs s accepted × HasMode runs s.image.mode }
     ensures { (s : LoadOf) → IsAcceptedAs s accepted
-        → MakesOr (λ g. RunsList runs s start.now regions digest (string_bytes out) (goods_of g))
-        (RefusesRun runs s) result }
+        → MakesOr (λ g. RunsList runs s startup.start startup.regions startup.digest
+        (string_bytes out) (goods_of g)) (RefusesRun runs s) result }
 {
     let ran = run_accepted(accepted, runs);
-    let text = ran_text(alloc, &ran, start, regions, digest)?;
+    let text = ran_text(alloc, &ran, startup)?;
     let outputs = memory_output(alloc, ran.memory, out)?;
     Ok(Goods {
         outputs,
@@ -124,9 +122,14 @@ fn exec_list(
         });
     }
     let runs = runs_of(twice, image.mode);
+    let startup = Startup {
+        start,
+        regions,
+        digest,
+    };
     let loaded = Loaded::from_files(alloc, memory, image, segments);
     match loaded.accept(alloc) {
-        Ok(accepted) => run_goods(alloc, accepted, runs, &start, regions, digest, out),
+        Ok(accepted) => run_goods(alloc, accepted, runs, startup, out),
         Err(refused) => unaccepted_goods(alloc, refused.why),
     }
 }

@@ -6,7 +6,7 @@ ghost use Rattle.kexec_main.specs.Runs.{ran_text};
 ghost use Rattle.page_memory.specs.Contents.{at};
 ghost use Rattle.kexec_main.specs.Texts.{accepted_line, crash_line, crash_lines, crash_ran_text, head_line, load_lines, memory_line, purgatory_line, ran_line, regions_line, start_line};
 
-use crate::running::Ran;
+use crate::running::{Ran, Startup};
 use kx_pages::{Image, Mode, Start};
 use load_states::RanPlain;
 use page_memory::Memory;
@@ -108,18 +108,17 @@ fn push_purgatory_line(
     Ok(())
 }
 
-/// What is said of a list that ran, and of each run: the one text of a command that runs a list. `regions` and `digest`
-/// are the addresses of the purgatory's region table and of its digest, or 0.
-pub(crate) fn ran_text(
-    alloc: Global,
-    ran: &Ran,
-    start: &Start,
-    regions: u64,
-    digest: u64,
-) -> Result<String, AllocError>
-    ensures { IfOk result (λ s. string_bytes s ≡ ran_text ran.now start.now regions digest) }
+/// What is said of a list that ran, and of each run: the one text of a command that runs a list.
+pub(crate) fn ran_text(alloc: Global, ran: &Ran, startup: Startup) -> Result<String, AllocError>
+    ensures { IfOk result (λ s. string_bytes s
+        ≡ ran_text ran.now startup.start startup.regions startup.digest) }
 {
-    let mut text = load_lines(alloc, ran.words, ran.links, ran.pairs, &ran.image, start)?;
+    let Startup {
+        start,
+        regions,
+        digest,
+    } = startup;
+    let mut text = load_lines(alloc, ran.words, ran.links, ran.pairs, &ran.image, &start)?;
     push_ran_line(alloc, &mut text, ran.steps)?;
     match ran.back {
         Some(steps) => push_ran_line(alloc, &mut text, steps)?,
@@ -144,19 +143,22 @@ pub(crate) fn crash_lines(alloc: Global, pages: u64, start: &Start) -> Result<St
     Ok(text)
 }
 
-/// What is said of a crash load and of its run, which left this memory. `regions` and `digest` are as in `ran_text`.
+/// What is said of a crash load of so many pages, and of its run.
 pub(crate) fn crash_ran_text(
     alloc: Global,
     ran: &RanPlain,
     pages: u64,
-    start: &Start,
-    regions: u64,
-    digest: u64,
+    startup: Startup,
 ) -> Result<String, AllocError>
-    ensures { IfOk result (λ s. string_bytes s ≡
-        crash_ran_text (at ran.now.memory) pages ran.now.steps start.now regions digest) }
+    ensures { IfOk result (λ s. string_bytes s ≡ crash_ran_text (at ran.now.memory) pages
+        ran.now.steps startup.start startup.regions startup.digest) }
 {
-    let mut text = crash_lines(alloc, pages, start)?;
+    let Startup {
+        start,
+        regions,
+        digest,
+    } = startup;
+    let mut text = crash_lines(alloc, pages, &start)?;
     push_ran_line(alloc, &mut text, ran.steps())?;
     push_purgatory_line(&mut text, ran.memory(), regions, digest)?;
     Ok(text)
@@ -178,7 +180,12 @@ pub(crate) fn sample_text(alloc: Global, ran: &Ran, start: &Start) -> Result<Str
     ensures { IfOk result (λ s. string_bytes s
         ≡ ran_text ran.now start.now 0 0 ++ memory_line (at ran.now.memory)) }
 {
-    let mut text = ran_text(alloc, ran, start, 0, 0)?;
+    let startup = Startup {
+        start: *start,
+        regions: 0,
+        digest: 0,
+    };
+    let mut text = ran_text(alloc, ran, startup)?;
     push_memory_line(alloc, &mut text, &ran.memory)?;
     Ok(text)
 }
