@@ -215,43 +215,43 @@ fn join(
 }
 
 // The loads in the order of their addresses.
-fn sorted(alloc: Global, loads: &[Load]) -> Result<Vec<Load>, AllocError>
-    ensures same { IfOk result (λ v. IsPermutation loads.now v.items) }
-    ensures rising { IfOk result (λ v. IsNonDecreasingBy (λ (l : Load). l.paddr) v.items) }
+fn sorted(mut loads: Vec<Load>) -> Vec<Load>
+    ensures same { IsPermutation loads.items result.items }
+    ensures rising { IsNonDecreasingBy (λ (l : Load). l.paddr) result.items }
 {
-    let mut list = Vec::from_slice(alloc, loads)?;
-    list.sort_unstable_by_key(|l| l.paddr);
-    Ok(list)
+    loads.sort_unstable_by_key(|l| l.paddr);
+    loads
 }
 
 // The segments of the loads of a file, which meet these pages.
 fn make_segments(
     alloc: Global,
     pages: &PageSet,
-    loads: &[Load],
+    loads: Vec<Load>,
     file: &[u8],
 ) -> Result<Vec<Segment>, AllocError>
-    requires { AreSound (length file.now) loads.now }
-    ensures { IfOk result (λ v. v.items ≡ segments_of file.now loads.now) }
+    requires { AreSound (length file.now) loads.items }
+    ensures { IfOk result (λ v. v.items ≡ segments_of file.now loads.items) }
 {
-    let list = sorted(alloc, loads)?;
+    let list = sorted(loads);
     let segments = join(alloc, pages, &list, file)?;
     Ok(segments)
 }
 
-/// The segments that an executable is loaded as, which was read from these bytes.
-pub fn image_pages(alloc: Global, exec: &Exec, bytes: &[u8]) -> Result<Vec<Segment>, ElfFault>
-    requires { exec_reading bytes.now ≡ Ok exec.now }
+/// The segments that an executable is loaded as, which was read from these bytes. Its loads are sorted where they lie.
+pub fn image_pages(alloc: Global, exec: Exec, bytes: &[u8]) -> Result<Vec<Segment>, ElfFault>
+    requires { exec_reading bytes.now ≡ Ok exec }
     // The segments, or that they have too many pages.
-    ensures exact { Gives Memory (λ v. v.items) result (image bytes.now exec.now.loads) }
+    ensures exact { Gives Memory (λ v. v.items) result (image bytes.now exec.loads) }
     // They are the maximal runs of the pages that loads meet, in rising order.
-    ensures maximal { IfOk result (λ v. AreRuns (is_met exec.now.loads) (map run_of v.items)) }
+    ensures maximal { IfOk result (λ v. AreRuns (is_met exec.loads) (map run_of v.items)) }
 {
-    let pages = met_set(alloc, &exec.loads)?;
+    let loads = exec.loads;
+    let pages = met_set(alloc, &loads)?;
     let total = pages.total();
     if total > SEGMENT_PAGE_LIMIT {
         return Err(ElfFault::TooLarge { pages: total });
     }
-    let list = make_segments(alloc, &pages, &exec.loads, bytes)?;
+    let list = make_segments(alloc, &pages, loads, bytes)?;
     Ok(list)
 }

@@ -83,7 +83,7 @@ fn image_of(alloc: Global, bytes: &[u8]) -> Result<Vec<Segment>, ElfFault> {
         Ok(exec) => exec,
         Err(fault) => return Err(fault),
     };
-    image_pages(alloc, &exec, bytes)
+    image_pages(alloc, exec, bytes)
 }
 
 // The address and the size of each segment, and how many bytes it has.

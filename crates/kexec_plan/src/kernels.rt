@@ -42,11 +42,9 @@ pub(crate) fn read_elf(alloc: Global, file: &[u8]) -> Result<Kernel, PlanFault>
             fault: ElfFault::Class,
         });
     }
-    match image_pages(alloc, &exec, file) {
-        Ok(list) => Ok(Kernel {
-            list,
-            entry: exec.entry,
-        }),
+    let entry = exec.entry;
+    match image_pages(alloc, exec, file) {
+        Ok(list) => Ok(Kernel { list, entry }),
         Err(fault) => Err(PlanFault::of_elf(fault)),
     }
 }

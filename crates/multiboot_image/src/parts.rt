@@ -181,11 +181,9 @@ fn elf_parts(alloc: Global, file: &[u8]) -> Result<Parts, MbFault>
             fault: ElfFault::Class,
         });
     }
-    match image_pages(alloc, &exec, file) {
-        Ok(list) => Ok(Parts {
-            list,
-            entry: exec.entry,
-        }),
+    let entry = exec.entry;
+    match image_pages(alloc, exec, file) {
+        Ok(list) => Ok(Parts { list, entry }),
         Err(fault) => Err(MbFault::of_elf(fault)),
     }
 }
