@@ -277,11 +277,9 @@ fn marks_for(alloc: Global, pages: &[Page]) -> Result<BTreeMap<Page, bool>, Pool
     for p in pages {
         // A page's number is below 2^34, so its address is below the limit of a new pool.
         let _number = p.number();
-        if marks.contains_key(p) {
-            return Err(PoolFault::Repeats { page: *p });
-        }
         match marks.insert(*p, false) {
-            Ok(_) => (),
+            Ok(None) => (),
+            Ok(Some(_)) => return Err(PoolFault::Repeats { page: *p }),
             Err(_) => return Err(PoolFault::Memory),
         }
     }
