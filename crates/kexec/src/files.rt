@@ -1,10 +1,10 @@
 //! Which file a refusal speaks of.
 
-use crate::given::{Given, text_of};
 use boot_params::ParamsFault;
 use crash_headers::CrashFault;
 use kexec_main::{InputFault, Status};
 use kexec_plan::PlanFault;
+use kexec_usage::{Given, text_of};
 
 // The word or option of the file that its reader refused.
 fn input_word(fault: &InputFault) -> &'static str {

@@ -3,18 +3,13 @@
 
 mod causes;
 mod files;
-mod given;
-mod help;
-mod mistake;
-mod old_words;
 mod plans;
 mod remedies;
 mod report;
-mod usage;
 
 use causes::cause_of;
-use given::{Answer, read_given};
 use kexec_main::{Status, kexec};
+use kexec_usage::{asks_for_help, read_answer};
 use kexec_words::help_of;
 use kx_edge::{HostShelf, StdSink};
 use report::Report;
@@ -23,7 +18,6 @@ use std::env::Env;
 use std::process::ExitCode;
 use std::rt::Files;
 use std::{env, io};
-use usage::{asks_for_help, print_help};
 
 /// The exit status where the system does not give the words; no status of a command has it.
 const NO_WORDS: u8 = 65;
@@ -33,19 +27,15 @@ fn read_words(rt: &(impl Env + AllocGlobal)) -> io::Result<Vec<String>> {
     Ok(env::args(rt)?.skip(1).collect(rt.alloc())?)
 }
 
-// The words behind the command, each with its name in the command's help; none where memory is wanted.
-fn read_answer<'a>(alloc: Global, help: &'static str, words: &'a [String]) -> Answer<'a> {
-    let rest = match words.split_first() {
-        Some((_, rest)) => rest,
-        None => words,
-    };
-    match read_given(alloc, help, rest) {
-        Ok(answer) => answer,
-        Err(_) => Answer {
-            given: Vec::new(alloc),
-            mistake: None,
-        },
+// Prints the help behind a sentence: whole where no word follows the first, and else its first line.
+fn print_help(rt: &impl Eprint, words: &[String]) {
+    let help = help_of(words);
+    if words.len() < 2 {
+        let _ = rt.eprintln(help);
+        return;
     }
+    let _ = rt.eprintln(help.lines().next().unwrap_or(""));
+    let _ = rt.eprintln("The argument --help behind the command tells what it takes.");
 }
 
 // Says on standard error why a command was refused.

@@ -1,7 +1,7 @@
 //! The sentences about a request that has no plan, told by what was given.
 
-use crate::given::{Given, text_of};
 use kexec_plan::PlanFault;
+use kexec_usage::{Given, text_of};
 use segments::SegFault;
 use std::fmt::{self, Formatter, Write};
 

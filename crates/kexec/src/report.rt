@@ -1,11 +1,10 @@
 //! The sentence about a command that was refused.
 
 use crate::files::file_of;
-use crate::given::{Answer, text_of};
 use crate::plans::write_plan;
 use crate::remedies::remedy_of;
-use crate::usage::write_refusal;
 use kexec_main::Status;
+use kexec_usage::{Answer, Refusal, text_of};
 use std::fmt::{self, Display, Formatter, Write};
 use std::io;
 
@@ -59,8 +58,13 @@ impl Display for Report<'_> {
     fn fmt<W: Write>(&self, f: &mut Formatter<W>) -> fmt::Result {
         f.write_str("kexec: ")?;
         if let Status::Usage { why } = self.status {
-            let first = self.words.first().map(|word| word.as_str());
-            return write_refusal(why, first, self.help, &self.answer, f);
+            let refusal = Refusal {
+                why,
+                first: self.words.first().map(|word| word.as_str()),
+                help: self.help,
+                answer: &self.answer,
+            };
+            return write!(f, "{refusal}");
         }
         if let Some(name) = file_of(self.status, &self.answer.given) {
             write!(f, "{name:?}: ")?;

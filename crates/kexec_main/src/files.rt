@@ -180,9 +180,8 @@ pub(crate) fn take_record<S: Shelf>(
     name: String,
     shelf: &mut S,
 ) -> Result<LoadRecord, TakeFault<Reason>>
-    ensures takes { Takes S.Shelf (load_record_file (string_bytes name)) (λ r. r) shelf.old result
+    ensures { Takes S.Shelf (load_record_file (string_bytes name)) (λ r. r) shelf.old result
         shelf.new }
-    ensures writable { IfOk result IsWritable }
 {
     let FileParts { front, rest, .. } = take_apart(alloc, name, FIRST_BYTES, RECORD_LIMIT, shelf)?;
     match LoadRecord::from_file(alloc, &front, rest) {

@@ -1,12 +1,10 @@
 //! A load record with the digests of its segments.
 
-ghost use Rattle.std.specs.Prelude.{◌≡◌, ◌<◌, ◌++◌, length, option_map, Some, Ok, IfOk, IfSome};
-ghost use Rattle.std.specs.List.{slice_get};
-ghost use Rattle.sha2.specs.Sha256.{sha256};
+ghost use Rattle.std.specs.Prelude.{◌≡◌, ◌<◌, ◌++◌, length, Some, Ok, IfOk, IfSome};
 ghost use Rattle.kx_laws.specs.Cuts.{IsCutAt};
 ghost use Rattle.kx_laws.specs.Results.{Gives};
 ghost use Rattle.load_record.specs.Head.{version_of};
-ghost use Rattle.load_record.specs.File.{IsWritable, digests_of, record_file, record_reading, record_text};
+ghost use Rattle.load_record.specs.File.{IsWritable, digest_at, digests_of, record_file, record_reading, record_text};
 
 use crate::body::{give_segments, room_of};
 use crate::fault::RecFault;
@@ -105,7 +103,7 @@ impl DigestedRecord {
     /// The digest of the bytes of segment number `i`, from 0.
     pub fn digest(&self, i: usize) -> &[u8; 32]
         requires { i < length self.now.segments }
-        ensures { option_map (λ s. sha256 s.bytes) (slice_get self.now.segments i) ≡ Some result.now }
+        ensures { digest_at self.now.segments i ≡ Some result.now }
     {
         &self.digests[i]
     }

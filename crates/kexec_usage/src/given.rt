@@ -1,5 +1,8 @@
 //! The words of a command, each with the name that it has in the command's help.
 
+ghost use Rattle.std.specs.Prelude.{◌≡◌, option_map};
+ghost use Rattle.kexec_usage.specs.Words.{text_in};
+
 use crate::help::{Form, MODULES, needed, option_in, words_in};
 use crate::mistake::Mistake;
 use crate::old_words::option_for;
@@ -7,10 +10,11 @@ use std::alloc::{AllocError, Global};
 
 /// A word that is given: the text of a positional word, or of an option's value.
 #[derive(Clone, Copy, Debug)]
-pub(crate) struct Given<'a> {
+pub struct Given<'a> {
     /// The name in the help, as MEMORY or --at.
-    pub(crate) name: &'a str,
-    pub(crate) text: &'a str,
+    pub name: &'a str,
+    /// What is given; empty for an option without a value.
+    pub text: &'a str,
 }
 
 // What was read so far of the words after a command.
@@ -29,9 +33,11 @@ struct Reading<'a> {
 
 /// What is given up to the first word that the command does not take, and why it does not take that one.
 #[derive(Drop)]
-pub(crate) struct Answer<'a> {
-    pub(crate) given: Vec<Given<'a>>,
-    pub(crate) mistake: Option<Mistake<'a>>,
+pub struct Answer<'a> {
+    /// In their order.
+    pub given: Vec<Given<'a>>,
+    /// None where the command takes all words.
+    pub mistake: Option<Mistake<'a>>,
 }
 
 // Whether a word is read as an option: `-` alone is a positional word.
@@ -127,8 +133,8 @@ impl<'a> Reading<'a> {
     }
 }
 
-/// Reads the words after a command by its help.
-pub(crate) fn read_given<'a>(
+// Reads the words behind a command by its help.
+fn read_given<'a>(
     alloc: Global,
     help: &'static str,
     words: &'a [String],
@@ -157,10 +163,29 @@ pub(crate) fn read_given<'a>(
     })
 }
 
-/// The text that is given under this name of the help.
-pub(crate) fn text_of<'a>(given: &[Given<'a>], name: &str) -> Option<&'a str> {
-    given
-        .iter()
-        .find(|one| one.name == name)
-        .map(|one| one.text)
+/// The words behind the first one, which names the command of this help; none where memory is wanted.
+pub fn read_answer<'a>(alloc: Global, help: &'static str, words: &'a [String]) -> Answer<'a> {
+    let rest = match words.split_first() {
+        Some((_, rest)) => rest,
+        None => words,
+    };
+    match read_given(alloc, help, rest) {
+        Ok(answer) => answer,
+        Err(_) => Answer {
+            given: Vec::new(alloc),
+            mistake: None,
+        },
+    }
+}
+
+/// The text that is given under this name of the help; the first, where there are several.
+pub fn text_of<'a>(given: &[Given<'a>], name: &str) -> Option<&'a str>
+    ensures { option_map (λ text. text.now) result ≡ text_in given.now name.now }
+{
+    for one in given {
+        if one.name == name {
+            return Some(one.text);
+        }
+    }
+    None
 }

@@ -4,7 +4,7 @@ use std::fmt::{self, Display, Formatter, Write};
 
 /// What stood among the words, and what has to stand there.
 #[derive(Clone, Copy, Debug, PartialEq, Eq)]
-pub(crate) enum Mistake<'a> {
+pub enum Mistake<'a> {
     /// The command has no such option; it has another one that does what this one does for kexec(8).
     Unknown {
         option: &'a str,

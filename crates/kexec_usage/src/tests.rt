@@ -1,0 +1,158 @@
+//! What no clause says: the sentences, on words as people write them.
+
+use crate::{Answer, Refusal, asks_for_help, read_answer};
+use kexec_words::{UsageWhy, WordsFault, help_of, read};
+use std::alloc::Global;
+use std::test::Fail;
+
+fn split(alloc: Global, line: &str) -> Result<Vec<String>, Fail> {
+    let mut words: Vec<String> = Vec::new(alloc);
+    for word in line.split(' ') {
+        words.push(String::from_str(alloc, word)?)?;
+    }
+    Ok(words)
+}
+
+// The sentence about words of which this much is taken.
+fn refusal_text(
+    alloc: Global,
+    why: &UsageWhy,
+    words: &[String],
+    answer: &Answer<'_>,
+) -> Result<String, Fail> {
+    let refusal = Refusal {
+        why,
+        first: words.first().map(|word| word.as_str()),
+        help: help_of(words),
+        answer,
+    };
+    Ok(format!(in alloc; "{refusal}")?)
+}
+
+// The sentence about these words; empty where they are taken.
+fn sentence(alloc: Global, line: &str) -> Result<String, Fail> {
+    let words = split(alloc, line)?;
+    match read(alloc, &words) {
+        Ok(_) => Ok(String::new(alloc)),
+        Err(WordsFault::Usage { why }) => {
+            let answer = read_answer(alloc, help_of(&words), &words);
+            refusal_text(alloc, &why, &words, &answer)
+        }
+        Err(WordsFault::Memory) => Err(Fail::from("memory")),
+    }
+}
+
+#[test]
+fn names_the_word_that_is_refused(rt: HostRuntime) -> Result<(), Fail> {
+    let alloc = rt.alloc();
+    for (line, want) in [
+        ("check m r", ""),
+        ("boot m", "POOL is missing"),
+        ("load-panic --map f m o r", "KERNEL is missing"),
+        ("check m r more", "\"more\" is an argument too many"),
+        (
+            "boot --reset m p o k",
+            "\"--reset\" is no option of this command",
+        ),
+        (
+            "check --append=q m r",
+            "\"--append\" is no option of this command",
+        ),
+        (
+            "boot --append=q m p o k",
+            "--append is no option of this command; --command stands for it",
+        ),
+        (
+            "load --load-preserve-context m p o r k",
+            "--load-preserve-context is no option of this command; --kept stands for it",
+        ),
+        (
+            "boot --at 1000 --at=2000 m p o k",
+            "--at is given twice, and has to be given once",
+        ),
+        (
+            "boot m p o k --map",
+            "--map has to have a value: --map FILE",
+        ),
+        (
+            "boot --kept --map f m p o k",
+            "--kept has to have a value: --kept RUNS",
+        ),
+        (
+            "load --kept=1 m p o r k",
+            "--kept takes no value, and has to stand alone",
+        ),
+        ("exec -- --twice m", "OUT is missing"),
+        (
+            "trace - o 4 ten",
+            "LIMIT is not a decimal number of 1 to 9 digits, at most 100000000: \"ten\" is given",
+        ),
+        (
+            "boot --type raw --at 0X2000 m p o k",
+            "--at is not a hexadecimal number of 1 to 16 digits: \"0X2000\" is given; leave out 0x",
+        ),
+        (
+            "sample 0x10",
+            "NUMBER is not a decimal number of 1 to 18 digits: \"0x10\" is given",
+        ),
+    ] {
+        let said = sentence(alloc, line)?;
+        assert!(rt; said.as_str() == want, "{line}: {said}");
+    }
+    Ok(())
+}
+
+#[test]
+fn tells_what_has_to_be_given(rt: HostRuntime) -> Result<(), Fail> {
+    let alloc = rt.alloc();
+    for (line, want) in [
+        (
+            "-p k",
+            "-p is an option of kexec(8), which is another program: the command here is load-panic",
+        ),
+        (
+            "reboot",
+            "\"reboot\" is no command; the first argument has to be a command: boot, load, load-panic, check, dump, exec, trace, migrate or sample",
+        ),
+        (
+            "boot --map f m p o k 1 2 3 4 5 6 7 8 9 10 11 12 13 14",
+            "14 modules are given, and a kernel gets at most 12",
+        ),
+        (
+            "boot --map f m p f k",
+            "OUT and --map are both \"f\": a file that is written has to have a name of its own",
+        ),
+        (
+            "load --map f m p o o k",
+            "OUT and RECORD are both \"o\": a file that is written has to have a name of its own",
+        ),
+        (
+            "boot --type raw m p o k",
+            "--type raw needs --at ADDRESS, the address of the kernel",
+        ),
+        (
+            "boot m p o k",
+            "--map FILE is needed: only boot and load with --type raw, and without --purgatory, go without a memory map; `cat /proc/iomem`, as root, prints the map of this machine",
+        ),
+    ] {
+        let said = sentence(alloc, line)?;
+        assert!(rt; said.as_str() == want, "{line}: {said}");
+    }
+    Ok(())
+}
+
+#[test]
+fn help_is_asked_for_by_two_options(rt: HostRuntime) -> Result<(), Fail> {
+    let alloc = rt.alloc();
+    for (line, want) in [
+        ("boot --help", true),
+        ("-h", true),
+        ("boot m p -h o", true),
+        ("boot m -- --help", false),
+        ("boot m p o k", false),
+        ("boot help", false),
+    ] {
+        assert!(rt; asks_for_help(&split(alloc, line)?) == want, "{line}");
+    }
+    Ok(())
+}
