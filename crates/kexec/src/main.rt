@@ -41,16 +41,14 @@ fn print_help(rt: &impl Eprint, words: &[String]) {
 // Says on standard error why a command was refused.
 fn explain<'a>(rt: &(impl AllocGlobal + Eprint + Files), words: &'a [String], status: &'a Status) {
     let is_usage = matches!(status, Status::Usage { .. });
-    let help = help_of(words);
     if is_usage && asks_for_help(words) {
-        let _ = rt.eprintln(help);
+        let _ = rt.eprintln(help_of(words));
         return;
     }
     let _ = rt.eprintln(Report {
         status,
         words,
-        help,
-        answer: read_answer(rt.alloc(), help, words),
+        answer: read_answer(rt.alloc(), words),
         cause: cause_of(rt, status),
     });
     if is_usage {

@@ -13,7 +13,6 @@ use std::io;
 pub(crate) struct Report<'a> {
     pub(crate) status: &'a Status,
     pub(crate) words: &'a [String],
-    pub(crate) help: &'static str,
     /// The words as the command takes them.
     pub(crate) answer: Answer<'a>,
     /// What the system says of a file that could not be read or written.
@@ -60,8 +59,7 @@ impl Display for Report<'_> {
         if let Status::Usage { why } = self.status {
             let refusal = Refusal {
                 why,
-                first: self.words.first().map(|word| word.as_str()),
-                help: self.help,
+                words: self.words,
                 answer: &self.answer,
             };
             return write!(f, "{refusal}");

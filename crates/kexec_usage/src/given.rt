@@ -6,6 +6,7 @@ ghost use Rattle.kexec_usage.specs.Words.{text_in};
 use crate::help::{Form, MODULES, needed, option_in, words_in};
 use crate::mistake::Mistake;
 use crate::old_words::option_for;
+use kexec_words::help_of;
 use std::alloc::{AllocError, Global};
 
 /// A word that is given: the text of a positional word, or of an option's value.
@@ -163,13 +164,13 @@ fn read_given<'a>(
     })
 }
 
-/// The words behind the first one, which names the command of this help; none where memory is wanted.
-pub fn read_answer<'a>(alloc: Global, help: &'static str, words: &'a [String]) -> Answer<'a> {
+/// The words behind the first one, which names the command, as its help tells them; none where memory is wanted.
+pub fn read_answer<'a>(alloc: Global, words: &'a [String]) -> Answer<'a> {
     let rest = match words.split_first() {
         Some((_, rest)) => rest,
         None => words,
     };
-    match read_given(alloc, help, rest) {
+    match read_given(alloc, help_of(words), rest) {
         Ok(answer) => answer,
         Err(_) => Answer {
             given: Vec::new(alloc),

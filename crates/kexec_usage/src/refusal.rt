@@ -6,7 +6,7 @@ ghost use Rattle.kexec_usage.specs.Words.{has_help, is_help};
 use crate::given::{Answer, Given, text_of};
 use crate::help::{MODULES, is_file, is_written};
 use crate::old_words::command_for;
-use kexec_words::{UsageWhy, Which};
+use kexec_words::{UsageWhy, Which, help_of};
 use std::fmt::{self, Display, Formatter, Write};
 
 // The name of another file with this text.
@@ -95,11 +95,9 @@ fn write_same_name<W: Write>(
 pub struct Refusal<'a> {
     /// The reason.
     pub why: &'a UsageWhy,
-    /// The first word, which is to name a command.
-    pub first: Option<&'a str>,
-    /// The help of the command.
-    pub help: &'static str,
-    /// The words as the command takes them.
+    /// All words, of which the first is to name a command.
+    pub words: &'a [String],
+    /// The words behind the first, as the command takes them.
     pub answer: &'a Answer<'a>,
 }
 
@@ -118,7 +116,10 @@ impl Display for Refusal<'_> {
         let why = self.why;
         let given = &self.answer.given;
         match why {
-            UsageWhy::Command => write_command(why, self.first, f),
+            UsageWhy::Command => {
+                let first = self.words.first().map(|word| word.as_str());
+                write_command(why, first, f)
+            }
             UsageWhy::Parse => match &self.answer.mistake {
                 Some(mistake) => write!(f, "{mistake}"),
                 None => write!(f, "{why}"),
@@ -127,7 +128,7 @@ impl Display for Refusal<'_> {
                 let text = text_of(given, which.name()).unwrap_or("");
                 write_number(why, *which, text, f)
             }
-            UsageWhy::SameName => write_same_name(self.help, given, f),
+            UsageWhy::SameName => write_same_name(help_of(self.words), given, f),
             UsageWhy::TooManyModules => {
                 let count = self.count_of_modules();
                 write!(f, "{count} modules are given, and a kernel gets at most 12")

@@ -1,7 +1,7 @@
 //! What no clause says: the sentences, on words as people write them.
 
 use crate::{Answer, Refusal, asks_for_help, read_answer};
-use kexec_words::{UsageWhy, WordsFault, help_of, read};
+use kexec_words::{UsageWhy, WordsFault, read};
 use std::alloc::Global;
 use std::test::Fail;
 
@@ -20,12 +20,7 @@ fn refusal_text(
     words: &[String],
     answer: &Answer<'_>,
 ) -> Result<String, Fail> {
-    let refusal = Refusal {
-        why,
-        first: words.first().map(|word| word.as_str()),
-        help: help_of(words),
-        answer,
-    };
+    let refusal = Refusal { why, words, answer };
     Ok(format!(in alloc; "{refusal}")?)
 }
 
@@ -35,7 +30,7 @@ fn sentence(alloc: Global, line: &str) -> Result<String, Fail> {
     match read(alloc, &words) {
         Ok(_) => Ok(String::new(alloc)),
         Err(WordsFault::Usage { why }) => {
-            let answer = read_answer(alloc, help_of(&words), &words);
+            let answer = read_answer(alloc, &words);
             refusal_text(alloc, &why, &words, &answer)
         }
         Err(WordsFault::Memory) => Err(Fail::from("memory")),
