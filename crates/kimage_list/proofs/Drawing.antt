@@ -5,10 +5,10 @@ use Rattle.std.proofs.lemmas.Option.{none-some}
 use Rattle.std.proofs.lemmas.Bool.Decides.{eqb_tells}
 use Rattle.std.specs.Ordering.{nat_cmp, is_eq}
 use Rattle.std.specs.Cmp.{nat_cmp_total, eq_by_cmp_equiv}
-use Rattle.std.specs.FinMap.{get, get-insert}
+use Rattle.std.specs.FinMap.{get, get-insert, nat_cmp-IsAntisymmetric}
 use Rattle.page_pool.specs.Pages.{Pages, is_filed, marked, usable_of}
+use Rattle.kx_laws.proofs.Booleans.{is_eq-false}
 use Rattle.kimage_list.proofs.Lists.{eqb-self}
-use Rattle.kimage_list.proofs.Tables.{apart}
 use Rattle.kimage_list.specs.Load.{Loading, without, source_of, at_home, is_for, draw, taken}
 use Rattle.kimage_list.specs.Tables.{Slots, slot, source_in, place_in}
 use Rattle.kimage_list.specs.Tracking.{Tracks, fate_of, Took, Gives, Reaches, Draws, Exchanged as Pair, whole_pool}
@@ -95,7 +95,7 @@ is_filed-marked pool q p b = ap (λ o. unwrap_or o false) (get-insert nat_cmp_to
         let y : is_eq (nat_cmp p q) ≡ true = ap (λ x. is_eq (nat_cmp p x)) t.1 ∙ (eq_by_cmp_equiv nat_cmp_total).refl p in
         rw (t.0, y) refl
     go (inr t) =
-        let y : is_eq (nat_cmp p q) ≡ false = apart p q (λ e. t.1 (sym e)) in
+        let y : is_eq (nat_cmp p q) ≡ false = is_eq-false (nat_cmp p q) (λ e. t.1 (sym (nat_cmp-IsAntisymmetric p q e))) in
         rw (t.0, y) refl
 
 or_cond : (b c : Bool) → cond b true c ≡ (b || c)

@@ -5,17 +5,12 @@ use Rattle.std.proofs.lemmas.Option.{none-some}
 use Rattle.std.proofs.lemmas.Bool.Decides.{eqb_tells}
 use Rattle.page_memory.specs.Contents.{Contents, at, IsHeld}
 use Rattle.page_pool.specs.Pages.{Pages, is_filed, usable_of}
-use Rattle.std.specs.List.{slice_get}
-use Rattle.std.specs.Prelude.{◌||◌}
 use Rattle.std.specs.Prelude.{◌^◌, Result, Ok, Err, OnOk, All}
 use Rattle.std.specs.List.Sorted.{IsPermutation}
-use Rattle.std.proofs.lemmas.List.{take_more, get_or-take, length-take-le}
+use Rattle.std.proofs.lemmas.List.{get_or-take, length-take-le}
 use Rattle.std.proofs.lemmas.List.Elements.{All-get_or}
 use Rattle.std.proofs.lemmas.List.Sorted.{All-permutation, IsPermutation-sym}
-use Rattle.std.proofs.lemmas.List.Folds.{list_any-append}
-use Rattle.std.proofs.lemmas.Option.{slice_get_within, get_or_from_slice_get}
-use Rattle.kx_pages.specs.Spans.{Run, in_span, in_spans}
-use Rattle.kimage_list.specs.Beginning.{AreHeld, IsFresh}
+use Rattle.kimage_list.specs.Beginning.{AreHeld}
 use Rattle.kimage_list.specs.Drafts.{initial, first_taken, Draft, Renders}
 use Rattle.kimage_list.specs.Load.{Loading}
 use Rattle.kimage_list.specs.Tables.{Slots, slot, source_in, place_in, fresh_slot}
@@ -98,23 +93,6 @@ first_given d t memory pool table next entries w none same = record {
   place = w.place;
   many = w.many;
 }
-
--- one more span in the table
-pub fresh_more : (wanted : List Run) (i : ℕ) (r : Run) (m n : Slots) → slice_get wanted i ≡ Some r → IsFresh (take i wanted) m
-    → ((q : ℕ) → slot n q ≡ cond (in_span r q) (Some None) (slot m q)) → IsFresh (take (i + 1) wanted) n
-fresh_more wanted i r m n e f h = record { each = λ q. h q ∙ ap (cond (in_span r q) (Some None)) (f.each q) ∙ either (in_span r q) (in_spans (take i wanted) q) ∙ ap fresh_slot (sym (more q)) }
-  where
-    next : take (i + 1) wanted ≡ take i wanted ++ r ∷ []
-    next = take_more wanted i r (slice_get_within wanted i r e) ∙ ap (λ x. take i wanted ++ x ∷ []) (get_or_from_slice_get wanted i r r e)
-
-    more : (q : ℕ) → in_spans (take (i + 1) wanted) q ≡ (in_spans (take i wanted) q || (in_span r q || false))
-    more q = ap (λ rs. in_spans rs q) next ∙ list_any-append (λ s. in_span s q) (take i wanted) (r ∷ [])
-
-    either : (b c : Bool) → cond b (Some None) (fresh_slot c) ≡ fresh_slot (c || (b || false))
-    either true true = refl
-    either true false = refl
-    either false true = refl
-    either false false = refl
 
 -- the first n are held, where pages are held that are these in some order
 pub held_in_order : {T E : Type 0} (r : Result T E) (n : ℕ) (left pages : List ℕ) (m : Contents) → n ≤ length left → IsPermutation (take n left) pages → All (λ p. p < 2 ^ 34) pages → OnOk r (All (λ p. IsHeld m p) pages) → OnOk r (AreHeld n left m)

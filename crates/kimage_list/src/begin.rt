@@ -1,16 +1,15 @@
 //! What is made before a list is written.
 
-ghost use Rattle.std.specs.Prelude.{◌≡◌, ℕ, ◌≤◌, ◌<◌, ◌+◌, ◌^◌, ◌||◌, ◌⊎◌, length, slice_index, take, OnOk, IfOk, Some, None, cond};
+ghost use Rattle.std.specs.Prelude.{◌≡◌, ℕ, ◌≤◌, ◌<◌, ◌+◌, ◌^◌, ◌||◌, ◌⊎◌, length, slice_index, take, OnOk, IfOk};
 ghost use Rattle.std.specs.List.Sorted.{IsPermutation};
 ghost use Rattle.page_memory.specs.Contents.{at, IsHeld};
 ghost use Rattle.page_pool.specs.Pages.{usable_of};
 ghost use Rattle.kx_pages.specs.Lists.{Has};
-ghost use Rattle.kx_pages.specs.Spans.{AreApart, in_spans, in_span};
-ghost use Rattle.kimage_list.specs.Tables.{slot, fresh_slot};
+ghost use Rattle.kx_pages.specs.Spans.{AreApart};
 ghost use Rattle.kimage_list.specs.Beginning.{IsFresh, AreHeld};
 
 use crate::table::Table;
-use kx_pages::{Page, PageSet, Span};
+use kx_pages::{Page, PageSet};
 use page_memory::Memory;
 use page_pool::Pool;
 use std::alloc::{AllocError, Global};
@@ -34,28 +33,7 @@ pub fn prepare(
         → IsHeld memory.old q ⊎ Has q (take need (usable_of pool.now)) }
 {
     hold_first(alloc, memory, pool, need)?;
-    table_of(alloc, wanted)
-}
-
-// A table of the wanted pages, none of them loaded.
-fn table_of(alloc: Global, wanted: &PageSet) -> Result<Table, AllocError>
-    ensures { IfOk result (λ table. IsFresh wanted.now table × AreApart 0 wanted.now) }
-{
-    let mut table = Table::new(alloc);
-    for i in 0..wanted.spans() {
-        add_span(&mut table, wanted.span(i))?;
-    }
-    Ok(table)
-}
-
-fn add_span(table: &mut Table, span: Span) -> Result<(), AllocError>
-    ensures { IfOk result (λ _.
-        (q : ℕ) → slot table.new q ≡ cond (in_span span q) (Some None) (slot table.old q)) }
-{
-    for number in span.first()..span.first() + span.count() {
-        table.add(Page::from_number(number))?;
-    }
-    Ok(())
+    Table::new(alloc, wanted)
 }
 
 // The first n usable pages of the pool, in rising order.
