@@ -32,7 +32,7 @@ each_at P [] i d all l = absurd (omega (arith, l))
 each_at P (y ∷ ys) zero d all l = all.0
 each_at P (y ∷ ys) (suc i) d all l = each_at P ys i d all.1 (omega (arith, l))
 
-all_append : (P : ProgramHeader → Type 0) (xs ys : List ProgramHeader) → AllByRecursion P xs → AllByRecursion P ys → AllByRecursion P (xs ++ ys)
+pub all_append : (P : ProgramHeader → Type 0) (xs ys : List ProgramHeader) → AllByRecursion P xs → AllByRecursion P ys → AllByRecursion P (xs ++ ys)
 all_append P [] ys a b = b
 all_append P (x ∷ xs) ys a b = (a.0, all_append P xs ys a.1 b)
 
@@ -58,15 +58,15 @@ row_more f xs i d old out new l step so_far =
 pub rows_all : {X : Type 0} (f : X → ProgramHeader) (xs : List X) (i : ℕ) (old out : List ℕ) → i ≡ length xs → out ≡ old ++ flat_map row_text (map f (take i xs)) → out ≡ old ++ flat_map row_text (map f xs)
 rows_all f xs i old out e so_far = so_far ∙ ap (λ x. old ++ flat_map row_text (map f x)) (take_all i xs (omega (arith, e)))
 
-row_size : (h : ProgramHeader) → length (row_text h) ≡ 56
+pub row_size : (h : ProgramHeader) → length (row_text h) ≡ 56
 unfolding row_text
 row_size h = length-written 56 program_header h (zeros 56) program_header_is (length-zeros 56)
 
-rows_size : (hs : List ProgramHeader) → length (flat_map row_text hs) ≡ 56 * length hs
+pub rows_size : (hs : List ProgramHeader) → length (flat_map row_text hs) ≡ 56 * length hs
 rows_size [] = refl
 rows_size (h ∷ hs) = omega (arith, length-append (row_text h) (flat_map row_text hs), row_size h, rows_size hs)
 
-header_size : (h : FileHeader) → length (header_text h) ≡ 64
+pub header_size : (h : FileHeader) → length (header_text h) ≡ 64
 unfolding header_text
 header_size h = length-written 64 file_header h _ file_header_is (length-blank 64 ident (omega arith))
 
@@ -117,7 +117,7 @@ headers_file_header notes ranges bytes e back =
     ap (read file_header) (ap (take 64) e ∙ take_front h (flat_map row_text (rows notes ranges)) 64 (header_size (core_header (count_of notes ranges))))
     ∙ back
 
-one_row : (hs : List ProgramHeader) (i : ℕ) (d : ProgramHeader) → i < length hs → bytes_at (56 * i) 56 (flat_map row_text hs) ≡ row_text (get_or hs i d)
+pub one_row : (hs : List ProgramHeader) (i : ℕ) (d : ProgramHeader) → i < length hs → bytes_at (56 * i) 56 (flat_map row_text hs) ≡ row_text (get_or hs i d)
 one_row [] i d below = absurd (omega arith)
 one_row (h ∷ hs) zero d below = take_front (row_text h) (flat_map row_text hs) 56 (row_size h)
 one_row (h ∷ hs) (suc i) d below =
@@ -127,7 +127,7 @@ one_row (h ∷ hs) (suc i) d below =
     ∙ ap (take 56) (drop-append-add (row_text h) (flat_map row_text hs) (56 * i))
     ∙ one_row hs i d (omega arith)
 
-row_reads : (hs : List ProgramHeader) (i : ℕ) (d : ProgramHeader) → i < length hs → AreReadBack hs → read program_header (row_text (get_or hs i d)) ≡ get_or hs i d
+pub row_reads : (hs : List ProgramHeader) (i : ℕ) (d : ProgramHeader) → i < length hs → AreReadBack hs → read program_header (row_text (get_or hs i d)) ≡ get_or hs i d
 row_reads [] i d below back = absurd (omega arith)
 row_reads (h ∷ hs) zero d below back = back.0
 row_reads (h ∷ hs) (suc i) d below back = row_reads hs i d (omega arith) back.1

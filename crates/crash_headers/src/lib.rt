@@ -15,5 +15,7 @@ mod ranges;
 mod tests;
 
 pub use fault::{CrashFault, NoteFault};
+pub use file_header::FileHeader;
 pub use headers::{length, make};
 pub use note::{Note, read_notes};
+pub use program_header::ProgramHeader;

@@ -2,7 +2,8 @@
 
 ghost use Rattle.std.specs.Prelude.{◌≡◌};
 ghost use Rattle.memory_map.specs.Rows.{IsBelow};
-ghost use Rattle.crash_headers.specs.ProgramHeader.{row_text, IsRowReadBack, note_row, load_row};
+ghost use Rattle.kx_fields.specs.Formats.{read};
+ghost use Rattle.crash_headers.specs.ProgramHeader.{program_header, row_text, IsRowReadBack, note_row, load_row};
 
 use crate::note::Note;
 use kx_fields::Block;
@@ -11,16 +12,16 @@ use memory_map::Row;
 /// Where x86-64 Linux maps all of memory (`__PAGE_OFFSET` with four levels of page tables).
 const DIRECT_MAP: u64 = 0xffff_8880_0000_0000;
 
-/// A program header of an ELF64 file, without its alignment.
-#[derive(Clone, Copy)]
-pub(crate) struct ProgramHeader {
-    pub(crate) kind: u32,
-    pub(crate) flags: u32,
-    pub(crate) offset: u64,
-    pub(crate) vaddr: u64,
-    pub(crate) paddr: u64,
-    pub(crate) filesz: u64,
-    pub(crate) memsz: u64,
+/// A program header of an ELF64 file, without its alignment (ELF gABI, chapter 5, "Program Header").
+#[derive(Clone, Copy, Debug, PartialEq, Eq)]
+pub struct ProgramHeader {
+    pub kind: u32,
+    pub flags: u32,
+    pub offset: u64,
+    pub vaddr: u64,
+    pub paddr: u64,
+    pub filesz: u64,
+    pub memsz: u64,
 }
 
 macro_rules! program_header {
@@ -69,9 +70,16 @@ impl ProgramHeader {
         }
     }
 
+    /// What the bytes of a row say.
+    pub fn read(block: &Block<56>) -> ProgramHeader
+        ensures { result ≡ read program_header block.now }
+    {
+        program_header!(get block, ProgramHeader)
+    }
+
     /// Its bytes.
     #[tactic(auto, unfolding(crate::specs::ProgramHeader::row_text))]
-    pub(crate) fn block(self) -> Block<56>
+    pub fn block(self) -> Block<56>
         ensures text { result ≡ row_text self }
         ensures back { IsRowReadBack self }
     {

@@ -44,6 +44,7 @@ pub(crate) fn file_of<'a>(status: &Status, given: &[Given<'a>]) -> Option<&'a st
         Status::Plan { fault } => plan_word(fault)?,
         Status::NoPages { .. } => "POOL",
         Status::NotKept => "RECORD",
+        Status::Core { .. } => "MEMORY",
         _ => return None,
     };
     text_of(given, word)

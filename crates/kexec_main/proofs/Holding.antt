@@ -9,34 +9,18 @@ use Rattle.file_commands.specs.Answers.{Answer, Meets, MeetsTold}
 use Rattle.file_commands.proofs.Meeting.{meets_told}
 use Rattle.kexec_words.specs.declared.faults.UsageWhy.{UsageWhy}
 use Rattle.kexec_words.specs.Values.{CommandValue}
-use Rattle.kexec_words.specs.Values as words
 use Rattle.kexec_main.specs.declared.status.Reason.{Reason}
-use Rattle.kexec_main.specs.Commands.{Program, Holds}
+use Rattle.kexec_main.specs.Commands.{Holds}
+use Rattle.kexec_main.specs.Entry.{Program}
 
 pub holds_as : (P Q : (X : Type 0) → Program X → Type 0) → ((X : Type 0) (c : Program X) → P X c → Q X c) → (w : Result CommandValue UsageWhy) → Holds P w → Holds Q w
 holds_as P Q f (Err why) h = f _ _ h
-holds_as P Q f (Ok (words.boot b)) h = f _ _ h
-holds_as P Q f (Ok (words.load l)) h = f _ _ h
-holds_as P Q f (Ok (words.check l)) h = f _ _ h
-holds_as P Q f (Ok (words.dump l)) h = f _ _ h
-holds_as P Q f (Ok (words.exec e)) h = f _ _ h
-holds_as P Q f (Ok (words.trace t)) h = f _ _ h
-holds_as P Q f (Ok (words.migrate m)) h = f _ _ h
-holds_as P Q f (Ok (words.load_panic l)) h = f _ _ h
-holds_as P Q f (Ok (words.sample n)) h = f _ _ h
+holds_as P Q f (Ok c) h = f _ _ h
 
 -- what does not speak of the command
 pub holds_one : (P : Type 0) (w : Result CommandValue UsageWhy) → Holds (λ X c. P) w → P
 holds_one P (Err why) h = h
-holds_one P (Ok (words.boot b)) h = h
-holds_one P (Ok (words.load l)) h = h
-holds_one P (Ok (words.check l)) h = h
-holds_one P (Ok (words.dump l)) h = h
-holds_one P (Ok (words.exec e)) h = h
-holds_one P (Ok (words.trace t)) h = h
-holds_one P (Ok (words.migrate m)) h = h
-holds_one P (Ok (words.load_panic l)) h = h
-holds_one P (Ok (words.sample n)) h = h
+holds_one P (Ok c) h = h
 
 module _ {S O : Type 0} (D : Shelf S) (E : Sink O) (s : S) (o : O) (a : Answer ListFault Reason) (s' : S) (o' : O) (w : Result CommandValue UsageWhy) where
   gathered : (files : Option Files) → Holds (λ X c. IfSome files (λ held. MeetsTold D E c held s o a s' o')) w → IfSome files (λ held. Holds (λ X c. MeetsTold D E c held s o a s' o') w)

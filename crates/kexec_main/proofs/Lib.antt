@@ -1,12 +1,11 @@
 pub mod Told
-pub mod Sampled
 pub mod Outputs
 pub mod Lines
 pub mod Executes
 pub mod Leaving
-pub mod Done
-pub mod Complete
-pub mod InOrder
+pub mod Keeping
+pub mod Loads
+pub mod Commands
 pub mod Holding
 pub mod Rising
 pub mod Mapped

@@ -13,11 +13,7 @@ use Rattle.kexec_main.specs.Loading.{IsTooFew, RefusesLoad}
 
 pub too_few_refuses : (wish : Wish) (i : LoadInputs) (p : Plan) → plan i.request i.map ≡ Ok p → (why : Reason) → IsTooFew i.usable wish p.segments why → RefusesLoad wish i why
 too_few_refuses wish i p planned (reasons.NoPages left n) h = (p, planned, h)
-too_few_refuses wish i p planned (reasons.Usage w) h = absurd h
-too_few_refuses wish i p planned (reasons.Input f) h = absurd h
-too_few_refuses wish i p planned reasons.NotKept h = absurd h
-too_few_refuses wish i p planned (reasons.Plan f) h = absurd h
-too_few_refuses wish i p planned (reasons.Heavy m) h = absurd h
+too_few_refuses wish i p planned other h = absurd h
 
 -- of a pool of which nothing is drawn, the pages below the limit are usable
 pub usable_with : (v : Pages) (limit : ℕ) → v.drawn ≡ [] → v.limit ≡ limit → usable_of v ≡ filter (is_usable limit) v.made

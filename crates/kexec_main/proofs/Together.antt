@@ -34,11 +34,11 @@ use Rattle.kexec_plan.specs.Requests.{Plan}
 use Rattle.kexec_plan.specs.Plan.{plan}
 use Rattle.kexec_plan.specs.declared.fault.PlanFault.{PlanFault}
 use Rattle.kexec_main.specs.declared.status.Reason.{Reason}
-use Rattle.kexec_main.specs.Boot.{BootInputs}
-use Rattle.kexec_main.specs.Call.{HasBooted, HasExecuted, HasLoaded, NormalLoad, files_text}
-use Rattle.kexec_main.specs.Exec.{runs_asked, runs_of}
+use Rattle.kexec_main.specs.Boot.{BootInputs, HasBooted}
+use Rattle.kexec_main.specs.Exec.{HasExecuted, files_text, runs_asked, runs_of}
 use Rattle.kexec_main.specs.Inputs.{LoadInputs, load_inputs}
-use Rattle.kexec_main.specs.Load.{LoadCommand, load_wish, record_of_load}
+use Rattle.kexec_main.specs.Load.{HasLoaded, LoadCommand, load_wish, record_of_load}
+use Rattle.kexec_main.specs.Loads.{NormalLoad}
 use Rattle.kexec_main.specs.Outputs.{IsFileOf}
 use Rattle.kexec_main.specs.Runs.{after_runs, list_text, run_text, wish_of}
 use Rattle.kexec_main.specs.Texts.{load_lines, purgatory_line, ran_line}

@@ -1,6 +1,6 @@
 -- What `boot` takes and makes (this project's own).
-use Rattle.std.specs.Prelude.{◌≡◌, ℕ, List, Option, None, string_bytes, Result, Ok, Err, ◌⊎◌}
-use Rattle.file_commands.specs.Taking.{Refusal, Take, ok, too_long, by, ◌>>=◌}
+use Rattle.std.specs.Prelude.{◌≡◌, ℕ, List, Option, None, string_bytes, Result, Ok, Err, ◌⊎◌, [], ◌∷◌}
+use Rattle.file_commands.specs.Taking.{Refusal, Take, ok, too_long, by, ◌>>=◌, reads}
 use Rattle.load_states.specs.States.{Checked}
 use Rattle.load_states.specs.Ready.{Told}
 use Rattle.kexec_words.specs.declared.commands.Runs.{Runs}
@@ -10,8 +10,17 @@ use Rattle.kexec_main.specs.declared.boot.BootInputs.{BootInputs as Taken}
 use Rattle.kexec_main.specs.declared.status.Reason.{Reason}
 use Rattle.kexec_main.specs.Inputs.{LoadInputs, inputs_of, load_inputs}
 use Rattle.kexec_main.specs.Loading.{IsLoaded, RefusesLoad}
-use Rattle.kexec_main.specs.Outputs.{Made, HasNoFile, IsMemoryFile}
-use Rattle.kexec_main.specs.Runs.{after_runs, run_text, wish_of}
+use Rattle.kexec_main.specs.Outputs.{Made, HasNoFile, IsMemoryFile, IsFileOf}
+use Rattle.kexec_main.specs.Runs.{after_runs, run_text, wish_of, EndsAgain, IsOnce, Leaves, MachineLeaves}
+use Rattle.kx_edge.specs.Edge.{Files, Said}
+use Rattle.kx_edge.specs.declared.edge.Shelf.{Ghosts as Shelf}
+use Rattle.kx_edge.specs.declared.edge.Sink.{Ghosts as Sink}
+use Rattle.file_commands.specs.Answers.{FilesPut, command_of}
+use Rattle.purgatory_link.specs.declared.region_test.RegionTest.TheVariants.{Same}
+use Rattle.purgatory_link.specs.RegionTest.{test}
+use Rattle.kexec_plan.specs.Finish.{HasTableApart}
+use Rattle.kexec_main.specs.Entry.{Entry}
+use Rattle.kexec_main.specs.Loads.{CanLoad, NormalLoad}
 
 -- what `boot` took, how often the list is to run, and the name of its output
 pub record BootInputs : Type 0 where
@@ -42,3 +51,34 @@ boots x (Err (by why)) =
     RefusesLoad (wish_of x.runs) x.load why
     ⊎ ((p : Plan) × (c : Checked) × Boots x p c × HasNoFile (after_runs x.runs c) why)
 boots x (Err (too_long name limit)) = ⊥
+
+module _ {S O : Type 0} (D : Shelf S) (E : Sink O) (held : Files) (s : S) (o : O) (s' : S)
+    (o' : O) where
+  -- After `boot`: all that the words name was read, and the kernel loaded. The machine's runs of its list left what they are
+  -- to leave, each after as many steps as the walk has words. OUT is the file of the memory after the last run, every other
+  -- file is as it was, and the text tells the list and each run.
+  pub record HasBooted (b : BootValue) : Type 0 where
+    pub inputs : BootInputs
+    pub read : reads (boot_files b) held ≡ Ok inputs
+    pub planned : Plan
+    pub checked : Checked
+    pub load : NormalLoad (wish_of b.kept) inputs.load planned checked
+    pub ends_again : EndsAgain b.kept checked
+    pub runs : MachineLeaves b.kept checked
+    pub leaves : Leaves b.kept checked (after_runs b.kept checked)
+    -- A purgatory whose table of regions lies apart from its digest finds after one run that the regions are as planned.
+    pub proves_itself : HasTableApart planned → IsOnce b.kept
+        → test (after_runs b.kept checked) planned.regions planned.digest ≡ Same
+    pub output : List ℕ
+    pub is_memory : IsFileOf (after_runs b.kept checked) output
+    pub put : FilesPut (D.files s) ((b.out, output) ∷ []) (D.files s')
+    pub said : Said (E.said o)
+        (run_text b.kept checked planned.start planned.regions planned.digest) (E.said o')
+
+abbrev pub boot_entry : BootValue → Entry
+boot_entry b = record {
+  Inputs = BootInputs;
+  command = command_of (boot_files b) boots;
+  did = λ D E held s o s' o'. HasBooted D E held s o s' o' b;
+  can = λ x. CanLoad (wish_of x.runs) x.load (after_runs x.runs);
+}

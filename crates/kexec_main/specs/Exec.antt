@@ -1,12 +1,12 @@
 -- What `exec` takes and makes (this project's own).
-use Rattle.std.specs.Prelude.{◌≡◌, ℕ, Bool, true, false, List, Option, Some, None, string_bytes, Result, Ok, Err, ◌⊎◌}
+use Rattle.std.specs.Prelude.{◌≡◌, ℕ, Bool, true, false, List, Option, Some, None, string_bytes, Result, Ok, Err, ◌⊎◌, [], ◌∷◌}
 use Rattle.kx_pages.specs.declared.image.Mode.{Mode}
 use Rattle.kx_pages.specs.declared.image.Mode.TheVariants.{Plain, Kept}
 use Rattle.kx_pages.specs.declared.image.Start.{Start}
 use Rattle.list_checker.specs.declared.fault.ListFault.{ListFault}
-use Rattle.load_states.specs.States.{Load, no_pages}
+use Rattle.load_states.specs.States.{Load, no_pages, Checked}
 use Rattle.load_states.specs.Ready.{Told}
-use Rattle.file_commands.specs.Taking.{Refusal, Take, ok, too_long, by, ◌>>=◌}
+use Rattle.file_commands.specs.Taking.{Refusal, Take, ok, too_long, by, ◌>>=◌, reads}
 use Rattle.kexec_words.specs.Values.{ExecValue}
 use Rattle.kexec_words.specs.declared.commands.Runs.{Runs}
 use Rattle.kexec_words.specs.declared.commands.Runs.TheVariants.{Once, Twice}
@@ -16,11 +16,20 @@ use Rattle.kexec_main.specs.declared.files.TakenLoad.{TakenLoad}
 use Rattle.kexec_main.specs.declared.files.TakenLoad.TheVariants as kinds
 use Rattle.kexec_main.specs.declared.status.Reason.{Reason}
 use Rattle.kexec_main.specs.declared.status.Reason.TheVariants.{NotKept}
-use Rattle.kexec_main.specs.Check.{IsFaultIn, IsFaultLine}
-use Rattle.kexec_main.specs.CrashExec.{executes_in_place}
+use Rattle.kexec_main.specs.Check.{IsFaultIn, IsFaultLine, IsAcceptedIn, IsInPlace}
+use Rattle.kexec_main.specs.CrashExec.{executes_in_place, crash_text}
 use Rattle.kexec_main.specs.Files.{load_files}
-use Rattle.kexec_main.specs.Outputs.{Made, HasNoFile, IsMemoryFile}
-use Rattle.kexec_main.specs.Runs.{after_runs, checked_with, run_text}
+use Rattle.kexec_main.specs.Outputs.{Made, HasNoFile, IsMemoryFile, IsFileOf, IsTooHeavy}
+use Rattle.kexec_main.specs.Runs.{after_runs, checked_with, run_text, EndsAgain, Leaves, MachineLeaves}
+use Rattle.kx_edge.specs.Edge.{Files, Said}
+use Rattle.kx_edge.specs.declared.edge.Shelf.{Ghosts as Shelf}
+use Rattle.kx_edge.specs.declared.edge.Sink.{Ghosts as Sink}
+use Rattle.kx_pages.specs.declared.item.Item.{Item}
+use Rattle.page_memory.specs.Contents.{at}
+use Rattle.load_states.specs.Runs.{EndsAfter}
+use Rattle.file_commands.specs.Answers.{FilesPut, command_of}
+use Rattle.kexec_main.specs.declared.files.CrashFiles.{CrashFiles}
+use Rattle.kexec_main.specs.Entry.{Entry}
 
 -- what `exec` took, whether the list is to run twice, and the name of its output
 pub record ExecInputs : Type 0 where
@@ -113,3 +122,70 @@ executes_by (kinds.Crash x) twice out r = executes_in_place x twice out r
 
 abbrev pub executes : ExecInputs → Result Made (Refusal Reason) → Type 0
 executes x r = executes_by x.load x.twice x.out r
+
+-- what `exec` says of a list that it ran, by what was taken
+abbrev pub files_text : Bool → LoadFiles → Checked → List ℕ
+files_text twice x c =
+    let r = x.load_record in run_text (runs_asked twice x) c r.start r.regions r.digest
+
+module _ {S O : Type 0} (D : Shelf S) (E : Sink O) (held : Files) (s : S) (o : O) (s' : S)
+    (o' : O) where
+  -- After `exec` of a normal load: the record's list is accepted in the memory for the record's
+  -- segments. The machine's runs of it left what they are to leave, each after as many steps as the
+  -- walk has words; OUT is the file of that memory, every other file is as it was, and the text tells
+  -- the list and each run.
+  pub record HasExecuted (e : ExecValue) : Type 0 where
+    pub files : LoadFiles
+    pub read : reads (exec_files e) held ≡ Ok (exec_of e (kinds.Normal files))
+    pub checked : Checked
+    pub of_files : checked.load ≡ load_of files
+    pub accepted : Told checked.load checked.words checked.links checked.pairs
+    pub ends : EndsAfter checked.load checked.words
+    pub ends_again : EndsAgain (runs_asked e.twice files) checked
+    pub runs : MachineLeaves (runs_asked e.twice files) checked
+    pub leaves : Leaves (runs_asked e.twice files) checked
+        (after_runs (runs_asked e.twice files) checked)
+    pub output : List ℕ
+    pub is_memory : IsFileOf (after_runs (runs_asked e.twice files) checked) output
+    pub put : FilesPut (D.files s) ((e.out, output) ∷ []) (D.files s')
+    pub said : Said (E.said o) (files_text e.twice files checked) (E.said o')
+
+  -- After `exec` of a crash load: it lies in its place. OUT is the file of the memory as it was, every
+  -- other file is as it was, and the text tells the load, and one run of one step.
+  pub record HasExecutedCrash (e : ExecValue) : Type 0 where
+    pub files : CrashFiles
+    pub read : reads (exec_files e) held ≡ Ok (exec_of e (kinds.Crash files))
+    pub once : e.twice ≡ false
+    pub accepted : IsInPlace files
+    pub output : List ℕ
+    pub is_memory : IsFileOf (at files.memory) output
+    pub put : FilesPut (D.files s) ((e.out, output) ∷ []) (D.files s')
+    pub said : Said (E.said o) (crash_text files) (E.said o')
+
+-- the record's list is accepted in the memory, a record that is to run twice is in kept mode, and the
+-- memory after the runs has a file
+pub record CanRun (x : LoadFiles) (twice : Bool) : Type 0 where
+  pub items : List Item
+  pub accepted : IsAcceptedIn x items
+  pub kept : is_not_kept twice x ≡ false
+  pub light : (c : Checked) (n : ℕ) → c.load ≡ load_of x
+      → Told c.load c.words c.links c.pairs
+      → IsTooHeavy (after_runs (runs_asked twice x) c) n → ⊥
+
+-- a crash load lies in its place, and is to run once
+pub record CanRunInPlace (x : CrashFiles) (twice : Bool) : Type 0 where
+  pub accepted : IsInPlace x
+  pub once : twice ≡ false
+  pub light : (n : ℕ) → IsTooHeavy (at x.memory) n → ⊥
+
+abbrev pub CanExec : TakenLoad → Bool → Type 0
+CanExec (kinds.Normal x) twice = CanRun x twice
+CanExec (kinds.Crash x) twice = CanRunInPlace x twice
+
+abbrev pub exec_entry : ExecValue → Entry
+exec_entry e = record {
+  Inputs = ExecInputs;
+  command = command_of (exec_files e) executes;
+  did = λ D E held s o s' o'. HasExecuted D E held s o s' o' e ⊎ HasExecutedCrash D E held s o s' o' e;
+  can = λ x. CanExec x.load x.twice;
+}

@@ -7,6 +7,8 @@ pub mod CrashLoading
 pub mod Outputs
 pub mod Texts
 pub mod Runs
+pub mod Entry
+pub mod Loads
 pub mod Boot
 pub mod Load
 pub mod LoadPanic
@@ -17,6 +19,7 @@ pub mod Exec
 pub mod Trace
 pub mod Migrate
 pub mod Sample
+pub mod CoreFile
 pub mod Commands
 pub mod Call
 pub mod Together

@@ -1,9 +1,9 @@
 -- What `load-panic` takes and makes (this project's own).
-use Rattle.std.specs.Prelude.{◌≡◌, ℕ, List, [], ◌∷◌, length, true, None, Some, string_bytes, Result, Ok, Err, ◌⊎◌}
+use Rattle.std.specs.Prelude.{◌≡◌, ℕ, List, [], ◌∷◌, length, true, None, Some, string_bytes, Result, Ok, Err, ◌⊎◌, false}
 use Rattle.kx_pages.specs.declared.image.Mode.TheVariants.{Plain}
 use Rattle.page_memory.specs.Contents.{at}
-use Rattle.segments.specs.Values.{pages}
-use Rattle.file_commands.specs.Taking.{Refusal, Take, ok, too_long, by, ◌>>=◌}
+use Rattle.segments.specs.Values.{pages, want}
+use Rattle.file_commands.specs.Taking.{Refusal, Take, ok, too_long, by, ◌>>=◌, reads}
 use Rattle.load_states.specs.States.{CrashLoad}
 use Rattle.load_record.specs.File.{Record, record_file}
 use Rattle.kexec_words.specs.Values.{LoadPanicValue}
@@ -14,8 +14,16 @@ use Rattle.kexec_main.specs.CrashInputs.{CrashInputs, crash_inputs, crash_inputs
 use Rattle.kexec_main.specs.CrashLoading.{IsCrashLoaded}
 use Rattle.kexec_main.specs.Load.{IsReadBack}
 use Rattle.kexec_main.specs.Loading.{HasNoPlan}
-use Rattle.kexec_main.specs.Outputs.{Made, HasNoFile, IsFileOf}
+use Rattle.kexec_main.specs.Outputs.{Made, HasNoFile, IsFileOf, IsTooHeavy}
 use Rattle.kexec_main.specs.Texts.{crash_lines}
+use Rattle.kx_edge.specs.Edge.{Files, Said}
+use Rattle.kx_edge.specs.declared.edge.Shelf.{Ghosts as Shelf}
+use Rattle.kx_edge.specs.declared.edge.Sink.{Ghosts as Sink}
+use Rattle.kx_pages.specs.Spans.{Run, in_span}
+use Rattle.memory_map.specs.Maps.{reserved_area}
+use Rattle.file_commands.specs.Answers.{FilesPut, command_of}
+use Rattle.kexec_plan.specs.Plan.{plan}
+use Rattle.kexec_main.specs.Entry.{Entry}
 
 -- what `load-panic` took, and the names of its outputs
 pub record LoadPanicCommand : Type 0 where
@@ -68,3 +76,53 @@ loads_panic x (Err (by why)) =
     ⊎ ((p : Plan) × (load : CrashLoad) × IsCrashLoaded x.load p load
     × HasNoFile (at load.memory) why)
 loads_panic x (Err (too_long name limit)) = ⊥
+
+-- A crash kernel was put in its place, whatever memory held.
+pub record PanicLoad (i : CrashInputs) (p : Plan) (load : CrashLoad) : Type 0 where
+  -- the request has this plan
+  pub planned : plan i.request (Some i.map) ≡ Ok p
+  -- the memory map has this reserved area
+  pub area : Run
+  pub reserved : reserved_area i.map ≡ Some area
+  -- memory is as it was at every page outside the area
+  pub only_the_area : (q : ℕ) → in_span area q ≡ false → at load.memory q ≡ at i.memory q
+  -- each page of the segments has its segment's bytes and then zeros
+  pub arrives : (q : ℕ) (bytes : List ℕ) → want p.segments q ≡ Some bytes → at load.memory q ≡ bytes
+  -- and memory is as it was at every other page
+  pub only_its_pages : (q : ℕ) → want p.segments q ≡ None → at load.memory q ≡ at i.memory q
+  -- the list is the done word alone
+  pub head : load.head ≡ 4
+  pub segments : load.segments ≡ p.segments
+
+module _ {S O : Type 0} (D : Shelf S) (E : Sink O) (held : Files) (s : S) (o : O) (s' : S)
+    (o' : O) where
+  -- After `load-panic`: the crash kernel was put in its place. OUT is the file of the memory after the
+  -- load. RECORD tells its start and segments, and reads back as it was written. Every other file is as
+  -- it was, and the text tells how many pages it has and how it starts.
+  pub record HasLoadedPanic (l : LoadPanicValue) : Type 0 where
+    pub inputs : CrashInputs
+    pub read : reads (load_panic_files l) held ≡ Ok (load_panic_of l inputs)
+    pub planned : Plan
+    pub loaded : CrashLoad
+    pub load : PanicLoad inputs planned loaded
+    pub output : List ℕ
+    pub is_memory : IsFileOf (at loaded.memory) output
+    pub read_back : IsReadBack (record_of_crash loaded planned)
+    pub put : FilesPut (D.files s)
+        ((l.out, output) ∷ (l.load_record, record_file (record_of_crash loaded planned)) ∷ [])
+        (D.files s')
+    pub said : Said (E.said o) (panic_text planned) (E.said o')
+
+-- Nothing refuses the crash load of what was taken: the request has a plan, and the memory that it leaves has a file.
+pub record CanLoadPanic (i : CrashInputs) : Type 0 where
+  pub p : Plan
+  pub planned : plan i.request (Some i.map) ≡ Ok p
+  pub light : (c : CrashLoad) (n : ℕ) → IsCrashLoaded i p c → IsTooHeavy (at c.memory) n → ⊥
+
+abbrev pub load_panic_entry : LoadPanicValue → Entry
+load_panic_entry l = record {
+  Inputs = LoadPanicCommand;
+  command = command_of (load_panic_files l) loads_panic;
+  did = λ D E held s o s' o'. HasLoadedPanic D E held s o s' o' l;
+  can = λ x. CanLoadPanic x.load;
+}

@@ -1,13 +1,18 @@
 -- What `migrate` takes and makes (this project's own).
 use Rattle.std.specs.Prelude.{◌≡◌, ℕ, List, [], ◌∷◌, ◌++◌, codes, decimal, length, None, string_bytes, Result, Ok, Err}
 use Rattle.load_record.specs.File.{Record, record_file}
-use Rattle.file_commands.specs.Taking.{Refusal, Take, ok, ◌>>=◌}
+use Rattle.file_commands.specs.Taking.{Refusal, Take, ok, ◌>>=◌, reads}
 use Rattle.kexec_words.specs.Values.{MigrateValue}
 use Rattle.kexec_main.specs.declared.load_inputs.MigrateInputs.{MigrateInputs as Taken}
 use Rattle.kexec_main.specs.declared.status.Reason.{Reason}
 use Rattle.kexec_main.specs.Files.{load_record_file}
 use Rattle.kexec_main.specs.Load.{IsReadBack}
 use Rattle.kexec_main.specs.Outputs.{Made}
+use Rattle.kx_edge.specs.Edge.{Files, Said}
+use Rattle.kx_edge.specs.declared.edge.Shelf.{Ghosts as Shelf}
+use Rattle.kx_edge.specs.declared.edge.Sink.{Ghosts as Sink}
+use Rattle.file_commands.specs.Answers.{FilesPut, command_of}
+use Rattle.kexec_main.specs.Entry.{Entry, always}
 
 -- how many segments a record has
 abbrev pub segments_line : ℕ → List ℕ
@@ -32,3 +37,22 @@ migrates x (Ok goods) =
     (goods.text ≡ segments_line (length x.load_record.segments)) × (goods.fault ≡ None)
     × (goods.outputs ≡ (x.out, record_file x.load_record) ∷ []) × IsReadBack x.load_record
 migrates x (Err other) = ⊥
+
+module _ {S O : Type 0} (D : Shelf S) (E : Sink O) (held : Files) (s : S) (o : O) (s' : S)
+    (o' : O) where
+  -- After `migrate`: OUT is the file of the record that was read, as the second version spells it, and reads back as this
+  -- record. Every other file is as it was, and the text tells how many segments the record has.
+  pub record HasMigrated (m : MigrateValue) : Type 0 where
+    pub load_record : Record
+    pub read : reads (load_record_file m.load_record) held ≡ Ok load_record
+    pub read_back : IsReadBack load_record
+    pub put : FilesPut (D.files s) ((m.out, record_file load_record) ∷ []) (D.files s')
+    pub said : Said (E.said o) (segments_line (length load_record.segments)) (E.said o')
+
+abbrev pub migrate_entry : MigrateValue → Entry
+migrate_entry m = record {
+  Inputs = MigrateInputs;
+  command = command_of (migrate_files m) migrates;
+  did = λ D E held s o s' o'. HasMigrated D E held s o s' o' m;
+  can = always;
+}

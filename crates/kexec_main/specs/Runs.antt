@@ -15,6 +15,7 @@ use Rattle.load_states.specs.States.{Checked, Load, swap_of, with_memory}
 use Rattle.load_states.specs.Ready.{Told}
 use Rattle.load_states.specs.Runs.{EndsAfter}
 use Rattle.load_states.specs.Exchange.{exchange}
+use Rattle.relocate_machine.specs.Run.{run_of}
 use Rattle.kexec_main.specs.declared.running.Ran.{Ran}
 use Rattle.kexec_main.specs.Texts.{load_lines, purgatory_line, ran_line}
 
@@ -89,6 +90,20 @@ EndsAgain (Some Once) c = Unit {0}
 EndsAgain (Some Twice) c =
     (m : Contents) → Agree (at m) (after_runs (Some Once) c)
     → EndsAfter (with_memory c.load m) c.words
+
+-- the memory after so many steps of the machine's run of the load's list
+abbrev pub memory_after : Load → ℕ → Mem
+memory_after s steps = at (run_of s.memory s.image.head s.image.mode steps).0.memory
+
+-- The machine itself leaves this memory: its run of the list, after as many steps as the walk has words, what one run is to
+-- leave; and its second run, from any memory that reads so, what two runs are to leave.
+abbrev pub MachineLeaves : Option Runs → Checked → Type 0
+MachineLeaves None c = Agree (memory_after c.load c.words) (after_runs None c)
+MachineLeaves (Some Once) c = Agree (memory_after c.load c.words) (after_runs (Some Once) c)
+MachineLeaves (Some Twice) c =
+    Agree (memory_after c.load c.words) (after_runs (Some Once) c)
+    × ((m : Contents) → Agree (at m) (after_runs (Some Once) c)
+    → Agree (memory_after (with_memory c.load m) c.words) (after_runs (Some Twice) c))
 
 -- what is said of the list, and then of each run, which takes as many steps as the walk has words
 abbrev pub list_text : Checked → Start → List ℕ

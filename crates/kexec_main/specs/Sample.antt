@@ -8,8 +8,15 @@ use Rattle.sample_load.specs.Samples.{sample_memory, sample_pool, sample_segment
 use Rattle.file_commands.specs.Taking.{Refusal, Take, ok}
 use Rattle.kexec_main.specs.declared.status.Reason.{Reason}
 use Rattle.kexec_main.specs.Outputs.{Made}
-use Rattle.kexec_main.specs.Runs.{after_runs, list_text}
+use Rattle.kexec_main.specs.Runs.{after_runs, list_text, Leaves, MachineLeaves}
 use Rattle.kexec_main.specs.Texts.{memory_line, ran_line}
+use Rattle.kx_edge.specs.Edge.{Said}
+use Rattle.kx_edge.specs.declared.edge.Shelf.{Ghosts as Shelf}
+use Rattle.kx_edge.specs.declared.edge.Sink.{Ghosts as Sink}
+use Rattle.list_checker.specs.declared.fault.ListFault.{ListFault}
+use Rattle.load_states.specs.Runs.{EndsAfter}
+use Rattle.file_commands.specs.Answers.{Answer, FilesPut, command_of, done, memory, unsaid}
+use Rattle.kexec_main.specs.Entry.{Entry, always}
 
 abbrev pub sample_files : ℕ → Take Reason ℕ
 sample_files number = ok number
@@ -34,3 +41,31 @@ samples number (Ok goods) =
     (c : Checked) × IsSample number c × (goods.outputs ≡ []) × (goods.text ≡ sample_text number c)
     × (goods.fault ≡ None)
 samples number (Err why) = ⊥
+
+module _ {S O : Type 0} (D : Shelf S) (E : Sink O) (s : S) (o : O) (s' : S) (o' : O) where
+  -- After `sample`: the load that the number makes was run. The machine's run of its list ends after as many steps as the
+  -- walk has words, and leaves each page of its segments what it is to have and every other page as it was. Every file is
+  -- as it was, and the text tells the list, its run and the memory after it.
+  pub record HasSampled (number : ℕ) : Type 0 where
+    pub checked : Checked
+    pub sample : IsSample number checked
+    pub ends : EndsAfter checked.load checked.words
+    pub runs : MachineLeaves None checked
+    pub leaves : Leaves None checked (after_runs None checked)
+    pub put : FilesPut (D.files s) [] (D.files s')
+    pub said : Said (E.said o) (sample_text number checked) (E.said o')
+
+  -- `sample` takes no file, so this holds over every shelf: it is done, or the text could not be said, or memory is wanted
+  abbrev pub EndsSample : ℕ → Answer ListFault Reason → Type 0
+  EndsSample number done = HasSampled number
+  EndsSample number unsaid = Unit {0}
+  EndsSample number memory = Unit {0}
+  EndsSample number other = ⊥
+
+abbrev pub sample_entry : ℕ → Entry
+sample_entry number = record {
+  Inputs = ℕ;
+  command = command_of (sample_files number) samples;
+  did = λ D E held s o s' o'. HasSampled D E s o s' o' number;
+  can = always;
+}

@@ -22,6 +22,7 @@ answer_of (status.Plan fault) = refused (by (reasons.Plan fault))
 answer_of (status.NoPages pool need) = refused (by (reasons.NoPages pool need))
 answer_of (status.Heavy count) = refused (by (reasons.Heavy count))
 answer_of status.NotKept = refused (by reasons.NotKept)
+answer_of (status.Core fault) = refused (by (reasons.Core fault))
 answer_of status.Memory = memory
 
 -- the exit status of each
@@ -38,4 +39,5 @@ code_of (status.Plan fault) = 8
 code_of (status.NoPages pool need) = 9
 code_of (status.Heavy count) = 10
 code_of status.NotKept = 11
+code_of (status.Core fault) = 15
 code_of status.Memory = 12

@@ -10,8 +10,9 @@ use Rattle.kexec_words.specs.declared.commands.Runs.{Runs}
 use Rattle.kexec_words.specs.declared.commands.Runs.TheVariants.{Once, Twice}
 use Rattle.kexec_words.specs.Values.{BootValue, ExecValue, LoadValue}
 use Rattle.kexec_plan.specs.Requests.{Plan}
-use Rattle.kexec_main.specs.Call.{HasBooted, HasExecuted, HasLoaded, files_text}
-use Rattle.kexec_main.specs.Load.{load_wish, record_of_load}
+use Rattle.kexec_main.specs.Boot.{HasBooted}
+use Rattle.kexec_main.specs.Exec.{HasExecuted, files_text}
+use Rattle.kexec_main.specs.Load.{HasLoaded, load_wish, record_of_load}
 use Rattle.kexec_main.specs.Runs.{run_text, wish_of}
 
 -- whether these runs are two

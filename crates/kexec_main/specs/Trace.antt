@@ -1,18 +1,23 @@
 -- What `trace` takes and makes (this project's own).
-use Rattle.std.specs.Prelude.{◌≡◌, ℕ, ◌/◌, List, ◌++◌, codes, decimal, Option, Some, None, string_bytes, Result, Ok, Err}
+use Rattle.std.specs.Prelude.{◌≡◌, ℕ, ◌/◌, List, ◌++◌, codes, decimal, Option, Some, None, string_bytes, Result, Ok, Err, [], ◌∷◌}
 use Rattle.kx_pages.specs.declared.image.Mode.{Mode}
 use Rattle.kx_pages.specs.declared.image.Mode.TheVariants.{Plain, Kept}
 use Rattle.page_memory.specs.Contents.{Contents, at}
 use Rattle.relocate_machine.specs.declared.step.Outcome.{Outcome}
 use Rattle.relocate_machine.specs.declared.step.Outcome.TheVariants as outcomes
 use Rattle.relocate_machine.specs.Run.{run_of}
-use Rattle.file_commands.specs.Taking.{Refusal, Take, ok, too_long, by, ◌>>=◌}
+use Rattle.file_commands.specs.Taking.{Refusal, Take, ok, too_long, by, ◌>>=◌, reads}
 use Rattle.kexec_words.specs.Values.{TraceValue}
 use Rattle.kexec_main.specs.declared.trace.TraceInputs.{TraceInputs as Taken}
 use Rattle.kexec_main.specs.declared.status.Reason.{Reason}
 use Rattle.kexec_main.specs.Files.{memory_file}
-use Rattle.kexec_main.specs.Outputs.{Made, HasNoFile, IsMemoryFile}
+use Rattle.kexec_main.specs.Outputs.{Made, HasNoFile, IsMemoryFile, IsFileOf, IsTooHeavy}
 use Rattle.kexec_main.specs.Texts.{hexadecimal}
+use Rattle.kx_edge.specs.Edge.{Files, Said}
+use Rattle.kx_edge.specs.declared.edge.Shelf.{Ghosts as Shelf}
+use Rattle.kx_edge.specs.declared.edge.Sink.{Ghosts as Sink}
+use Rattle.file_commands.specs.Answers.{FilesPut, command_of}
+use Rattle.kexec_main.specs.Entry.{Entry}
 
 -- how a run came out
 abbrev pub outcome_line : Outcome → List ℕ
@@ -57,3 +62,29 @@ traces x (Ok goods) =
     × IsMemoryFile goods.outputs x.out (at run.0.memory)
 traces x (Err (by why)) = HasNoFile (at (run_of x.memory x.head x.mode x.limit).0.memory) why
 traces x (Err (too_long name limit)) = ⊥
+
+module _ {S O : Type 0} (D : Shelf S) (E : Sink O) (held : Files) (s : S) (o : O) (s' : S)
+    (o' : O) where
+  -- After `trace`: OUT is the file of the memory after the steps of the machine, and the text tells how its run came out.
+  pub record HasTraced (t : TraceValue) : Type 0 where
+    pub inputs : TraceInputs
+    pub read : reads (trace_files t) held ≡ Ok inputs
+    pub output : List ℕ
+    pub is_memory : IsFileOf
+        (at (run_of inputs.memory inputs.head inputs.mode inputs.limit).0.memory) output
+    pub put : FilesPut (D.files s) ((inputs.out, output) ∷ []) (D.files s')
+    pub said : Said (E.said o)
+        (outcome_line (run_of inputs.memory inputs.head inputs.mode inputs.limit).1) (E.said o')
+
+-- the memory after the steps has a file
+abbrev pub CanTrace : TraceInputs → Type 0
+CanTrace x =
+    (n : ℕ) → IsTooHeavy (at (run_of x.memory x.head x.mode x.limit).0.memory) n → ⊥
+
+abbrev pub trace_entry : TraceValue → Entry
+trace_entry t = record {
+  Inputs = TraceInputs;
+  command = command_of (trace_files t) traces;
+  did = λ D E held s o s' o'. HasTraced D E held s o s' o' t;
+  can = CanTrace;
+}

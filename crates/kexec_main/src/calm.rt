@@ -3,12 +3,14 @@
 ghost use Rattle.std.specs.Prelude.{◌≡◌, ◌⊎◌, ℕ, List, map, string_bytes, true, Ok};
 ghost use Rattle.kx_edge.specs.Edge.{Rose};
 ghost use Rattle.file_commands.specs.Answers.{Meets, MeetsTold, done, memory, refused, unread, unsaid, unwritten};
-ghost use Rattle.file_commands.specs.Taking.{by};
+ghost use Rattle.file_commands.specs.Taking.{Refusal, by};
 ghost use Rattle.kexec_words.specs.Meaning.{command_of};
 ghost use Rattle.kexec_words.specs.Values.{CommandValue, sample};
 ghost use Rattle.kexec_main.specs.Statuses.{answer_of};
-ghost use Rattle.kexec_main.specs.Call.{EndsSample, HasDone, HasTooFew, IsInOrder};
+ghost use Rattle.kexec_main.specs.Call.{HasDone, HasRefusal, HasTooFew, IsInOrder};
 ghost use Rattle.kexec_main.specs.Commands.{Holds};
+ghost use Rattle.kexec_main.specs.Sample.{EndsSample};
+ghost use Rattle.kexec_main.specs.declared.status.Reason.{Reason};
 ghost use Rattle.kexec_main.specs.declared.status.Reason.TheVariants.{NoPages};
 
 use crate::run::kexec;
@@ -63,6 +65,13 @@ pub fn kexec_in_memory(
         → shelf.old.is_told ≡ true → (pool need : ℕ) → HasTooFew c shelf.old.held pool need
         → (Rose out.old.faults out.new.faults → ⊥)
         → (answer_of result ≡ refused (by (NoPages pool need))) ⊎ (answer_of result ≡ memory) }
+
+    // Files that are not read, and what is refused of those that are, are refused for that reason, or memory is wanted,
+    // where the count of the sink's faults has not risen.
+    ensures refused { (c : CommandValue) → command_of (map string_bytes words.now) ≡ Ok c
+        → shelf.old.is_told ≡ true → (why : Refusal Reason) → HasRefusal c shelf.old.held why
+        → (Rose out.old.faults out.new.faults → ⊥)
+        → (answer_of result ≡ refused why) ⊎ (answer_of result ≡ memory) }
 
     // No file is ever told as one that could not be read or written, and the text as unsaid only where the count of the
     // sink's faults rose.

@@ -19,6 +19,7 @@ mod below_tests;
 mod boot;
 mod calm;
 mod check;
+mod core_file;
 #[cfg(test)]
 mod crash_example;
 mod crash_exec;

@@ -1,6 +1,6 @@
 //! What a load is made of, and a load record that was read.
 
-ghost use Rattle.std.specs.Prelude.{◌≡◌, ℕ, false};
+ghost use Rattle.std.specs.Prelude.{◌≡◌, ◌<◌, ◌^◌, ℕ, false};
 ghost use Rattle.page_pool.specs.Pages.{is_filed};
 ghost use Rattle.load_record.specs.File.{IsWritable};
 ghost use Rattle.kexec_plan.specs.Requests.{IsMapped, request_of};
@@ -39,4 +39,14 @@ pub(crate) struct CrashInputs {
     pub(crate) memory: Memory,
     pub(crate) map: Map,
     pub(crate) request: Request,
+}
+
+/// What `core` took: the memory, the name of its output, and the address of the crash headers.
+#[derive(Drop)]
+pub(crate) struct CoreInputs {
+    pub(crate) memory: Memory,
+    pub(crate) out: String,
+    pub(crate) address: u64,
+    /// The headers' address is one.
+    pub(crate) ghost inside: { address < 2 ^ 46 },
 }

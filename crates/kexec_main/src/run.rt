@@ -3,20 +3,22 @@
 ghost use Rattle.std.specs.Prelude.{◌≡◌, ◌⊎◌, ℕ, List, map, string_bytes, IfSome, Ok};
 ghost use Rattle.kx_edge.specs.Edge.{Rose};
 ghost use Rattle.file_commands.specs.Answers.{Meets, MeetsTold, done, memory, refused, unread, unsaid, unwritten};
-ghost use Rattle.file_commands.specs.Taking.{by};
+ghost use Rattle.file_commands.specs.Taking.{Refusal, by};
 ghost use Rattle.file_commands.specs.Calls.{call_answer};
 ghost use Rattle.kexec_words.specs.Limits.{IsWithinLimits};
 ghost use Rattle.kexec_words.specs.Meaning.{command_of};
 ghost use Rattle.kexec_words.specs.Values.{CommandValue, command_value, sample};
 ghost use Rattle.kexec_main.specs.Statuses.{answer_of};
-ghost use Rattle.kexec_main.specs.Call.{EndsSample, HasDone, HasTooFew, IsInOrder};
+ghost use Rattle.kexec_main.specs.Call.{HasDone, HasRefusal, HasTooFew, IsInOrder};
 ghost use Rattle.kexec_main.specs.Commands.{Holds};
+ghost use Rattle.kexec_main.specs.Sample.{EndsSample};
+ghost use Rattle.kexec_main.specs.declared.status.Reason.{Reason};
 ghost use Rattle.kexec_main.specs.declared.status.Reason.TheVariants.{NoPages};
 
 use crate::status::{Reason, Status};
 use crate::words::{
-    BootWords, CheckWords, DumpWords, ExecWords, LoadPanicWords, LoadWords, MigrateWords,
-    SampleWords, TraceWords,
+    BootWords, CheckWords, CoreWords, DumpWords, ExecWords, LoadPanicWords, LoadWords,
+    MigrateWords, SampleWords, TraceWords,
 };
 use file_commands::{Stop, run};
 use kexec_words::{Command, WordsFault, read};
@@ -47,6 +49,7 @@ fn run_command<S: Shelf, O: Sink>(
         Command::Trace(words) => run(alloc, TraceWords { words }, shelf, out),
         Command::Migrate(words) => run(alloc, MigrateWords { words }, shelf, out),
         Command::Sample { number } => run(alloc, SampleWords { number }, shelf, out),
+        Command::Core(words) => run(alloc, CoreWords { words }, shelf, out),
     }
 }
 
@@ -120,6 +123,14 @@ pub fn kexec<S: Shelf, O: Sink>(
         → (Rose (S.faults shelf.old) (S.faults shelf.new) → ⊥)
         → (Rose (O.faults out.old) (O.faults out.new) → ⊥)
         → (answer_of result ≡ refused (by (NoPages pool need))) ⊎ (answer_of result ≡ memory)) }
+
+    // Files that are not read, and what is refused of those that are, are refused for that reason where no device fails, or
+    // memory is wanted.
+    ensures refused { (c : CommandValue) → command_of (map string_bytes words.now) ≡ Ok c
+        → IfSome (S.files shelf.old) (λ held. (why : Refusal Reason) → HasRefusal c held why
+        → (Rose (S.faults shelf.old) (S.faults shelf.new) → ⊥)
+        → (Rose (O.faults out.old) (O.faults out.new) → ⊥)
+        → (answer_of result ≡ refused why) ⊎ (answer_of result ≡ memory)) }
 
     // An answer that tells of a device comes only where the count of its faults rose.
     ensures unread { (name : List ℕ) → answer_of result ≡ unread name

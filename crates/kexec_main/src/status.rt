@@ -16,6 +16,7 @@ use memory_map::MapFault;
 use page_memory::MemFault;
 use page_pool::PoolFault;
 use thiserror::Error;
+use vmcore_file::CoreFault;
 
 /// Why an input file was refused: by its reader, with the place in it.
 #[derive(Clone, Copy, Debug, PartialEq, Eq, Error)]
@@ -52,6 +53,8 @@ pub enum Reason {
     NoPages { pool: u64, need: u64 },
     /// The memory to write has more pages that are not all zeros than a memory file can have.
     Heavy { count: u64 },
+    /// The memory has no core file by the headers at the address.
+    Core { fault: CoreFault },
 }
 
 /// How a command ended. Its text says in one sentence what was wrong, where, and what was wanted.
@@ -93,6 +96,9 @@ pub enum Status {
     /// `exec --twice` was given a record that is not in kept mode.
     #[error("the load record is in plain mode, as that of a crash kernel always is, and --twice needs one that was loaded with --kept")]
     NotKept,
+    /// The memory has no core file by the headers at the address.
+    #[error("{fault}")]
+    Core { fault: CoreFault },
     /// There was not enough memory for the work.
     #[error("there is not enough memory for the work: free some and try again")]
     Memory,
@@ -117,6 +123,7 @@ impl Status {
             Status::Heavy { .. } => 10,
             Status::NotKept => 11,
             Status::Memory => 12,
+            Status::Core { .. } => 15,
         }
     }
 }
@@ -132,6 +139,7 @@ impl From<Reason> for Status {
             Reason::Plan { fault } => Status::Plan { fault },
             Reason::NoPages { pool, need } => Status::NoPages { pool, need },
             Reason::Heavy { count } => Status::Heavy { count },
+            Reason::Core { fault } => Status::Core { fault },
         }
     }
 }

@@ -4,7 +4,7 @@ ghost use Rattle.std.specs.Prelude.{◌≡◌, ◌<◌, ◌^◌, ℕ, Some};
 ghost use Rattle.kexec_words.specs.Limits.{HasParts};
 ghost use Rattle.kexec_words.specs.Values.{inputs_value};
 
-use kexec_words::{Boot, Exec, Load, LoadNames, LoadPanic, Migrate, Trace};
+use kexec_words::{Boot, Core, Exec, Load, LoadNames, LoadPanic, Migrate, Trace};
 
 /// The words of `boot`.
 #[derive(Drop)]
@@ -64,4 +64,12 @@ pub(crate) struct TraceWords {
     pub(crate) words: Trace,
     /// The swap page is a page.
     pub(crate) ghost swap_page: { (a : ℕ) → words.swap ≡ Some a → a < 2 ^ 46 },
+}
+
+/// The words of `core`.
+#[derive(Drop)]
+pub(crate) struct CoreWords {
+    pub(crate) words: Core,
+    /// The headers' address is one.
+    pub(crate) ghost inside: { words.address < 2 ^ 46 },
 }

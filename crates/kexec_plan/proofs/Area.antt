@@ -5,20 +5,18 @@ use Rattle.std.specs.Option.{option_or}
 use Rattle.std.specs.List.{position, position_or_len}
 use Rattle.std.proofs.lemmas.Bool.Decides.{nat_tests}
 use Rattle.std.proofs.lemmas.Option.{none-some}
-use Rattle.kx_laws.specs.Results.{◌>>=◌, unless}
+use Rattle.kx_laws.specs.Results.{unless}
 use Rattle.kx_laws.proofs.Results.{bind_ok, ok_same}
 use Rattle.kx_pages.specs.Lists.{Each}
 use Rattle.kx_pages.specs.Spans.{Run, in_span}
 use Rattle.kx_pages.specs.declared.image.Start.{Start}
 use Rattle.kx_pages.proofs.Lists.{Each-append, Each-left, Each-right}
-use Rattle.segments.specs.declared.fault.Kind.{Kind}
-use Rattle.segments.specs.declared.fault.Kind.TheVariants.{Normal, Crash}
+use Rattle.segments.specs.declared.fault.Kind.TheVariants.{Crash}
 use Rattle.segments.specs.declared.fault.SegFault.{SegFault}
 use Rattle.segments.specs.declared.fault.SegFault.TheVariants.{OutsideReserved}
 use Rattle.segments.specs.Values.{SegmentValue, is_page_of_segment, want}
 use Rattle.segments.specs.Rules.{half_of_memory, leaves, misplaced, outside_reserved, refusal, shape_refusal}
 use Rattle.memory_map.specs.Maps.{MapValue, reserved_area}
-use Rattle.bzimage.specs.Kernel.{kernel_reading}
 use Rattle.kexec_plan.specs.declared.fault.PlanFault.{PlanFault}
 use Rattle.kexec_plan.specs.declared.fault.PlanFault.TheVariants as faults
 use Rattle.kexec_plan.specs.declared.format.Format.{Format}
@@ -26,16 +24,14 @@ use Rattle.kexec_plan.specs.declared.format.Format.TheVariants as formats
 use Rattle.kexec_plan.specs.declared.places.Site.{Site}
 use Rattle.kexec_plan.specs.Modules.{LinuxAsked}
 use Rattle.kexec_plan.specs.Requests.{Asked, Plan}
-use Rattle.kexec_plan.specs.Faults.{told_by, of_bzimage}
-use Rattle.kexec_plan.specs.Formats.{crash_kind, format_of, kind_of, unused_part}
-use Rattle.kexec_plan.specs.Places.{searched}
+use Rattle.kexec_plan.specs.Formats.{format_of, ground_for, reserved_ground, unused_part}
+use Rattle.kexec_plan.specs.Ground.{Ground, Machine, Reserved}
 use Rattle.kexec_plan.specs.Parts.{segment_at}
 use Rattle.kexec_plan.specs.Rules.{first_refusal, ram_runs, tested, unless_refused}
-use Rattle.kexec_plan.specs.Purgatory.{Linkage, PurgatoryValue, linked_at, purgatory_most, purgatory_rule, some_purgatory}
+use Rattle.kexec_plan.specs.Purgatory.{Linkage, PurgatoryValue, linked_at}
 use Rattle.kexec_plan.specs.Finish.{armed_plan, armed_segment, finished, linked_plan, plain_plan}
-use Rattle.kexec_plan.specs.Table.{headers_rule}
-use Rattle.kexec_plan.specs.Linux.{headers_size, linux_parts, linux_sites, linux_start, rows_of, some_headers}
-use Rattle.kexec_plan.specs.Plan.{linux_headed, linux_made, linux_of, linux_placed, linux_plan, linux_read, plan, plan_as}
+use Rattle.kexec_plan.proofs.Ways.{linux_plan_ends}
+use Rattle.kexec_plan.specs.Plan.{linux_of, linux_plan, plan, plan_as}
 
 -- each segment lies in the area
 abbrev pub AreInside : Run → List SegmentValue → Type 0
@@ -87,76 +83,66 @@ passed : (ss kept : List SegmentValue) (r : Option SegFault) → unless_refused 
 passed ss kept None e = (refl, ok_same {F = PlanFault} ss kept e)
 passed ss kept (Some f) e = cc
 
-tested_inside : (map : MapValue) (area : Run) (ss kept : List SegmentValue) → tested (Some map) (Crash area) ss ≡ Ok kept → AreInside area ss × (ss ≡ kept)
+tested_inside : (map : MapValue) (area : Run) (ss kept : List SegmentValue) → tested (Reserved map area) ss ≡ Ok kept → AreInside area ss × (ss ≡ kept)
 unfolding tested first_refusal
 tested_inside map area ss kept e =
     let k = passed ss kept (refusal (ram_runs map) (Crash area) ss) e in
     (unrefused_inside (ram_runs map) area ss k.0, k.1)
 
 -- ---- the end of a plan tests its segments
-plain_inside : (map : MapValue) (area : Run) (ss : List SegmentValue) (start : Start) (p : Plan) → plain_plan (Some map) (Crash area) ss start ≡ Ok p → AreInside area p.segments
+plain_inside : (map : MapValue) (area : Run) (ss : List SegmentValue) (start : Start) (p : Plan) → plain_plan (Reserved map area) ss start ≡ Ok p → AreInside area p.segments
 unfolding plain_plan
 plain_inside map area ss start p e =
-    let a = bind_ok (tested (Some map) (Crash area) ss) (λ kept. Ok (record { segments = kept; start = start; regions = 0; digest = 0 })) p e in
+    let a = bind_ok (tested (Reserved map area) ss) (λ kept. Ok (record { segments = kept; start = start; regions = 0; digest = 0 })) p e in
     let t = tested_inside map area ss a.0 a.1 in
     subst (λ (p : Plan). AreInside area p.segments) (ok_same {F = PlanFault} _ p a.2) (subst (AreInside area) t.1 t.0)
 
 -- the purgatory's segment keeps its place
-armed_inside : (map : MapValue) (area : Run) (ss : List SegmentValue) (start : Start) (l : Linkage) (s : Site) (p : Plan) → armed_plan (Some map) (Crash area) ss start l s ≡ Ok p → AreInside area p.segments
+armed_inside : (map : MapValue) (area : Run) (ss : List SegmentValue) (start : Start) (l : Linkage) (s : Site) (p : Plan) → armed_plan (Reserved map area) ss start l s ≡ Ok p → AreInside area p.segments
 unfolding armed_plan
 armed_inside map area ss start l s p e =
-    let a = bind_ok (tested (Some map) (Crash area) (ss ++ segment_at s l.bytes ∷ [])) (λ _. Ok (record { segments = ss ++ armed_segment l start ss s ∷ []; start = record { entry = l.symbols.start; rax = 0; rbx = 0; rsi = 0 }; regions = l.symbols.regions; digest = l.symbols.digest })) p e in
+    let a = bind_ok (tested (Reserved map area) (ss ++ segment_at s l.bytes ∷ [])) (λ _. Ok (record { segments = ss ++ armed_segment l start ss s ∷ []; start = record { entry = l.symbols.start; rax = 0; rbx = 0; rsi = 0 }; regions = l.symbols.regions; digest = l.symbols.digest })) p e in
     let t = (tested_inside map area (ss ++ segment_at s l.bytes ∷ []) a.0 a.1).0 in
     let stays = λ (x : SegmentValue). leaves area x ≡ false in
     let front = Each-left stays ss (segment_at s l.bytes ∷ []) t in
     let last = Each-right stays ss (segment_at s l.bytes ∷ []) t in
     subst (λ (p : Plan). AreInside area p.segments) (ok_same {F = PlanFault} _ p a.2) (Each-append stays ss (armed_segment l start ss s ∷ []) front (last.0, tt))
 
-linked_inside : (map : MapValue) (area : Run) (ss : List SegmentValue) (start : Start) (v : PurgatoryValue) (s : Site) (p : Plan) → linked_plan (Some map) (Crash area) ss start v s ≡ Ok p → AreInside area p.segments
+linked_inside : (map : MapValue) (area : Run) (ss : List SegmentValue) (start : Start) (v : PurgatoryValue) (s : Site) (p : Plan) → linked_plan (Reserved map area) ss start v s ≡ Ok p → AreInside area p.segments
 unfolding linked_plan
 linked_inside map area ss start v s p e =
-    let a = bind_ok (linked_at v s) (λ l. armed_plan (Some map) (Crash area) ss start l s) p e in
+    let a = bind_ok (linked_at v s) (λ l. armed_plan (Reserved map area) ss start l s) p e in
     armed_inside map area ss start a.0 s p a.2
 
-finished_inside : (map : MapValue) (area : Run) (ss : List SegmentValue) (start : Start) (v : Option PurgatoryValue) (s : Option Site) (p : Plan) → finished (Some map) (Crash area) ss start v s ≡ Ok p → AreInside area p.segments
+finished_inside : (map : MapValue) (area : Run) (ss : List SegmentValue) (start : Start) (v : Option PurgatoryValue) (s : Option Site) (p : Plan) → finished (Reserved map area) ss start v s ≡ Ok p → AreInside area p.segments
 finished_inside map area ss start (Some v) (Some s) p e = linked_inside map area ss start v s p e
 finished_inside map area ss start (Some v) None p e = plain_inside map area ss start p e
 finished_inside map area ss start None s p e = plain_inside map area ss start p e
 
 -- ---- the plan of a bzImage ends so
-linux_inside : (ram : ℕ → Bool) (r : LinuxAsked) (file : Option (List ℕ)) (map : MapValue) (area : Run) (p : Plan) → linux_plan ram r file (Some map) (Crash area) ≡ Ok p → AreInside area p.segments
-unfolding linux_plan linux_read linux_placed linux_headed linux_made
-linux_inside ram r file map area p e =
-    let m = Some map in
-    let kind = Crash area in
-    let a = bind_ok (told_by of_bzimage (kernel_reading r.kernel)) (λ image. linux_read ram image r file m kind) p e in
-    let b = bind_ok (some_purgatory file) (λ purgatory. linux_placed ram a.0 r purgatory m kind) p a.2 in
-    let c = bind_ok (linux_sites ram a.0 (rows_of m kind) r (option_map (headers_rule a.0) (headers_size m kind r.notes)) (option_map (purgatory_rule (purgatory_most kind a.0.above4g)) b.0))
-    (λ sites. linux_headed a.0 r b.0 m kind sites) p b.2 in
-    let d = bind_ok (some_headers m kind r.notes) (λ headers. linux_made a.0 r b.0 headers m kind c.0) p c.2 in
-    let f = bind_ok (linux_parts a.0 r d.0 (rows_of m kind) c.0) (λ parts. finished m kind parts (linux_start c.0) b.0 c.0.later.back.purgatory) p d.2 in
-    finished_inside map area f.0 (linux_start c.0) b.0 c.0.later.back.purgatory p f.2
+linux_inside : (r : LinuxAsked) (file : Option (List ℕ)) (map : MapValue) (area : Run) (p : Plan) → linux_plan r file (Reserved map area) ≡ Ok p → AreInside area p.segments
+linux_inside r file map area = linux_plan_ends (Reserved map area) (λ p. AreInside area p.segments) (finished_inside map area) r file
 
 -- ---- a crash kernel is a bzImage, and has an area
-has_area : (area : Option Run) (kind : Kind) → crash_kind area ≡ Ok kind → (a : Run) × (area ≡ Some a) × (kind ≡ Crash a)
-has_area None kind e = cc
-has_area (Some a) kind e = (a, refl, sym (ok_same {F = PlanFault} (Crash a) kind e))
+has_area : (map : MapValue) (area : Option Run) (g : Ground) → reserved_ground map area ≡ Ok g → (a : Run) × (area ≡ Some a) × (g ≡ Reserved map a)
+has_area map None g e = cc
+has_area map (Some a) g e = (a, refl, sym (ok_same {F = PlanFault} (Reserved map a) g e))
 
-crash_form : (r : Asked) (map : MapValue) (format : Format) (kind : Kind) → r.crash ≡ true → kind_of r (Some map) format ≡ Ok kind → (format ≡ formats.Bzimage) × (crash_kind (reserved_area map) ≡ Ok kind)
-crash_form r map (formats.Raw at entry) kind crash e = let k = sym (ap (λ b. cond (not b) (Ok Normal) (Err faults.CrashNeedsBzimage)) crash) ∙ e in cc
-crash_form r map formats.Elf kind crash e = let k = sym (ap (λ b. cond (not b) (Ok Normal) (Err faults.CrashNeedsBzimage)) crash) ∙ e in cc
-crash_form r map formats.Multiboot kind crash e = let k = sym (ap (λ b. cond (not b) (Ok Normal) (Err faults.CrashNeedsBzimage)) crash) ∙ e in cc
-crash_form r map formats.Bzimage kind crash e = (refl, sym (ap (λ b. cond (not b) (Ok Normal) (crash_kind (reserved_area map))) crash) ∙ e)
+crash_form : (r : Asked) (map : MapValue) (format : Format) (g : Ground) → r.crash ≡ true → ground_for r (Some map) format ≡ Ok g → (format ≡ formats.Bzimage) × (reserved_ground map (reserved_area map) ≡ Ok g)
+crash_form r map (formats.Raw at entry) g crash e = let k = sym (ap (λ b. cond (not b) (Ok (Machine map)) (Err faults.CrashNeedsBzimage)) crash) ∙ e in cc
+crash_form r map formats.Elf g crash e = let k = sym (ap (λ b. cond (not b) (Ok (Machine map)) (Err faults.CrashNeedsBzimage)) crash) ∙ e in cc
+crash_form r map formats.Multiboot g crash e = let k = sym (ap (λ b. cond (not b) (Ok (Machine map)) (Err faults.CrashNeedsBzimage)) crash) ∙ e in cc
+crash_form r map formats.Bzimage g crash e = (refl, sym (ap (λ b. cond (not b) (Ok (Machine map)) (reserved_ground map (reserved_area map))) crash) ∙ e)
 
 -- the map of a crash load that has a plan has an area, and each segment lies in it
 pub in_area : (r : Asked) (map : MapValue) (p : Plan) → r.crash ≡ true → plan r (Some map) ≡ Ok p → (area : Run) × (reserved_area map ≡ Some area) × AreInside area p.segments
 unfolding plan
 in_area r map p crash e =
     let m = Some map in
-    let f = bind_ok (format_of r) (λ format. kind_of r m format >>= λ kind. unless (option_map faults.Unused (unused_part r format)) >>= λ _. plan_as (searched m kind) r m kind format) p e in
-    let k = bind_ok (kind_of r m f.0) (λ kind. unless (option_map faults.Unused (unused_part r f.0)) >>= λ _. plan_as (searched m kind) r m kind f.0) p f.2 in
-    let u = bind_ok (unless (option_map faults.Unused (unused_part r f.0))) (λ _. plan_as (searched m k.0) r m k.0 f.0) p k.2 in
-    let form = crash_form r map f.0 k.0 crash k.1 in
-    let area = has_area (reserved_area map) k.0 form.1 in
-    let as_linux = subst (λ kind. plan_as (searched m kind) r m kind formats.Bzimage ≡ Ok p) area.2 (subst (λ format. plan_as (searched m k.0) r m k.0 format ≡ Ok p) form.0 u.2) in
-    (area.0, area.1, linux_inside (searched m (Crash area.0)) (linux_of r) r.purgatory map area.0 p as_linux)
+    let f = bind_ok (format_of r) _ p e in
+    let g = bind_ok (ground_for r m f.0) _ p f.2 in
+    let u = bind_ok (unless (option_map faults.Unused (unused_part r f.0))) _ p g.2 in
+    let form = crash_form r map f.0 g.0 crash g.1 in
+    let area = has_area map (reserved_area map) g.0 form.1 in
+    let as_linux = subst (λ g. plan_as r g formats.Bzimage ≡ Ok p) area.2 (subst (λ format. plan_as r g.0 format ≡ Ok p) form.0 u.2) in
+    (area.0, area.1, linux_inside (linux_of r) r.purgatory map area.0 p as_linux)

@@ -1,5 +1,5 @@
 -- The segments of a plan break no rule.
-use Rattle.std.proofs.Common.{◌≡◌, ℕ, ◌+◌, ◌-◌, ◌<◌, ◌≤◌, ◌++◌, List, [], ◌∷◌, length, Option, Some, None, Result, Ok, Err, refl, subst, ◌∙◌, arith}
+use Rattle.std.proofs.Common.{◌≡◌, ℕ, ◌-◌, ◌++◌, List, [], ◌∷◌, length, Option, Some, None, Ok, refl, subst, ◌∙◌, arith}
 use Rattle.kx_laws.proofs.Results.{bind_ok, ok_same}
 use Rattle.kx_fields.specs.Fields.{with_bytes}
 use Rattle.kx_pages.specs.declared.image.Start.{Start}
@@ -7,6 +7,7 @@ use Rattle.segments.specs.Values.{SegmentValue}
 use Rattle.segments.specs.Rules.{IsBare}
 use Rattle.segments.specs.declared.fault.SegFault.{SegFault}
 use Rattle.segments.specs.declared.fault.Kind.{Kind}
+use Rattle.kexec_plan.specs.Ground.{Ground, map_of, kind_in}
 use Rattle.segments.proofs.Laws.{AreSegments-from_IsBare, IsBare-from_refusal}
 use Rattle.memory_map.specs.Maps.{MapValue}
 use Rattle.purgatory_link.specs.Regions.{digest, others, region_table}
@@ -33,17 +34,17 @@ unfolding first_refusal
 bare_by None kind ss h = h
 bare_by (Some map) kind ss h = IsBare-from_refusal _ kind ss h
 
-pub tested_bare : (m : Option MapValue) (kind : Kind) (ss segments : List SegmentValue) → tested m kind ss ≡ Ok segments → IsBare ss
+pub tested_bare : (g : Ground) (ss segments : List SegmentValue) → tested g ss ≡ Ok segments → IsBare ss
 unfolding tested
-tested_bare m kind ss segments h = bare_by m kind ss (not_refused ss segments (first_refusal m kind ss) h)
+tested_bare g ss segments h = bare_by (map_of g) (kind_in g) ss (not_refused ss segments (first_refusal (map_of g) (kind_in g) ss) h)
 
 tested_same : (ss segments : List SegmentValue) (o : Option SegFault) → unless_refused ss o ≡ Ok segments → ss ≡ segments
 tested_same ss segments None h = ok_same ss segments h
 tested_same ss segments (Some fault) h = cc
 
-tested_are : (m : Option MapValue) (kind : Kind) (ss segments : List SegmentValue) → tested m kind ss ≡ Ok segments → ss ≡ segments
+tested_are : (g : Ground) (ss segments : List SegmentValue) → tested g ss ≡ Ok segments → ss ≡ segments
 unfolding tested
-tested_are m kind ss segments h = tested_same ss segments (first_refusal m kind ss) h
+tested_are g ss segments h = tested_same ss segments (first_refusal (map_of g) (kind_in g) ss) h
 
 -- ---- the two ends of plans
 abbrev pub armed_as : List SegmentValue → Start → Linkage → Site → Plan
@@ -75,30 +76,30 @@ armed_bare l start ss s h bare =
     subst IsBare (set_last ss (segment_at s l.bytes) (armed_segment l start ss s))
     (bare_set list (length ss) (segment_at s l.bytes) (armed l start table sum) bare (get_last ss (segment_at s l.bytes)) (length-armed l start table sum h wide (length-digest list (length ss))))
 
-armed_plan_bare : (m : Option MapValue) (kind : Kind) (ss : List SegmentValue) (start : Start) (l : Linkage) (s : Site) (p : Plan) → IsLinkage s l → armed_plan m kind ss start l s ≡ Ok p → IsBare p.segments
+armed_plan_bare : (g : Ground) (ss : List SegmentValue) (start : Start) (l : Linkage) (s : Site) (p : Plan) → IsLinkage s l → armed_plan g ss start l s ≡ Ok p → IsBare p.segments
 unfolding armed_plan
-armed_plan_bare m kind ss start l s p is h =
-    let a = bind_ok (tested m kind (ss ++ segment_at s l.bytes ∷ [])) (λ _. Ok (armed_as ss start l s)) p h in
+armed_plan_bare g ss start l s p is h =
+    let a = bind_ok (tested g (ss ++ segment_at s l.bytes ∷ [])) (λ _. Ok (armed_as ss start l s)) p h in
     subst (λ (p : Plan). IsBare p.segments) (ok_same (armed_as ss start l s) p a.2)
-    (armed_bare l start ss s is.symbols (tested_bare m kind (ss ++ segment_at s l.bytes ∷ []) a.0 a.1))
+    (armed_bare l start ss s is.symbols (tested_bare g (ss ++ segment_at s l.bytes ∷ []) a.0 a.1))
 
-linked_plan_bare : (m : Option MapValue) (kind : Kind) (ss : List SegmentValue) (start : Start) (o : PurgatoryValue) (s : Site) (p : Plan) → linked_plan m kind ss start o s ≡ Ok p → IsBare p.segments
+linked_plan_bare : (g : Ground) (ss : List SegmentValue) (start : Start) (o : PurgatoryValue) (s : Site) (p : Plan) → linked_plan g ss start o s ≡ Ok p → IsBare p.segments
 unfolding linked_plan
-linked_plan_bare m kind ss start o s p h =
-    let a = bind_ok (linked_at o s) (λ l. armed_plan m kind ss start l s) p h in
-    armed_plan_bare m kind ss start a.0 s p (linkage_is o s a.0 a.1) a.2
+linked_plan_bare g ss start o s p h =
+    let a = bind_ok (linked_at o s) (λ l. armed_plan g ss start l s) p h in
+    armed_plan_bare g ss start a.0 s p (linkage_is o s a.0 a.1) a.2
 
-plain_plan_bare : (m : Option MapValue) (kind : Kind) (ss : List SegmentValue) (start : Start) (p : Plan) → plain_plan m kind ss start ≡ Ok p → IsBare p.segments
+plain_plan_bare : (g : Ground) (ss : List SegmentValue) (start : Start) (p : Plan) → plain_plan g ss start ≡ Ok p → IsBare p.segments
 unfolding plain_plan
-plain_plan_bare m kind ss start p h =
-    let a = bind_ok (tested m kind ss) (λ segments. Ok (plain_as segments start)) p h in
+plain_plan_bare g ss start p h =
+    let a = bind_ok (tested g ss) (λ segments. Ok (plain_as segments start)) p h in
     subst (λ (p : Plan). IsBare p.segments) (ok_same (plain_as a.0 start) p a.2)
-    (subst IsBare (tested_are m kind ss a.0 a.1) (tested_bare m kind ss a.0 a.1))
+    (subst IsBare (tested_are g ss a.0 a.1) (tested_bare g ss a.0 a.1))
 
-finished_bare : (m : Option MapValue) (kind : Kind) (ss : List SegmentValue) (start : Start) (o : Option PurgatoryValue) (s : Option Site) (p : Plan) → finished m kind ss start o s ≡ Ok p → IsBare p.segments
-finished_bare m kind ss start (Some o) (Some s) p h = linked_plan_bare m kind ss start o s p h
-finished_bare m kind ss start (Some o) None p h = plain_plan_bare m kind ss start p h
-finished_bare m kind ss start None s p h = plain_plan_bare m kind ss start p h
+finished_bare : (g : Ground) (ss : List SegmentValue) (start : Start) (o : Option PurgatoryValue) (s : Option Site) (p : Plan) → finished g ss start o s ≡ Ok p → IsBare p.segments
+finished_bare g ss start (Some o) (Some s) p h = linked_plan_bare g ss start o s p h
+finished_bare g ss start (Some o) None p h = plain_plan_bare g ss start p h
+finished_bare g ss start None s p h = plain_plan_bare g ss start p h
 
 pub planned_bare : (r : Asked) (m : Option MapValue) (p : Plan) → plan r m ≡ Ok p → IsBare p.segments
 planned_bare r m p h = plan_ends (λ (p : Plan). IsBare p.segments) finished_bare r m p h

@@ -5,8 +5,7 @@ use Rattle.std.specs.List.{slice_get}
 use Rattle.kx_laws.specs.Results.{◌>>=◌}
 use Rattle.kx_pages.specs.declared.image.Start.{Start}
 use Rattle.segments.specs.Values.{SegmentValue}
-use Rattle.segments.specs.declared.fault.Kind.{Kind}
-use Rattle.memory_map.specs.Maps.{MapValue}
+use Rattle.kexec_plan.specs.Ground.{Ground}
 use Rattle.purgatory_link.specs.Regions.{others, digest, region_table}
 use Rattle.kexec_plan.specs.declared.fault.PlanFault.{PlanFault}
 use Rattle.kexec_plan.specs.declared.places.Site.{Site}
@@ -17,10 +16,10 @@ use Rattle.kexec_plan.specs.Rules.{tested}
 use Rattle.kexec_plan.specs.Purgatory.{PurgatoryValue, Linkage, linked_at, armed}
 
 -- the plan of these segments, without a purgatory
-unfoldable pub plain_plan : Option MapValue → Kind → List SegmentValue → Start
+unfoldable pub plain_plan : Ground → List SegmentValue → Start
     → Result Plan PlanFault
-plain_plan map kind ss start = do
-  segments ← tested map kind ss
+plain_plan ground ss start = do
+  segments ← tested ground ss
   Ok (record { segments = segments; start = start; regions = 0; digest = 0 })
 
 -- segment number g of these has this property
@@ -42,10 +41,10 @@ armed_segment l start ss s =
     segment_at s (armed_among (ss ++ segment_at s l.bytes ∷ []) (length ss) l start)
 
 -- the plan of these segments and of a linked purgatory behind them, which starts first
-unfoldable pub armed_plan : Option MapValue → Kind → List SegmentValue → Start → Linkage → Site
+unfoldable pub armed_plan : Ground → List SegmentValue → Start → Linkage → Site
     → Result Plan PlanFault
-armed_plan map kind ss start l s = do
-  _ ← tested map kind (ss ++ segment_at s l.bytes ∷ [])
+armed_plan ground ss start l s = do
+  _ ← tested ground (ss ++ segment_at s l.bytes ∷ [])
   Ok (record {
     segments = ss ++ armed_segment l start ss s ∷ [];
     start = start_at l.symbols.start;
@@ -53,19 +52,19 @@ armed_plan map kind ss start l s = do
     digest = l.symbols.digest;
   })
 
-unfoldable pub linked_plan : Option MapValue → Kind → List SegmentValue → Start
+unfoldable pub linked_plan : Ground → List SegmentValue → Start
     → PurgatoryValue → Site
     → Result Plan PlanFault
-linked_plan map kind ss start p s = do
+linked_plan ground ss start p s = do
   l ← linked_at p s
-  armed_plan map kind ss start l s
+  armed_plan ground ss start l s
 
 -- the plan of these segments, and of the purgatory at its place
-abbrev pub finished : Option MapValue → Kind → List SegmentValue → Start → Option PurgatoryValue
+abbrev pub finished : Ground → List SegmentValue → Start → Option PurgatoryValue
     → Option Site → Result Plan PlanFault
-finished map kind ss start (Some p) (Some s) = linked_plan map kind ss start p s
-finished map kind ss start (Some p) None = plain_plan map kind ss start
-finished map kind ss start None s = plain_plan map kind ss start
+finished ground ss start (Some p) (Some s) = linked_plan ground ss start p s
+finished ground ss start (Some p) None = plain_plan ground ss start
+finished ground ss start None s = plain_plan ground ss start
 
 -- The table of regions and the digest have no byte in common. The symbols of a purgatory may overlap, and one of the two
 -- is then written over the other. Without a purgatory both addresses are 0.

@@ -9,8 +9,7 @@ use Rattle.multiboot_image.specs.declared.fault.MbFault.TheVariants as multiboot
 use Rattle.multiboot_image.specs.Header.{header_found}
 use Rattle.memory_map.specs.Maps.{MapValue, reserved_area}
 use Rattle.kx_pages.specs.Spans.{Run}
-use Rattle.segments.specs.declared.fault.Kind.{Kind}
-use Rattle.segments.specs.declared.fault.Kind.TheVariants.{Normal, Crash}
+use Rattle.kexec_plan.specs.Ground.{Ground, Unknown, Machine, Reserved}
 use Rattle.kx_pages.specs.declared.image.ImageType.{ImageType}
 use Rattle.kx_pages.specs.declared.image.ImageType.TheVariants as types
 use Rattle.kexec_plan.specs.declared.fault.Part.{Part}
@@ -73,17 +72,21 @@ unused_part r format =
     then Some parts.Command
     else None
 
--- a crash kernel is a bzImage, in the reserved area of the memory map
-abbrev pub crash_kind : Option Run → Result Kind PlanFault
-crash_kind None = Err faults.NoReserved
-crash_kind (Some area) = Ok (Crash area)
+-- the memory that a kernel is loaded into: a crash kernel is a bzImage, in the reserved area of the memory map
+abbrev pub open_ground : Option MapValue → Ground
+open_ground None = Unknown
+open_ground (Some map) = Machine map
 
-abbrev pub area_of : Option MapValue → Option Run
-area_of None = None
-area_of (Some map) = reserved_area map
+abbrev pub reserved_ground : MapValue → Option Run → Result Ground PlanFault
+reserved_ground map None = Err faults.NoReserved
+reserved_ground map (Some area) = Ok (Reserved map area)
 
-abbrev pub kind_of : Asked → Option MapValue → Format → Result Kind PlanFault
-kind_of r map format =
-    if not r.crash then Ok Normal
+abbrev pub crash_ground : Option MapValue → Result Ground PlanFault
+crash_ground None = Err faults.NoReserved
+crash_ground (Some map) = reserved_ground map (reserved_area map)
+
+abbrev pub ground_for : Asked → Option MapValue → Format → Result Ground PlanFault
+ground_for r map format =
+    if not r.crash then Ok (open_ground map)
     else if not (is_bzimage format) then Err faults.CrashNeedsBzimage
-    else crash_kind (area_of map)
+    else crash_ground map

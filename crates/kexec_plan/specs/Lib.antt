@@ -12,4 +12,5 @@ pub mod Purgatory
 pub mod Finish
 pub mod Linux
 pub mod Multiboot
+pub mod Ground
 pub mod Plan

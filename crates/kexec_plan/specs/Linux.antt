@@ -1,17 +1,12 @@
 -- A bzImage with its initrd and its command (Linux/x86 boot protocol, "64-bit Boot Protocol": the kernel is entered 0x200
 -- bytes behind its start, with the address of the boot parameters in rsi; the order of places is this project's own).
-use Rattle.std.specs.Prelude.{ℕ, ◌+◌, ◌-◌, ◌/◌, ◌^◌, ◌<◌, ◌++◌, min, codes, decimal, Bool, List, [], ◌∷◌, length, drop, Option, Some, None, option_map, unwrap_or, Result, Ok, Err}
+use Rattle.std.specs.Prelude.{ℕ, ◌+◌, ◌/◌, ◌^◌, ◌<◌, ◌++◌, codes, decimal, Bool, List, [], ◌∷◌, length, drop, Option, Some, None, option_map, unwrap_or, Result, Ok, Err}
 use Rattle.kx_laws.specs.Results.{◌>>=◌}
 use Rattle.kx_pages.specs.declared.image.Start.{Start}
 use Rattle.memory_map.specs.declared.row.Row.{Row}
-use Rattle.memory_map.specs.Maps.{MapValue, crash_rows, core_ranges}
-use Rattle.segments.specs.declared.fault.Kind.{Kind}
-use Rattle.segments.specs.declared.fault.Kind.TheVariants.{Normal, Crash}
 use Rattle.segments.specs.Values.{SegmentValue}
 use Rattle.bzimage.specs.Kernel.{Kernel}
 use Rattle.boot_params.specs.Params.{params}
-use Rattle.crash_headers.specs.declared.note.Note.{Note}
-use Rattle.crash_headers.specs.Headers.{length_for, headers_or_fault}
 use Rattle.kexec_plan.specs.declared.fault.PlanFault.{PlanFault}
 use Rattle.kexec_plan.specs.declared.places.Site.{Site}
 use Rattle.kexec_plan.specs.declared.places.PlaceRule.{PlaceRule}
@@ -19,7 +14,7 @@ use Rattle.kexec_plan.specs.declared.linux_sites.FrontSites.{FrontSites}
 use Rattle.kexec_plan.specs.declared.linux_sites.BackSites.{BackSites}
 use Rattle.kexec_plan.specs.Modules.{LinuxAsked}
 use Rattle.kexec_plan.specs.Parts.{segment_at}
-use Rattle.kexec_plan.specs.Faults.{told_by, of_params, of_crash}
+use Rattle.kexec_plan.specs.Faults.{told_by, of_params}
 use Rattle.kexec_plan.specs.Places.{placed, placed_some, nothing, taking, taking_some}
 use Rattle.kexec_plan.specs.Table.{kernel_rule, initrd_rule, parameters_rule}
 
@@ -105,30 +100,10 @@ initrd_told (Some s) (Some bytes) = Some (s.at, length bytes)
 initrd_told (Some s) None = None
 initrd_told None bytes = None
 
--- the rows of the memory map for the kernel
-abbrev pub rows_of : Option MapValue → Kind → List Row
-rows_of None kind = []
-rows_of (Some map) Normal = map.rows
-rows_of (Some map) (Crash area) = crash_rows map
-
--- how many bytes the crash headers have, in a crash load, as a number of 64 bits
-abbrev pub headers_size : Option MapValue → Kind → List Note → Option ℕ
-headers_size None kind notes = None
-headers_size (Some map) Normal notes = None
-headers_size (Some map) (Crash area) notes =
-    Some (min (2 ^ 64 - 1) (length_for (length notes) (core_ranges map)))
-
 -- the crash headers, in a crash load
 abbrev pub made_headers : Result (List ℕ) PlanFault → Result (Option (List ℕ)) PlanFault
 made_headers (Ok bytes) = Ok (Some bytes)
 made_headers (Err e) = Err e
-
-unfoldable pub some_headers : Option MapValue → Kind → List Note
-    → Result (Option (List ℕ)) PlanFault
-some_headers None kind notes = Ok None
-some_headers (Some map) Normal notes = Ok None
-some_headers (Some map) (Crash area) notes =
-    made_headers (told_by of_crash (headers_or_fault notes (core_ranges map)))
 
 -- the segments of these parts at their places: the kernel's protected-mode part, the initrd, the crash headers, the
 -- boot parameters

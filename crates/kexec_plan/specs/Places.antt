@@ -4,21 +4,12 @@ use Rattle.std.specs.List.{list_any}
 use Rattle.kx_laws.specs.Results.{◌>>=◌}
 use Rattle.segments.specs.Values.{SegmentValue, stop}
 use Rattle.kx_pages.specs.Spans.{Run, in_span}
-use Rattle.memory_map.specs.Maps.{MapValue, is_ram}
-use Rattle.segments.specs.declared.fault.Kind.{Kind}
-use Rattle.segments.specs.declared.fault.Kind.TheVariants.{Normal, Crash}
 use Rattle.kexec_plan.specs.declared.fault.PlanFault.{PlanFault}
 use Rattle.kexec_plan.specs.declared.fault.PlanFault.TheVariants as faults
 use Rattle.kexec_plan.specs.declared.places.Site.{Site}
 use Rattle.kexec_plan.specs.declared.places.PlaceRule.{PlaceRule}
 use Rattle.kexec_plan.specs.Parts.{part_size}
 use Rattle.kexec_plan.specs.Holes.{hole}
-
--- the pages that are searched: RAM, or the reserved area in a crash load
-abbrev pub searched : Option MapValue → Kind → ℕ → Bool
-searched None Normal q = false
-searched (Some map) Normal q = is_ram map q
-searched map (Crash area) q = in_span area q
 
 -- the place at an address
 abbrev pub site_at : PlaceRule → Option ℕ → Result Site PlanFault

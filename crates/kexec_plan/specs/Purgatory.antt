@@ -1,13 +1,11 @@
 -- The purgatory: code that runs between the old kernel and the new one. It finds the registers of the new kernel, the
 -- regions that it tests and their digest in three symbols, and starts at a fourth (names, sizes and the
 -- order of the registers are those of Linux's own purgatory, arch/x86/purgatory).
-use Rattle.std.specs.Prelude.{◌≡◌, ℕ, ◌+◌, ◌-◌, ◌%◌, ◌^◌, ◌<◌, ◌≤◌, ◌==◌, not, Bool, List, [], ◌∷◌, codes, if◌then◌else◌, Option, Some, None, Result, Ok, Err}
+use Rattle.std.specs.Prelude.{◌≡◌, ℕ, ◌+◌, ◌-◌, ◌%◌, ◌^◌, ◌<◌, ◌≤◌, ◌==◌, not, List, [], ◌∷◌, codes, if◌then◌else◌, Option, Some, None, Result, Ok, Err}
 use Rattle.kx_laws.specs.Results.{◌>>=◌}
 use Rattle.kx_fields.specs.Fields.{zeros, with_bytes}
 use Rattle.kx_fields.specs.Formats.{Format, written}
 use Rattle.kx_pages.specs.declared.image.Start.{Start}
-use Rattle.segments.specs.declared.fault.Kind.{Kind}
-use Rattle.segments.specs.declared.fault.Kind.TheVariants.{Normal, Crash}
 use Rattle.elf_image.specs.Object.{Relocatable, object_reading, IsObject}
 use Rattle.purgatory_link.specs.declared.fault.LinkFault.{LinkFault}
 use Rattle.purgatory_link.specs.declared.fault.LinkFault.TheVariants as link
@@ -48,12 +46,6 @@ some_purgatory None = Ok None
 some_purgatory (Some file) = do
   p ← purgatory_read file
   Ok (Some p)
-
--- it lies below 2 GiB, where code of the small code model can lie; in a crash load where the kernel may lie, a page below
--- the limit of addresses
-abbrev pub purgatory_most : Kind → Bool → ℕ
-purgatory_most Normal above4g = 2 ^ 31 - 1
-purgatory_most (Crash area) above4g = if above4g then 2 ^ 46 - 4097 else 2 ^ 32 - 1
 
 abbrev pub purgatory_rule : ℕ → PurgatoryValue → PlaceRule
 purgatory_rule most p = highest parts.Purgatory p.size most

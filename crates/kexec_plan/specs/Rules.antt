@@ -10,6 +10,7 @@ use Rattle.memory_map.specs.Maps.{MapValue, is_ram}
 use Rattle.kexec_plan.specs.declared.fault.PlanFault.{PlanFault}
 use Rattle.kexec_plan.specs.declared.fault.PlanFault.TheVariants as faults
 use Rattle.elf_image.specs.Image.{runs}
+use Rattle.kexec_plan.specs.Ground.{Ground, map_of, kind_in}
 
 -- the maximal runs of the pages that are RAM
 unfoldable pub ram_runs : MapValue → List Run
@@ -26,6 +27,6 @@ abbrev pub unless_refused : List SegmentValue → Option SegFault
 unless_refused ss None = Ok ss
 unless_refused ss (Some fault) = Err (faults.Segments fault)
 
-unfoldable pub tested : Option MapValue → Kind → List SegmentValue
+unfoldable pub tested : Ground → List SegmentValue
     → Result (List SegmentValue) PlanFault
-tested map kind ss = unless_refused ss (first_refusal map kind ss)
+tested ground ss = unless_refused ss (first_refusal (map_of ground) (kind_in ground) ss)

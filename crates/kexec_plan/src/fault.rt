@@ -1,7 +1,7 @@
 //! Why a request has no plan.
 
 ghost use Rattle.std.specs.Prelude.{◌≡◌};
-ghost use Rattle.kexec_plan.specs.Faults.{of_elf, of_object, of_multiboot, of_bzimage, of_params, of_crash, of_link};
+ghost use Rattle.kexec_plan.specs.Faults.{of_elf, of_object};
 
 use boot_params::ParamsFault;
 use bzimage::BzFault;
@@ -109,56 +109,6 @@ impl PlanFault {
             _ => PlanFault::Object { fault },
         }
     }
-
-    /// What a fault of a Multiboot kernel is here.
-    pub(crate) fn of_multiboot(fault: MbFault) -> PlanFault
-        ensures { result ≡ of_multiboot fault }
-    {
-        match fault {
-            MbFault::Memory => PlanFault::Memory,
-            _ => PlanFault::Multiboot { fault },
-        }
-    }
-
-    /// What a fault of a bzImage is here.
-    pub(crate) fn of_bzimage(fault: BzFault) -> PlanFault
-        ensures { result ≡ of_bzimage fault }
-    {
-        match fault {
-            BzFault::Memory => PlanFault::Memory,
-            _ => PlanFault::Bzimage { fault },
-        }
-    }
-
-    /// What a fault of crash headers is here.
-    pub(crate) fn of_crash(fault: CrashFault) -> PlanFault
-        ensures { result ≡ of_crash fault }
-    {
-        match fault {
-            CrashFault::Memory => PlanFault::Memory,
-            _ => PlanFault::Crash { fault },
-        }
-    }
-
-    /// What a fault of a purgatory is here.
-    pub(crate) fn of_link(fault: LinkFault) -> PlanFault
-        ensures { result ≡ of_link fault }
-    {
-        match fault {
-            LinkFault::Memory => PlanFault::Memory,
-            _ => PlanFault::Link { fault },
-        }
-    }
-
-    /// What a fault of boot parameters is here.
-    pub(crate) fn of_params(fault: ParamsFault) -> PlanFault
-        ensures { result ≡ of_params fault }
-    {
-        match fault {
-            ParamsFault::Memory => PlanFault::Memory,
-            _ => PlanFault::Params { fault },
-        }
-    }
 }
 
 impl From<AllocError> for PlanFault {
@@ -178,5 +128,70 @@ impl<T: Drop> From<AllocFailed<T>> for PlanFault {
 
     fn from(_: AllocFailed<T>) -> PlanFault {
         PlanFault::Memory
+    }
+}
+
+impl From<MbFault> for PlanFault {
+    ghost use Rattle.kexec_plan.specs.Faults.{of_multiboot};
+
+    ghost from_gives = { λ fault e. e ≡ of_multiboot fault };
+
+    fn from(fault: MbFault) -> PlanFault {
+        match fault {
+            MbFault::Memory => PlanFault::Memory,
+            _ => PlanFault::Multiboot { fault },
+        }
+    }
+}
+
+impl From<BzFault> for PlanFault {
+    ghost use Rattle.kexec_plan.specs.Faults.{of_bzimage};
+
+    ghost from_gives = { λ fault e. e ≡ of_bzimage fault };
+
+    fn from(fault: BzFault) -> PlanFault {
+        match fault {
+            BzFault::Memory => PlanFault::Memory,
+            _ => PlanFault::Bzimage { fault },
+        }
+    }
+}
+
+impl From<CrashFault> for PlanFault {
+    ghost use Rattle.kexec_plan.specs.Faults.{of_crash};
+
+    ghost from_gives = { λ fault e. e ≡ of_crash fault };
+
+    fn from(fault: CrashFault) -> PlanFault {
+        match fault {
+            CrashFault::Memory => PlanFault::Memory,
+            _ => PlanFault::Crash { fault },
+        }
+    }
+}
+
+impl From<LinkFault> for PlanFault {
+    ghost use Rattle.kexec_plan.specs.Faults.{of_link};
+
+    ghost from_gives = { λ fault e. e ≡ of_link fault };
+
+    fn from(fault: LinkFault) -> PlanFault {
+        match fault {
+            LinkFault::Memory => PlanFault::Memory,
+            _ => PlanFault::Link { fault },
+        }
+    }
+}
+
+impl From<ParamsFault> for PlanFault {
+    ghost use Rattle.kexec_plan.specs.Faults.{of_params};
+
+    ghost from_gives = { λ fault e. e ≡ of_params fault };
+
+    fn from(fault: ParamsFault) -> PlanFault {
+        match fault {
+            ParamsFault::Memory => PlanFault::Memory,
+            _ => PlanFault::Params { fault },
+        }
     }
 }

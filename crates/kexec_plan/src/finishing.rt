@@ -3,7 +3,7 @@
 ghost use Rattle.std.specs.Prelude.{◌≡◌, ◌++◌, ◌∷◌, [], ◌<◌, length, List, Some, IfOk, OnOk};
 ghost use Rattle.std.specs.List.{slice_set};
 ghost use Rattle.kx_laws.specs.Results.{Gives};
-ghost use Rattle.kexec_plan.specs.Requests.{planned_of, lent};
+ghost use Rattle.kexec_plan.specs.Requests.{planned_of};
 ghost use Rattle.kexec_plan.specs.Parts.{segment_at};
 ghost use Rattle.kexec_plan.specs.Rules.{tested};
 ghost use Rattle.kexec_plan.specs.Purgatory.{IsLinkable, HasSymbols};
@@ -11,6 +11,7 @@ ghost use Rattle.kexec_plan.specs.Finish.{OfSegment, armed_of, plain_plan, armed
 ghost use Rattle.kexec_plan.specs.Finish.{armed_plan, linked_plan, finished};
 
 use crate::fault::PlanFault;
+use crate::ground::Ground;
 use crate::parts::{segment_at, start_at};
 use crate::places::Site;
 use crate::purgatory::{Linkage, Purgatory, arm};
@@ -18,32 +19,28 @@ use crate::request::Planned;
 use crate::rules::tested;
 use crate::symbols::Symbols;
 use kx_pages::Start;
-use memory_map::Map;
 use purgatory_link::{digest_of, regions_of};
-use segments::{Kind, Segment, Segments};
+use segments::{Segment, Segments};
 use std::alloc::{AllocError, Global};
 
 // The plan of these segments, without a purgatory.
 #[tactic(auto, unfolding(crate::specs::Finish::plain_plan))]
 fn plain_plan(
     alloc: Global,
-    map: Option<&Map>,
-    kind: &Kind,
+    ground: &Ground<'_>,
     list: Vec<Segment>,
     start: Start,
 ) -> Result<Planned, PlanFault>
     ensures { Gives PlanFault.Memory planned_of result
-        (plain_plan (lent map.entry) kind.now list.items start) }
+        (plain_plan ground.now list.items start) }
 {
-    match tested(alloc, map, kind, list) {
-        Ok(segments) => Ok(Planned {
-            segments,
-            start,
-            regions: 0,
-            digest: 0,
-        }),
-        Err(fault) => Err(fault),
-    }
+    let segments = tested(alloc, ground, list)?;
+    Ok(Planned {
+        segments,
+        start,
+        regions: 0,
+        digest: 0,
+    })
 }
 
 // The bytes of the purgatory, segment number `purgatory`, with what it is to find.
@@ -104,8 +101,7 @@ fn arm_segment(
 #[tactic(auto, unfolding(crate::specs::Finish::armed_plan))]
 fn armed_plan(
     alloc: Global,
-    map: Option<&Map>,
-    kind: &Kind,
+    ground: &Ground<'_>,
     mut list: Vec<Segment>,
     start: Start,
     linkage: Linkage,
@@ -113,7 +109,7 @@ fn armed_plan(
 ) -> Result<Planned, PlanFault>
     requires { HasSymbols linkage.base (length linkage.bytes) linkage.symbols }
     ensures { Gives PlanFault.Memory planned_of result
-        (armed_plan (lent map.entry) kind.now list.items start linkage site) }
+        (armed_plan ground.now list.items start linkage site) }
 {
     let Linkage {
         base,
@@ -122,10 +118,7 @@ fn armed_plan(
     } = linkage;
     let purgatory = list.len();
     list.push(segment_at(site, bytes))?;
-    let mut segments = match tested(alloc, map, kind, list) {
-        Ok(segments) => segments,
-        Err(fault) => return Err(fault),
-    };
+    let mut segments = tested(alloc, ground, list)?;
     arm_segment(alloc, &mut segments, purgatory, base, symbols, start)?;
     Ok(Planned {
         segments,
@@ -139,8 +132,7 @@ fn armed_plan(
 #[tactic(auto, unfolding(crate::specs::Finish::linked_plan))]
 fn linked_plan(
     alloc: Global,
-    map: Option<&Map>,
-    kind: &Kind,
+    ground: &Ground<'_>,
     list: Vec<Segment>,
     start: Start,
     purgatory: Purgatory,
@@ -148,20 +140,16 @@ fn linked_plan(
 ) -> Result<Planned, PlanFault>
     requires { IsLinkable (Some purgatory) (Some site) }
     ensures { Gives PlanFault.Memory planned_of result
-        (linked_plan (lent map.entry) kind.now list.items start purgatory site) }
+        (linked_plan ground.now list.items start purgatory site) }
 {
-    let linkage = match purgatory.link_at(alloc, site) {
-        Ok(linkage) => linkage,
-        Err(fault) => return Err(fault),
-    };
-    armed_plan(alloc, map, kind, list, start, linkage, site)
+    let linkage = purgatory.link_at(alloc, site)?;
+    armed_plan(alloc, ground, list, start, linkage, site)
 }
 
 /// The plan of these segments, and of the purgatory at its place.
 pub(crate) fn finished(
     alloc: Global,
-    map: Option<&Map>,
-    kind: &Kind,
+    ground: &Ground<'_>,
     list: Vec<Segment>,
     start: Start,
     purgatory: Option<Purgatory>,
@@ -169,12 +157,12 @@ pub(crate) fn finished(
 ) -> Result<Planned, PlanFault>
     requires { IsLinkable purgatory site }
     ensures { Gives PlanFault.Memory planned_of result
-        (finished (lent map.entry) kind.now list.items start purgatory site) }
+        (finished ground.now list.items start purgatory site) }
 {
     match (purgatory, site) {
         (Some(purgatory), Some(site)) => {
-            linked_plan(alloc, map, kind, list, start, purgatory, site)
+            linked_plan(alloc, ground, list, start, purgatory, site)
         }
-        _ => plain_plan(alloc, map, kind, list, start),
+        _ => plain_plan(alloc, ground, list, start),
     }
 }

@@ -33,20 +33,15 @@ impl Model for Kernel {
 pub(crate) fn read_elf(alloc: Global, file: &[u8]) -> Result<Kernel, PlanFault>
     ensures { Gives PlanFault.Memory (λ k. k) result (elf_kernel file.now) }
 {
-    let exec = match read_exec(alloc, file) {
-        Ok(exec) => exec,
-        Err(fault) => return Err(PlanFault::of_elf(fault)),
-    };
+    let exec = read_exec(alloc, file).map_err(PlanFault::of_elf)?;
     if !exec.wide {
         return Err(PlanFault::Elf {
             fault: ElfFault::Class,
         });
     }
     let entry = exec.entry;
-    match image_pages(alloc, exec, file) {
-        Ok(list) => Ok(Kernel { list, entry }),
-        Err(fault) => Err(PlanFault::of_elf(fault)),
-    }
+    let list = image_pages(alloc, exec, file).map_err(PlanFault::of_elf)?;
+    Ok(Kernel { list, entry })
 }
 
 /// The Multiboot kernel of this file.
@@ -54,12 +49,7 @@ pub(crate) fn read_elf(alloc: Global, file: &[u8]) -> Result<Kernel, PlanFault>
 pub(crate) fn read_multiboot(alloc: Global, file: &[u8]) -> Result<Kernel, PlanFault>
     ensures { Gives PlanFault.Memory (λ k. k) result (multiboot_kernel file.now) }
 {
-    let header = match find_header(file) {
-        Ok(header) => header,
-        Err(fault) => return Err(PlanFault::of_multiboot(fault)),
-    };
-    match load_parts(alloc, &header, file) {
-        Ok(Parts { list, entry }) => Ok(Kernel { list, entry }),
-        Err(fault) => Err(PlanFault::of_multiboot(fault)),
-    }
+    let header = find_header(file)?;
+    let Parts { list, entry } = load_parts(alloc, &header, file)?;
+    Ok(Kernel { list, entry })
 }

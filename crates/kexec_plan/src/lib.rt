@@ -5,11 +5,11 @@
 //! first refusal in this order is the answer. Places, ends and order are this project's own.
 #![tactic(auto)]
 
-mod crash;
 mod fault;
 mod finishing;
 mod fixed_plan;
 mod format;
+mod ground;
 #[cfg(test)]
 mod kernel_tests;
 mod kernels;

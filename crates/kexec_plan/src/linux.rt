@@ -5,9 +5,8 @@ ghost use Rattle.kx_laws.specs.Results.{Gives};
 ghost use Rattle.kx_pages.specs.Spans.{in_spans};
 ghost use Rattle.bzimage.specs.Kernel.{IsSound};
 ghost use Rattle.kexec_plan.specs.Parts.{segment_at};
-ghost use Rattle.kexec_plan.specs.Requests.{lent};
 ghost use Rattle.kexec_plan.specs.Linux.{linux_list, linux_parts, linux_start, segment_if};
-ghost use Rattle.kexec_plan.specs.Linux.{initrd_told, rows_of, AreLow};
+ghost use Rattle.kexec_plan.specs.Linux.{initrd_told, AreLow};
 
 use crate::fault::PlanFault;
 use crate::linux_sites::LinuxSites;
@@ -17,8 +16,8 @@ use boot_params::make;
 use bzimage::BzImage;
 use crash_headers::Note;
 use kx_pages::Start;
-use memory_map::{Map, Row};
-use segments::{Kind, Segment};
+use memory_map::Row;
+use segments::Segment;
 use std::alloc::{AllocError, Global};
 use std::marker::Model;
 
@@ -82,17 +81,6 @@ fn initrd_told(site: Option<Site>, initrd: &Option<Vec<u8>>) -> Option<(u64, u64
     }
 }
 
-/// The rows of the memory map for the kernel.
-pub(crate) fn rows_of<'a>(map: Option<&'a Map>, kind: &Kind) -> &'a [Row]
-    ensures { result.now ≡ rows_of (lent map.entry) kind.now }
-{
-    match (map, kind) {
-        (Some(map), Kind::Normal) => map.rows(),
-        (Some(map), Kind::Crash { .. }) => map.crash_rows(),
-        (None, _) => &[],
-    }
-}
-
 // The segments of kernel, initrd, crash headers and boot parameters.
 fn segments_of(
     alloc: Global,
@@ -136,10 +124,7 @@ pub(crate) fn linux_parts(
     } = request;
     let told = initrd_told(sites.front.initrd, &initrd);
     let at = sites.later.back.parameters.at;
-    let parameters = match make(alloc, image, rows, &sites.later.command, at, told) {
-        Ok(parameters) => parameters,
-        Err(fault) => return Err(PlanFault::of_params(fault)),
-    };
+    let parameters = make(alloc, image, rows, &sites.later.command, at, told)?;
     cut_front(&mut kernel, image.start);
     let list = segments_of(alloc, sites, kernel, initrd, headers, parameters)?;
     Ok(list)

@@ -107,14 +107,9 @@ fn front_sites(
     ensures exact { Gives PlanFault.Memory (λ s. s) result
         (front_sites (in_spans ram.now) (in_spans taken.old) image.now request.now) }
 {
-    let kernel = match place(ram, taken, kernel_rule(image, request.kernel.len())) {
-        Ok(site) => site,
-        Err(fault) => return Err(fault),
-    };
-    match place_some(ram, taken, some_initrd_rule(image, &request.initrd)) {
-        Ok(initrd) => Ok(FrontSites { kernel, initrd }),
-        Err(fault) => Err(fault),
-    }
+    let kernel = place(ram, taken, kernel_rule(image, request.kernel.len()))?;
+    let initrd = place_some(ram, taken, some_initrd_rule(image, &request.initrd))?;
+    Ok(FrontSites { kernel, initrd })
 }
 
 /// Places the boot parameters, or the information of a Multiboot kernel, then the purgatory.
@@ -134,17 +129,12 @@ pub(crate) fn back_sites(
     ensures exact { Gives PlanFault.Memory (λ s. s) result
         (back_sites (in_spans ram.now) (in_spans taken.old) rule purgatory_rule) }
 {
-    let parameters = match place(ram, taken, rule) {
-        Ok(site) => site,
-        Err(fault) => return Err(fault),
-    };
-    match place_some(ram, taken, purgatory_rule) {
-        Ok(purgatory) => Ok(BackSites {
-            parameters,
-            purgatory,
-        }),
-        Err(fault) => Err(fault),
-    }
+    let parameters = place(ram, taken, rule)?;
+    let purgatory = place_some(ram, taken, purgatory_rule)?;
+    Ok(BackSites {
+        parameters,
+        purgatory,
+    })
 }
 
 // The word that tells a crash kernel where its headers lie.
@@ -202,20 +192,15 @@ fn later_sites(
         (later_sites (in_spans ram.now) (in_spans taken.old) image.now rows.now command.now
         headers_rule purgatory_rule) }
 {
-    let headers = match place_some(ram, taken, headers_rule) {
-        Ok(site) => site,
-        Err(fault) => return Err(fault),
-    };
+    let headers = place_some(ram, taken, headers_rule)?;
     let command = told_command(alloc, command, headers)?;
     let rule = parameters_rule(image, rows, &command);
-    match back_sites(ram, taken, rule, purgatory_rule) {
-        Ok(back) => Ok(LaterSites {
-            headers,
-            command,
-            back,
-        }),
-        Err(fault) => Err(fault),
-    }
+    let back = back_sites(ram, taken, rule, purgatory_rule)?;
+    Ok(LaterSites {
+        headers,
+        command,
+        back,
+    })
 }
 
 /// Where the parts of a bzImage lie: kernel, initrd, crash headers, boot parameters with these rows, and purgatory, each
@@ -242,12 +227,9 @@ pub(crate) fn linux_sites(
         purgatory_rule) }
 {
     let mut taken = no_pages(alloc);
-    let front = match front_sites(ram, &mut taken, image, request) {
-        Ok(front) => front,
-        Err(fault) => return Err(fault),
-    };
+    let front = front_sites(ram, &mut taken, image, request)?;
     let command = command_of(&request.command);
-    match later_sites(
+    let later = later_sites(
         alloc,
         ram,
         &mut taken,
@@ -256,8 +238,6 @@ pub(crate) fn linux_sites(
         command,
         headers_rule,
         purgatory_rule,
-    ) {
-        Ok(later) => Ok(LinuxSites { front, later }),
-        Err(fault) => Err(fault),
-    }
+    )?;
+    Ok(LinuxSites { front, later })
 }

@@ -56,10 +56,7 @@ fn place_module(ram: &PageSet, laying: &mut Laying, asked: Module) -> Result<(),
         (module_onto (in_spans ram.now) (laid_of laying.old) asked) }
     ensures low { OnOk result (EndLow laying.old.slots.items → EndLow laying.new.slots.items) }
 {
-    let site = match place(ram, &mut laying.taken, module_rule(&asked)) {
-        Ok(site) => site,
-        Err(fault) => return Err(fault),
-    };
+    let site = place(ram, &mut laying.taken, module_rule(&asked))?;
     push_module(&mut laying.list, &mut laying.slots, asked, site)?;
     Ok(())
 }
@@ -75,10 +72,7 @@ pub(crate) fn place_modules(
     ensures low { OnOk result (EndLow laying.old.slots.items → EndLow laying.new.slots.items) }
 {
     for asked in modules {
-        match place_module(ram, laying, asked) {
-            Ok(()) => {}
-            Err(fault) => return Err(fault),
-        }
+        place_module(ram, laying, asked)?;
     }
     Ok(())
 }

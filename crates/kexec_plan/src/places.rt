@@ -4,14 +4,12 @@ ghost use Rattle.std.specs.Prelude.{◌≡◌, ◌+◌, ◌*◌, ◌<◌, ◌≤
 ghost use Rattle.kx_laws.specs.Results.{Gives};
 ghost use Rattle.kx_pages.specs.Spans.{in_span, in_spans};
 ghost use Rattle.kexec_plan.specs.Parts.{part_size};
-ghost use Rattle.kexec_plan.specs.Requests.{lent};
-ghost use Rattle.kexec_plan.specs.Places.{searched, is_met, taken_by, nothing, placed, placed_some, taking, taking_some, pages_at, IsPlacedBy, IsPlacedIf};
+ghost use Rattle.kexec_plan.specs.Places.{is_met, taken_by, nothing, placed, placed_some, taking, taking_some, pages_at, IsPlacedBy, IsPlacedIf};
 
 use crate::fault::{Part, PlanFault};
 use hole_search::{End, find};
 use kx_pages::{ADDRESS_LIMIT, PAGE_LIMIT, PAGE_SIZE, PageSet, Span};
-use memory_map::Map;
-use segments::{Kind, Segment};
+use segments::Segment;
 use std::alloc::{AllocError, Global};
 
 /// Where a part lies: whole pages.
@@ -81,28 +79,6 @@ pub(crate) fn taken_by(alloc: Global, list: &[Segment]) -> Result<PageSet, Alloc
     Ok(taken)
 }
 
-/// The area of a crash load, and else no page.
-pub(crate) fn area_pages(alloc: Global, kind: &Kind) -> Result<PageSet, AllocError>
-    ensures { IfOk result (λ s. (q : ℕ) → in_spans s q ≡ searched None kind.now q) }
-{
-    let mut area_pages = PageSet::new(alloc);
-    if let Kind::Crash { area } = kind {
-        area_pages.add(*area)?;
-    }
-    Ok(area_pages)
-}
-
-/// The pages that are searched: the map's RAM, or the area in a crash load.
-pub(crate) fn searched<'a>(map: Option<&'a Map>, kind: &Kind, area: &'a PageSet) -> &'a PageSet
-    requires { (q : ℕ) → in_spans area.now q ≡ searched None kind.now q }
-    ensures { in_spans result.now ≡ searched (lent map.entry) kind.now }
-{
-    match (map, kind) {
-        (Some(map), Kind::Normal) => map.ram(),
-        _ => area,
-    }
-}
-
 // The place of a part by its rule, in RAM that is not taken.
 #[tactic(auto, unfolding(crate::specs::Places::placed), using(crate::proofs::Holes::hole_is))]
 fn found(ram: &PageSet, taken: &PageSet, rule: PlaceRule) -> Result<Site, PlanFault>
@@ -140,10 +116,7 @@ pub(crate) fn place(ram: &PageSet, taken: &mut PageSet, rule: PlaceRule) -> Resu
     ensures place { IfOk result (IsPlacedBy rule) }
     ensures taken { IfOk result (λ s. in_spans taken.new ≡ taking (in_spans taken.old) s) }
 {
-    let site = match found(ram, taken, rule) {
-        Ok(site) => site,
-        Err(fault) => return Err(fault),
-    };
+    let site = found(ram, taken, rule)?;
     take(taken, site)?;
     Ok(site)
 }
@@ -163,10 +136,7 @@ pub(crate) fn place_some(
     ensures taken { IfOk result (λ s. in_spans taken.new ≡ taking_some (in_spans taken.old) s) }
 {
     match rule {
-        Some(rule) => match place(ram, taken, rule) {
-            Ok(site) => Ok(Some(site)),
-            Err(fault) => Err(fault),
-        },
+        Some(rule) => Ok(Some(place(ram, taken, rule)?)),
         None => Ok(None),
     }
 }

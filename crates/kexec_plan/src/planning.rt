@@ -2,63 +2,66 @@
 
 ghost use Rattle.std.specs.Prelude.{◌≡◌};
 ghost use Rattle.kx_laws.specs.Results.{Gives};
-ghost use Rattle.kx_pages.specs.Spans.{in_spans};
 ghost use Rattle.kexec_plan.specs.Requests.{request_of, planned_of, lent, IsMapped};
-ghost use Rattle.kexec_plan.specs.Formats.{area_of, crash_kind, kind_of};
+ghost use Rattle.kexec_plan.specs.Formats.{crash_ground, ground_for};
 ghost use Rattle.kexec_plan.specs.Plan.{plan_as, plan};
 
 use crate::fault::PlanFault;
 use crate::fixed_plan::{elf_plan, fixed_plan};
 use crate::format::{Format, format_of, unused_part};
+use crate::ground::Ground;
 use crate::linux::LinuxRequest;
 use crate::linux_plan::linux_plan;
 use crate::multiboot_plan::{MultibootRequest, multiboot_plan};
 use crate::parts::{raw_list, start_at};
-use crate::places::{area_pages, searched};
 use crate::request::{Planned, Request};
-use kx_pages::PageSet;
 use memory_map::Map;
-use segments::Kind;
 use std::alloc::Global;
 
-// The area of a crash load.
-fn crash_kind(map: Option<&Map>) -> Result<Kind, PlanFault>
-    ensures { result ≡ crash_kind (area_of (lent map.entry)) }
+// The reserved area of the map, for a crash load.
+fn crash_ground<'a>(alloc: Global, map: Option<&'a Map>) -> Result<Ground<'a>, PlanFault>
+    ensures { Gives PlanFault.Memory (λ g. g) result (crash_ground (lent map.entry)) }
 {
-    let area = match map {
-        Some(map) => map.reserved_area(),
-        None => None,
+    let Some(map) = map else {
+        return Err(PlanFault::NoReserved);
     };
-    match area {
-        Some(area) => Ok(Kind::Crash { area }),
+    match map.reserved_area() {
+        Some(area) => Ok(Ground::reserved(alloc, map, area)?),
         None => Err(PlanFault::NoReserved),
     }
 }
 
-// Whether the kernel is loaded as a crash kernel, and then the area that it is loaded into.
-fn kind_of(request: &Request, map: Option<&Map>, format: Format) -> Result<Kind, PlanFault>
-    ensures { result ≡ kind_of (request_of request.now) (lent map.entry) format }
+// What is known of the memory that the kernel is loaded into.
+fn ground_for<'a>(
+    alloc: Global,
+    request: &Request,
+    map: Option<&'a Map>,
+    format: Format,
+) -> Result<Ground<'a>, PlanFault>
+    ensures { Gives PlanFault.Memory (λ g. g) result
+        (ground_for (request_of request.now) (lent map.entry) format) }
 {
     if !request.crash {
-        return Ok(Kind::Normal);
+        return match map {
+            Some(map) => Ok(Ground::machine(alloc, map)),
+            None => Ok(Ground::unknown(alloc)),
+        };
     }
     if !matches!(format, Format::Bzimage) {
         return Err(PlanFault::CrashNeedsBzimage);
     }
-    crash_kind(map)
+    crash_ground(alloc, map)
 }
 
 // The plan of a kernel of this form.
 fn plan_as(
     alloc: Global,
-    ram: &PageSet,
     request: Request,
-    map: Option<&Map>,
-    kind: &Kind,
+    ground: &Ground<'_>,
     format: Format,
 ) -> Result<Planned, PlanFault>
     ensures { Gives PlanFault.Memory planned_of result
-        (plan_as (in_spans ram.now) (request_of request) (lent map.entry) kind.now format) }
+        (plan_as (request_of request) ground.now format) }
 {
     let Request {
         kernel,
@@ -72,9 +75,9 @@ fn plan_as(
     match format {
         Format::Raw { at, entry } => {
             let list = raw_list(alloc, at, kernel)?;
-            fixed_plan(alloc, ram, list, start_at(entry), purgatory, map, kind)
+            fixed_plan(alloc, list, start_at(entry), purgatory, ground)
         }
-        Format::Elf => elf_plan(alloc, ram, kernel, purgatory, map, kind),
+        Format::Elf => elf_plan(alloc, kernel, purgatory, ground),
         Format::Bzimage => {
             let linux = LinuxRequest {
                 kernel,
@@ -82,7 +85,7 @@ fn plan_as(
                 command,
                 notes,
             };
-            linux_plan(alloc, ram, linux, purgatory, map, kind)
+            linux_plan(alloc, linux, purgatory, ground)
         }
         Format::Multiboot => {
             let multiboot = MultibootRequest {
@@ -90,7 +93,7 @@ fn plan_as(
                 command,
                 modules,
             };
-            multiboot_plan(alloc, ram, multiboot, purgatory, map, kind)
+            multiboot_plan(alloc, multiboot, purgatory, ground)
         }
     }
 }
@@ -105,19 +108,11 @@ pub fn plan(alloc: Global, request: Request, map: Option<&Map>) -> Result<Planne
     ensures exact { Gives PlanFault.Memory planned_of result
         (plan (request_of request) (lent map.entry)) }
 {
-    let format = match format_of(&request) {
-        Ok(format) => format,
-        Err(fault) => return Err(fault),
-    };
-    let kind = match kind_of(&request, map, format) {
-        Ok(kind) => kind,
-        Err(fault) => return Err(fault),
-    };
+    let format = format_of(&request)?;
+    let ground = ground_for(alloc, &request, map, format)?;
     match unused_part(&request, format) {
         Some(part) => return Err(PlanFault::Unused { part }),
         None => {}
     }
-    let area = area_pages(alloc, &kind)?;
-    let ram = searched(map, &kind, &area);
-    plan_as(alloc, ram, request, map, &kind, format)
+    plan_as(alloc, request, &ground, format)
 }

@@ -2,16 +2,15 @@
 
 ghost use Rattle.std.specs.Prelude.{◌≡◌, ◌+◌, ◌-◌, ◌≤◌, option_map, length, Some, IfOk};
 ghost use Rattle.kx_laws.specs.Results.{Gives};
-ghost use Rattle.kexec_plan.specs.Purgatory.{purgatory_read, some_purgatory, purgatory_most, purgatory_rule, linked_at, armed, HasSymbols, IsLinkable};
+ghost use Rattle.kexec_plan.specs.Purgatory.{purgatory_read, some_purgatory, purgatory_rule, linked_at, armed, HasSymbols, IsLinkable};
 
 use crate::fault::{Part, PlanFault};
 use crate::places::{PlaceRule, Site};
 use crate::symbols::{Symbols, registers_of};
-use crate::table::{highest, last_address};
+use crate::table::highest;
 use elf_image::{Object, read_object};
-use kx_pages::{ADDRESS_LIMIT, PAGE_SIZE, Start};
+use kx_pages::Start;
 use purgatory_link::{Linked, link, size, write_at};
-use segments::Kind;
 use std::alloc::Global;
 use std::marker::Model;
 
@@ -58,14 +57,9 @@ impl Model for Linkage {
 fn read_purgatory(alloc: Global, file: Vec<u8>) -> Result<Purgatory, PlanFault>
     ensures { Gives PlanFault.Memory (λ p. p) result (purgatory_read file.items) }
 {
-    let object = match read_object(alloc, &file) {
-        Ok(object) => object,
-        Err(fault) => return Err(PlanFault::of_object(fault)),
-    };
-    match size(&object) {
-        Ok(size) => Ok(Purgatory { object, file, size }),
-        Err(fault) => Err(PlanFault::of_link(fault)),
-    }
+    let object = read_object(alloc, &file).map_err(PlanFault::of_object)?;
+    let size = size(&object)?;
+    Ok(Purgatory { object, file, size })
 }
 
 /// The same where there is a file.
@@ -78,22 +72,8 @@ pub(crate) fn some_purgatory(
         (some_purgatory (option_map (λ v. v.items) file)) }
 {
     match file {
-        Some(file) => match read_purgatory(alloc, file) {
-            Ok(purgatory) => Ok(Some(purgatory)),
-            Err(fault) => Err(fault),
-        },
+        Some(file) => Ok(Some(read_purgatory(alloc, file)?)),
         None => Ok(None),
-    }
-}
-
-/// The greatest address of a purgatory's last byte, for a kernel that may or may not lie above 4 GiB.
-pub(crate) fn purgatory_most(kind: &Kind, above4g: bool) -> u64
-    ensures { result ≡ purgatory_most kind.now above4g }
-{
-    match kind {
-        Kind::Normal => (1 << 31) - 1,
-        Kind::Crash { .. } if above4g => ADDRESS_LIMIT - PAGE_SIZE - 1,
-        Kind::Crash { .. } => last_address(false),
     }
 }
 
@@ -115,14 +95,8 @@ impl Purgatory {
         ensures exact { Gives PlanFault.Memory (λ l. l) result (linked_at self site) }
         ensures symbols { IfOk result (λ l. HasSymbols l.base (length l.bytes) l.symbols) }
     {
-        let linked = match link(alloc, &self.object, &self.file, site.at) {
-            Ok(linked) => linked,
-            Err(fault) => return Err(PlanFault::of_link(fault)),
-        };
-        let symbols = match Symbols::find(&linked) {
-            Ok(symbols) => symbols,
-            Err(fault) => return Err(PlanFault::of_link(fault)),
-        };
+        let linked = link(alloc, &self.object, &self.file, site.at)?;
+        let symbols = Symbols::find(&linked)?;
         let Linked { base, bytes, .. } = linked;
         Ok(Linkage {
             base,

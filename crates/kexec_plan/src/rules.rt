@@ -7,6 +7,7 @@ ghost use Rattle.kexec_plan.specs.Requests.{lent};
 ghost use Rattle.kexec_plan.specs.Rules.{first_refusal, tested};
 
 use crate::fault::PlanFault;
+use crate::ground::Ground;
 use memory_map::Map;
 use segments::{Kind, SegFault, Segment, Segments};
 use std::alloc::Global;
@@ -36,15 +37,14 @@ fn test_all(
 #[tactic(auto, unfolding(crate::specs::Rules::tested))]
 pub(crate) fn tested(
     alloc: Global,
-    map: Option<&Map>,
-    kind: &Kind,
+    ground: &Ground<'_>,
     list: Vec<Segment>,
 ) -> Result<Segments, PlanFault>
     ensures same { IfOk result (λ s. s ≡ list.items) }
     ensures exact { Gives PlanFault.Memory (λ s. s) result
-        (tested (lent map.entry) kind.now list.items) }
+        (tested ground.now list.items) }
 {
-    match test_all(alloc, map, kind, list) {
+    match test_all(alloc, ground.map(), &ground.kind(), list) {
         Ok(segments) => Ok(segments),
         Err(SegFault::Memory) => Err(PlanFault::Memory),
         Err(fault) => Err(PlanFault::Segments { fault }),

@@ -57,7 +57,7 @@ fn write_command<W: Write>(
 fn is_hexadecimal(which: Which) -> bool {
     matches!(
         which,
-        Which::At | Which::Entry | Which::Below | Which::Swap | Which::Head
+        Which::At | Which::Entry | Which::Below | Which::Swap | Which::Head | Which::Address
     )
 }
 

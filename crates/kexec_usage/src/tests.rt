@@ -107,7 +107,7 @@ fn tells_what_has_to_be_given(rt: HostRuntime) -> Result<(), Fail> {
         ),
         (
             "reboot",
-            "\"reboot\" is no command; the first argument has to be a command: boot, load, load-panic, check, dump, exec, trace, migrate or sample",
+            "\"reboot\" is no command; the first argument has to be a command: boot, load, load-panic, check, dump, exec, trace, migrate, sample or core",
         ),
         (
             "boot --map f m p o k 1 2 3 4 5 6 7 8 9 10 11 12 13 14",

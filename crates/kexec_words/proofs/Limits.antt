@@ -6,13 +6,13 @@ use Rattle.clap.specs.Kinds.{Kinds}
 use Rattle.clap.proofs.WalkLemmas.{both}
 use Rattle.kexec_words.specs.Found.{word_of, flag_of}
 use Rattle.kx_pages.specs.Numbers.{is_page_address}
-use Rattle.kexec_words.specs.Numbers.{number_of, if_passes, in_form, some_in_form, hex_of, page_address_of, steps_of, swap_of, head_of, limit_of, trace_numbers_from}
-use Rattle.kexec_words.specs.Values.{InputsValue, CrashInputsValue, ExecValue, MigrateValue, CommandValue}
-use Rattle.kexec_words.specs.Values.{boot, load, load_panic, check, dump, exec, trace, migrate, sample}
-use Rattle.kexec_words.specs.Meaning.{has_same_name, files_of, crash_files_of, with_numbers, map_answer, image_from, needs_map, image_or_refusal, image_where, inputs_of, boot_by, boot_with, boot_in, load_by, load_with, load_in, with_map, load_panic_with, load_panic_in, crash_inputs_of, exec_of, exec_with, exec_in, trace_with, trace_in, trace_numbers_by, migrate_of, migrate_with, migrate_in, sample_by, sample_in, answer_where, answer_by, command_by_name, plan_numbers_by}
+use Rattle.kexec_words.specs.Numbers.{number_of, if_passes, in_form, some_in_form, hex_of, page_address_of, steps_of, swap_of, head_of, limit_of, trace_numbers_from, is_headers_address, headers_address_of, core_address_of}
+use Rattle.kexec_words.specs.Values.{InputsValue, CrashInputsValue, ExecValue, MigrateValue, CoreValue, CommandValue}
+use Rattle.kexec_words.specs.Values.{boot, load, load_panic, check, dump, exec, trace, migrate, sample, core}
+use Rattle.kexec_words.specs.Meaning.{has_same_name, files_of, crash_files_of, with_numbers, map_answer, image_from, needs_map, image_or_refusal, image_where, inputs_of, boot_by, boot_with, boot_in, load_by, load_with, load_in, with_map, load_panic_with, load_panic_in, crash_inputs_of, exec_of, exec_with, exec_in, trace_with, trace_in, trace_numbers_by, migrate_of, migrate_with, migrate_in, sample_by, sample_in, core_by, core_with, core_in, answer_where, answer_by, command_by_name, plan_numbers_by}
 use Rattle.kexec_words.specs.Meaning.{Answers, load_names_in}
 use Rattle.kexec_words.specs.Values.{command_value}
-use Rattle.kexec_words.specs.Apps.{boot_app, load_app, load_panic_app, check_app, dump_app, exec_app, trace_app, migrate_app, sample_app}
+use Rattle.kexec_words.specs.Apps.{boot_app, load_app, load_panic_app, check_app, dump_app, exec_app, trace_app, migrate_app, sample_app, core_app}
 use Rattle.kexec_words.specs.declared.commands.Command.{Command}
 use Rattle.kexec_words.specs.declared.faults.WordsFault.{WordsFault}
 use Rattle.kexec_words.specs.Limits.{HasParts, IsWithinLimits, HasOutputsApart}
@@ -186,6 +186,25 @@ sample_keeps rows =
     numbers_has (sample_by rows) (λ n. Ok n) (λ n. n < 10 ^ 18) (λ n. Keeps (sample n))
     (in_form_has which.Number (number_of 10 18 (word_of (codes "NUMBER") rows)) _ (number_has 10 18 (word_of (codes "NUMBER") rows) two)) (λ n h. (h, tt))
 
+address_has : (t : Text) → IfOk (core_address_of t) (λ a. is_headers_address a ≡ true)
+address_has t = in_form_has which.Address (headers_address_of t) _ (passing_has is_headers_address (hex_of t))
+
+core_has : (m o : Text) (a : ℕ) → is_headers_address a ≡ true → IfOk (core_with m o a) (λ c. Keeps (core c))
+core_has m o a h = go (has_same_name (o ∷ []) (m ∷ [])) refl
+  where
+    go : (x : Bool) → has_same_name (o ∷ []) (m ∷ []) ≡ x
+        → IfOk (if x then Err why.SameName else Ok (record { memory = m; out = o; address = a })) (λ c. Keeps (core c))
+    go true e = tt
+    go false e =
+        let p = both (a % 8 == 0) (nat_lt a (2 ^ 46)) h in
+        let low : a < 2 ^ 46 = search (rules, p.1) in
+        let whole : a % 8 ≡ 0 = search (rules, p.0) in
+        ((low, whole), e)
+
+core_keeps : (rows : List Row) → IfOk (core_in rows) (λ c. Keeps (core c))
+core_keeps rows = numbers_has (core_by rows) (core_with (word_of (codes "MEMORY") rows) (word_of (codes "OUT") rows)) (λ a. is_headers_address a ≡ true) _
+    (address_has (word_of (codes "ADDRESS") rows)) (core_has (word_of (codes "MEMORY") rows) (word_of (codes "OUT") rows))
+
 -- ---- all commands
 
 said : {A : Type 0} (as_command : A → CommandValue) (app : App) (read : List Row → Result A UsageWhy) (words : List Text)
@@ -204,6 +223,7 @@ named_keeps (Some name.Exec) words = said exec exec_app exec_in words (λ rows. 
 named_keeps (Some name.Trace) words = said trace trace_app trace_in words trace_keeps
 named_keeps (Some name.Migrate) words = said migrate migrate_app migrate_in words (λ rows. migrate_has (migrate_of rows))
 named_keeps (Some name.Sample) words = said sample sample_app sample_in words sample_keeps
+named_keeps (Some name.Core) words = said core core_app core_in words core_keeps
 
 -- a command that is answered keeps the limits
 pub within_limits : (o : Option Name) (words : List Text) (r : Result Command WordsFault) → Answers command_value (command_by_name o words) r

@@ -82,6 +82,11 @@ migrate_app = app_with (codes "migrate") (word (codes "RECORD") ∷ word (codes 
 abbrev pub sample_app : App
 sample_app = app_with (codes "sample") (word (codes "NUMBER") ∷ [])
 
+abbrev pub core_app : App
+core_app =
+    app_with (codes "core")
+    (word (codes "MEMORY") ∷ word (codes "OUT") ∷ word (codes "ADDRESS") ∷ [])
+
 -- the rule of a row of the program's tables
 abbrev pub rule_in : Form → Text → Rule
 rule_in form.Word id = word id

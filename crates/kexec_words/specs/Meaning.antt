@@ -4,11 +4,11 @@ use Rattle.std.specs.List.{list_any}
 use Rattle.std.specs.Str.{bytes_eq}
 use Rattle.clap.specs.Words.{App, Text, Row, first_of, fault_of, matches_of}
 use Rattle.clap.specs.Kinds.{Kinds}
-use Rattle.kexec_words.specs.Apps.{boot_app, load_app, load_panic_app, check_app, dump_app, exec_app, trace_app, migrate_app, sample_app}
+use Rattle.kexec_words.specs.Apps.{boot_app, load_app, load_panic_app, check_app, dump_app, exec_app, trace_app, migrate_app, sample_app, core_app}
 use Rattle.kexec_words.specs.Found.{word_of, words_of, flag_of}
-use Rattle.kexec_words.specs.Numbers.{plan_numbers_of, trace_numbers_of, sample_of}
-use Rattle.kexec_words.specs.Values.{InputsValue, BootValue, LoadValue, CrashInputsValue, LoadPanicValue, LoadNamesValue, ExecValue, TraceValue, MigrateValue, CommandValue}
-use Rattle.kexec_words.specs.Values.{boot, load, load_panic, check, dump, exec, trace, migrate, sample}
+use Rattle.kexec_words.specs.Numbers.{plan_numbers_of, trace_numbers_of, sample_of, core_address_of}
+use Rattle.kexec_words.specs.Values.{InputsValue, BootValue, LoadValue, CrashInputsValue, LoadPanicValue, LoadNamesValue, ExecValue, TraceValue, MigrateValue, CoreValue, CommandValue}
+use Rattle.kexec_words.specs.Values.{boot, load, load_panic, check, dump, exec, trace, migrate, sample, core}
 use Rattle.kx_pages.specs.declared.image.ImageType.{ImageType}
 use Rattle.kx_pages.specs.declared.image.ImageType.TheVariants as image
 use Rattle.kexec_words.specs.declared.numbers.TypeWord.{TypeWord}
@@ -161,7 +161,7 @@ load_panic_in rows =
     load_panic_with (crash_inputs_of rows) (first_of (codes "map") rows)
     (word_of (codes "OUT") rows) (word_of (codes "RECORD") rows)
 
--- ---- check, dump, exec, trace, migrate, sample
+-- ---- check, dump, exec, trace, migrate, sample, core
 
 abbrev pub load_names_of : List Row → LoadNamesValue
 load_names_of rows =
@@ -217,6 +217,18 @@ sample_by rows = sample_of (word_of (codes "NUMBER") rows)
 abbrev pub sample_in : List Row → Result ℕ UsageWhy
 sample_in rows = with_numbers (sample_by rows) (λ n. Ok n)
 
+abbrev pub core_by : List Row → Result ℕ Which
+core_by rows = core_address_of (word_of (codes "ADDRESS") rows)
+
+abbrev pub core_with : Text → Text → ℕ → Result CoreValue UsageWhy
+core_with memory out address = if has_same_name (out ∷ []) (memory ∷ []) then Err why.SameName
+    else Ok (record { memory = memory; out = out; address = address })
+
+abbrev pub core_in : List Row → Result CoreValue UsageWhy
+core_in rows =
+    with_numbers (core_by rows)
+    (core_with (word_of (codes "MEMORY") rows) (word_of (codes "OUT") rows))
+
 -- ---- all commands
 
 abbrev pub answer_where : {A : Type 0} → Kinds → Result A UsageWhy → Result A UsageWhy
@@ -238,7 +250,8 @@ name_of t = if bytes_eq t (codes "boot") then Some name.Boot
     else (if bytes_eq t (codes "exec") then Some name.Exec
     else (if bytes_eq t (codes "trace") then Some name.Trace
     else (if bytes_eq t (codes "migrate") then Some name.Migrate
-    else (if bytes_eq t (codes "sample") then Some name.Sample else None))))))))
+    else (if bytes_eq t (codes "sample") then Some name.Sample
+    else (if bytes_eq t (codes "core") then Some name.Core else None)))))))))
 
 abbrev pub command_by_name : Option Name → List Text → Result CommandValue UsageWhy
 command_by_name None words = Err why.Command
@@ -253,6 +266,7 @@ command_by_name (Some name.Trace) words = map_answer trace (answer_by trace_app 
 command_by_name (Some name.Migrate) words =
     map_answer migrate (answer_by migrate_app migrate_in words)
 command_by_name (Some name.Sample) words = map_answer sample (answer_by sample_app sample_in words)
+command_by_name (Some name.Core) words = map_answer core (answer_by core_app core_in words)
 
 -- what the words after the program's name say, or the first reason to refuse them
 abbrev pub command_of : List Text → Result CommandValue UsageWhy

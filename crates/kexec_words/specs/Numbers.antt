@@ -108,6 +108,16 @@ limit_of t = in_form which.Limit (steps_of t)
 abbrev pub sample_of : Text → Result ℕ Which
 sample_of t = in_form which.Number (number_of 10 18 t)
 
+-- ADDRESS: a multiple of 8 below 2 ^ 46
+abbrev pub is_headers_address : ℕ → Bool
+is_headers_address a = (a % 8 == 0) && nat_lt a (2 ^ 46)
+
+abbrev pub headers_address_of : Text → Option ℕ
+headers_address_of t = if_passes is_headers_address (hex_of t)
+
+abbrev pub core_address_of : Text → Result ℕ Which
+core_address_of t = in_form which.Address (headers_address_of t)
+
 -- all five, or the first that has not its form
 abbrev pub plan_numbers_from : Result TypeWord Which → Result (Option Runs) Which
     → Result (Option ℕ) Which → Result (Option ℕ) Which → Result (Option ℕ) Which

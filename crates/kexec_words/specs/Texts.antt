@@ -18,6 +18,7 @@ which_text which.Swap = codes "--swap"
 which_text which.Head = codes "HEAD"
 which_text which.Limit = codes "LIMIT"
 which_text which.Number = codes "NUMBER"
+which_text which.Address = codes "ADDRESS"
 
 -- the help of a command, or of all commands where none is named
 abbrev pub help_text : Option Name → List ℕ
@@ -31,6 +32,7 @@ help_text (Some name.Exec) = help.EXEC.now
 help_text (Some name.Trace) = help.TRACE.now
 help_text (Some name.Migrate) = help.MIGRATE.now
 help_text (Some name.Sample) = help.SAMPLE.now
+help_text (Some name.Core) = help.CORE.now
 
 -- the command that the first word names
 abbrev pub first_name : List (List ℕ) → Option Name

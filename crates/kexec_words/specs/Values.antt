@@ -12,6 +12,7 @@ use Rattle.kexec_words.specs.declared.commands.LoadNames.{LoadNames}
 use Rattle.kexec_words.specs.declared.commands.Exec.{Exec}
 use Rattle.kexec_words.specs.declared.commands.Trace.{Trace}
 use Rattle.kexec_words.specs.declared.commands.Migrate.{Migrate}
+use Rattle.kexec_words.specs.declared.commands.Core.{Core}
 use Rattle.kexec_words.specs.declared.commands.Command.{Command}
 use Rattle.kexec_words.specs.declared.commands.Command.TheVariants as code
 
@@ -76,6 +77,11 @@ pub record MigrateValue : Type 0 where
   pub load_record : Text
   pub out : Text
 
+pub record CoreValue : Type 0 where
+  pub memory : Text
+  pub out : Text
+  pub address : ℕ
+
 pub data CommandValue : Type 0 where
   boot : BootValue → CommandValue
   load : LoadValue → CommandValue
@@ -86,6 +92,7 @@ pub data CommandValue : Type 0 where
   trace : TraceValue → CommandValue
   migrate : MigrateValue → CommandValue
   sample : ℕ → CommandValue
+  core : CoreValue → CommandValue
 
 -- ---- the values of the program's types
 
@@ -162,6 +169,10 @@ trace_value t = record {
 abbrev pub migrate_value : Migrate → MigrateValue
 migrate_value m = record { load_record = string_bytes m.load_record; out = string_bytes m.out }
 
+abbrev pub core_value : Core → CoreValue
+core_value c =
+    record { memory = string_bytes c.memory; out = string_bytes c.out; address = c.address }
+
 -- a number is its own value
 abbrev pub number_value : ℕ → ℕ
 number_value n = n
@@ -176,3 +187,4 @@ command_value (code.Exec e) = exec (exec_value e)
 command_value (code.Trace t) = trace (trace_value t)
 command_value (code.Migrate m) = migrate (migrate_value m)
 command_value (code.Sample n) = sample n
+command_value (code.Core c) = core (core_value c)

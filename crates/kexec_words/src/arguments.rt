@@ -64,6 +64,11 @@ const NUMBER: Argument = Argument {
     form: Form::Word,
 };
 
+const ADDRESS: Argument = Argument {
+    id: "ADDRESS",
+    form: Form::Word,
+};
+
 const RUNS: Argument = Argument {
     id: "kept",
     form: Form::Value,
@@ -152,3 +157,5 @@ pub(crate) const TRACE: [Argument; 5] = [MEMORY, OUT, HEAD, LIMIT, SWAP];
 pub(crate) const MIGRATE: [Argument; 2] = [RECORD, OUT];
 
 pub(crate) const SAMPLE: [Argument; 1] = [NUMBER];
+
+pub(crate) const CORE: [Argument; 3] = [MEMORY, OUT, ADDRESS];

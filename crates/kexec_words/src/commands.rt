@@ -138,6 +138,17 @@ pub struct Migrate {
     pub out: String,
 }
 
+/// `core`: write the core file of a memory, by the crash headers that stand in it.
+#[derive(Drop)]
+pub struct Core {
+    /// The memory file.
+    pub memory: String,
+    /// The core file.
+    pub out: String,
+    /// The address of the crash headers, a multiple of 8 below 2^46.
+    pub address: u64,
+}
+
 /// A command with all that its words say.
 #[derive(Drop)]
 pub enum Command {
@@ -159,4 +170,6 @@ pub enum Command {
     Migrate(Migrate),
     /// Load and run a sample that is made from a number below 10^18.
     Sample { number: u64 },
+    /// Write the core file of a memory.
+    Core(Core),
 }

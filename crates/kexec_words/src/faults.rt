@@ -30,13 +30,15 @@ pub enum Which {
     Limit,
     /// NUMBER: 1 to 18 decimal digits.
     Number,
+    /// ADDRESS: 1 to 16 hexadecimal digits, a multiple of 8 below 2^46.
+    Address,
 }
 
 /// Why words are refused, in the order in which the reasons are tried. This project's own.
 #[derive(Clone, Copy, Debug, PartialEq, Eq, Error)]
 pub enum UsageWhy {
     /// There is no word, or the first one names no command.
-    #[error("the first argument has to be a command: boot, load, load-panic, check, dump, exec, trace, migrate or sample")]
+    #[error("the first argument has to be a command: boot, load, load-panic, check, dump, exec, trace, migrate, sample or core")]
     Command,
     /// The words after the first are not those that the command takes; asking for help is such a refusal.
     #[error("the arguments after the command are not those that it takes")]
@@ -84,6 +86,7 @@ impl Which {
             Which::Head => "HEAD",
             Which::Limit => "LIMIT",
             Which::Number => "NUMBER",
+            Which::Address => "ADDRESS",
         }
     }
 
@@ -99,6 +102,8 @@ impl Which {
                 "the address of a page: 1 to 16 hexadecimal digits, a multiple of 0x1000 below 0x400000000000",
             Which::Limit => "a decimal number of 1 to 9 digits, at most 100000000",
             Which::Number => "a decimal number of 1 to 18 digits",
+            Which::Address =>
+                "the address of crash headers: 1 to 16 hexadecimal digits, a multiple of 8 below 0x400000000000",
         }
     }
 }

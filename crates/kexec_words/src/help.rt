@@ -21,6 +21,7 @@ Commands:
   trace       run a list for some steps, whether it is accepted or not
   migrate     write a load record anew, as version 2
   sample      load and run what is made from a number
+  core        write the core file of a memory, by its crash headers
 
 Files:
   memory file  KXMEM001, the number of pages, and each page that is not all zero
@@ -223,6 +224,20 @@ Arguments:
   NUMBER  the number to begin with: a decimal number of 1 to 18 digits
 ";
 
+const CORE: &str = "\
+Usage: kexec core MEMORY OUT ADDRESS
+
+Writes the memory of a machine that stopped as one ELF core file, by the crash
+headers that stand in that memory: the notes of all processors, and a load for
+each range of memory.
+
+Arguments:
+  MEMORY   memory file to read
+  OUT      core file to write; not MEMORY
+  ADDRESS  the address of the crash headers: a hexadecimal number of 1 to 16
+           digits, without 0x, that is a multiple of 8 below 0x400000000000
+";
+
 /// The text that says what a command takes, where the first word names one, and else what commands there are.
 pub fn help_of(words: &[String]) -> &'static str
     ensures { result.now ≡ help_text (first_name (map string_bytes words.now)) }
@@ -241,5 +256,6 @@ pub fn help_of(words: &[String]) -> &'static str
         Some(Name::Trace) => TRACE,
         Some(Name::Migrate) => MIGRATE,
         Some(Name::Sample) => SAMPLE,
+        Some(Name::Core) => CORE,
     }
 }

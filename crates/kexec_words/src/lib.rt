@@ -13,7 +13,8 @@ mod reading;
 mod unplanned;
 
 pub use commands::{
-    Boot, Command, CrashInputs, Exec, Inputs, Load, LoadNames, LoadPanic, Migrate, Runs, Trace,
+    Boot, Command, Core, CrashInputs, Exec, Inputs, Load, LoadNames, LoadPanic, Migrate, Runs,
+    Trace,
 };
 pub use faults::{UsageWhy, Which, WordsFault};
 pub use help::help_of;

@@ -17,6 +17,7 @@ pub(crate) enum Name {
     Trace,
     Migrate,
     Sample,
+    Core,
 }
 
 pub(crate) fn name_of(word: &str) -> Option<Name>
@@ -40,6 +41,8 @@ pub(crate) fn name_of(word: &str) -> Option<Name>
         Some(Name::Migrate)
     } else if word == "sample" {
         Some(Name::Sample)
+    } else if word == "core" {
+        Some(Name::Core)
     } else {
         None
     }

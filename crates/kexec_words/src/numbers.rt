@@ -2,7 +2,7 @@
 
 ghost use Rattle.std.specs.Prelude.{◌≡◌, ◌≤◌, ◌<◌, ◌^◌};
 ghost use Rattle.kexec_words.specs.Found.{text_in};
-ghost use Rattle.kexec_words.specs.Numbers.{number_of, hex_of, type_of, kept_of, address_of, pool_limit_of, first_past, below_of, page_address_of, swap_of, head_of, limit_of, sample_of, plan_numbers_of, trace_numbers_of};
+ghost use Rattle.kexec_words.specs.Numbers.{number_of, hex_of, type_of, kept_of, address_of, pool_limit_of, first_past, below_of, page_address_of, swap_of, head_of, limit_of, sample_of, headers_address_of, core_address_of, plan_numbers_of, trace_numbers_of};
 
 use crate::commands::Runs;
 use crate::faults::Which;
@@ -189,6 +189,25 @@ pub(crate) fn sample_number(text: &str) -> Result<u64, Which>
     match number_in(text, 10, NUMBER_DIGITS) {
         Some(number) => Ok(number),
         None => Err(Which::Number),
+    }
+}
+
+fn headers_address_in(text: &str) -> Option<u64>
+    ensures { result ≡ headers_address_of text.now }
+{
+    match hex_in(text) {
+        Some(address) if address.is_multiple_of(8) && address < ADDRESS_LIMIT => Some(address),
+        _ => None,
+    }
+}
+
+// The address of `core`.
+pub(crate) fn core_address(text: &str) -> Result<u64, Which>
+    ensures { result ≡ core_address_of text.now }
+{
+    match headers_address_in(text) {
+        Some(address) => Ok(address),
+        None => Err(Which::Address),
     }
 }
 

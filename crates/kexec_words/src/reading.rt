@@ -10,7 +10,8 @@ use crate::faults::{UsageWhy, WordsFault};
 use crate::naming::{Name, name_of};
 use crate::planned::{read_boot, read_load};
 use crate::unplanned::{
-    read_check, read_dump, read_exec, read_load_panic, read_migrate, read_sample, read_trace,
+    read_check, read_core, read_dump, read_exec, read_load_panic, read_migrate, read_sample,
+    read_trace,
 };
 use std::alloc::Global;
 
@@ -30,6 +31,7 @@ fn read_named(alloc: Global, name: Name, words: &[String]) -> Result<Command, Wo
         Name::Sample => Command::Sample {
             number: read_sample(alloc, words)?,
         },
+        Name::Core => Command::Core(read_core(alloc, words)?),
     })
 }
 

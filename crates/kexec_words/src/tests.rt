@@ -95,6 +95,9 @@ fn refuses_words_of_each_command(rt: HostRuntime) -> Result<(), Fail> {
         ("migrate r o x", Some(UsageWhy::Parse)),
         ("migrate r r", Some(UsageWhy::SameName)),
         ("sample 1234567890123456789", number(Which::Number)),
+        ("core m o 100c", number(Which::Address)),
+        ("core m m 400000000000", number(Which::Address)),
+        ("core m m 3ffffffffff8", Some(UsageWhy::SameName)),
     ] {
         assert!(rt; why(alloc, line)? == want, "{line}");
     }
@@ -162,6 +165,7 @@ fn reads_each_command(rt: HostRuntime) -> Result<(), Fail> {
         "trace m o 20002 007",
         "migrate r o",
         "sample 1",
+        "core m o 5fff000",
     ] {
         assert!(rt; why(alloc, line)? == None, "{line}");
     }
@@ -185,6 +189,7 @@ fn says_what_is_wrong_and_what_is_wanted(rt: HostRuntime) -> Result<(), Fail> {
         ("trace m", "Usage: kexec trace "),
         ("migrate r", "Usage: kexec migrate "),
         ("sample x", "Usage: kexec sample "),
+        ("core m", "Usage: kexec core "),
     ] {
         assert!(rt; help_of(&split(alloc, line)?).starts_with(usage), "{line}");
     }

@@ -1,16 +1,16 @@
-//! The words of `load-panic`, `check`, `dump`, `exec`, `trace`, `migrate` and `sample`.
+//! The words of `load-panic`, `check`, `dump`, `exec`, `trace`, `migrate`, `sample` and `core`.
 
 ghost use Rattle.std.specs.Prelude.{◌≡◌, IfOk, map, option_map, string_bytes, codes};
 ghost use Rattle.clap.specs.Words.{rows_of, found_of};
-ghost use Rattle.kexec_words.specs.Apps.{load_panic_app, check_app, dump_app, exec_app, trace_app, migrate_app, sample_app};
-ghost use Rattle.kexec_words.specs.Meaning.{Answers, answer_by, crash_inputs_of, load_panic_with, load_panic_in, load_names_of, load_names_in, exec_of, exec_with, exec_in, trace_numbers_by, trace_with, trace_in, migrate_of, migrate_with, migrate_in, sample_by, sample_in};
-ghost use Rattle.kexec_words.specs.Values.{crash_inputs_value, load_panic_value, load_names_value, exec_value, trace_value, migrate_value, number_value};
+ghost use Rattle.kexec_words.specs.Apps.{load_panic_app, check_app, dump_app, exec_app, trace_app, migrate_app, sample_app, core_app};
+ghost use Rattle.kexec_words.specs.Meaning.{Answers, answer_by, crash_inputs_of, load_panic_with, load_panic_in, load_names_of, load_names_in, exec_of, exec_with, exec_in, trace_numbers_by, trace_with, trace_in, migrate_of, migrate_with, migrate_in, sample_by, sample_in, core_by, core_with, core_in};
+ghost use Rattle.kexec_words.specs.Values.{crash_inputs_value, load_panic_value, load_names_value, exec_value, trace_value, migrate_value, number_value, core_value};
 
-use crate::arguments::{EXEC, LOAD_PANIC, LOADED, MIGRATE, SAMPLE, TRACE};
-use crate::commands::{CrashInputs, Exec, LoadNames, LoadPanic, Migrate, Trace};
+use crate::arguments::{CORE, EXEC, LOAD_PANIC, LOADED, MIGRATE, SAMPLE, TRACE};
+use crate::commands::{Core, CrashInputs, Exec, LoadNames, LoadPanic, Migrate, Trace};
 use crate::faults::{UsageWhy, Which, WordsFault};
 use crate::naming::is_repeated_for_crash;
-use crate::numbers::{TraceNumbers, sample_number, trace_numbers};
+use crate::numbers::{TraceNumbers, core_address, sample_number, trace_numbers};
 use crate::parsing::{flag_in, matches_for, name_in, option_in, some_name_in, word_in};
 use clap::ArgMatches;
 use std::alloc::{AllocError, Global};
@@ -248,4 +248,43 @@ pub(crate) fn read_sample(alloc: Global, words: &[String]) -> Result<u64, WordsF
 {
     let matches = matches_for(alloc, "sample", &SAMPLE, words)?;
     sample_found(&matches)
+}
+
+fn core_address_in(matches: &ArgMatches<'_>) -> Result<u64, Which>
+    ensures { result ≡ core_by (rows_of (found_of matches.now)) }
+{
+    core_address(word_in(matches, "ADDRESS"))
+}
+
+fn core_from(memory: String, out: String, address: u64) -> Result<Core, WordsFault>
+    ensures { Answers core_value
+        (core_with (string_bytes memory) (string_bytes out) address) result }
+{
+    if memory == out {
+        return Err(WordsFault::Usage {
+            why: UsageWhy::SameName,
+        });
+    }
+    Ok(Core {
+        memory,
+        out,
+        address,
+    })
+}
+
+fn core_found(alloc: Global, matches: &ArgMatches<'_>) -> Result<Core, WordsFault>
+    ensures { Answers core_value (core_in (rows_of (found_of matches.now))) result }
+{
+    let address = core_address_in(matches)?;
+    let memory = name_in(alloc, matches, "MEMORY")?;
+    let out = name_in(alloc, matches, "OUT")?;
+    core_from(memory, out, address)
+}
+
+// The words after `core`.
+pub(crate) fn read_core(alloc: Global, words: &[String]) -> Result<Core, WordsFault>
+    ensures { Answers core_value (answer_by core_app core_in (map string_bytes words.now)) result }
+{
+    let matches = matches_for(alloc, "core", &CORE, words)?;
+    core_found(alloc, &matches)
 }

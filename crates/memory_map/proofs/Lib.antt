@@ -5,3 +5,4 @@ pub mod Reading
 pub mod Sets
 pub mod Parts
 pub mod Forms
+pub mod Apart

@@ -29,3 +29,7 @@ returns-clause-in_order c = λ w e d t. of_told c.args.shelf.now.is_told c.args.
 pub returns-clause-too_few : goal.returns-clause-too_few
 returns-clause-too_few c = λ w e t pool need few took.
     of_told c.args.shelf.now.is_told c.args.shelf.now.held _ t (c.kexec.ensures.too_few w e) pool need few still took
+
+pub returns-clause-refused : goal.returns-clause-refused
+returns-clause-refused c = λ w e t why r took.
+    of_told c.args.shelf.now.is_told c.args.shelf.now.held _ t (c.kexec.ensures.refused w e) why r still took

@@ -3,11 +3,9 @@ use Rattle.file_commands.specs.Answers.{Meets}
 use Rattle.kexec_words.specs.Meaning.{command_of}
 use Rattle.kexec_main.specs.Commands.{Holds}
 use Rattle.kexec_main.specs.Statuses.{answer_of}
-use Rattle.kexec_main.proofs.Complete.{complete, lacks_pages}
-use Rattle.kexec_main.proofs.Done.{has_done}
+use Rattle.kexec_main.proofs.Commands.{complete, has_done, lacks_pages, refused_for, was_in_order}
+use Rattle.kexec_main.proofs.Commands.Sample.{ends_sample}
 use Rattle.kexec_main.proofs.Holding.{told, told_gives}
-use Rattle.kexec_main.proofs.InOrder.{was_in_order}
-use Rattle.kexec_main.proofs.Sampled.{ends_sample}
 use Rattle.kexec_main.proofs.Rising.{unread_rose, unsaid_rose, unwritten_rose}
 use Rattle.kexec_main.proofs.run.kexec.Goals as goal
 
@@ -37,6 +35,11 @@ pub returns-clause-too_few : goal.returns-clause-too_few
 returns-clause-too_few g c = λ w e.
     let said = command_of (map string_bytes c.args.words.now) in
     told_gives g.S.Shelf g.O.Sink _ _ _ _ _ said (λ held h. λ pool n few calm quiet. lacks_pages g.S.Shelf g.O.Sink held _ _ _ _ _ calm quiet said w pool n e few h) c.answered.ensures
+
+pub returns-clause-refused : goal.returns-clause-refused
+returns-clause-refused g c = λ w e.
+    let said = command_of (map string_bytes c.args.words.now) in
+    told_gives g.S.Shelf g.O.Sink _ _ _ _ _ said (λ held h. λ why r calm quiet. refused_for g.S.Shelf g.O.Sink held _ _ _ _ _ calm quiet said w why e r h) c.answered.ensures
 
 pub returns-clause-unread : goal.returns-clause-unread
 returns-clause-unread g c = λ n e. unread_rose g.S.Shelf g.O.Sink _ _ _ _ _ (command_of (map string_bytes c.args.words.now)) n e c.answered.ensures

@@ -2,7 +2,7 @@ use Rattle.std.proofs.Common.{◌∙◌, ap, map, refl}
 use Rattle.file_commands.specs.Calls.{file_of}
 use Rattle.sample_load.specs.Samples.{start_of}
 use Rattle.kexec_main.specs.Runs.{checked_with}
-use Rattle.kexec_main.proofs.Sampled.{sampled_text}
+use Rattle.kexec_main.proofs.Commands.Sample.{sampled_text}
 use Rattle.kexec_main.proofs.sample.make_sample.Goals as goal
 
 pub returns : goal.returns

@@ -1,0 +1,62 @@
+-- What is proved of `check`.
+use Rattle.std.proofs.Common.{◌≡◌, [], Option, Some, None, Ok, Err, refl, subst, inl, inr}
+use Rattle.std.specs.Prelude.{◌⊎◌}
+use Rattle.kx_edge.specs.Edge.{Files}
+use Rattle.kx_edge.specs.declared.edge.Shelf.{Ghosts as Shelf}
+use Rattle.kx_edge.specs.declared.edge.Sink.{Ghosts as Sink}
+use Rattle.list_checker.specs.declared.fault.ListFault.{ListFault}
+use Rattle.file_commands.specs.Taking.{Refusal}
+use Rattle.file_commands.specs.Answers.{MeetsTold, Stands, done}
+use Rattle.kexec_main.specs.declared.files.TakenLoad.{TakenLoad}
+use Rattle.kexec_main.specs.declared.files.TakenLoad.TheVariants.{Normal, Crash}
+use Rattle.kexec_main.specs.declared.files.CrashFiles.{CrashFiles}
+use Rattle.kexec_main.specs.declared.files.LoadFiles.{LoadFiles}
+use Rattle.kexec_main.specs.declared.status.Reason.{Reason}
+use Rattle.kexec_main.specs.Outputs.{Made}
+use Rattle.kexec_words.specs.Values.{LoadNamesValue}
+use Rattle.kexec_main.specs.Check.{HasChecked, HasCheckedCrash, IsAcceptedLoad, check_entry, checks, checks_list_as, checks_place_as}
+use Rattle.kexec_main.proofs.Keeping.{Keeps, put_as, said_as}
+
+module _ {S O : Type 0} (D : Shelf S) (E : Sink O) (held : Files) (s : S) (o : O) (s' : S) (o' : O) where
+  checked : (l : LoadNamesValue) → MeetsTold D E (check_entry l).command held s o done s' o' → HasChecked D E held s o s' o' l ⊎ HasCheckedCrash D E held s o s' o' l
+  checked l (Normal x, goods, read, m, fault, out) =
+      let n = subst (λ f. checks_list_as x goods f) fault m in
+      inl (record { files = x; read = read; items = n.items; accepted = n.accepted; put = put_as D E s o s' o' goods.outputs [] n.outputs out.put; said = said_as D E s o s' o' goods.text _ n.text out.said })
+  checked l (Crash x, goods, read, m, fault, out) =
+      let n = subst (λ f. checks_place_as x goods f) fault m in
+      inr (record { files = x; read = read; accepted = n.accepted; put = put_as D E s o s' o' goods.outputs [] n.outputs out.put; said = said_as D E s o s' o' goods.text _ n.text out.said })
+
+-- what is accepted has no fault
+list_whole : (x : LoadFiles) (goods : Made) (f : Option ListFault) → IsAcceptedLoad (Normal x) → checks_list_as x goods f → goods.fault ≡ f → goods.fault ≡ None
+list_whole x goods None accepted m e = e
+list_whole x goods (Some f) accepted m e = absurd (m.0.1 accepted.0 accepted.1)
+
+place_whole : (x : CrashFiles) (goods : Made) (f : Option ListFault) → IsAcceptedLoad (Crash x) → checks_place_as x goods f → goods.fault ≡ f → goods.fault ≡ None
+place_whole x goods None accepted m e = e
+place_whole x goods (Some f) accepted m e = absurd (m.0.no_place accepted)
+
+check_whole : (x : TakenLoad) (goods : Made) → IsAcceptedLoad x → checks x (Ok goods) → goods.fault ≡ None
+check_whole (Normal x) goods accepted m = list_whole x goods goods.fault accepted m refl
+check_whole (Crash x) goods accepted m = place_whole x goods goods.fault accepted m refl
+
+check_not : (x : TakenLoad) (a : Refusal Reason) → checks x (Err a) → ⊥
+check_not (Normal x) a m = m
+check_not (Crash x) a m = m
+
+check_stands : (l : LoadNamesValue) (x : TakenLoad) → IsAcceptedLoad x → Stands (check_entry l).command x
+check_stands l x accepted = record { unrefused = check_not x; whole = λ goods m. check_whole x goods accepted m }
+
+list_accepted : (x : LoadFiles) (goods : Made) → checks_list_as x goods None → IsAcceptedLoad (Normal x)
+list_accepted x goods m = (m.items, m.accepted)
+
+checked_accepted : (x : TakenLoad) (goods : Made) → checks x (Ok goods) → goods.fault ≡ None → IsAcceptedLoad x
+checked_accepted (Normal x) goods m fault = list_accepted x goods (subst (λ f. checks_list_as x goods f) fault m)
+checked_accepted (Crash x) goods m fault = (subst (λ f. checks_place_as x goods f) fault m).accepted
+
+pub check_keeps : (l : LoadNamesValue) → Keeps (check_entry l)
+check_keeps l = record {
+  did = λ D E held s o s' o'. checked D E held s o s' o' l;
+  stands = check_stands l;
+  could = checked_accepted;
+  refuses = λ x why h. absurd (check_not x why h);
+}

@@ -1,0 +1,41 @@
+-- What is proved of `dump`.
+use Rattle.std.proofs.Common.{◌≡◌, [], None, Ok, Err, ap, inl, inr}
+use Rattle.std.specs.Prelude.{◌⊎◌}
+use Rattle.kx_edge.specs.Edge.{Files}
+use Rattle.kx_edge.specs.declared.edge.Shelf.{Ghosts as Shelf}
+use Rattle.kx_edge.specs.declared.edge.Sink.{Ghosts as Sink}
+use Rattle.file_commands.specs.Taking.{Refusal}
+use Rattle.file_commands.specs.Answers.{MeetsTold, Stands, done}
+use Rattle.kexec_main.specs.declared.files.TakenLoad.{TakenLoad}
+use Rattle.kexec_main.specs.declared.files.TakenLoad.TheVariants.{Normal, Crash}
+use Rattle.kexec_main.specs.declared.status.Reason.{Reason}
+use Rattle.kexec_main.specs.Outputs.{Made}
+use Rattle.kexec_words.specs.Values.{LoadNamesValue}
+use Rattle.kexec_main.specs.Dump.{HasDumped, HasDumpedCrash, dump_entry, dumps}
+use Rattle.kexec_main.proofs.Keeping.{Keeps, put_as, said_as}
+
+module _ {S O : Type 0} (D : Shelf S) (E : Sink O) (held : Files) (s : S) (o : O) (s' : S) (o' : O) where
+  dumped : (l : LoadNamesValue) → MeetsTold D E (dump_entry l).command held s o done s' o' → HasDumped D E held s o s' o' l ⊎ HasDumpedCrash D E held s o s' o' l
+  dumped l (Normal x, goods, read, m, fault, out) =
+      inl (record { files = x; read = read; list = m.0; fault = m.1; walk = m.2; put = put_as D E s o s' o' goods.outputs [] (ap (λ (g : Made). g.outputs) m.3) out.put; said = said_as D E s o s' o' goods.text _ (ap (λ (g : Made). g.text) m.3) out.said })
+  dumped l (Crash x, goods, read, m, fault, out) =
+      inr (record { files = x; read = read; put = put_as D E s o s' o' goods.outputs [] (ap (λ (g : Made). g.outputs) m) out.put; said = said_as D E s o s' o' goods.text _ (ap (λ (g : Made). g.text) m) out.said })
+
+dump_not : (x : TakenLoad) (a : Refusal Reason) → dumps x (Err a) → ⊥
+dump_not (Normal x) a m = m
+dump_not (Crash x) a m = m
+
+dump_whole : (x : TakenLoad) (goods : Made) → dumps x (Ok goods) → goods.fault ≡ None
+dump_whole (Normal x) goods m = ap (λ (g : Made). g.fault) m.3
+dump_whole (Crash x) goods m = ap (λ (g : Made). g.fault) m
+
+dump_stands : (l : LoadNamesValue) (x : TakenLoad) → Stands (dump_entry l).command x
+dump_stands l x = record { unrefused = dump_not x; whole = dump_whole x }
+
+pub dump_keeps : (l : LoadNamesValue) → Keeps (dump_entry l)
+dump_keeps l = record {
+  did = λ D E held s o s' o'. dumped D E held s o s' o' l;
+  stands = λ x can. dump_stands l x;
+  could = λ x goods m fault. tt;
+  refuses = λ x why h. absurd (dump_not x why h);
+}

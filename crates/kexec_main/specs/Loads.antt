@@ -1,0 +1,41 @@
+-- What is promised of the load of a kernel (this project's own).
+use Rattle.std.specs.Prelude.{◌≡◌, ℕ, ◌≤◌, length, take, Ok}
+use Rattle.kx_pages.specs.Bytes.{Mem}
+use Rattle.kx_pages.specs.Lists.{count}
+use Rattle.kx_pages.specs.declared.image.Wish.{Wish}
+use Rattle.page_memory.specs.Contents.{at}
+use Rattle.segments.specs.Values.{need}
+use Rattle.load_states.specs.States.{Checked}
+use Rattle.load_states.specs.Ready.{Told}
+use Rattle.load_states.specs.Fillings.{IsSealed}
+use Rattle.load_states.specs.Runs.{EndsAfter}
+use Rattle.kexec_plan.specs.Requests.{Plan}
+use Rattle.kexec_plan.specs.Plan.{plan}
+use Rattle.kexec_main.specs.Inputs.{LoadInputs}
+use Rattle.kexec_main.specs.Loading.{IsLoaded}
+use Rattle.kexec_main.specs.Outputs.{IsTooHeavy}
+
+-- A kernel was loaded, whatever memory held.
+pub record NormalLoad (wish : Wish) (i : LoadInputs) (p : Plan) (c : Checked) : Type 0 where
+  -- the request has this plan
+  pub planned : plan i.request i.map ≡ Ok p
+  -- the pool has as many usable pages as the load takes
+  pub enough : need wish p.segments ≤ length i.usable
+  -- the list, the control page and the sources are those that the rules of taking pages and laying a list give
+  pub laid : IsSealed (at i.memory) i.usable wish p.segments c.load
+  -- memory is as it was at every page but the first usable ones of the pool
+  pub only_pool_pages : (q : ℕ) → count q (take (need wish p.segments) i.usable) ≡ 0
+      → at c.load.memory q ≡ at i.memory q
+  -- the list is accepted for the segments, by a walk of so many words with so many link pages and these pairs
+  pub accepted : Told c.load c.words c.links c.pairs
+  -- and its run ends within its entries: the machine is done after as many steps as the walk has words
+  pub ends : EndsAfter c.load c.words
+
+-- Nothing refuses the load of what was taken: the request has a plan, the pool has as many usable pages as the load
+-- takes, and each memory that it may leave, by what is told of its accepted list, has a file.
+pub record CanLoad (wish : Wish) (i : LoadInputs) (leaves : Checked → Mem) : Type 0 where
+  pub p : Plan
+  pub planned : plan i.request i.map ≡ Ok p
+  pub enough : need wish p.segments ≤ length i.usable
+  pub light : (c : Checked) (n : ℕ) → IsLoaded wish i p c.load
+      → Told c.load c.words c.links c.pairs → IsTooHeavy (leaves c) n → ⊥
