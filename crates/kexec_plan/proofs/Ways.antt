@@ -27,7 +27,7 @@ use Rattle.kexec_plan.specs.Finish.{finished}
 use Rattle.kexec_plan.specs.Kernels.{elf_kernel, multiboot_kernel}
 use Rattle.kexec_plan.specs.Table.{headers_rule, information_rule}
 
--- what holds of each plan that is finished on this ground
+-- what holds of each plan that is finished on this g
 module _ (g : Ground) (P : Plan → Type 0)
     (end : (ss : List SegmentValue) (start : Start) (o : Option PurgatoryValue) (s : Option Site) (p : Plan) → finished g ss start o s ≡ Ok p → P p) where
   abbrev Ends : Result Plan PlanFault → Type 0

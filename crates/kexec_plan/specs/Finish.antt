@@ -18,8 +18,8 @@ use Rattle.kexec_plan.specs.Purgatory.{PurgatoryValue, Linkage, linked_at, armed
 -- the plan of these segments, without a purgatory
 unfoldable pub plain_plan : Ground → List SegmentValue → Start
     → Result Plan PlanFault
-plain_plan ground ss start = do
-  segments ← tested ground ss
+plain_plan g ss start = do
+  segments ← tested g ss
   Ok (record { segments = segments; start = start; regions = 0; digest = 0 })
 
 -- segment number g of these has this property
@@ -43,8 +43,8 @@ armed_segment l start ss s =
 -- the plan of these segments and of a linked purgatory behind them, which starts first
 unfoldable pub armed_plan : Ground → List SegmentValue → Start → Linkage → Site
     → Result Plan PlanFault
-armed_plan ground ss start l s = do
-  _ ← tested ground (ss ++ segment_at s l.bytes ∷ [])
+armed_plan g ss start l s = do
+  _ ← tested g (ss ++ segment_at s l.bytes ∷ [])
   Ok (record {
     segments = ss ++ armed_segment l start ss s ∷ [];
     start = start_at l.symbols.start;
@@ -55,16 +55,16 @@ armed_plan ground ss start l s = do
 unfoldable pub linked_plan : Ground → List SegmentValue → Start
     → PurgatoryValue → Site
     → Result Plan PlanFault
-linked_plan ground ss start p s = do
+linked_plan g ss start p s = do
   l ← linked_at p s
-  armed_plan ground ss start l s
+  armed_plan g ss start l s
 
 -- the plan of these segments, and of the purgatory at its place
 abbrev pub finished : Ground → List SegmentValue → Start → Option PurgatoryValue
     → Option Site → Result Plan PlanFault
-finished ground ss start (Some p) (Some s) = linked_plan ground ss start p s
-finished ground ss start (Some p) None = plain_plan ground ss start
-finished ground ss start None s = plain_plan ground ss start
+finished g ss start (Some p) (Some s) = linked_plan g ss start p s
+finished g ss start (Some p) None = plain_plan g ss start
+finished g ss start None s = plain_plan g ss start
 
 -- The table of regions and the digest have no byte in common. The symbols of a purgatory may overlap, and one of the two
 -- is then written over the other. Without a purgatory both addresses are 0.

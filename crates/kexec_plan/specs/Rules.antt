@@ -29,4 +29,4 @@ unless_refused ss (Some fault) = Err (faults.Segments fault)
 
 unfoldable pub tested : Ground → List SegmentValue
     → Result (List SegmentValue) PlanFault
-tested ground ss = unless_refused ss (first_refusal (map_of ground) (kind_in ground) ss)
+tested g ss = unless_refused ss (first_refusal (map_of g) (kind_in g) ss)
