@@ -17,6 +17,20 @@ def write_memory(file, pages):
             out.write(struct.pack("<Q", number) + page_bytes(number))
 
 
+def write_dumped(file, headers, first, pages):
+    """A memory file of so many pages from the first on, and below them the page of the headers of a crash kernel: those of
+    an ELF64 core file for x86-64 with one PT_LOAD, which has these pages."""
+    start, size = first * PAGE, pages * PAGE
+    ident = b"\x7fELF\x02\x01\x01" + bytes(9)
+    head = struct.pack("<16sHHIQQQIHHHHHH", ident, 4, 62, 1, 0, 64, 0, 0, 64, 56, 1, 0, 0, 0)
+    load = struct.pack("<IIQQQQQQ", 1, 7, start, 0xFFFF888000000000 + start, start, size, size, 0)
+    with open(file, "wb") as out:
+        out.write(b"KXMEM001" + struct.pack("<Q", pages + 1))
+        out.write(struct.pack("<Q", headers) + (head + load).ljust(PAGE, b"\0"))
+        for number in range(first, first + pages):
+            out.write(struct.pack("<Q", number) + page_bytes(number))
+
+
 def write_kernel(file, pages):
     """A raw kernel of so many pages, each of other bytes."""
     with open(file, "wb") as out:
