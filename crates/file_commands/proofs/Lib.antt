@@ -3,3 +3,5 @@ pub mod Steps
 pub mod Measured
 pub mod Meeting
 pub mod Made
+pub mod Keeping
+pub mod Saying

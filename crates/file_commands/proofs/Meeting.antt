@@ -10,7 +10,7 @@ use Rattle.file_commands.specs.declared.stop.TakeFault.TheVariants as takes
 use Rattle.file_commands.specs.declared.stop.MakeFault.{MakeFault}
 use Rattle.file_commands.specs.declared.stop.MakeFault.TheVariants as makes
 use Rattle.file_commands.specs.declared.goods.Goods.{Goods as MadeGoods}
-use Rattle.file_commands.specs.Taking.{Refusal, reads, Same, Took}
+use Rattle.file_commands.specs.Taking.{Refusal, FailedAt, ok, reads, Same, Took}
 use Rattle.file_commands.specs.Answers.{Answer, Command, Goods, FilesPut, FilesCut, PutAll, PutUpTo, SaysText, BreaksText, GoesOut, EndsAtOutput, EndsAtText, Delivers, Meets, MeetsTold, RefusesFor, Stands, InOrder, Completes, done, not_accepted, unread, unwritten, unsaid, memory, refused}
 use Rattle.file_commands.proofs.Puts.{puts_files, puts_calm, torn_files, torn_rose}
 use Rattle.file_commands.specs.Calls.{Takes, TakesNot, Makes, goods_of, take_answer, make_answer}
@@ -170,3 +170,22 @@ module _ {S O X F R : Type 0} (D : Shelf S) (E : Sink O) (c : Command X F R) (he
   stands_told s s' o o' memory read h calm quiet m = inr refl
   stands_told s s' o o' (refused a) read h calm quiet (inl r, same) = absurd (no_reason a (sym read ∙ r))
   stands_told s s' o o' (refused a) read h calm quiet (inr r, same) = absurd ((as_read r.0 read r.1 h).unrefused a r.2)
+
+-- What takes no file is what it is, and does not fail.
+module _ {S X F R : Type 0} (D : Shelf S) (c : Command X F R) (x : X) (none : c.takes ≡ ok x) (s : S) where
+  pub took_none : (r : Result X (Refusal R)) (mid : S) → Took D c.takes s r mid → (r ≡ Ok x) × (mid ≡ s)
+  unfolding Took
+  took_none r mid h = subst (λ t. Took D t s r mid) none h
+
+  pub fails_none : (n : List ℕ) (s' : S) → FailedAt D c.takes s n s' → ⊥
+  unfolding FailedAt
+  fails_none n s' h = subst (λ t. FailedAt D t s n s') none h
+
+-- A command that takes no file does over every shelf what it does over files that are told.
+module _ {S O X F R : Type 0} (D : Shelf S) (E : Sink O) (c : Command X F R) (x : X) (none : c.takes ≡ ok x) (s : S) (o : O) where
+  read_none : (held : Files) → reads c.takes held ≡ Ok x
+  read_none held = ap (λ t. reads t held) none
+
+  pub alone_told : (held : Files) (s' : S) (o' : O) → Meets D E c s o done s' o' → MeetsTold D E c held s o done s' o'
+  alone_told held s' o' (y, goods, mid, h, m, d) =
+      (y, goods, read_none held ∙ sym (took_none D c x none s (Ok y) mid h).0, m, d.0, out_from D E c s o mid (took_same D c.takes s mid (Ok y) h) goods s' o' d.1 d.2)

@@ -3,11 +3,9 @@ pub mod Outputs
 pub mod Lines
 pub mod Executes
 pub mod Leaving
-pub mod Keeping
 pub mod Loads
 pub mod Commands
-pub mod Holding
-pub mod Rising
+pub mod Laid
 pub mod Mapped
 pub mod Pages
 pub mod Again

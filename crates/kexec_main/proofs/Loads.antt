@@ -31,7 +31,6 @@ pub normal : (wish : Wish) (i : LoadInputs) (p : Plan) (c : Checked) → IsLoade
 normal wish i p c l told = record {
   planned = l.planned;
   enough = l.enough;
-  laid = l.laid;
   only_pool_pages = l.laid.others;
   accepted = told;
   ends = list_ends c.load c.words c.links c.pairs (loaded_bare wish i p c.load l) told;

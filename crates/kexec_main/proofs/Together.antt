@@ -38,7 +38,7 @@ use Rattle.kexec_main.specs.Boot.{BootInputs, HasBooted}
 use Rattle.kexec_main.specs.Exec.{HasExecuted, files_text, runs_asked, runs_of}
 use Rattle.kexec_main.specs.Inputs.{LoadInputs, load_inputs}
 use Rattle.kexec_main.specs.Load.{HasLoaded, LoadCommand, load_wish, record_of_load}
-use Rattle.kexec_main.specs.Loads.{NormalLoad}
+use Rattle.kexec_main.specs.Loads.{IsLaid, NormalLoad}
 use Rattle.kexec_main.specs.Outputs.{IsFileOf}
 use Rattle.kexec_main.specs.Runs.{after_runs, list_text, run_text, wish_of}
 use Rattle.kexec_main.specs.Texts.{load_lines, purgatory_line, ran_line}
@@ -59,15 +59,15 @@ same_then : (r s t : Load) → IsSameLoad r s → IsSameLoad s t → IsSameLoad 
 same_then r s t a b = record { reads = λ p. b.reads p ∙ a.reads p; image = b.image ∙ a.image; segments = b.segments ∙ a.segments }
 
 -- so are loads by one plan of inputs that are the same
-loads_alike : (wish v : Wish) (i j : LoadInputs) (p q : Plan) (c d : Checked) → v ≡ wish → j ≡ i → NormalLoad wish i p c → NormalLoad v j q d → (q ≡ p) × IsSameLoad c.load d.load
-loads_alike wish v i j p q c d w same a b =
+loads_alike : (wish v : Wish) (i j : LoadInputs) (p q : Plan) (c d : Checked) → v ≡ wish → j ≡ i → NormalLoad wish i p c → NormalLoad v j q d → IsLaid wish i p c → IsLaid v j q d → (q ≡ p) × IsSameLoad c.load d.load
+loads_alike wish v i j p q c d w same a b k l =
     let asked : plan i.request i.map ≡ Ok q = ap (λ (i : LoadInputs). plan i.request i.map) (sym same) ∙ b.planned in
     let one : q ≡ p = ok_same {F = PlanFault} q p (sym asked ∙ a.planned) in
     let laid : IsSealed (at i.memory) i.usable wish p.segments d.load =
     subst (λ (p : Plan). IsSealed (at i.memory) i.usable wish p.segments d.load) one
     (subst (λ (i : LoadInputs). IsSealed (at i.memory) i.usable wish q.segments d.load) same
-    (subst (λ wish. IsSealed (at j.memory) j.usable wish q.segments d.load) w b.laid)) in
-    (one, sealed_alike (at i.memory) i.usable wish p.segments c.load d.load a.laid laid)
+    (subst (λ wish. IsSealed (at j.memory) j.usable wish q.segments d.load) w l)) in
+    (one, sealed_alike (at i.memory) i.usable wish p.segments c.load d.load k laid)
 
 -- a memory has one file
 one_file : (N : Mem) (a b : List ℕ) → IsFileOf N a → IsFileOf N b → a ≡ b
@@ -102,7 +102,8 @@ same_text (Some Once) c d start table digest s image = λ i. (same_list c d star
 same_text (Some Twice) c d start table digest s image = λ i. (same_list c d start s image i ++ ran_line (s.words i)) ++ ran_line (s.words i)
 
 module _ {S O : Type 0} (D : Shelf S) (E : Sink O) (held after : Files) (s t u s' t' u' : S) (o p q o' p' q' : O) (b : BootValue) (l : LoadValue) (e : ExecValue)
-    (ask : AskTogether b l e) (boot : HasBooted D E held s o s' o' b) (load : HasLoaded D E held t p t' p' l) (exec : HasExecuted D E after u q u' q' e)
+    (ask : AskTogether b l e) (boot : HasBooted D E held s o s' o' b) (boot_laid : IsLaid (wish_of b.kept) boot.inputs.load boot.planned boot.checked)
+    (load : HasLoaded D E held t p t' p' l) (load_laid : IsLaid (load_wish l) load.inputs.load load.planned load.checked) (exec : HasExecuted D E after u q u' q' e)
     (memory_put : file_at after l.out ≡ load.output) (record_put : file_at after l.load_record ≡ record_file (record_of_load load.checked.load load.planned)) where
   -- both loads are of the same inputs
   same_inputs : load.inputs.load ≡ boot.inputs.load
@@ -115,7 +116,7 @@ module _ {S O : Type 0} (D : Shelf S) (E : Sink O) (held after : Files) (s t u s
       ap (λ (x : LoadCommand). x.load) (sym (ok_same {F = Refusal Reason} _ load.inputs j.2)) ∙ one ∙ ap (λ (x : BootInputs). x.load) (ok_same {F = Refusal Reason} _ boot.inputs i.2)
 
   alike : (load.planned ≡ boot.planned) × IsSameLoad boot.checked.load load.checked.load
-  alike = loads_alike (wish_of b.kept) (load_wish l) boot.inputs.load load.inputs.load boot.planned load.planned boot.checked load.checked ask.wish same_inputs boot.load load.load
+  alike = loads_alike (wish_of b.kept) (load_wish l) boot.inputs.load load.inputs.load boot.planned load.planned boot.checked load.checked ask.wish same_inputs boot.load load.load boot_laid load_laid
 
   -- the record and the memory that `exec` read are those that `load` put
   record_is : exec.files.load_record ≡ record_of_load load.checked.load load.planned
@@ -143,7 +144,7 @@ module _ {S O : Type 0} (D : Shelf S) (E : Sink O) (held after : Files) (s t u s
 
   runs : runs_asked e.twice exec.files ≡ b.kept
   runs =
-      let laid = boot.load.laid in
+      let laid = boot_laid in
       same_runs b.kept (swap_of laid.loading) e.twice exec.files.load_record.image.mode
       ask.twice
       (ap (λ (s : Load). s.image.mode) (sym exec.of_files) ∙ ap (λ i. i.mode) whole.image ∙ ap (λ i. i.mode) laid.image)
@@ -162,6 +163,6 @@ module _ {S O : Type 0} (D : Shelf S) (E : Sink O) (held after : Files) (s t u s
 
 pub load_then_exec : {S O : Type 0} (D : Shelf S) (E : Sink O) → LoadThenExecIsBoot D E
 load_then_exec D E held after s t u s' t' u' o p q o' p' q' b l e ask boot load exec memory_put record_put = (
-  same_output D E held after s t u s' t' u' o p q o' p' q' b l e ask boot load exec memory_put record_put,
-  said_same D E held after s t u s' t' u' o p q o' p' q' b l e ask boot load exec memory_put record_put,
+  same_output D E held after s t u s' t' u' o p q o' p' q' b l e ask boot.booted boot.laid load.loaded load.laid exec memory_put record_put,
+  said_same D E held after s t u s' t' u' o p q o' p' q' b l e ask boot.booted boot.laid load.loaded load.laid exec memory_put record_put,
 )

@@ -19,7 +19,7 @@ use Rattle.file_commands.specs.Answers.{FilesPut, command_of}
 use Rattle.purgatory_link.specs.declared.region_test.RegionTest.TheVariants.{Same}
 use Rattle.purgatory_link.specs.RegionTest.{test}
 use Rattle.kexec_plan.specs.Finish.{HasTableApart}
-use Rattle.kexec_main.specs.Entry.{Entry}
+use Rattle.kexec_main.specs.Entry.{ProgramEntry}
 use Rattle.kexec_main.specs.Loads.{CanLoad, NormalLoad}
 
 -- what `boot` took, how often the list is to run, and the name of its output
@@ -75,7 +75,7 @@ module _ {S O : Type 0} (D : Shelf S) (E : Sink O) (held : Files) (s : S) (o : O
     pub said : Said (E.said o)
         (run_text b.kept checked planned.start planned.regions planned.digest) (E.said o')
 
-abbrev pub boot_entry : BootValue → Entry
+abbrev pub boot_entry : BootValue → ProgramEntry
 boot_entry b = record {
   Inputs = BootInputs;
   command = command_of (boot_files b) boots;

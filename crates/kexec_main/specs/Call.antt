@@ -1,27 +1,28 @@
--- What the top call promises of each command, over files that are told (this project's own).
-use Rattle.std.specs.Prelude.{ℕ}
+-- What the top call promises of each command (this project's own).
 use Rattle.kx_edge.specs.Edge.{Files}
 use Rattle.kx_edge.specs.declared.edge.Shelf.{Ghosts as Shelf}
 use Rattle.kx_edge.specs.declared.edge.Sink.{Ghosts as Sink}
-use Rattle.file_commands.specs.Taking.{Refusal, by}
+use Rattle.list_checker.specs.declared.fault.ListFault.{ListFault}
+use Rattle.file_commands.specs.Answers.{Answer}
+use Rattle.file_commands.specs.Entry.{IsReady, IsRefused, NeedsNoFiles}
+use Rattle.file_commands.specs.Taking.{Refusal}
 use Rattle.kexec_words.specs.Values.{CommandValue}
 use Rattle.kexec_main.specs.declared.status.Reason.{Reason}
-use Rattle.kexec_main.specs.declared.status.Reason.TheVariants.{NoPages}
 use Rattle.kexec_main.specs.Commands.{entry_of}
-use Rattle.kexec_main.specs.Entry.{IsReady, IsRefused}
 
--- what stands after a command answered Done
+-- what stands after a command answered Done over files that are told
 abbrev pub HasDone : {S O : Type 0} → Shelf S → Sink O → Files → S → O → S → O → CommandValue
     → Type 0
 HasDone D E held s o s' o' c = (entry_of c).did D E held s o s' o'
 
+-- a command that takes no file ends so over every shelf
+abbrev pub EndsWithoutFiles : {S O : Type 0} → Shelf S → Sink O → CommandValue → S → O
+    → Answer ListFault Reason → S → O → Type 0
+EndsWithoutFiles D E c s o a s' o' = NeedsNoFiles D E (entry_of c) s o a s' o'
+
 -- a command is in order over these files: they are read, and nothing refuses what they are
 abbrev pub IsInOrder : CommandValue → Files → Type 0
 IsInOrder c held = IsReady (entry_of c) held
-
--- the files are read, and the load of what they are takes more pages than the pool has usable: so many, and so many
-abbrev pub HasTooFew : CommandValue → Files → (pool need : ℕ) → Type 0
-HasTooFew c held pool n = IsRefused (entry_of c) held (by (NoPages pool n))
 
 -- the files are not read, or what they are is refused
 abbrev pub HasRefusal : CommandValue → Files → Refusal Reason → Type 0

@@ -24,7 +24,7 @@ use Rattle.kx_edge.specs.declared.edge.Shelf.{Ghosts as Shelf}
 use Rattle.kx_edge.specs.declared.edge.Sink.{Ghosts as Sink}
 use Rattle.file_commands.specs.Answers.{FilesPut, command_of}
 use Rattle.kexec_words.specs.Values.{LoadNamesValue}
-use Rattle.kexec_main.specs.Entry.{Entry}
+use Rattle.kexec_main.specs.Entry.{ProgramEntry}
 use Rattle.kexec_main.specs.Files.{load_files_of}
 
 -- the items are a list that is accepted for the record's segments in the memory, in its mode
@@ -118,7 +118,7 @@ abbrev pub IsAcceptedLoad : TakenLoad → Type 0
 IsAcceptedLoad (Normal x) = (is : List Item) × IsAcceptedIn x is
 IsAcceptedLoad (Crash x) = IsInPlace x
 
-abbrev pub check_entry : LoadNamesValue → Entry
+abbrev pub check_entry : LoadNamesValue → ProgramEntry
 check_entry l = record {
   Inputs = TakenLoad;
   command = command_of (load_files_of l) checks;

@@ -1,17 +1,15 @@
 -- The commands of the program (this project's own).
-use Rattle.std.specs.Prelude.{Result, Ok, Err}
-use Rattle.file_commands.specs.Answers.{command_of}
-use Rattle.file_commands.specs.Taking.{by, refuse}
+use Rattle.std.specs.Prelude.{Result}
+use Rattle.file_commands.specs.Entry.{Holds as HoldsOf}
 use Rattle.kexec_words.specs.declared.faults.UsageWhy.{UsageWhy}
 use Rattle.kexec_words.specs.Values.{CommandValue}
 use Rattle.kexec_words.specs.Values as words
-use Rattle.kexec_main.specs.declared.status.Reason.{Reason}
 use Rattle.kexec_main.specs.declared.status.Reason.TheVariants.{Usage}
 use Rattle.kexec_main.specs.Boot.{boot_entry}
 use Rattle.kexec_main.specs.Check.{check_entry}
 use Rattle.kexec_main.specs.CoreFile.{core_entry}
 use Rattle.kexec_main.specs.Dump.{dump_entry}
-use Rattle.kexec_main.specs.Entry.{Entry, Program}
+use Rattle.kexec_main.specs.Entry.{Program, ProgramEntry}
 use Rattle.kexec_main.specs.Exec.{exec_entry}
 use Rattle.kexec_main.specs.Load.{load_entry}
 use Rattle.kexec_main.specs.LoadPanic.{load_panic_entry}
@@ -20,7 +18,7 @@ use Rattle.kexec_main.specs.Sample.{sample_entry}
 use Rattle.kexec_main.specs.Trace.{trace_entry}
 
 -- what is said of each command stands beside its other definitions
-abbrev pub entry_of : CommandValue → Entry
+abbrev pub entry_of : CommandValue → ProgramEntry
 entry_of (words.boot b) = boot_entry b
 entry_of (words.load l) = load_entry l
 entry_of (words.load_panic l) = load_panic_entry l
@@ -32,11 +30,6 @@ entry_of (words.migrate m) = migrate_entry m
 entry_of (words.sample n) = sample_entry n
 entry_of (words.core c) = core_entry c
 
--- a command that is refused before any file is taken
-abbrev pub refusal : Reason → Program (Unit {0})
-refusal why = command_of (refuse (by why)) (λ x r. ⊥)
-
--- This holds of the command that the words say. Words that are refused are a refusal.
+-- this holds of the command that the words say
 abbrev pub Holds : ((X : Type 0) → Program X → Type 0) → Result CommandValue UsageWhy → Type 0
-Holds P (Err why) = P (Unit {0}) (refusal (Usage why))
-Holds P (Ok c) = P (entry_of c).Inputs (entry_of c).command
+Holds P said = HoldsOf entry_of Usage P said

@@ -9,10 +9,10 @@ use Rattle.vmcore_file.specs.File.{CoreValue as CoreMade, core_reading}
 use Rattle.file_commands.specs.Answers.{FilesPut, command_of}
 use Rattle.file_commands.specs.Taking.{Refusal, Take, ok, too_long, by, ◌>>=◌, reads}
 use Rattle.kexec_words.specs.Values.{CoreValue}
-use Rattle.kexec_main.specs.declared.load_inputs.CoreInputs.{CoreInputs as Taken}
+use Rattle.kexec_main.specs.declared.core_inputs.CoreInputs.{CoreInputs as Taken}
 use Rattle.kexec_main.specs.declared.status.Reason.{Reason}
 use Rattle.kexec_main.specs.declared.status.Reason.TheVariants.{Core}
-use Rattle.kexec_main.specs.Entry.{Entry}
+use Rattle.kexec_main.specs.Entry.{ProgramEntry}
 use Rattle.kexec_main.specs.Files.{memory_file}
 use Rattle.kexec_main.specs.Outputs.{Made}
 
@@ -68,7 +68,7 @@ module _ {S O : Type 0} (D : Shelf S) (E : Sink O) (held : Files) (s : S) (o : O
 abbrev pub CanWriteCore : CoreInputs → Type 0
 CanWriteCore x = (core : CoreMade) × (core_reading (at x.memory) x.address ≡ Ok core)
 
-abbrev pub core_entry : CoreValue → Entry
+abbrev pub core_entry : CoreValue → ProgramEntry
 core_entry c = record {
   Inputs = CoreInputs;
   command = command_of (core_files c) cores;

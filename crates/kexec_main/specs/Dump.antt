@@ -27,7 +27,8 @@ use Rattle.kx_edge.specs.declared.edge.Shelf.{Ghosts as Shelf}
 use Rattle.kx_edge.specs.declared.edge.Sink.{Ghosts as Sink}
 use Rattle.file_commands.specs.Answers.{FilesPut, command_of}
 use Rattle.kexec_words.specs.Values.{LoadNamesValue}
-use Rattle.kexec_main.specs.Entry.{Entry, always}
+use Rattle.file_commands.specs.Entry.{always}
+use Rattle.kexec_main.specs.Entry.{ProgramEntry}
 
 -- what a word is, and its address, that is the word without its flags
 abbrev pub item_text : Item → ℕ → List ℕ
@@ -126,7 +127,7 @@ module _ {S O : Type 0} (D : Shelf S) (E : Sink O) (held : Files) (s : S) (o : O
     pub said : Said (E.said o)
         (head_text files.head ++ flat_map segment_line files.segments) (E.said o')
 
-abbrev pub dump_entry : LoadNamesValue → Entry
+abbrev pub dump_entry : LoadNamesValue → ProgramEntry
 dump_entry l = record {
   Inputs = TakenLoad;
   command = command_of (load_files_of l) dumps;

@@ -29,7 +29,7 @@ use Rattle.page_memory.specs.Contents.{at}
 use Rattle.load_states.specs.Runs.{EndsAfter}
 use Rattle.file_commands.specs.Answers.{FilesPut, command_of}
 use Rattle.kexec_main.specs.declared.files.CrashFiles.{CrashFiles}
-use Rattle.kexec_main.specs.Entry.{Entry}
+use Rattle.kexec_main.specs.Entry.{ProgramEntry}
 
 -- what `exec` took, whether the list is to run twice, and the name of its output
 pub record ExecInputs : Type 0 where
@@ -182,7 +182,7 @@ abbrev pub CanExec : TakenLoad → Bool → Type 0
 CanExec (kinds.Normal x) twice = CanRun x twice
 CanExec (kinds.Crash x) twice = CanRunInPlace x twice
 
-abbrev pub exec_entry : ExecValue → Entry
+abbrev pub exec_entry : ExecValue → ProgramEntry
 exec_entry e = record {
   Inputs = ExecInputs;
   command = command_of (exec_files e) executes;

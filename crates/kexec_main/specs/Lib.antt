@@ -20,6 +20,7 @@ pub mod Trace
 pub mod Migrate
 pub mod Sample
 pub mod CoreFile
+pub mod Laid
 pub mod Commands
 pub mod Call
 pub mod Together

@@ -21,7 +21,7 @@ use Rattle.kx_edge.specs.Edge.{Files, Said}
 use Rattle.kx_edge.specs.declared.edge.Shelf.{Ghosts as Shelf}
 use Rattle.kx_edge.specs.declared.edge.Sink.{Ghosts as Sink}
 use Rattle.file_commands.specs.Answers.{FilesPut, command_of}
-use Rattle.kexec_main.specs.Entry.{Entry}
+use Rattle.kexec_main.specs.Entry.{ProgramEntry}
 use Rattle.kexec_main.specs.Loads.{CanLoad, NormalLoad}
 
 -- what `load` took, whether context is to be preserved, and the names of its outputs
@@ -107,7 +107,7 @@ module _ {S O : Type 0} (D : Shelf S) (E : Sink O) (held : Files) (s : S) (o : O
         (D.files s')
     pub said : Said (E.said o) (list_text checked planned.start) (E.said o')
 
-abbrev pub load_entry : LoadValue → Entry
+abbrev pub load_entry : LoadValue → ProgramEntry
 load_entry l = record {
   Inputs = LoadCommand;
   command = command_of (load_command_files l) loads;

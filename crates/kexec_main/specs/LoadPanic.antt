@@ -23,7 +23,7 @@ use Rattle.kx_pages.specs.Spans.{Run, in_span}
 use Rattle.memory_map.specs.Maps.{reserved_area}
 use Rattle.file_commands.specs.Answers.{FilesPut, command_of}
 use Rattle.kexec_plan.specs.Plan.{plan}
-use Rattle.kexec_main.specs.Entry.{Entry}
+use Rattle.kexec_main.specs.Entry.{ProgramEntry}
 
 -- what `load-panic` took, and the names of its outputs
 pub record LoadPanicCommand : Type 0 where
@@ -119,7 +119,7 @@ pub record CanLoadPanic (i : CrashInputs) : Type 0 where
   pub planned : plan i.request (Some i.map) ≡ Ok p
   pub light : (c : CrashLoad) (n : ℕ) → IsCrashLoaded i p c → IsTooHeavy (at c.memory) n → ⊥
 
-abbrev pub load_panic_entry : LoadPanicValue → Entry
+abbrev pub load_panic_entry : LoadPanicValue → ProgramEntry
 load_panic_entry l = record {
   Inputs = LoadPanicCommand;
   command = command_of (load_panic_files l) loads_panic;

@@ -1,5 +1,5 @@
 -- What is promised of the load of a kernel (this project's own).
-use Rattle.std.specs.Prelude.{◌≡◌, ℕ, ◌≤◌, length, take, Ok}
+use Rattle.std.specs.Prelude.{◌≡◌, ℕ, ◌≤◌, ◌<◌, length, take, Ok}
 use Rattle.kx_pages.specs.Bytes.{Mem}
 use Rattle.kx_pages.specs.Lists.{count}
 use Rattle.kx_pages.specs.declared.image.Wish.{Wish}
@@ -21,8 +21,6 @@ pub record NormalLoad (wish : Wish) (i : LoadInputs) (p : Plan) (c : Checked) : 
   pub planned : plan i.request i.map ≡ Ok p
   -- the pool has as many usable pages as the load takes
   pub enough : need wish p.segments ≤ length i.usable
-  -- the list, the control page and the sources are those that the rules of taking pages and laying a list give
-  pub laid : IsSealed (at i.memory) i.usable wish p.segments c.load
   -- memory is as it was at every page but the first usable ones of the pool
   pub only_pool_pages : (q : ℕ) → count q (take (need wish p.segments) i.usable) ≡ 0
       → at c.load.memory q ≡ at i.memory q
@@ -30,6 +28,10 @@ pub record NormalLoad (wish : Wish) (i : LoadInputs) (p : Plan) (c : Checked) : 
   pub accepted : Told c.load c.words c.links c.pairs
   -- and its run ends within its entries: the machine is done after as many steps as the walk has words
   pub ends : EndsAfter c.load c.words
+
+-- its list, control page and sources are those that the rules of taking pages and laying a list give
+abbrev pub IsLaid : Wish → LoadInputs → Plan → Checked → Type 0
+IsLaid wish i p c = IsSealed (at i.memory) i.usable wish p.segments c.load
 
 -- Nothing refuses the load of what was taken: the request has a plan, the pool has as many usable pages as the load
 -- takes, and each memory that it may leave, by what is told of its accepted list, has a file.
@@ -39,3 +41,9 @@ pub record CanLoad (wish : Wish) (i : LoadInputs) (leaves : Checked → Mem) : T
   pub enough : need wish p.segments ≤ length i.usable
   pub light : (c : Checked) (n : ℕ) → IsLoaded wish i p c.load
       → Told c.load c.words c.links c.pairs → IsTooHeavy (leaves c) n → ⊥
+
+-- The request has a plan, whose load takes more pages than the pool has usable: so many, and so many.
+abbrev pub LacksPages : Wish → LoadInputs → (pool need : ℕ) → Type 0
+LacksPages wish i pool n =
+    (p : Plan) × (plan i.request i.map ≡ Ok p) × (pool ≡ length i.usable)
+    × (n ≡ need wish p.segments) × (pool < n)

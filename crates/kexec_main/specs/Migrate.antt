@@ -3,7 +3,7 @@ use Rattle.std.specs.Prelude.{◌≡◌, ℕ, List, [], ◌∷◌, ◌++◌, cod
 use Rattle.load_record.specs.File.{Record, record_file}
 use Rattle.file_commands.specs.Taking.{Refusal, Take, ok, ◌>>=◌, reads}
 use Rattle.kexec_words.specs.Values.{MigrateValue}
-use Rattle.kexec_main.specs.declared.load_inputs.MigrateInputs.{MigrateInputs as Taken}
+use Rattle.kexec_main.specs.declared.migrate_inputs.MigrateInputs.{MigrateInputs as Taken}
 use Rattle.kexec_main.specs.declared.status.Reason.{Reason}
 use Rattle.kexec_main.specs.Files.{load_record_file}
 use Rattle.kexec_main.specs.Load.{IsReadBack}
@@ -12,7 +12,8 @@ use Rattle.kx_edge.specs.Edge.{Files, Said}
 use Rattle.kx_edge.specs.declared.edge.Shelf.{Ghosts as Shelf}
 use Rattle.kx_edge.specs.declared.edge.Sink.{Ghosts as Sink}
 use Rattle.file_commands.specs.Answers.{FilesPut, command_of}
-use Rattle.kexec_main.specs.Entry.{Entry, always}
+use Rattle.file_commands.specs.Entry.{always}
+use Rattle.kexec_main.specs.Entry.{ProgramEntry}
 
 -- how many segments a record has
 abbrev pub segments_line : ℕ → List ℕ
@@ -49,7 +50,7 @@ module _ {S O : Type 0} (D : Shelf S) (E : Sink O) (held : Files) (s : S) (o : O
     pub put : FilesPut (D.files s) ((m.out, record_file load_record) ∷ []) (D.files s')
     pub said : Said (E.said o) (segments_line (length load_record.segments)) (E.said o')
 
-abbrev pub migrate_entry : MigrateValue → Entry
+abbrev pub migrate_entry : MigrateValue → ProgramEntry
 migrate_entry m = record {
   Inputs = MigrateInputs;
   command = command_of (migrate_files m) migrates;

@@ -13,10 +13,10 @@ use Rattle.kexec_main.specs.Texts.{memory_line, ran_line}
 use Rattle.kx_edge.specs.Edge.{Said}
 use Rattle.kx_edge.specs.declared.edge.Shelf.{Ghosts as Shelf}
 use Rattle.kx_edge.specs.declared.edge.Sink.{Ghosts as Sink}
-use Rattle.list_checker.specs.declared.fault.ListFault.{ListFault}
 use Rattle.load_states.specs.Runs.{EndsAfter}
-use Rattle.file_commands.specs.Answers.{Answer, FilesPut, command_of, done, memory, unsaid}
-use Rattle.kexec_main.specs.Entry.{Entry, always}
+use Rattle.file_commands.specs.Answers.{FilesPut, command_of}
+use Rattle.file_commands.specs.Entry.{always}
+use Rattle.kexec_main.specs.Entry.{ProgramEntry}
 
 abbrev pub sample_files : ℕ → Take Reason ℕ
 sample_files number = ok number
@@ -55,14 +55,7 @@ module _ {S O : Type 0} (D : Shelf S) (E : Sink O) (s : S) (o : O) (s' : S) (o' 
     pub put : FilesPut (D.files s) [] (D.files s')
     pub said : Said (E.said o) (sample_text number checked) (E.said o')
 
-  -- `sample` takes no file, so this holds over every shelf: it is done, or the text could not be said, or memory is wanted
-  abbrev pub EndsSample : ℕ → Answer ListFault Reason → Type 0
-  EndsSample number done = HasSampled number
-  EndsSample number unsaid = Unit {0}
-  EndsSample number memory = Unit {0}
-  EndsSample number other = ⊥
-
-abbrev pub sample_entry : ℕ → Entry
+abbrev pub sample_entry : ℕ → ProgramEntry
 sample_entry number = record {
   Inputs = ℕ;
   command = command_of (sample_files number) samples;

@@ -10,9 +10,9 @@ use Rattle.kexec_words.specs.declared.commands.Runs.{Runs}
 use Rattle.kexec_words.specs.declared.commands.Runs.TheVariants.{Once, Twice}
 use Rattle.kexec_words.specs.Values.{BootValue, ExecValue, LoadValue}
 use Rattle.kexec_plan.specs.Requests.{Plan}
-use Rattle.kexec_main.specs.Boot.{HasBooted}
 use Rattle.kexec_main.specs.Exec.{HasExecuted, files_text}
-use Rattle.kexec_main.specs.Load.{HasLoaded, load_wish, record_of_load}
+use Rattle.kexec_main.specs.Laid.{HasBootedLaid, HasLoadedLaid}
+use Rattle.kexec_main.specs.Load.{load_wish, record_of_load}
 use Rattle.kexec_main.specs.Runs.{run_text, wish_of}
 
 -- whether these runs are two
@@ -40,9 +40,11 @@ abbrev pub LoadThenExecIsBoot : {S O : Type 0} → Shelf S → Sink O → Type 0
 LoadThenExecIsBoot {S} {O} D E =
     (held after : Files) (s t u s' t' u' : S) (o p q o' p' q' : O) (b : BootValue) (l : LoadValue)
     (e : ExecValue) → AskTogether b l e
-    → (boot : HasBooted D E held s o s' o' b) (load : HasLoaded D E held t p t' p' l)
+    → (boot : HasBootedLaid D E held s o s' o' b) (load : HasLoadedLaid D E held t p t' p' l)
     (exec : HasExecuted D E after u q u' q' e)
-    → file_at after l.out ≡ load.output
-    → file_at after l.load_record ≡ record_file (record_of_load load.checked.load load.planned)
-    → (exec.output ≡ boot.output)
-    × (files_text e.twice exec.files exec.checked ≡ booted_text b.kept boot.checked boot.planned)
+    → file_at after l.out ≡ load.loaded.output
+    → file_at after l.load_record
+    ≡ record_file (record_of_load load.loaded.checked.load load.loaded.planned)
+    → (exec.output ≡ boot.booted.output)
+    × (files_text e.twice exec.files exec.checked
+    ≡ booted_text b.kept boot.booted.checked boot.booted.planned)

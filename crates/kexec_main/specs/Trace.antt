@@ -17,7 +17,7 @@ use Rattle.kx_edge.specs.Edge.{Files, Said}
 use Rattle.kx_edge.specs.declared.edge.Shelf.{Ghosts as Shelf}
 use Rattle.kx_edge.specs.declared.edge.Sink.{Ghosts as Sink}
 use Rattle.file_commands.specs.Answers.{FilesPut, command_of}
-use Rattle.kexec_main.specs.Entry.{Entry}
+use Rattle.kexec_main.specs.Entry.{ProgramEntry}
 
 -- how a run came out
 abbrev pub outcome_line : Outcome → List ℕ
@@ -81,7 +81,7 @@ abbrev pub CanTrace : TraceInputs → Type 0
 CanTrace x =
     (n : ℕ) → IsTooHeavy (at (run_of x.memory x.head x.mode x.limit).0.memory) n → ⊥
 
-abbrev pub trace_entry : TraceValue → Entry
+abbrev pub trace_entry : TraceValue → ProgramEntry
 trace_entry t = record {
   Inputs = TraceInputs;
   command = command_of (trace_files t) traces;

@@ -5,7 +5,8 @@ ghost use Rattle.file_commands.specs.Calls.{Makes, Takes};
 ghost use Rattle.list_checker.specs.declared.fault.ListFault.{ListFault as SpecFault};
 ghost use Rattle.kexec_main.specs.Boot.{BootInputs as Inputs, boot_files, boot_inputs, boots};
 ghost use Rattle.kexec_main.specs.Runs.{wish_of};
-ghost use Rattle.kexec_words.specs.Values.{boot_value};
+ghost use Rattle.kexec_words.specs.Limits.{HasParts};
+ghost use Rattle.kexec_words.specs.Values.{boot_value, inputs_value};
 
 use crate::inputs::take_inputs;
 use crate::load_inputs::LoadInputs;
@@ -14,13 +15,20 @@ use crate::output::memory_output;
 use crate::running::{Startup, run_loaded};
 use crate::status::Reason;
 use crate::text::ran_text;
-use crate::words::BootWords;
 use file_commands::{Command, Goods, MakeFault, TakeFault};
 use kexec_words::{Boot, Runs};
 use kx_edge::Shelf;
 use kx_pages::Wish;
 use list_checker::ListFault;
 use std::alloc::Global;
+
+/// The words of `boot`.
+#[derive(Drop)]
+pub(crate) struct BootWords {
+    pub(crate) words: Boot,
+    /// A memory map is named where the kernel's type or a purgatory needs one.
+    pub(crate) ghost parts: { HasParts (inputs_value words.inputs) words.image },
+}
 
 /// What `boot` took, how often the list is to run, and the name of its output.
 #[derive(Drop)]

@@ -3,15 +3,14 @@
 ghost use Rattle.std.specs.Prelude.{◌≡◌, ◌⊎◌, ℕ, List, map, string_bytes, true, Ok};
 ghost use Rattle.kx_edge.specs.Edge.{Rose};
 ghost use Rattle.file_commands.specs.Answers.{Meets, MeetsTold, done, memory, refused, unread, unsaid, unwritten};
-ghost use Rattle.file_commands.specs.Taking.{Refusal, by};
+ghost use Rattle.file_commands.specs.Taking.{Refusal};
 ghost use Rattle.kexec_words.specs.Meaning.{command_of};
-ghost use Rattle.kexec_words.specs.Values.{CommandValue, sample};
+ghost use Rattle.kexec_words.specs.Values.{CommandValue};
 ghost use Rattle.kexec_main.specs.Statuses.{answer_of};
-ghost use Rattle.kexec_main.specs.Call.{HasDone, HasRefusal, HasTooFew, IsInOrder};
+ghost use Rattle.kexec_main.specs.Call.{EndsWithoutFiles, HasDone, HasRefusal, IsInOrder};
 ghost use Rattle.kexec_main.specs.Commands.{Holds};
-ghost use Rattle.kexec_main.specs.Sample.{EndsSample};
+ghost use Rattle.kexec_main.specs.Laid.{HasLaid};
 ghost use Rattle.kexec_main.specs.declared.status.Reason.{Reason};
-ghost use Rattle.kexec_main.specs.declared.status.Reason.TheVariants.{NoPages};
 
 use crate::run::kexec;
 use crate::status::Status;
@@ -43,10 +42,17 @@ pub fn kexec_in_memory(
         → HasDone ⟦<CalmShelf as Shelf>⟧ ⟦<MemorySink as Sink>⟧ shelf.old.held shelf.old out.old
         shelf.new out.new c }
 
-    // `sample` is done, its files told or not, unless its text cannot be said or memory is wanted.
-    ensures sampled { (n : ℕ) → command_of (map string_bytes words.now) ≡ Ok (sample n)
-        → EndsSample ⟦<CalmShelf as Shelf>⟧ ⟦<MemorySink as Sink>⟧ shelf.old out.old shelf.new
-        out.new n (answer_of result) }
+    // The load of a `boot` or a `load` that answered Done is laid by the rules of taking pages and laying a list.
+    ensures laid { (c : CommandValue) → command_of (map string_bytes words.now) ≡ Ok c
+        → answer_of result ≡ done → shelf.old.is_told ≡ true
+        → HasLaid ⟦<CalmShelf as Shelf>⟧ ⟦<MemorySink as Sink>⟧ shelf.old.held shelf.old out.old
+        shelf.new out.new c }
+
+    // A command that takes no file, and that nothing refuses, is done, its files told or not, unless its text cannot be said
+    // or memory is wanted.
+    ensures without_files { (c : CommandValue) → command_of (map string_bytes words.now) ≡ Ok c
+        → EndsWithoutFiles ⟦<CalmShelf as Shelf>⟧ ⟦<MemorySink as Sink>⟧ c shelf.old out.old
+        (answer_of result) shelf.new out.new }
 
     // A command that is in order over the files that the shelf tells is done where the sink takes its text, or memory is
     // wanted.
@@ -58,13 +64,6 @@ pub fn kexec_in_memory(
     // And only what is in order is Done.
     ensures in_order { (c : CommandValue) → command_of (map string_bytes words.now) ≡ Ok c
         → answer_of result ≡ done → shelf.old.is_told ≡ true → IsInOrder c shelf.old.held }
-
-    // A load that takes more pages than the pool has usable is refused with both numbers, or memory is wanted, where
-    // the count of the sink's faults has not risen.
-    ensures too_few { (c : CommandValue) → command_of (map string_bytes words.now) ≡ Ok c
-        → shelf.old.is_told ≡ true → (pool need : ℕ) → HasTooFew c shelf.old.held pool need
-        → (Rose out.old.faults out.new.faults → ⊥)
-        → (answer_of result ≡ refused (by (NoPages pool need))) ⊎ (answer_of result ≡ memory) }
 
     // Files that are not read, and what is refused of those that are, are refused for that reason, or memory is wanted,
     // where the count of the sink's faults has not risen.

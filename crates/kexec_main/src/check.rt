@@ -11,11 +11,17 @@ ghost use Rattle.kexec_main.specs.Files.{load_files_of};
 use crate::files::{CrashFiles, LoadFiles, TakenLoad, take_load_files};
 use crate::status::Reason;
 use crate::text::{accepted_line, crash_line};
-use crate::words::CheckWords;
 use file_commands::{Command, Goods, MakeFault, TakeFault};
+use kexec_words::LoadNames;
 use kx_edge::Shelf;
 use list_checker::{CheckFault, ListFault, check, check_crash};
 use std::alloc::Global;
+
+/// The words of `check`.
+#[derive(Drop)]
+pub(crate) struct CheckWords {
+    pub(crate) words: LoadNames,
+}
 
 /// What is made of a load that is not accepted: its first fault's line alone, and the fault.
 pub(crate) fn fault_goods(

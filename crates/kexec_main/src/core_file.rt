@@ -7,11 +7,10 @@ ghost use Rattle.file_commands.specs.Calls.{Makes, MakesOr, Takes};
 ghost use Rattle.kexec_words.specs.Values.{core_value};
 ghost use Rattle.kexec_main.specs.CoreFile.{CoreInputs as Inputs, RefusesCore, core_files, core_inputs, core_line, cores};
 
+use crate::core_inputs::CoreInputs;
 use crate::files::take_memory;
-use crate::load_inputs::CoreInputs;
 use crate::output::one;
 use crate::status::Reason;
-use crate::words::CoreWords;
 use file_commands::{Command, File, Goods, MakeFault, TakeFault};
 use kexec_words::Core as CoreNames;
 use kx_edge::Shelf;
@@ -19,6 +18,14 @@ use list_checker::ListFault;
 use page_memory::Memory;
 use std::alloc::{AllocError, Global};
 use vmcore_file::{Core, CoreFault, make};
+
+/// The words of `core`.
+#[derive(Drop)]
+pub(crate) struct CoreWords {
+    pub(crate) words: CoreNames,
+    /// The headers' address is one.
+    pub(crate) ghost inside: { words.address < 2 ^ 46 },
+}
 
 // How many load rows, bytes of notes and bytes a core file has.
 fn core_line(alloc: Global, core: &Core) -> Result<String, AllocError>

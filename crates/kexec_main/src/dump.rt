@@ -10,7 +10,6 @@ ghost use Rattle.kexec_main.specs.Files.{load_files_of};
 
 use crate::files::{take_digested_record, take_memory};
 use crate::status::Reason;
-use crate::words::DumpWords;
 use file_commands::{Command, Goods, MakeFault, TakeFault};
 use kexec_words::LoadNames;
 use kx_edge::Shelf;
@@ -20,6 +19,12 @@ use load_record::DigestedRecord;
 use page_memory::Memory;
 use segments::Segment;
 use std::alloc::{AllocError, Global};
+
+/// The words of `dump`.
+#[derive(Drop)]
+pub(crate) struct DumpWords {
+    pub(crate) words: LoadNames,
+}
 
 /// What `dump` took: the memory, and the record with the digests that are printed.
 #[derive(Drop)]

@@ -15,7 +15,6 @@ use crate::output::memory_output;
 use crate::running::{Startup, run_accepted};
 use crate::status::Reason;
 use crate::text::ran_text;
-use crate::words::ExecWords;
 use file_commands::{Command, Goods, MakeFault, TakeFault};
 use kexec_words::{Exec, Runs};
 use kx_edge::Shelf;
@@ -24,6 +23,12 @@ use list_checker::ListFault;
 use load_record::LoadRecord;
 use load_states::{Accepted, Loaded};
 use std::alloc::Global;
+
+/// The words of `exec`.
+#[derive(Drop)]
+pub(crate) struct ExecWords {
+    pub(crate) words: Exec,
+}
 
 /// What `exec` took, whether the list is to run twice, and the name of its output.
 #[derive(Drop)]

@@ -5,10 +5,11 @@
 //!
 //! | Module | What it has |
 //! |---|---|
-//! | `words`, `files`, `inputs`, `load_inputs` | the words, the files of the commands, their limits and readers; the kind of a load that is taken; the request that a kernel's files make |
+//! | `files`, `inputs`, `load_inputs` | the files of the commands, their limits and readers; the kind of a load that is taken; the request that a kernel's files make |
 //! | `loading`, `running`, `output`, `text` | the work in memory: a plan, its load, a run, the file of a memory, the text |
 //! | `crash_loading`, `crash_exec` | the same of a crash kernel, which is put in its place and never moves |
-//! | `boot`, `load`, `load_panic`, `check`, `dump`, `exec`, `trace`, `migrate`, `sample` | a command each |
+//! | `boot`, `load`, `load_panic`, `check`, `dump`, `exec`, `trace`, `migrate`, `sample`, `core_file` | a command each, with its words |
+//! | `migrate_inputs`, `core_inputs` | what these two take, which holds a fact of it |
 //! | `laws` | what commands do together |
 //! | `status` | how a command ended, and why it may be refused |
 //! | `run`, `calm` | the top call, and the same over files in memory |
@@ -20,6 +21,7 @@ mod boot;
 mod calm;
 mod check;
 mod core_file;
+mod core_inputs;
 #[cfg(test)]
 mod crash_example;
 mod crash_exec;
@@ -48,6 +50,7 @@ mod loading;
 #[cfg(test)]
 mod long_list_tests;
 mod migrate;
+mod migrate_inputs;
 mod output;
 #[cfg(test)]
 mod refused_memory_tests;
@@ -63,7 +66,6 @@ mod text;
 mod trace;
 #[cfg(test)]
 mod wild_list_tests;
-mod words;
 
 pub use calm::kexec_in_memory;
 pub use run::kexec;

@@ -9,7 +9,8 @@ ghost use Rattle.kx_pages.specs.Modes.{swap_page};
 ghost use Rattle.list_checker.specs.Walk.{IsAccepted};
 ghost use Rattle.load_record.specs.File.{record_file};
 ghost use Rattle.file_commands.specs.Calls.{Makes, Takes, file_of};
-ghost use Rattle.kexec_words.specs.Values.{load_value};
+ghost use Rattle.kexec_words.specs.Limits.{HasParts};
+ghost use Rattle.kexec_words.specs.Values.{inputs_value, load_value};
 ghost use Rattle.kexec_main.specs.Load.{IsReadBack, IsToldText, LoadCommand as Inputs, load_command, load_command_files, loads, record_of_load};
 ghost use Rattle.kexec_main.specs.Loading.{plan_of};
 
@@ -19,7 +20,6 @@ use crate::loading::{LoadedKernel, load_request};
 use crate::output::memory_output;
 use crate::status::Reason;
 use crate::text::load_lines;
-use crate::words::LoadWords;
 use file_commands::{Command, File, Goods, MakeFault, TakeFault};
 use kexec_words::Load;
 use kx_edge::Shelf;
@@ -29,6 +29,14 @@ use load_record::LoadRecord;
 use load_states::Loaded;
 use page_memory::Memory;
 use std::alloc::{AllocError, Global};
+
+/// The words of `load`.
+#[derive(Drop)]
+pub(crate) struct LoadWords {
+    pub(crate) words: Load,
+    /// As for `boot`.
+    pub(crate) ghost parts: { HasParts (inputs_value words.inputs) words.image },
+}
 
 /// What `load` took, whether context is to be preserved, and the names of its outputs.
 #[derive(Drop)]

@@ -14,7 +14,6 @@ use crate::load_inputs::CrashInputs;
 use crate::output::memory_output;
 use crate::status::Reason;
 use crate::text::crash_lines;
-use crate::words::LoadPanicWords;
 use file_commands::{Command, File, Goods, MakeFault, TakeFault};
 use kexec_words::LoadPanic;
 use kx_edge::Shelf;
@@ -23,6 +22,12 @@ use list_checker::ListFault;
 use load_record::LoadRecord;
 use page_memory::Memory;
 use std::alloc::{AllocError, Global};
+
+/// The words of `load-panic`.
+#[derive(Drop)]
+pub(crate) struct LoadPanicWords {
+    pub(crate) words: LoadPanic,
+}
 
 /// What `load-panic` took, and the names of its outputs.
 #[derive(Drop)]

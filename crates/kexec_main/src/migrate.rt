@@ -6,15 +6,20 @@ ghost use Rattle.kexec_words.specs.Values.{migrate_value};
 ghost use Rattle.kexec_main.specs.Migrate.{MigrateInputs as Inputs, migrate_files, migrate_inputs, migrates, segments_line};
 
 use crate::files::take_digested_record;
-use crate::load_inputs::MigrateInputs;
+use crate::migrate_inputs::MigrateInputs;
 use crate::output::one;
 use crate::status::Reason;
-use crate::words::MigrateWords;
 use file_commands::{Command, File, Goods, MakeFault, TakeFault};
 use kexec_words::Migrate;
 use kx_edge::Shelf;
 use list_checker::ListFault;
 use std::alloc::{AllocError, Global};
+
+/// The words of `migrate`.
+#[derive(Drop)]
+pub(crate) struct MigrateWords {
+    pub(crate) words: Migrate,
+}
 
 // How many segments a record has.
 fn segments_line(alloc: Global, count: usize) -> Result<String, AllocError>

@@ -3,23 +3,28 @@
 ghost use Rattle.std.specs.Prelude.{◌≡◌, ◌⊎◌, ℕ, List, map, string_bytes, IfSome, Ok};
 ghost use Rattle.kx_edge.specs.Edge.{Rose};
 ghost use Rattle.file_commands.specs.Answers.{Meets, MeetsTold, done, memory, refused, unread, unsaid, unwritten};
-ghost use Rattle.file_commands.specs.Taking.{Refusal, by};
+ghost use Rattle.file_commands.specs.Taking.{Refusal};
 ghost use Rattle.file_commands.specs.Calls.{call_answer};
 ghost use Rattle.kexec_words.specs.Limits.{IsWithinLimits};
 ghost use Rattle.kexec_words.specs.Meaning.{command_of};
-ghost use Rattle.kexec_words.specs.Values.{CommandValue, command_value, sample};
+ghost use Rattle.kexec_words.specs.Values.{CommandValue, command_value};
 ghost use Rattle.kexec_main.specs.Statuses.{answer_of};
-ghost use Rattle.kexec_main.specs.Call.{HasDone, HasRefusal, HasTooFew, IsInOrder};
+ghost use Rattle.kexec_main.specs.Call.{EndsWithoutFiles, HasDone, HasRefusal, IsInOrder};
 ghost use Rattle.kexec_main.specs.Commands.{Holds};
-ghost use Rattle.kexec_main.specs.Sample.{EndsSample};
+ghost use Rattle.kexec_main.specs.Laid.{HasLaid};
 ghost use Rattle.kexec_main.specs.declared.status.Reason.{Reason};
-ghost use Rattle.kexec_main.specs.declared.status.Reason.TheVariants.{NoPages};
 
+use crate::boot::BootWords;
+use crate::check::CheckWords;
+use crate::core_file::CoreWords;
+use crate::dump::DumpWords;
+use crate::exec::ExecWords;
+use crate::load::LoadWords;
+use crate::load_panic::LoadPanicWords;
+use crate::migrate::MigrateWords;
+use crate::sample::SampleWords;
 use crate::status::{Reason, Status};
-use crate::words::{
-    BootWords, CheckWords, CoreWords, DumpWords, ExecWords, LoadPanicWords, LoadWords,
-    MigrateWords, SampleWords, TraceWords,
-};
+use crate::trace::TraceWords;
 use file_commands::{Stop, run};
 use kexec_words::{Command, WordsFault, read};
 use kx_edge::{Shelf, Sink};
@@ -77,6 +82,10 @@ fn answered<S: Shelf, O: Sink>(
 
 /// Does what the words after the program's name say: takes the files that they name from the shelf, works in memory,
 /// puts the outputs, and says the text. This project's own.
+///
+/// Three kinds of clauses: over every shelf and sink; over files that are told; and what a device's count of faults says.
+/// The host's shelf tells no files, since other programs may change them at any time. What is said over told files is said
+/// of it too, by the one body: it serves all shelves, and sees of each what it took, and never whether its files are told.
 pub fn kexec<S: Shelf, O: Sink>(
     alloc: Global,
     words: &[String],
@@ -101,9 +110,16 @@ pub fn kexec<S: Shelf, O: Sink>(
         → IfSome (S.files shelf.old)
         (λ held. HasDone S.Shelf O.Sink held shelf.old out.old shelf.new out.new c) }
 
-    // `sample` is done over every shelf, told or not, unless its text cannot be said or memory is wanted.
-    ensures sampled { (n : ℕ) → command_of (map string_bytes words.now) ≡ Ok (sample n)
-        → EndsSample S.Shelf O.Sink shelf.old out.old shelf.new out.new n (answer_of result) }
+    // The load of a `boot` or a `load` that answered Done is laid by the rules of taking pages and laying a list.
+    ensures laid { (c : CommandValue) → command_of (map string_bytes words.now) ≡ Ok c
+        → answer_of result ≡ done
+        → IfSome (S.files shelf.old)
+        (λ held. HasLaid S.Shelf O.Sink held shelf.old out.old shelf.new out.new c) }
+
+    // A command that takes no file, and that nothing refuses, is done over every shelf, told or not, unless an output cannot
+    // be put, its text cannot be said, or memory is wanted.
+    ensures without_files { (c : CommandValue) → command_of (map string_bytes words.now) ≡ Ok c
+        → EndsWithoutFiles S.Shelf O.Sink c shelf.old out.old (answer_of result) shelf.new out.new }
 
     // What is in order is Done where no device fails, or memory is wanted.
     ensures complete { (c : CommandValue) → command_of (map string_bytes words.now) ≡ Ok c
@@ -115,14 +131,6 @@ pub fn kexec<S: Shelf, O: Sink>(
     // And only what is in order is Done.
     ensures in_order { (c : CommandValue) → command_of (map string_bytes words.now) ≡ Ok c
         → answer_of result ≡ done → IfSome (S.files shelf.old) (IsInOrder c) }
-
-    // A load that takes more pages than the pool has usable is refused with both numbers where no device fails, or memory is
-    // wanted.
-    ensures too_few { (c : CommandValue) → command_of (map string_bytes words.now) ≡ Ok c
-        → IfSome (S.files shelf.old) (λ held. (pool need : ℕ) → HasTooFew c held pool need
-        → (Rose (S.faults shelf.old) (S.faults shelf.new) → ⊥)
-        → (Rose (O.faults out.old) (O.faults out.new) → ⊥)
-        → (answer_of result ≡ refused (by (NoPages pool need))) ⊎ (answer_of result ≡ memory)) }
 
     // Files that are not read, and what is refused of those that are, are refused for that reason where no device fails, or
     // memory is wanted.

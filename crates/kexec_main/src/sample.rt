@@ -6,12 +6,17 @@ ghost use Rattle.kexec_main.specs.Sample.{sample_files, samples};
 use crate::running::run_loaded;
 use crate::status::Reason;
 use crate::text::sample_text;
-use crate::words::SampleWords;
 use file_commands::{Command, Goods, MakeFault, TakeFault};
 use kx_edge::Shelf;
 use list_checker::ListFault;
 use sample_load::{load_sample, start_of};
 use std::alloc::Global;
+
+/// The words of `sample`: a number below 10^18.
+#[derive(Drop)]
+pub(crate) struct SampleWords {
+    pub(crate) number: u64,
+}
 
 // Loads the sample of the number, runs its list, and makes the text that tells of both.
 fn make_sample(alloc: Global, number: u64) -> Result<Goods<ListFault>, MakeFault<Reason>>

@@ -8,7 +8,6 @@ ghost use Rattle.kexec_main.specs.Trace.{TraceInputs as Inputs, mode_by, outcome
 use crate::files::take_memory;
 use crate::output::memory_output;
 use crate::status::Reason;
-use crate::words::TraceWords;
 use file_commands::{Command, Goods, MakeFault, TakeFault};
 use kexec_words::Trace;
 use kx_edge::Shelf;
@@ -17,6 +16,14 @@ use list_checker::ListFault;
 use page_memory::Memory;
 use relocate_machine::{Outcome, run};
 use std::alloc::{AllocError, Global};
+
+/// The words of `trace`.
+#[derive(Drop)]
+pub(crate) struct TraceWords {
+    pub(crate) words: Trace,
+    /// The swap page is a page.
+    pub(crate) ghost swap_page: { (a : ℕ) → words.swap ≡ Some a → a < 2 ^ 46 },
+}
 
 /// What `trace` took, the head word, the mode of the moves, the most steps, and the name of its output.
 #[derive(Drop)]

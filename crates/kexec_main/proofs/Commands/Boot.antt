@@ -12,13 +12,14 @@ use Rattle.kexec_main.specs.Outputs.{Made}
 use Rattle.kexec_words.specs.Values.{BootValue}
 use Rattle.kexec_main.specs.Boot.{BootInputs, HasBooted, boot_entry, boot_files, boots}
 use Rattle.kexec_main.specs.Inputs.{LoadInputs, load_inputs}
+use Rattle.kexec_main.specs.Laid.{HasBootedLaid}
 use Rattle.kexec_main.specs.Loads.{CanLoad}
 use Rattle.kexec_main.specs.Runs.{after_runs, wish_of}
 use Rattle.kexec_main.proofs.Ending.{again_of, machine_of}
 use Rattle.kexec_main.proofs.Leaving.{leaves_of}
 use Rattle.kexec_main.proofs.Loads.{can_load, heavy, loaded_as, loads_not, normal, not_made, only_refusal, same_left}
 use Rattle.kexec_main.proofs.Proving.{proves_itself}
-use Rattle.kexec_main.proofs.Keeping.{Keeps, put_as, said_as}
+use Rattle.file_commands.proofs.Keeping.{Keeps, put_as, said_as}
 
 -- what was taken has the words' own runs and names
 boot_asked : (b : BootValue) (held : Files) (x : BootInputs) → reads (boot_files b) held ≡ Ok x → (i : LoadInputs) × (x ≡ record { load = i; runs = b.kept; out = b.out })
@@ -45,6 +46,13 @@ module _ {S O : Type 0} (D : Shelf S) (E : Sink O) (held : Files) (s : S) (o : O
         put = put_as D E s o s' o' goods.outputs ((b.out, n.5.0) ∷ []) n.5.1 out.put;
         said = said_as D E s o s' o' goods.text _ n.3 out.said;
       }
+
+  pub booted_laid : (b : BootValue) → MeetsTold D E (boot_entry b).command held s o done s' o' → HasBootedLaid D E held s o s' o' b
+  unfolding booted boot_asked
+  booted_laid b (x, goods, read, m, fault, out) = record {
+    booted = booted b (x, goods, read, m, fault, out);
+    laid = (subst (λ x. boots x (Ok goods)) (boot_asked b held x read).1 m).2.0.laid;
+  }
 
 boot_stands : (b : BootValue) (x : BootInputs) → CanLoad (wish_of x.runs) x.load (after_runs x.runs) → Stands (boot_entry b).command x
 boot_stands b x can = record { unrefused = none; whole = λ goods m. m.4 }

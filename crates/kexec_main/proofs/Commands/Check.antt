@@ -15,7 +15,7 @@ use Rattle.kexec_main.specs.declared.status.Reason.{Reason}
 use Rattle.kexec_main.specs.Outputs.{Made}
 use Rattle.kexec_words.specs.Values.{LoadNamesValue}
 use Rattle.kexec_main.specs.Check.{HasChecked, HasCheckedCrash, IsAcceptedLoad, check_entry, checks, checks_list_as, checks_place_as}
-use Rattle.kexec_main.proofs.Keeping.{Keeps, put_as, said_as}
+use Rattle.file_commands.proofs.Keeping.{Keeps, put_as, said_as}
 
 module _ {S O : Type 0} (D : Shelf S) (E : Sink O) (held : Files) (s : S) (o : O) (s' : S) (o' : O) where
   checked : (l : LoadNamesValue) → MeetsTold D E (check_entry l).command held s o done s' o' → HasChecked D E held s o s' o' l ⊎ HasCheckedCrash D E held s o s' o' l

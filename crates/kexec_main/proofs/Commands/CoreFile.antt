@@ -15,7 +15,7 @@ use Rattle.kexec_main.specs.declared.status.Reason.TheVariants as reasons
 use Rattle.kexec_words.specs.Values.{CoreValue}
 use Rattle.kexec_main.specs.CoreFile.{CoreInputs, HasWrittenCore, RefusesCore, core_entry, core_files, cores}
 use Rattle.kexec_main.specs.Files.{memory_file}
-use Rattle.kexec_main.proofs.Keeping.{Keeps, put_as, said_as}
+use Rattle.file_commands.proofs.Keeping.{Keeps, put_as, said_as}
 
 core_asked : (c : CoreValue) (held : Files) (x : CoreInputs) → reads (core_files c) held ≡ Ok x
     → (m : Contents) × (reads (memory_file c.memory) held ≡ Ok m) × (x ≡ record { memory = m; address = c.address; out = c.out })

@@ -12,7 +12,7 @@ use Rattle.kexec_main.specs.declared.status.Reason.{Reason}
 use Rattle.kexec_main.specs.Outputs.{Made}
 use Rattle.kexec_words.specs.Values.{LoadNamesValue}
 use Rattle.kexec_main.specs.Dump.{HasDumped, HasDumpedCrash, dump_entry, dumps}
-use Rattle.kexec_main.proofs.Keeping.{Keeps, put_as, said_as}
+use Rattle.file_commands.proofs.Keeping.{Keeps, put_as, said_as}
 
 module _ {S O : Type 0} (D : Shelf S) (E : Sink O) (held : Files) (s : S) (o : O) (s' : S) (o' : O) where
   dumped : (l : LoadNamesValue) → MeetsTold D E (dump_entry l).command held s o done s' o' → HasDumped D E held s o s' o' l ⊎ HasDumpedCrash D E held s o s' o' l

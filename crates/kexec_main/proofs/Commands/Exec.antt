@@ -31,7 +31,7 @@ use Rattle.kexec_main.proofs.Executes.{runs_fit}
 use Rattle.kexec_main.proofs.Leaving.{leaves_by}
 use Rattle.kexec_main.proofs.Loads.{file_none, has_file, heavy, one_weight, same_left}
 use Rattle.kexec_main.proofs.Reread.{exec_bare}
-use Rattle.kexec_main.proofs.Keeping.{Keeps, put_as, said_as}
+use Rattle.file_commands.proofs.Keeping.{Keeps, put_as, said_as}
 
 exec_asked : (e : ExecValue) (held : Files) (x : ExecInputs) → reads (exec_files e) held ≡ Ok x → (load : TakenLoad) × (x ≡ exec_of e load)
 exec_asked e held x read = let k = reads_cases (load_files e.memory e.load_record) (λ load. ok (exec_of e load)) held x read in (k.0, sym (ok_same {F = Refusal Reason} _ x k.2))

@@ -14,10 +14,11 @@ use Rattle.kexec_main.specs.Outputs.{Made}
 use Rattle.kexec_words.specs.Values.{LoadValue}
 use Rattle.kexec_main.specs.Load.{HasLoaded, LoadCommand, load_command_files, load_entry, load_wish, loads, record_of_load}
 use Rattle.kexec_main.specs.Inputs.{LoadInputs, load_inputs}
+use Rattle.kexec_main.specs.Laid.{HasLoadedLaid}
 use Rattle.kexec_main.specs.Loads.{CanLoad}
 use Rattle.kexec_main.proofs.Loads.{can_load, heavy, loaded_as, loads_not, normal, not_made, only_refusal}
 use Rattle.kexec_main.proofs.Told.{one_memory}
-use Rattle.kexec_main.proofs.Keeping.{Keeps, put_as, said_as}
+use Rattle.file_commands.proofs.Keeping.{Keeps, put_as, said_as}
 
 load_asked : (l : LoadValue) (held : Files) (x : LoadCommand) → reads (load_command_files l) held ≡ Ok x → (i : LoadInputs) × (x ≡ record { load = i; wish = load_wish l; out = l.out; load_record = l.load_record })
 load_asked l held x read = let k = reads_cases (load_inputs l.image l.inputs) (λ i. ok (record { load = i; wish = load_wish l; out = l.out; load_record = l.load_record })) held x read in (k.0, sym (ok_same {F = Refusal Reason} _ x k.2))
@@ -40,6 +41,13 @@ module _ {S O : Type 0} (D : Shelf S) (E : Sink O) (held : Files) (s : S) (o : O
         put = put_as D E s o s' o' goods.outputs ((l.out, n.5) ∷ (l.load_record, record_file (record_of_load n.1.load n.0)) ∷ []) n.7 out.put;
         said = said_as D E s o s' o' goods.text _ n.3 out.said;
       }
+
+  pub loaded_laid : (l : LoadValue) → MeetsTold D E (load_entry l).command held s o done s' o' → HasLoadedLaid D E held s o s' o' l
+  unfolding loaded load_asked
+  loaded_laid l (x, goods, read, m, fault, out) = record {
+    loaded = loaded l (x, goods, read, m, fault, out);
+    laid = (subst (λ x. loads x (Ok goods)) (load_asked l held x read).1 m).2.0.laid;
+  }
 
 load_stands : (l : LoadValue) (x : LoadCommand) → CanLoad x.wish x.load (λ c. at c.load.memory) → Stands (load_entry l).command x
 load_stands l x can = record { unrefused = none; whole = λ goods m. m.4 }

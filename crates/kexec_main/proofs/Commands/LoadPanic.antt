@@ -26,7 +26,7 @@ use Rattle.kexec_main.specs.LoadPanic.{CanLoadPanic, HasLoadedPanic, LoadPanicCo
 use Rattle.kexec_main.specs.Loading.{HasNoPlan}
 use Rattle.kexec_main.proofs.Loads.{file_none, has_file, heavy, no_fault, one_weight, same_fault}
 use Rattle.kexec_main.proofs.Told.{one_memory}
-use Rattle.kexec_main.proofs.Keeping.{Keeps, put_as, said_as}
+use Rattle.file_commands.proofs.Keeping.{Keeps, put_as, said_as}
 
 panic : (i : CrashInputs) (p : Plan) (c : CrashLoad) → i.request.crash ≡ true → IsCrashLoaded i p c → PanicLoad i p c
 panic i p c crash l =

@@ -12,7 +12,7 @@ use Rattle.kexec_main.specs.declared.status.Reason.{Reason}
 use Rattle.kexec_words.specs.Values.{MigrateValue}
 use Rattle.kexec_main.specs.Files.{load_record_file}
 use Rattle.kexec_main.specs.Migrate.{HasMigrated, MigrateInputs, migrate_entry, migrate_files, migrates}
-use Rattle.kexec_main.proofs.Keeping.{Keeps, put_as, said_as}
+use Rattle.file_commands.proofs.Keeping.{Keeps, put_as, said_as}
 
 migrate_asked : (v : MigrateValue) (held : Files) (x : MigrateInputs) → reads (migrate_files v) held ≡ Ok x
     → (r : Record) × (reads (load_record_file v.load_record) held ≡ Ok r) × (x ≡ record { load_record = r; out = v.out })

@@ -1,5 +1,5 @@
--- What is proved of `sample`, which answers so over every shelf.
-use Rattle.std.proofs.Common.{◌≡◌, ◌∙◌, ℕ, List, [], ◌++◌, Option, Some, None, Result, Ok, Err, refl, sym, ap, subst, inl, inr}
+-- What is proved of `sample`.
+use Rattle.std.proofs.Common.{◌≡◌, ◌∙◌, ℕ, List, [], ◌++◌, None, Ok, sym, ap, subst}
 use Rattle.std.proofs.lemmas.List.{append-nil}
 use Rattle.kx_edge.specs.Edge.{Files, Said}
 use Rattle.kx_edge.specs.declared.edge.Shelf.{Ghosts as Shelf}
@@ -7,22 +7,21 @@ use Rattle.kx_edge.specs.declared.edge.Sink.{Ghosts as Sink}
 use Rattle.kx_pages.specs.declared.image.Mode.TheVariants as modes
 use Rattle.kx_pages.specs.declared.image.Start.{Start}
 use Rattle.page_memory.specs.Contents.{at}
-use Rattle.list_checker.specs.declared.fault.ListFault.{ListFault}
 use Rattle.load_states.specs.States.{Checked}
 use Rattle.load_states.proofs.Ready.{list_ends}
 use Rattle.segments.specs.Rules.{IsBare}
-use Rattle.file_commands.specs.Taking.{File, Refusal, Took, FailedAt}
-use Rattle.file_commands.specs.Answers.{Answer, FilesPut, Meets, MeetsTold, PutAll, PutUpTo, Stands, done, not_accepted, unread, unwritten, unsaid, memory, refused}
+use Rattle.file_commands.specs.Taking.{File, Refusal}
+use Rattle.file_commands.specs.Answers.{FilesPut, MeetsTold, Stands, done}
 use Rattle.kx_laws.proofs.Results.{ok_same}
 use Rattle.sample_load.specs.Samples.{sample_segments, start_of}
 use Rattle.sample_load.proofs.Rising.{IsBare-sample}
 use Rattle.kexec_main.specs.declared.running.Ran.{Ran}
 use Rattle.kexec_main.specs.declared.status.Reason.{Reason}
 use Rattle.kexec_main.specs.Runs.{HasRun, after_runs, list_text, ran_text}
-use Rattle.kexec_main.specs.Sample.{EndsSample, HasSampled, IsSample, sample_entry, sample_text, samples}
+use Rattle.kexec_main.specs.Sample.{HasSampled, IsSample, sample_entry, sample_text, samples}
 use Rattle.kexec_main.specs.Texts.{memory_line, ran_line}
 use Rattle.kexec_main.proofs.Ending.{machine_leaves}
-use Rattle.kexec_main.proofs.Keeping.{Keeps}
+use Rattle.file_commands.proofs.Keeping.{Keeps}
 use Rattle.kexec_main.proofs.Leaving.{leaves_by}
 use Rattle.kexec_main.proofs.Told.{one_memory, text_of}
 
@@ -37,21 +36,11 @@ sampled_text number c r start h same =
 sample_stands : (number x : ℕ) → Stands (sample_entry number).command x
 sample_stands number x = record { unrefused = λ a m. m; whole = λ goods m. m.4 }
 
-not_err : (n : ℕ) (a : Refusal Reason) → ◌≡◌ {A = Result ℕ (Refusal Reason)} (Err a) (Ok n) → ⊥
-not_err n a e = cc
-
-not_some : (o : Option ListFault) (f : ListFault) → o ≡ None → o ≡ Some f → ⊥
-not_some o f a b = cc
-
 -- the segments of a sample break no rule
 sample_bare : (number : ℕ) (c : Checked) → IsSample number c → IsBare c.load.segments
 sample_bare number c is = subst IsBare (sym is.laid.segments) (IsBare-sample number)
 
 module _ {S O : Type 0} (D : Shelf S) (E : Sink O) (s : S) (o : O) (s' : S) (o' : O) where
-  nothing_put : (old new : Option Files) → new ≡ old → FilesPut old [] new
-  nothing_put None new e = subst (λ f. FilesPut None [] f) (sym e) tt
-  nothing_put (Some held) new e = subst (λ f. FilesPut (Some held) [] f) (sym e) (held, refl, refl)
-
   sampled_as : (number : ℕ) (c : Checked) (outputs : List File) (text : List ℕ) → IsSample number c → text ≡ sample_text number c → FilesPut (D.files s) [] (D.files s') → Said (E.said o) text (E.said o') → HasSampled D E s o s' o' number
   sampled_as number c outputs text is told put said = record {
     checked = c;
@@ -63,26 +52,10 @@ module _ {S O : Type 0} (D : Shelf S) (E : Sink O) (s : S) (o : O) (s' : S) (o' 
     said = subst (λ t. Said (E.said o) t (E.said o')) told said;
   }
 
-  -- where files are told
-  pub sampled : (held : Files) (number : ℕ) → MeetsTold D E (sample_entry number).command held s o done s' o' → HasSampled D E s o s' o' number
+  sampled : (held : Files) (number : ℕ) → MeetsTold D E (sample_entry number).command held s o done s' o' → HasSampled D E s o s' o' number
   sampled held number (x, goods, read, m, fault, out) =
       let n = subst (λ x. samples x (Ok goods)) (sym (ok_same {F = Refusal Reason} number x read)) m in
       sampled_as number n.0 goods.outputs goods.text n.1 n.3 (subst (λ os. FilesPut (D.files s) os (D.files s')) n.2 out.put) out.said
-
-  -- over every shelf
-  pub ends_sample : (number : ℕ) (a : Answer ListFault Reason) → Meets D E (sample_entry number).command s o a s' o' → EndsSample D E s o s' o' number a
-  unfolding Took FailedAt
-  ends_sample number done (x, goods, mid, took, m, (fault, put, says)) =
-      let n = subst (λ x. samples x (Ok goods)) (ok_same {F = Refusal Reason} x number took.0) m in
-      let same : s' ≡ s = subst (λ os. PutAll D os mid s') n.2 put ∙ took.1 in
-      sampled_as number n.0 goods.outputs goods.text n.1 n.3 (nothing_put (D.files s) (D.files s') (ap D.files same)) says.said
-  ends_sample number (not_accepted f) (x, goods, mid, took, m, (fault, put, says)) = not_some goods.fault f m.4 fault
-  ends_sample number (unread name) m = m.0
-  ends_sample number (unwritten name) (x, goods, mid, took, m, (put, same)) = subst (λ os. PutUpTo D os mid name s') m.2 put
-  ends_sample number unsaid m = tt
-  ends_sample number memory m = tt
-  ends_sample number (refused a) (inl took, same) = not_err number a took.0
-  ends_sample number (refused a) (inr (x, took, m), same) = m
 
 pub sample_keeps : (number : ℕ) → Keeps (sample_entry number)
 sample_keeps number = record {

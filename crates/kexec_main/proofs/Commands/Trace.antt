@@ -9,7 +9,7 @@ use Rattle.kexec_main.specs.declared.status.Reason.{Reason}
 use Rattle.kexec_words.specs.Values.{TraceValue}
 use Rattle.kexec_main.specs.Trace.{HasTraced, TraceInputs, trace_entry, traces}
 use Rattle.kexec_main.proofs.Loads.{file_none, has_file, heavy, one_weight}
-use Rattle.kexec_main.proofs.Keeping.{Keeps, put_as, said_as}
+use Rattle.file_commands.proofs.Keeping.{Keeps, put_as, said_as}
 use Rattle.page_memory.specs.Contents.{at}
 use Rattle.relocate_machine.specs.Run.{run_of}
 

@@ -19,16 +19,15 @@ returns-clause-told c = λ t. of_told c.args.shelf.now.is_told c.args.shelf.now.
 pub returns-clause-done : goal.returns-clause-done
 returns-clause-done c = λ w e d t. of_told c.args.shelf.now.is_told c.args.shelf.now.held _ t (c.kexec.ensures.done w e d)
 
+pub returns-clause-laid : goal.returns-clause-laid
+returns-clause-laid c = λ w e d t. of_told c.args.shelf.now.is_told c.args.shelf.now.held _ t (c.kexec.ensures.laid w e d)
+
 pub returns-clause-complete : goal.returns-clause-complete
 returns-clause-complete c = λ w e t i took.
     of_told c.args.shelf.now.is_told c.args.shelf.now.held _ t (c.kexec.ensures.complete w e) i still took
 
 pub returns-clause-in_order : goal.returns-clause-in_order
 returns-clause-in_order c = λ w e d t. of_told c.args.shelf.now.is_told c.args.shelf.now.held _ t (c.kexec.ensures.in_order w e d)
-
-pub returns-clause-too_few : goal.returns-clause-too_few
-returns-clause-too_few c = λ w e t pool need few took.
-    of_told c.args.shelf.now.is_told c.args.shelf.now.held _ t (c.kexec.ensures.too_few w e) pool need few still took
 
 pub returns-clause-refused : goal.returns-clause-refused
 returns-clause-refused c = λ w e t why r took.
