@@ -1,4 +1,5 @@
 """Files that the program reads and writes, for the scripts beside this one: docs/FORMATS.md has their formats."""
+import argparse
 import hashlib
 import os
 import signal
@@ -42,6 +43,17 @@ def call(main):
     except OSError as error:
         sys.exit(f"{name}: {error.filename}: {error.strerror}" if error.filename else f"{name}: {error}")
     sys.exit(status)
+
+
+def words_given(text, word=None):
+    """The words of a script's command line, of which each is such a WORD, and none is taken without it; --help prints the
+    script's text and ends it."""
+    parser = argparse.ArgumentParser(description=text, formatter_class=argparse.RawDescriptionHelpFormatter,
+                                     usage=argparse.SUPPRESS)
+    if word:
+        parser.add_argument("words", nargs="*", metavar=word)
+    given = parser.parse_args()
+    return given.words if word else []
 
 
 def number_of(text, base, what):
