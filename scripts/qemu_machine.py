@@ -16,10 +16,11 @@ LOW_END, HIGH, HOLE = 3 << 30, 1 << 32, (0xA0000, 0x100000)
 MIB = 1 << 20
 
 
-def ram_for(end):
-    """The MiB of RAM of a machine that has RAM well above an address."""
-    size = end if end <= LOW_END else end - (HIGH - LOW_END)
-    return max(512, (size // (64 * MIB) + 3) * 64)
+def ram_for(memory):
+    """The MiB of RAM of a machine that has RAM well above the highest page of a memory file."""
+    ends = [(page + 1) * PAGE for page in memory.place]
+    ends = [end if end <= LOW_END else end - HIGH + LOW_END for end in ends if end <= LOW_END or end > HIGH]
+    return max(512, (max(ends, default=0) // (64 * MIB) + 3) * 64)
 
 
 def offset_of(page, ram):
