@@ -14,7 +14,8 @@ use page_memory::Memory;
 use page_pool::Pool;
 use std::alloc::{AllocError, Global};
 
-/// All memory of a load: the table of the wanted pages, and the first usable pages of the pool.
+/// All memory of a load is taken here, before the first page is written: so nothing after it can fail, and a load that
+/// is refused has changed nothing that is read. It is the table of the wanted pages, and the first usable pages of the pool.
 pub fn prepare(
     alloc: Global,
     memory: &mut Memory,

@@ -96,7 +96,9 @@ impl OpenList {
         }
     }
 
-    // Takes a link page more, clears it, and writes the word that leads to it.
+    // Takes a link page more, clears it, and writes the word that leads to it. A page of a pool may hold anything, also
+    // words: cleared, the list has none that was not written. The word that leads on stands in the place behind the last
+    // entry, slot 511 of the page before, or is the head.
     fn take_link(&mut self)
         requires { (d : Draft) × (t : ℕ × Loading) × IsRendered self.old d × CanTake d None t ×
             IsFull d }
@@ -164,7 +166,9 @@ impl OpenList {
         self.write_entry(destination_word(p));
     }
 
-    // Loads page p with these bytes, then zeros.
+    // Loads page p with these bytes, then zeros. Room comes first: a link page that is taken may itself be an exchange,
+    // and so change the table. The source is entered into the table with the place of its word, so that an exchange
+    // later finds the word that it has to change.
     pub(crate) fn load_page(&mut self, p: Page, bytes: &[u8])
         requires fits { length bytes.now ≤ 4096 }
         requires ready { (d : Draft) × (e : Draft) × (t : ℕ × Loading)

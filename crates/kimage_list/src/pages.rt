@@ -71,7 +71,9 @@ pub fn destination_word(p: Page) -> u64
     Item::Destination(p.number()).word()
 }
 
-/// Makes the exchange that freed the page.
+/// Makes the exchange that freed the page: the loaded page gets its bytes from its old source, and its word in the list
+/// names it as its own source. The bytes go first, while the old source still has them; whoever asked for the page fills
+/// it after that.
 pub fn settle(memory: &mut Memory, taken: &TakenPage)
     requires { CanMove taken.now.moved memory.old }
     ensures value { at memory.new ≡ moved (at memory.old) taken.now.moved taken.now.page }

@@ -1,4 +1,12 @@
 //! Taking pages, as a function of the pool and the table alone.
+//!
+//! The invariant is that of `kimage_alloc_page` in the kernel's kexec core: the source of a loaded page is this page
+//! itself, or a page that is no destination of the load. A run writes destinations alone (and with context preserved the
+//! sources of moves that are done). So no move destroys the source of a later one: were that source a destination, it
+//! would be its own, and no page is the destination of two moves. The moves may then come in any order, and the page
+//! that a move finds at its source is the one that the load put there.
+//!
+//! The link pages, the control page and the swap page are no destinations either, so the list stands while it runs.
 
 ghost use Rattle.std.specs.Prelude.{◌≡◌, ◌≢◌, ℕ, Bool, Some, IsSome, ◌==◌};
 ghost use Rattle.kimage_list.specs.Load.{Loading, is_for, draw, taken};
@@ -53,7 +61,17 @@ fn is_wanted(wanted: Option<Page>, q: Page) -> bool
     }
 }
 
-// Draws pages until one serves.
+// Draws pages until one serves. What is drawn is one of three, and each keeps the invariant:
+//
+// - It is the wanted page itself, or no page of the load: it is given. As a source it is its own destination, or none.
+// - It is wanted by a later request, and not loaded yet. Given now, it would be the source of one page and the
+//   destination of another. So it is filed, for its own request, which takes it before anything is drawn.
+// - It is a page that is loaded from elsewhere. Its bytes can lie in it as well: it becomes its own source, and the page
+//   in which they lay, which is no destination, is given in its place. No request comes for a page twice, so filing it
+//   would lose it.
+//
+// The pool has no page twice, so each draw ends one of finitely many, and a pool of as many pages as the load needs is
+// never drawn empty: a filed page is taken by its request, and an exchange gives a page for a page.
 fn draw_page(pool: &mut Pool, table: &mut Table, wanted: &Option<Page>) -> Option<TakenPage>
     ensures gives { (D : ℕ → Bool) (l : Loading) → Tracks D l pool.old table.old →
         Gives D l (draw D wanted.now l.pairs l.spare l.filed l.left) result pool.new

@@ -166,7 +166,8 @@ impl ListWriter {
     }
 }
 
-// Takes the control page and, with context preserved, the swap page.
+// Takes the control page and, with context preserved, the swap page. They come before all link pages, as in the kernel:
+// no page is loaded yet, so no exchange can change them later, and what names them can be told at once.
 fn open(mut list: OpenList, segments: usize, wish: Wish) -> ListWriter
     requires { (h : History) × IsPrepared h list segments wish }
     ensures stands { (h : History) → IsPrepared h list segments wish → StandsAt h result }

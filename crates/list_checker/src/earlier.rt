@@ -38,6 +38,9 @@ pub struct Accept {
     pub pairs: Vec<Pair>,
 }
 
+// What the tests ask of the words before: ordered sets beside the pairs, so that a word is judged in a few look-ups and not
+// by a walk over all that came before it.
+//
 // The links and pairs so far, and the page that the next source word's bytes go to, once there was a destination word.
 #[derive(Drop)]
 pub(crate) struct Earlier {

@@ -12,6 +12,19 @@ use page_memory::Memory;
 use segments::Segments;
 use std::alloc::Global;
 
+// The walk reads the list as it stands before the run, and the run reads it while it writes. Both meet the same words
+// because of what is tested at each word, and not only at the end:
+//
+// - No pair writes a link page that came before (LinkSpoiled, tested at the pair), and no link page that comes is one that
+//   a pair has written (tested at the link). So each word is still there when the run comes to it.
+// - No pair's source was written by an earlier pair (SourceSpoiled), and with context preserved no page is met by two
+//   pairs (PairsMeet). So what a move brings is what stood at its source before the run, which is what the segments want
+//   of the destination (WrongBytes).
+// - No destination is written twice (TwiceWritten), and at the done word each wanted page was one (Missing): each has
+//   what it is to have, and keeps it.
+//
+// It ends: each word stands at a place of its own in the head and the link pages, a link page comes once (LinkAgain), and
+// each page has 511 words before the one that leads on (RunsOff).
 /// Whether the list of the image is accepted for the segments in this memory, in the image's mode: what is told of it, or
 /// its first fault. A run of an accepted list leaves each page of the segments what it is to have. Each word is
 /// read once; look-ups are in ordered sets.

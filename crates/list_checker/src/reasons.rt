@@ -120,7 +120,9 @@ fn is_wanted(segments: &Segments, d: Page) -> bool
     segments.wanted(d).is_some()
 }
 
-// Why a pair is refused.
+// Why a pair is refused. The order is that of the numbers, and a later test may rest on an earlier one: that a destination
+// is wanted is known before its bytes are compared. In plain mode no page counts as an earlier source, and a source may
+// be read twice; with context preserved a move writes its source too, so that sources are as destinations.
 fn pair_reason(
     memory: &Memory,
     image: &Image,
@@ -144,7 +146,7 @@ fn pair_reason(
     ])
 }
 
-// Why a link to a page is refused.
+// Why a link to a page is refused. First of all where the list leads back to a page of its own: it would be read for ever.
 fn link_reason(image: &Image, earlier: &Earlier, place: Option<u64>, p: Page) -> Option<Why>
     ensures { (s : spec.Earlier) → Shows (swap_page image.now.mode) earlier.now s →
         result ≡ first_of (reasons_of_link image.now place s p) }
@@ -157,7 +159,8 @@ fn link_reason(image: &Image, earlier: &Earlier, place: Option<u64>, p: Page) ->
     ])
 }
 
-// Why a destination or source word is refused for its place.
+// Why a destination or source word is refused for its place. The cursor goes on by 8 from it: from the last slot of a page
+// it would leave the page, for one that the list never named.
 pub(crate) fn place_reason(place: Option<u64>) -> Option<Why>
     ensures { result ≡ first_of (reasons_of_place place) }
 {

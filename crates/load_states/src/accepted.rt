@@ -104,6 +104,9 @@ impl AcceptedPlain {
         self.loaded.segments()
     }
 
+    // This is the point of no return: where it is reached, the old kernel is gone. So all that can fail comes before: the
+    // list is accepted in this very memory, which nothing has touched since, as the state owns it; each page that is
+    // written is held; and the walk's number of words bounds the run.
     /// Runs the list. It has no refusal and takes no memory. It takes exactly as many steps as the walk has words, leaves
     /// each page of the segments what it is to have, and every other page as it was.
     pub fn exec(self) -> RanPlain
@@ -177,6 +180,9 @@ impl AcceptedKept {
         self.loaded.segments()
     }
 
+    // An accepted list has each page in one pair at most, so its run is an exchange, page by page, that undoes itself: what
+    // ran is kept with its list, for the way back. The words are as many after the run as before, since no link page was
+    // moved.
     /// Runs the list. It has no refusal and takes no memory. It takes exactly as many steps as the walk has words, which
     /// `steps` tells of what ran, and exchanges the two pages of each pair, so that each page of the segments is what it
     /// is to be. All else stays.

@@ -136,6 +136,11 @@ impl AcceptedCrash {
     }
 }
 
+// A crash kernel has no list to run, as nothing can be relied on when it starts: its pages lie in an area that the running
+// kernel never uses, from the load on, and the head is a done word. So what a run has to bring about elsewhere has to
+// stand here already, and what is tested is that it does.
+//
+// All pages are held before the first is written: a refusal has changed nothing that is read.
 /// Puts each page of the segments in its place: it becomes what it is to have, every other page stays, and the head is a
 /// done word. The list is accepted. The pages are held then, and no other page comes to be so. Refused for want of memory
 /// alone, with what memory reads as unchanged; some of the pages may be held then.

@@ -39,6 +39,8 @@ pub struct BeginBack {
     pub why: BeginFault,
 }
 
+// Segments are written whole and in order, so that what the writer was asked for is always the entries of the segments
+// before: no page is asked for twice, since segments do not overlap, and after the last one no wanted page is awaited.
 /// A load under way: some segments are written, each whole. Contracts speak of it by `FillsFrom`. Only `begin` takes
 /// memory, and nothing after it has a refusal.
 #[derive(Drop)]

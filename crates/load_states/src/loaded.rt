@@ -174,7 +174,9 @@ impl Loaded {
     }
 }
 
-// Makes the state of an accepted list: each page that its run writes is held.
+// Makes the state of an accepted list: each page that its run writes is held. The list is tested first and the pages are
+// held after that: holding changes nothing that is read, so what was accepted still is, and a list that is refused costs
+// no page.
 fn hold_for_run(alloc: Global, mut loaded: Loaded, accept: Accept) -> Result<Accepted, NotAccepted>
     requires told { IsAccept loaded.memory loaded.segments loaded.image accept }
     requires bare { IsBare loaded.segments }

@@ -24,6 +24,9 @@ pub(crate) struct PageReading {
     pub(crate) word: Option<u64>,
 }
 
+// Most words of a list stand in one page behind another, and only read. The page is looked up once for all of them: until
+// a word moves a page, memory is what it was, so what the page holds stays true. A word that moves or ends is left to the
+// step itself, and so is a link to another page.
 /// Reads the words of a page from a place in it, at most `most` of them, up to its end or to the first word that does
 /// not only read.
 pub(crate) fn read_page(page: &[u8], from: Place, most: u64) -> PageReading

@@ -35,6 +35,11 @@ pub fn run_held(memory: &mut Memory, head: u64, mode: Mode, limit: u64) -> Outco
     Outcome::Running { limit }
 }
 
+// The memory may run out between two steps, and never within one: the pages that a step writes are known from its word
+// and are held before it begins. So what is left after want of memory is what whole steps have made.
+//
+// From one move to the next the swap page is known to be held, and not looked up. A limit bounds the run, since a list
+// that no checker has seen may lead back into itself.
 /// Runs a list by at most `limit` steps as `run_held` does, and holds each page before it is written, and no other: the
 /// pages held are those that were and those that the steps wrote. After want of memory the memory is as some number of
 /// steps below `limit` left it, but that pages which the next step writes may be held besides.

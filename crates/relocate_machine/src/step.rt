@@ -158,6 +158,10 @@ impl Machine {
     }
 
     // One step, of which the word to handle, or the address at which there is none, is known.
+    //
+    // The cursor goes on by a word whatever the word is, as in `relocate_kernel`, and a link word then sets it anew. The word
+    // was read before: the page that it moves may be the one in which it stands. Nothing is changed before each address
+    // of the step is known to lie below the limit, so that a step that is off has done nothing.
     #[tactic(auto, unfolding(crate::specs::Machine::step_of))]
     pub(crate) fn take(&mut self, memory: &mut Memory, word: Result<u64, u64>) -> Step
         requires running { self.old.ended ≡ false }
@@ -288,7 +292,8 @@ fn page_of(address: u64) -> Page
     Page::new(address / PAGE_SIZE).unwrap()
 }
 
-// Moves page s to page d.
+// Moves page s to page d. With context preserved the two are exchanged by three copies over the swap page, and the order
+// counts: the source goes to the swap page first, since the second copy writes it. Where s is d, the page stays as it is.
 fn move_page(memory: &mut Memory, mode: Mode, d: Page, s: Page)
     requires { AreHeld memory.old (move_writes mode d s) }
     ensures { memory.new ≡ after_move mode memory.old d s }
