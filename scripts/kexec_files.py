@@ -27,10 +27,15 @@ def call(main):
     """
     name = os.path.basename(sys.argv[0])
 
+    signals = (signal.SIGTERM, signal.SIGHUP, signal.SIGINT)
+
     def end(number, _):
+        # a second one is not to stop the clearing away
+        for other in signals:
+            signal.signal(other, signal.SIG_IGN)
         sys.exit(128 + number)
 
-    for number in (signal.SIGTERM, signal.SIGHUP, signal.SIGINT):
+    for number in signals:
         signal.signal(number, end)
     try:
         status = main()
