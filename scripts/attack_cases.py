@@ -111,6 +111,9 @@ def load_cases(object_file):
     cases.append(Case("load-panic", ["load-panic", "--map", "map", "--initrd", "initrd", "--notes", "notes",
                                      "memory.kxmem", "out", "record", "kernel"],
                       panic | {"notes": b"200000 168\n201000 168\n"}, ["out", "record"]))
+    core = example("core", "memory.kxmem", "map", "notes", "kernel")
+    cases.append(Case("load-core", ["load-panic", "--map", "map", "--notes", "notes", "memory.kxmem", "out", "record", "kernel"],
+                      core, ["out", "record"]))
     return cases
 
 
@@ -126,6 +129,7 @@ AFTER = [
     ("exec-panic", ["exec", *BOTH, "out"], "load-panic", ["out"]),
     ("trace", ["trace", "loaded.kxmem", "out", "11002", "1000"], "load", ["out"]),
     ("migrate", ["migrate", "older.record", "out"], "load", ["out"]),
+    ("core", ["core", "loaded.kxmem", "out", "5ff000"], "load-core", ["out"]),
     ("sample", ["sample", "1"], None, []),
 ]
 
