@@ -127,7 +127,8 @@ pub(crate) fn linked(rt: &HostRuntime, example: &Example) -> Result<Linked, Link
     }
     match size(object) {
         Ok(_) => link(rt.alloc(), object, file, BASE),
-        Err(fault) => Err(fault),
+        // refused by `link` too, but for a reason that comes before it
+        Err(_) => link(rt.alloc(), object, file, BASE),
     }
 }
 

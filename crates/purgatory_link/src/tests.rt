@@ -293,3 +293,63 @@ fn symbols_of_another_size_are_not_set(rt: HostRuntime) -> Result<(), Fail> {
     }
     Ok(())
 }
+
+// Two faults in one object, for each neighbour in the order in which they are tested: sections of the object behind its
+// own, and its relocation, of a type that is not linked.
+#[test]
+fn of_two_faults_the_first_is_told(rt: HostRuntime) -> Result<(), Fail> {
+    let without_addends = section(9, false, 0, 1);
+    let unaligned = loaded(0, 0, 3);
+    let large = section(8, true, 0x100_0001 - 36, 0);
+    let rel = LinkFault::RelSection { section: 5 };
+    let other_rel = LinkFault::RelSection { section: 6 };
+    let align = LinkFault::BadAlign { section: 5 };
+    let length = LinkFault::TooLarge { bytes: 0x100_0001 };
+    let rows = [
+        (without_addends, unaligned, rel),
+        (unaligned, without_addends, other_rel),
+        (without_addends, large, rel),
+        (unaligned, large, align),
+        (large, section(9, false, 0, 3), length),
+        (without_addends, section(9, false, 0, 3), rel),
+        (unaligned, section(9, false, 0, 3), align),
+    ];
+    for (one, other, wanted) in rows {
+        let mut example = object(rt.alloc(), 0, &[reloc(3, 0, 1, 0)])?;
+        example.object.sections.push(one)?;
+        example.object.sections.push(other)?;
+        assert_eq!(rt; linked(&rt, &example).err(), Some(wanted));
+    }
+    Ok(())
+}
+
+// A field that has a byte of an earlier one and ends behind its section, and one that meets and names a symbol that is not
+// defined.
+#[test]
+fn a_field_outside_its_section_meets_none(rt: HostRuntime) -> Result<(), Fail> {
+    let outside = LinkFault::OutsideSection {
+        section: 5,
+        entry: 1,
+    };
+    let meets = LinkFault::RelocsMeet { place: BASE + 11 };
+    for (offset, wanted) in [(13, outside), (11, meets)] {
+        let relocs = [reloc(10, 12, 1, 0), reloc(10, offset, 4, 0)];
+        let mut example = object(rt.alloc(), 0, &relocs)?;
+        example.join_relocs(rt.alloc(), 1)?;
+        assert_eq!(rt; linked(&rt, &example).err(), Some(wanted));
+    }
+    Ok(())
+}
+
+#[test]
+fn a_sentence_has_its_numbers_in_their_places(rt: HostRuntime) -> Result<(), Fail> {
+    let outside = LinkFault::OutsideSection {
+        section: 5,
+        entry: 2,
+    };
+    assert_eq!(rt;
+        outside.to_string(rt.alloc())?.as_str(),
+        "relocation 2 of section 5 lies outside its target"
+    );
+    Ok(())
+}
