@@ -12,10 +12,16 @@ def is_number(text):
     return 1 <= len(text) <= 16 and set(text) <= DIGITS
 
 
+def lines_of(text):
+    """The lines of a text with their numbers; the last newline may be missing."""
+    lines = text.split("\n")
+    return enumerate(lines[:-1] if lines[-1] == "" else lines, 1)
+
+
 def rows_of(text, name):
     """The rows (first, last, what) of a memory map, as bytes with both included."""
     rows = []
-    for number, line in enumerate(text.splitlines(), 1):
+    for number, line in lines_of(text):
         span, colon, what = line.lstrip(" ").partition(" : ")
         first, _, last = span.partition("-")
         if not colon or not is_number(first) or not is_number(last):
@@ -30,6 +36,8 @@ def read_map(path):
     """The text of a memory map and its rows; a map of zeros is refused."""
     with open(path, encoding="utf-8", errors="surrogateescape", newline="") as file:
         text = file.read()
+    if "\r\n" in text:
+        raise Wrong(f"{path} has lines that end in CR LF, and a memory map has LF alone: convert it")
     rows = rows_of(text, path)
     if not any(last for _, last, what in rows if what == RAM):
         raise Wrong(f"{path} shows no System RAM: Linux shows zeros for all addresses to any user but root, and nothing "
@@ -95,7 +103,7 @@ def read_pool(path):
     with open(path, encoding="utf-8", errors="surrogateescape", newline="") as file:
         text = file.read()
     found = []
-    for number, line in enumerate(text.splitlines(), 1):
+    for number, line in lines_of(text):
         first, hyphen, last = line.partition("-")
         last = last if hyphen else first
         if not is_number(first) or not is_number(last):
