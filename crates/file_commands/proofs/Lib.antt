@@ -5,3 +5,4 @@ pub mod Meeting
 pub mod Made
 pub mod Keeping
 pub mod Saying
+pub mod Reasons

@@ -6,6 +6,7 @@ pub mod Leaving
 pub mod Loads
 pub mod Commands
 pub mod Laid
+pub mod TooFew
 pub mod Mapped
 pub mod Pages
 pub mod Again

@@ -23,4 +23,5 @@ pub mod CoreFile
 pub mod Laid
 pub mod Commands
 pub mod Call
+pub mod TooFew
 pub mod Together

@@ -1,8 +1,14 @@
 //! Crash loads: what `load-panic` leaves, and what each command makes of it.
 
-use crate::crash_example::{CRASH_FILES, HEADERS, HEADERS_DIGEST, KERNEL_DIGEST};
+use crate::crash_example::{
+    BEFORE, CRASH_FILES, HEADERS, HEADERS_DIGEST, KERNEL_DIGEST, LINUX_KERNEL, NOTES, RESERVED,
+};
+use crate::kernel_files::PURGATORY;
 use crate::scene::Piece::{Bytes, Numbers, Page};
-use crate::scene::{Pieces, ending, expect, file_of, joined, named, push_page, refuse_all, shelf};
+use crate::scene::{
+    Files, Pieces, ending, expect, file_of, first_other, joined, named, patch, push_page,
+    refuse_all, shelf,
+};
 use kx_edge::{MemoryShelf, Shelf};
 use std::alloc::{AllocError, Global};
 use std::process::Abort;
@@ -108,6 +114,54 @@ fn a_crash_load_is_checked_and_its_run_changes_no_page(rt: HostRuntime) -> Resul
     Ok(())
 }
 
+/// The files of a crash load with an initrd and a purgatory.
+const WITH_BOTH: Files = &[
+    ("m", BEFORE),
+    ("map", RESERVED),
+    ("notes", NOTES),
+    ("kernel", LINUX_KERNEL),
+    ("initrd", &[Bytes(b"initrd")]),
+    ("purgatory", PURGATORY),
+];
+
+/// Commands over them, each with what is said.
+const BOTH: [(&str, &str); 3] = [
+    (
+        "load-panic --map map --command quiet --initrd initrd --purgatory purgatory --notes notes m o r kernel",
+        "accepted crash pages 8\nstart entry 5ffb400 rax 0 rbx 0 rsi 0\n",
+    ),
+    ("check o r", "accepted crash pages 8\n"),
+    (
+        "exec o r x",
+        "accepted crash pages 8\nstart entry 5ffb400 rax 0 rbx 0 rsi 0\nran 1\nregions same\n",
+    ),
+];
+
+// From the top of the area down: the initrd, the headers, the boot parameters with the command, and the purgatory, which
+// has the address of the boot parameters in rsi and the kernel's entry in rip. They are the last five of eight pages.
+const BOTH_PLACES: &[(usize, &[u8])] = &[
+    (12384, &[0, 0xc0, 0xff, 5, 0]),
+    (12464, &[0, 2, 0, 4, 0]),
+    (20544, b"quiet elfcorehdr=98296K\0"),
+    (24648, b"\x7fELF"),
+    (28752, b"initrd\0"),
+];
+
+#[test]
+fn a_crash_load_takes_an_initrd_and_a_purgatory(rt: HostRuntime) -> Result<(), Fail> {
+    let alloc = rt.alloc();
+    let mut shelf = shelf(alloc, named(alloc, WITH_BOTH)?, &[])?;
+    for (line, said) in BOTH {
+        expect(&rt, alloc, &mut shelf, line, 0, "Done", said)?;
+    }
+    let memory = file_of(alloc, &mut shelf, "o")?.ok_or("a memory")?;
+    assert_eq!(rt;
+        (memory.len(), first_other(&memory, BOTH_PLACES)),
+        (16 + 8 * 4104, None)
+    );
+    Ok(())
+}
+
 // That `dump` says a text which begins like this.
 fn expect_dump(
     rt: &impl Abort,
@@ -140,10 +194,8 @@ const HEADS: [(u64, &str); 4] = [
 // The shelf after the load, whose record has another head since: it stands at the byte 16.
 fn loaded_with(rt: &impl Abort, alloc: Global, head: u64) -> Result<MemoryShelf, Fail> {
     let mut shelf = loaded(rt, alloc)?;
-    let old = file_of(alloc, &mut shelf, "r")?.ok_or("a record")?;
-    let mut record = b"KXREC002\x01\0\0\0\0\0\0\0".to_vec(alloc)?;
-    record.extend_from_slice(&head.to_le_bytes())?;
-    record.extend_from_slice(old.get(24..).ok_or("a longer record")?)?;
+    let mut record = file_of(alloc, &mut shelf, "r")?.ok_or("a record")?;
+    patch(&mut record, 16, &head.to_le_bytes());
     shelf.put("r", &record).ok().ok_or("a put")?;
     Ok(shelf)
 }

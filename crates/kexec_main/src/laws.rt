@@ -1,10 +1,18 @@
-//! What commands do together.
+//! What commands do together, and what their refusals stand for.
 
 ghost use Rattle.kexec_main.specs.Together.{LoadThenExecIsBoot};
+ghost use Rattle.kexec_main.specs.TooFew.{BootRefusesForPages, LoadRefusesForPages};
 
 use kx_edge::{Shelf, Sink};
 
 /// `load` and then `exec` on the two files that it wrote do what `boot` does: the same OUT, and the same text.
 pub fn load_then_exec_is_boot<S: Shelf, O: Sink>()
     ensures { LoadThenExecIsBoot S.Shelf O.Sink }
+{}
+
+/// `boot` and `load` are refused for pages, with both numbers, exactly where the pool has fewer usable pages than the load
+/// takes. With the clauses `told` and `refused` of `kexec` this says when they answer so.
+pub fn pages_are_refused_exactly_where_they_are_too_few()
+    ensures boot { BootRefusesForPages }
+    ensures load { LoadRefusesForPages }
 {}

@@ -10,7 +10,7 @@
 //! | `crash_loading`, `crash_exec` | the same of a crash kernel, which is put in its place and never moves |
 //! | `boot`, `load`, `load_panic`, `check`, `dump`, `exec`, `trace`, `migrate`, `sample`, `core_file` | a command each, with its words |
 //! | `migrate_inputs`, `core_inputs` | what these two take, which holds a fact of it |
-//! | `laws` | what commands do together |
+//! | `laws` | what commands do together, and where they are refused for pages |
 //! | `status` | how a command ended, and why it may be refused |
 //! | `run`, `calm` | the top call, and the same over files in memory |
 #![tactic(auto)]
@@ -34,12 +34,18 @@ mod dump;
 #[cfg(test)]
 mod each_command_tests;
 mod exec;
+#[cfg(test)]
+mod fault_tests;
 mod files;
 #[cfg(test)]
 mod first_example;
 mod inputs;
 #[cfg(test)]
 mod kept_tests;
+#[cfg(test)]
+mod kernel_files;
+#[cfg(test)]
+mod kernel_tests;
 pub mod laws;
 #[cfg(test)]
 mod limit_tests;

@@ -1,7 +1,7 @@
 //! The limits of files, and of what a memory file can hold: with ample memory each is told as itself.
 
 use crate::first_example::{self, ABC, MAP, NO_PAGES};
-use crate::scene::Piece::{Bytes, Numbers, Repeated};
+use crate::scene::Piece::{Bytes, List, Numbers, Repeated};
 use crate::scene::{Files, Pieces, add, joined, named, push_page, refuse, shelf};
 use std::alloc::{AllocError, Global};
 use std::test::Fail;
@@ -44,18 +44,25 @@ fn a_file_past_its_limit_is_told_with_it(rt: HostRuntime) -> Result<(), Fail> {
     Ok(())
 }
 
-// The file of a memory of as many pages as there can be, from page 0x100 on, each of which begins with 1.
+// Its first page is a list that copies the second one to page 2.
+const FULL: Pieces = &[
+    Bytes(b"KXMEM001"),
+    Numbers(&[131_072]),
+    List(0x100, &[0x2001, 0x101008, 4]),
+];
+
+// The file of a memory of as many pages as there can be, from page 0x100 on. Those behind the list begin with 1.
 fn full_memory(alloc: Global) -> Result<Vec<u8>, AllocError> {
     let page = joined(alloc, &[Bytes(&[1]), Repeated(0, 4095)])?;
-    let mut file = joined(alloc, &[Bytes(b"KXMEM001"), Numbers(&[131_072])])?;
-    for number in 0x100..0x20100 {
+    let mut file = joined(alloc, FULL)?;
+    for number in 0x101..0x20100 {
         push_page(&mut file, number, &page)?;
     }
     Ok(file)
 }
 
-/// A load over a full memory, and its status.
-const HEAVY: [(&str, &str); 2] = [
+/// A command over a full memory, and its status.
+const HEAVY: [(&str, &str); 3] = [
     (
         "boot --type raw --at 2000 full p o k",
         "Heavy { count: 131075 }",
@@ -64,9 +71,10 @@ const HEAVY: [(&str, &str); 2] = [
         "load --type raw --at 2000 full p o r k",
         "Heavy { count: 131074 }",
     ),
+    ("trace full o 100002 9", "Heavy { count: 131073 }"),
 ];
 
-// The list and the source page are two pages more than a memory file can have, and the destination is a third.
+// The list and the source page of a load are two pages more than a memory file can have, and the destination is a third.
 #[test]
 fn a_memory_that_has_no_file_is_told_with_its_pages(rt: HostRuntime) -> Result<(), Fail> {
     let alloc = rt.alloc();

@@ -1,8 +1,8 @@
 //! Lists that fill a link page, and those that need more than one.
 
 use crate::first_example::{BOOT, MAP, NO_PAGES};
-use crate::scene::Piece::{Bytes, Numbers, Repeated};
-use crate::scene::{Files, add, expect, file_of, joined, named, push_page, shelf};
+use crate::scene::Piece::{At, Bytes, Numbers, Repeated};
+use crate::scene::{Files, add, expect, file_of, first_other, joined, named, push_page, shelf};
 use std::alloc::{AllocError, Global};
 use std::ops::Range;
 use std::test::Fail;
@@ -87,5 +87,62 @@ fn a_kernel_may_take_several_link_pages(rt: HostRuntime) -> Result<(), Fail> {
     expect(&rt, alloc, &mut shelf, line, 0, "Done", MANY_PAGES_TEXT)?;
     let memory = file_of(alloc, &mut shelf, "o")?.ok_or("a memory")?;
     assert_eq!(rt; memory.len(), 16 + 2403 * 4104);
+    Ok(())
+}
+
+// 511 pages have 512 entries, for two link pages: the first one has a destination and 510 sources, and a link in its last
+// slot. The digest is what sha256sum says of the kernel.
+const TWO_LINKS: Files = &[
+    ("m", NO_PAGES),
+    ("p", &[Bytes(b"1000-1201\n")]),
+    ("k", &[Repeated(7, 511 * 4096)]),
+];
+
+const LAST_LINES: &str =
+    "512 link 1200000\n513 source 1201000\n514 done\nsegment 2000 memsz 1ff000 bufsz 2093056 sha256 41f30cdb7399d5021820dcffff5b19cc09fefa2c294c0d175209240f81d1f873\n";
+
+// The lines of the walk: the head, the destination, and the sources from page 0x1002 on.
+fn two_link_lines(alloc: Global) -> Result<String, AllocError> {
+    let mut lines = String::from_str(alloc, "0 link 1001000\n1 destination 2000\n")?;
+    for word in 2..512u64 {
+        lines.push_str(&format!(in alloc; "{word} source {:x}000\n", 0x1000 + word)?)?;
+    }
+    lines.push_str(LAST_LINES)?;
+    Ok(lines)
+}
+
+#[test]
+fn a_list_over_two_link_pages_is_dumped(rt: HostRuntime) -> Result<(), Fail> {
+    let alloc = rt.alloc();
+    let mut shelf = shelf(alloc, named(alloc, TWO_LINKS)?, &[])?;
+    let load = "load --type raw --at 2000 m p o r k";
+    let said =
+        "accepted words 515 links 2 pairs 511\nhead 1001002 control 1000000\nstart entry 2000 rax 0 rbx 0 rsi 0\n";
+    expect(&rt, alloc, &mut shelf, load, 0, "Done", said)?;
+    let lines = two_link_lines(alloc)?;
+    expect(&rt, alloc, &mut shelf, "dump o r", 0, "Done", &lines)
+}
+
+// 6,000 pages have 6,001 entries, for twelve link pages. All but the first and the last are zeros.
+const SIX_THOUSAND: Files = &[
+    ("m", NO_PAGES),
+    ("p", &[Bytes(b"10000-1177c\n")]),
+    ("k", &[Bytes(b"first"), At(5999 * 4096, b"last")]),
+];
+
+// Two pages of the kernel and their sources, and the list.
+#[test]
+fn a_kernel_of_6000_pages_is_booted(rt: HostRuntime) -> Result<(), Fail> {
+    let alloc = rt.alloc();
+    let mut shelf = shelf(alloc, named(alloc, SIX_THOUSAND)?, &[])?;
+    let said =
+        "accepted words 6014 links 12 pairs 6000\nhead 10001002 control 10000000\nstart entry 2000 rax 0 rbx 0 rsi 0\nran 6014\n";
+    expect(&rt, alloc, &mut shelf, BOOT.line, 0, "Done", said)?;
+    let memory = file_of(alloc, &mut shelf, "o")?.ok_or("a memory")?;
+    let places: &[(usize, &[u8])] = &[(24, b"first\0"), (4128, b"last\0")];
+    assert_eq!(rt;
+        (memory.len(), first_other(&memory, places)),
+        (16 + 16 * 4104, None)
+    );
     Ok(())
 }

@@ -38,6 +38,9 @@ const OUTPUTS: [&str; 3] = ["o", "r", "x"];
 /// The most bytes that an output can have.
 const ROOM: usize = 10_000_000;
 
+/// The most bytes that a text can have.
+const TEXT_ROOM: usize = 20_000;
+
 /// A command of a scene, and what has to come of it.
 #[derive(Clone, Copy)]
 pub(crate) struct Step {
@@ -167,7 +170,7 @@ pub(crate) fn run(
 ) -> Result<(Status, MemorySink), AllocError> {
     let words = words(alloc, line)?;
     let mut sink = MemorySink::new(alloc, failing.to_vec(alloc)?);
-    sink.reserve(400)?;
+    sink.reserve(TEXT_ROOM)?;
     let status = kexec(alloc, &words, shelf, &mut sink);
     Ok((status, sink))
 }
@@ -193,6 +196,32 @@ pub(crate) fn file_of(
         Ok(bytes) => Ok(Some(bytes)),
         Err(ShelfFault::Failed) => Ok(None),
         Err(ShelfFault::Memory) => Err(AllocError),
+    }
+}
+
+fn stand(file: &[u8], at: usize, wanted: &[u8]) -> bool {
+    match file.get(at..) {
+        Some(behind) => behind.starts_with(wanted),
+        None => false,
+    }
+}
+
+/// The first of these places of a file where other bytes stand.
+pub(crate) fn first_other(file: &[u8], places: &[(usize, &[u8])]) -> Option<usize> {
+    for (at, wanted) in places {
+        if !stand(file, *at, wanted) {
+            return Some(*at);
+        }
+    }
+    None
+}
+
+/// Puts bytes into a file at this place, if it has room for all of them.
+pub(crate) fn patch(file: &mut [u8], at: usize, bytes: &[u8]) {
+    if let Some((_, behind)) = file.split_at_mut_checked(at)
+        && let Some((place, _)) = behind.split_at_mut_checked(bytes.len())
+    {
+        place.copy_from_slice(bytes);
     }
 }
 
