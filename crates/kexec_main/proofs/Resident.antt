@@ -10,11 +10,12 @@ use Rattle.segments.specs.Values.{want}
 use Rattle.list_checker.specs.Walk.{IsAccepted}
 use Rattle.load_states.specs.States.{Checked, Load}
 use Rattle.resident_planner.specs.Laid.{plan_items}
+use Rattle.kexec_words.specs.Values.{BootResidentValue, InputsValue}
 use Rattle.kexec_plan.specs.Plan.{plan}
 use Rattle.kexec_plan.specs.Requests.{Plan}
 use Rattle.kexec_main.specs.declared.status.Reason.{Reason}
 use Rattle.kexec_main.specs.declared.status.Reason.TheVariants as reasons
-use Rattle.kexec_main.specs.BootResident.{HasNoList, IsKernel, RefusesResident, ran_resident, resident_text}
+use Rattle.kexec_main.specs.BootResident.{HasNoList, IsKernel, RefusesResident, ran_resident, raw_inputs, resident_text}
 use Rattle.kexec_main.specs.Inputs.{LoadInputs}
 use Rattle.kexec_main.specs.Runs.{HasMode, HasRun}
 use Rattle.kexec_main.specs.declared.boot_resident.ResidentKernel.{ResidentKernel}
@@ -48,3 +49,10 @@ kernel_accepted i rs k h =
 -- the text of a run is that of its list
 pub resident_text_of : (c : Checked) (r : Ran) (start planned : Start) (copied count : ℕ) → HasRun None c r → start ≡ planned → copied ≡ count → ran_resident r start copied ≡ resident_text c planned count
 resident_text_of c r start planned copied count h s n = rw (h.words, h.links, h.pairs, h.image, h.ends, s, n) refl
+
+-- the files of a raw kernel have no modules
+abbrev with_modules : BootResidentValue → List (List ℕ) → InputsValue
+with_modules b ms = record { memory = b.memory; pool = b.pool; below = None; map = None; kernel = b.kernel; initrd = None; purgatory = None; modules = ms; command = None }
+
+pub no_modules : (b : BootResidentValue) (ms : List (List ℕ)) → ms ≡ [] → with_modules b ms ≡ raw_inputs b
+no_modules b ms e = ap (with_modules b) e

@@ -1,6 +1,6 @@
 //! `boot-resident`: boots a raw kernel some of whose pages lie in memory already.
 
-ghost use Rattle.std.specs.Prelude.{◌≡◌, map, string_bytes, IfOk};
+ghost use Rattle.std.specs.Prelude.{◌≡◌, ◌++◌, map, string_bytes, IfOk, OnOk};
 ghost use Rattle.kx_pages.specs.Lists.{Distinct};
 ghost use Rattle.page_memory.specs.Contents.{at};
 ghost use Rattle.page_pool.specs.Pages.{usable_of};
@@ -9,7 +9,7 @@ ghost use Rattle.resident_planner.specs.Made.{IsMade};
 ghost use Rattle.file_commands.specs.Calls.{Makes, MakesOr, Takes};
 ghost use Rattle.kexec_words.specs.Values.{boot_resident_value};
 ghost use Rattle.kexec_main.specs.Inputs.{inputs_of};
-ghost use Rattle.kexec_main.specs.BootResident.{HasNoList, IsKernel, RefusesResident, ResidentInputs as Inputs, boots_resident, pairs_file, ran_resident, resident_files, resident_inputs};
+ghost use Rattle.kexec_main.specs.BootResident.{HasNoList, IsKernel, RefusesResident, ResidentInputs as Inputs, boots_resident, copied_line, pairs_file, ran_resident, resident_files, resident_inputs};
 
 use crate::files::{TEXT_LIMIT, refused_by};
 use crate::inputs::take_inputs;
@@ -82,6 +82,7 @@ fn take_resident<S: Shelf>(
         pairs,
         at,
     } = boot.words;
+    let modules = Vec::new(alloc);
     let inputs = Inputs {
         memory,
         pool,
@@ -90,7 +91,7 @@ fn take_resident<S: Shelf>(
         kernel,
         initrd: None,
         purgatory: None,
-        modules: Vec::new(alloc),
+        modules,
         command: None,
     };
     let load = take_inputs(alloc, ImageType::Raw { at, entry: at }, inputs, shelf)?;
@@ -172,12 +173,20 @@ fn load_resident(
     })
 }
 
+// Adds how many pages have a resident page and another source.
+fn push_copied_line(alloc: Global, text: &mut String, copied: u64) -> Result<(), AllocError>
+    ensures { OnOk result (string_bytes text.new ≡ string_bytes text.old ++ copied_line copied) }
+{
+    text.push_str(&format!(in alloc; "copied {copied}\n")?)?;
+    Ok(())
+}
+
 // What is said of the list, of what it copies, and of its run.
 fn resident_text(alloc: Global, ran: &Ran, start: &Start, copied: u64) -> Result<String, AllocError>
     ensures { IfOk result (λ s. string_bytes s ≡ ran_resident ran.now start.now copied) }
 {
     let mut text = load_lines(alloc, ran.words, ran.links, ran.pairs, &ran.image, start)?;
-    text.push_str(&format!(in alloc; "copied {copied}\n")?)?;
+    push_copied_line(alloc, &mut text, copied)?;
     push_ran_line(alloc, &mut text, ran.steps)?;
     Ok(text)
 }

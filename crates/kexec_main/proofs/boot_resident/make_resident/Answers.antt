@@ -13,24 +13,24 @@ use Rattle.kexec_main.proofs.boot_resident.make_resident.Goals as goal
 pub run_loaded-requires-clause-accepted : goal.run_loaded-requires-clause-accepted
 run_loaded-requires-clause-accepted c =
     let x = resident_inputs c.args.boot in
-    kernel_accepted x.load x.pairs c.in_ok-kernel.kernel c.in_ok-kernel.ensures
+    kernel_accepted x.load x.pairs c.in_ok-kernel.kernel (rw c.deref.ensures.value at c.in_ok-kernel.ensures)
 
 pub run_loaded-requires-clause-mode : goal.run_loaded-requires-clause-mode
 run_loaded-requires-clause-mode c =
     let x = resident_inputs c.args.boot in
-    kernel_mode x.load x.pairs c.in_ok-kernel.kernel c.in_ok-kernel.ensures
+    kernel_mode x.load x.pairs c.in_ok-kernel.kernel (rw c.deref.ensures.value at c.in_ok-kernel.ensures)
 
 pub returns-in_err-kernel : goal.returns-in_err-kernel
 returns-in_err-kernel c =
     let x = resident_inputs c.args.boot in
     let e : c.from_residual.result ≡ Err c.in_err-kernel.field-0.0 = search rules in
-    handed_on_as (λ g. boots_resident x (Ok (goods_of g))) (λ why. boots_resident x (Err (by why))) (RefusesResident x.load x.pairs) _ _ e (λ why r. inl r) c.in_err-kernel.ensures
+    handed_on_as (λ g. boots_resident x (Ok (goods_of g))) (λ why. boots_resident x (Err (by why))) (RefusesResident x.load x.pairs) _ _ e (λ why r. inl r) (rw c.deref.ensures.value at c.in_err-kernel.ensures)
 
 pub returns-in_err-outputs : goal.returns-in_err-outputs
 returns-in_err-outputs c =
     let x = resident_inputs c.args.boot in
     let e : c.from_residual-in_err-outputs.result ≡ Err c.in_err-outputs.field-0.0 = search rules in
-    let l = c.in_ok-kernel.ensures in
+    let l = rw c.deref.ensures.value at c.in_ok-kernel.ensures in
     let r = c.in_ok-ran.ensures in
     let k = checked_with c.in_ok-kernel.kernel.loaded r.0 r.1 r.2 in
     let N = at c.in_ok-ran.ran.memory in
@@ -40,7 +40,7 @@ returns-in_err-outputs c =
 pub returns : goal.returns
 returns c =
     let x = resident_inputs c.args.boot in
-    let l = c.in_ok-kernel.ensures in
+    let l = rw c.deref.ensures.value at c.in_ok-kernel.ensures in
     let r = c.in_ok-ran.ensures in
     let kernel = c.in_ok-kernel.kernel in
     let k = checked_with kernel.loaded r.0 r.1 r.2 in (
