@@ -151,7 +151,7 @@ can_boot x goods (p, m, c, l, text, fault, (bytes, outputs, file)) = record {
 }
 
 refused_boots : (b : BootResidentValue) (x : ResidentInputs) (a : Refusal Reason) → boots_resident x (Err a) → RefusesFor (boot_resident_entry b).command x a
-refused_boots b x (by why) (inl r) (Ok goods) (p, m, c, l, rest) = absurd (not_refused x.load x.pairs p m why l.0 r)
+refused_boots b x (by why) (inl r) (Ok goods) (p, m, c, l, text, fault, file) = absurd (not_refused x.load x.pairs p m why l.0 r)
 refused_boots b x (by why) (inr (p, m, c, l, f)) (Ok goods) (q, n, d, k, text, fault, (bytes, outputs, file)) =
     absurd (file_none (after_runs None c) bytes why (subst (λ N. IsFileOf N bytes) (same_after x p q m n c d l k) file) f)
 refused_boots b x (by why) (inl r) (Err (by w)) (inl s) = ap (λ w. Err (by w)) (one_refusal x.load x.pairs why w r s)
