@@ -1,0 +1,15 @@
+use Rattle.std.proofs.Common.{◌∙◌, sym, ap}
+use Rattle.image_slots.specs.declared.reply.Reply.{Reply}
+use Rattle.image_slots.specs.Events.{event_of}
+use Rattle.image_slots.specs.States.{state_of}
+use Rattle.image_slots.specs.Steps.{Outcome}
+use Rattle.image_slots.proofs.Sequences.{followed}
+use Rattle.image_slots.proofs.slots.Slots.answer.Goals as goal
+
+pub returns : goal.returns
+returns c =
+    followed (state_of c.args.self.now) (event_of c.args.event) c.apply.result (state_of c.apply.new.self) c.in_ok-reply.ensures.other c.apply.ensures.exact
+    ∙ ap (λ (r : Reply). outcome r) (sym c.in_ok-reply.ensures.same)
+  where
+    outcome : Reply → Outcome
+    outcome r = (r, state_of c.apply.new.self)
