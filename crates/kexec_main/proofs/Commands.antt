@@ -1,4 +1,5 @@
 pub mod Boot
+pub mod BootResident
 pub mod Load
 pub mod LoadPanic
 pub mod Check
@@ -7,6 +8,7 @@ pub mod Exec
 pub mod Trace
 pub mod Migrate
 pub mod Sample
+pub mod Drill
 pub mod CoreFile
 -- What is proved of each command.
 use Rattle.file_commands.proofs.Keeping.{Keeps}
@@ -14,6 +16,7 @@ use Rattle.kexec_words.specs.Values.{CommandValue}
 use Rattle.kexec_words.specs.Values as words
 use Rattle.kexec_main.specs.Commands.{entry_of}
 use Rattle.kexec_main.proofs.Commands.Boot.{boot_keeps}
+use Rattle.kexec_main.proofs.Commands.BootResident.{boot_resident_keeps}
 use Rattle.kexec_main.proofs.Commands.Load.{load_keeps}
 use Rattle.kexec_main.proofs.Commands.LoadPanic.{load_panic_keeps}
 use Rattle.kexec_main.proofs.Commands.Check.{check_keeps}
@@ -22,6 +25,7 @@ use Rattle.kexec_main.proofs.Commands.Exec.{exec_keeps}
 use Rattle.kexec_main.proofs.Commands.Trace.{trace_keeps}
 use Rattle.kexec_main.proofs.Commands.Migrate.{migrate_keeps}
 use Rattle.kexec_main.proofs.Commands.Sample.{sample_keeps}
+use Rattle.kexec_main.proofs.Commands.Drill.{drill_keeps}
 use Rattle.kexec_main.proofs.Commands.CoreFile.{core_keeps}
 
 pub keeps : (c : CommandValue) → Keeps (entry_of c)
@@ -34,4 +38,6 @@ keeps (words.exec v) = exec_keeps v
 keeps (words.trace v) = trace_keeps v
 keeps (words.migrate v) = migrate_keeps v
 keeps (words.sample v) = sample_keeps v
+keeps (words.boot_resident v) = boot_resident_keeps v
+keeps (words.drill v) = drill_keeps v
 keeps (words.core v) = core_keeps v

@@ -8,10 +8,12 @@ pub mod Commands
 pub mod Laid
 pub mod TooFew
 pub mod Mapped
+pub mod EventFile
 pub mod Pages
 pub mod Again
 pub mod Ending
 pub mod Reread
+pub mod Resident
 pub mod Together
 pub mod Proving
 pub mod Places

@@ -8,6 +8,7 @@ ghost use Rattle.kexec_main.specs.Statuses.{answer_of, code_of};
 
 use crash_headers::NoteFault;
 use file_commands::Stop;
+use image_slots::{EventsFault, SlotsFault};
 use kexec_plan::PlanFault;
 use kexec_words::UsageWhy;
 use list_checker::ListFault;
@@ -15,6 +16,7 @@ use load_record::RecFault;
 use memory_map::MapFault;
 use page_memory::MemFault;
 use page_pool::PoolFault;
+use resident_planner::{PairsFault, ResidentFault};
 use thiserror::Error;
 use vmcore_file::CoreFault;
 
@@ -36,6 +38,12 @@ pub enum InputFault {
     /// The file of notes.
     #[error("{fault}")]
     Notes { fault: NoteFault },
+    /// The file of pairs.
+    #[error("{fault}")]
+    Pairs { fault: PairsFault },
+    /// The file of events.
+    #[error("{fault}")]
+    Events { fault: EventsFault },
 }
 
 /// Why a command is refused, in the order in which its work is done.
@@ -51,8 +59,12 @@ pub enum Reason {
     Plan { fault: PlanFault },
     /// The pool has fewer usable pages than the load takes.
     NoPages { pool: u64, need: u64 },
+    /// No list is made of the resident pages.
+    Resident { fault: ResidentFault },
     /// The memory to write has more pages that are not all zeros than a memory file can have.
     Heavy { count: u64 },
+    /// There are no slots over the pool: one of its pages lies in the reserved area.
+    Slots { fault: SlotsFault },
     /// The memory has no core file by the headers at the address.
     Core { fault: CoreFault },
 }
@@ -96,6 +108,12 @@ pub enum Status {
     /// `exec --twice` was given a record that is not in kept mode.
     #[error("the load record is in plain mode, as that of a crash kernel always is, and --twice needs one that was loaded with --kept")]
     NotKept,
+    /// No list is made of the resident pages.
+    #[error("{fault}")]
+    Resident { fault: ResidentFault },
+    /// There are no slots over the pool: one of its pages lies in the reserved area.
+    #[error("{fault}")]
+    Slots { fault: SlotsFault },
     /// The memory has no core file by the headers at the address.
     #[error("{fault}")]
     Core { fault: CoreFault },
@@ -123,6 +141,8 @@ impl Status {
             Status::Heavy { .. } => 10,
             Status::NotKept => 11,
             Status::Memory => 12,
+            Status::Resident { .. } => 13,
+            Status::Slots { .. } => 14,
             Status::Core { .. } => 15,
         }
     }
@@ -138,7 +158,9 @@ impl From<Reason> for Status {
             Reason::NotKept => Status::NotKept,
             Reason::Plan { fault } => Status::Plan { fault },
             Reason::NoPages { pool, need } => Status::NoPages { pool, need },
+            Reason::Resident { fault } => Status::Resident { fault },
             Reason::Heavy { count } => Status::Heavy { count },
+            Reason::Slots { fault } => Status::Slots { fault },
             Reason::Core { fault } => Status::Core { fault },
         }
     }

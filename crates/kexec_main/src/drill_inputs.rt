@@ -1,0 +1,28 @@
+//! What `drill` takes.
+
+ghost use Rattle.std.specs.Prelude.{◌≡◌, ◌^◌, ℕ, map, false, true};
+ghost use Rattle.std.specs.List.{list_all};
+ghost use Rattle.page_pool.specs.Pages.{is_filed};
+ghost use Rattle.image_slots.specs.Events.{event_of};
+ghost use Rattle.kexec_main.specs.EventFile.{is_short};
+
+use image_slots::Event;
+use memory_map::Map;
+use page_memory::Memory;
+use page_pool::Pool;
+
+/// What `drill` took, and the name of its output.
+#[derive(Drop)]
+pub(crate) struct DrillInputs {
+    pub(crate) memory: Memory,
+    pub(crate) pool: Pool,
+    pub(crate) map: Map,
+    pub(crate) events: Vec<Event>,
+    pub(crate) out: String,
+    /// No page of a pool that was read is filed.
+    pub(crate) ghost unfiled: { (q : ℕ) → is_filed pool q ≡ false },
+    /// The pool has the limit of all addresses.
+    pub(crate) ghost limit: { pool.limit ≡ 2 ^ 46 },
+    /// Each store has at most a page.
+    pub(crate) ghost short: { list_all is_short (map event_of events.items) ≡ true },
+}
