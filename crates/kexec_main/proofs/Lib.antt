@@ -7,6 +7,7 @@ pub mod Loads
 pub mod Commands
 pub mod Laid
 pub mod Mapped
+pub mod EventFile
 pub mod Pages
 pub mod Again
 pub mod Ending
