@@ -1,6 +1,8 @@
 -- The file of events, and what is known of what is read of it (this project's own).
-use Rattle.std.specs.Prelude.{ℕ, List, length, Bool, true, not, nat_lt}
-use Rattle.image_slots.specs.Events.{EventValue, Store}
+use Rattle.std.specs.Prelude.{ℕ, List, length, map, Bool, true, not, nat_lt}
+use Rattle.std.specs.List.{list_all}
+use Rattle.image_slots.specs.declared.event.Event.{Event}
+use Rattle.image_slots.specs.Events.{EventValue, Store, event_of}
 use Rattle.image_slots.specs.Texts.{events_reading}
 use Rattle.file_commands.specs.Files.{from_reader, whole_file}
 use Rattle.file_commands.specs.Taking.{Take, ◌>>=◌}
@@ -19,3 +21,7 @@ events_file name = do
 abbrev pub is_short : EventValue → Bool
 is_short (Store page bytes) = not (nat_lt 4096 (length bytes))
 is_short other = true
+
+-- each store of these is
+abbrev pub are_short : List Event → Bool
+are_short events = list_all is_short (map event_of events)

@@ -1,10 +1,8 @@
 //! What `drill` takes.
 
-ghost use Rattle.std.specs.Prelude.{◌≡◌, ◌^◌, ℕ, map, false, true};
-ghost use Rattle.std.specs.List.{list_all};
+ghost use Rattle.std.specs.Prelude.{◌≡◌, ◌^◌, ℕ, false, true};
 ghost use Rattle.page_pool.specs.Pages.{is_filed};
-ghost use Rattle.image_slots.specs.Events.{event_of};
-ghost use Rattle.kexec_main.specs.EventFile.{is_short};
+ghost use Rattle.kexec_main.specs.EventFile.{are_short};
 
 use image_slots::Event;
 use memory_map::Map;
@@ -24,5 +22,5 @@ pub(crate) struct DrillInputs {
     /// The pool has the limit of all addresses.
     pub(crate) ghost limit: { pool.limit ≡ 2 ^ 46 },
     /// Each store has at most a page.
-    pub(crate) ghost short: { list_all is_short (map event_of events.items) ≡ true },
+    pub(crate) ghost short: { are_short events.items ≡ true },
 }

@@ -42,7 +42,7 @@ returns c =
       made.0,
       made.1,
       made.2,
-      c.in_ok-text.ensures ∙ ap (reply_lines 1) (c.in_ok-replies.ensures.replies ∙ ap (λ (s : State). replies_to s x.events) first),
+      c.in_ok-text.ensures ∙ ap (reply_lines 1) (c.deref.ensures.value ∙ c.in_ok-replies.ensures.replies ∙ ap (λ (s : State). replies_to s x.events) first),
       refl,
       subst (λ pages. AreKept pages (start x made.0) x.events) (append-nil x.pool) kept,
       w.0,
