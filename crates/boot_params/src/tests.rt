@@ -233,3 +233,16 @@ fn a_fault_says_what_was_wanted(rt: HostRuntime) -> Result<(), Fail> {
     );
     Ok(())
 }
+
+#[test]
+fn a_sentence_has_its_numbers_in_their_places(rt: HostRuntime) -> Result<(), Fail> {
+    let long = ParamsFault::CommandTooLong {
+        length: 21,
+        most: 20,
+    };
+    assert_eq!(rt;
+        long.to_string(rt.alloc())?.as_str(),
+        "the kernel's command has 21 bytes, and the kernel takes 20 or fewer"
+    );
+    Ok(())
+}

@@ -1,5 +1,8 @@
 use crate::test_files::{file_of, put};
-use crate::{ElfFault, ElfPart, Object, Reloc, RelocSection, Section, Symbol, read_object};
+use crate::{
+    ElfFault, ElfPart, Object, Reloc, RelocSection, SHN_ABS, SHN_COMMON, SHN_UNDEF, SHT_NOBITS,
+    SHT_NULL, SHT_REL, Section, Symbol, read_object,
+};
 use std::alloc::Global;
 use std::test::Fail;
 
@@ -303,5 +306,85 @@ fn a_second_symbol_table_is_refused(rt: HostRuntime) -> Result<(), Fail> {
     put(&mut file, 158, &[6]);
     let section = ElfFault::BadIndex { at: 158 };
     assert_eq!(rt; read_object(rt.alloc(), &file).err(), Some(section));
+    Ok(())
+}
+
+/// Two numbers of 16 bits, each with the place that it is put at, and why the object is refused: each fault with the one
+/// that is looked for after it, in one file.
+const BOTH_ROWS: [([(u64, u16); 2], ElfFault); 16] = [
+    ([(0, 0x457e), (4, 0x0101)], ElfFault::NotElf),
+    ([(4, 0x0101), (18, 3)], ElfFault::Class),
+    ([(18, 3), (16, 2)], ElfFault::Machine),
+    ([(16, 2), (58, 63)], ElfFault::Kind),
+    ([(58, 63), (40, 217)], ElfFault::BadEntrySize { at: 58 }),
+    (
+        [(STRTAB + 32, 401), (BSS + 4, 1)],
+        ElfFault::Truncated {
+            part: ElfPart::Section { i: 4 },
+        },
+    ),
+    (
+        [(BSS + 4, 1), (SYMTAB + 56, 23)],
+        ElfFault::Truncated {
+            part: ElfPart::Section { i: 5 },
+        },
+    ),
+    // The symbol table: its entries' size, its strings, then symbol after symbol its name and its section.
+    (
+        [(SYMTAB + 56, 23), (SYMTAB + 40, 1)],
+        ElfFault::BadEntrySize { at: SYMTAB + 56 },
+    ),
+    (
+        [(SYMTAB + 40, 1), (152, 11)],
+        ElfFault::BadIndex { at: SYMTAB + 40 },
+    ),
+    ([(152, 11), (158, 6)], ElfFault::BadString { symbol: 1 }),
+    (
+        [(158, 6), (STRTAB + 32, 10)],
+        ElfFault::BadIndex { at: 158 },
+    ),
+    // All symbols come before the relocations, which stand before them in the file.
+    ([(182, 6), (RELA + 56, 16)], ElfFault::BadIndex { at: 182 }),
+    (
+        [(RELA + 56, 16), (RELA + 40, 4)],
+        ElfFault::BadEntrySize { at: RELA + 56 },
+    ),
+    (
+        [(RELA + 40, 4), (RELA + 44, 6)],
+        ElfFault::BadIndex { at: RELA + 40 },
+    ),
+    (
+        [(RELA + 44, 6), (92, 3)],
+        ElfFault::BadIndex { at: RELA + 44 },
+    ),
+    ([(92, 3), (116, 3)], ElfFault::BadIndex { at: 88 }),
+];
+
+#[test]
+fn of_two_faults_the_first_is_told(rt: HostRuntime) -> Result<(), Fail> {
+    for (both, wanted) in &BOTH_ROWS {
+        let mut file = object_file(rt.alloc())?;
+        for (at, number) in both {
+            put(&mut file, *at as usize, &number.to_le_bytes());
+        }
+        assert_eq!(rt; read_object(rt.alloc(), &file).err(), Some(*wanted));
+    }
+    Ok(())
+}
+
+// The numbers of the gABI, chapters "Section Header" and "Symbol Table".
+#[test]
+fn public_numbers_are_those_of_the_standard(rt: HostRuntime) {
+    assert_eq!(rt; [SHT_NULL, SHT_NOBITS, SHT_REL], [0, 8, 9]);
+    assert_eq!(rt; [SHN_UNDEF, SHN_ABS, SHN_COMMON], [0, 0xfff1, 0xfff2]);
+}
+
+#[test]
+fn a_sentence_has_its_numbers_in_their_places(rt: HostRuntime) -> Result<(), Fail> {
+    let overlap = ElfFault::LoadsOverlap { i: 2, j: 1 };
+    assert_eq!(rt;
+        overlap.to_string(rt.alloc())?.as_str(),
+        "PT_LOAD 2 of the ELF file overlaps PT_LOAD 1"
+    );
     Ok(())
 }

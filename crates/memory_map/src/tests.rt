@@ -180,3 +180,81 @@ fn crash_areas_meet_and_touch(rt: HostRuntime) -> Result<(), Fail> {
     assert_eq!(rt; map.ram().total(), 1 + 3 + 7 + 15);
     Ok(())
 }
+
+// The names that have a row, and the kind of each: an address range type of ACPI (section 15, table 15.1), 1 memory,
+// 2 reserved, 3 reclaimable, 4 NVS. Each has a page of its own.
+#[test]
+fn each_name_has_its_kind(rt: HostRuntime) -> Result<(), Fail> {
+    let map = Map::read(
+        rt.alloc(),
+        b"1000-1fff : System RAM
+2000-2fff : Reserved
+3000-3fff : reserved
+4000-4fff : ACPI Tables
+5000-5fff : ACPI Non-volatile Storage
+6000-6fff : ACPI tables
+7000-7fff : System ROM
+8000-8fff : Crash kernel
+",
+    )?;
+    let rows = [
+        (0x1000, 1),
+        (0x2000, 2),
+        (0x3000, 2),
+        (0x4000, 3),
+        (0x5000, 4),
+    ];
+    assert_eq!(rt; map.rows().len(), 5);
+    for (row, wanted) in map.rows().iter().zip(&rows) {
+        assert_eq!(rt; (row.start, row.kind), *wanted);
+    }
+    // A crash kernel finds the reserved area as memory, and what is neither memory nor its own.
+    let crash = [
+        (0x8000, 1),
+        (0x2000, 2),
+        (0x3000, 2),
+        (0x4000, 3),
+        (0x5000, 4),
+    ];
+    assert_eq!(rt; map.crash_rows().len(), 5);
+    for (row, wanted) in map.crash_rows().iter().zip(&crash) {
+        assert_eq!(rt; (row.start, row.kind), *wanted);
+    }
+    Ok(())
+}
+
+// Two faults in one text, for each neighbour in the order in which they are tested.
+#[test]
+fn of_two_faults_the_first_is_told(rt: HostRuntime) {
+    let rows: [(&[u8], MapFault); 6] = [
+        // a line is read before it is looked at, and each line before the next
+        (
+            b"1fff : System RAM\n1fff-1000 : System RAM",
+            MapFault::BadLine { line: 1 },
+        ),
+        (
+            b"1fff-1000 : System RAM\n\n",
+            MapFault::Backwards { line: 1 },
+        ),
+        (
+            b"0-fff : System RAM\n800-7ff : System RAM",
+            MapFault::Backwards { line: 2 },
+        ),
+        (
+            b"0-fff : System RAM\n0-fff : System RAM\n\n",
+            MapFault::RamOverlaps { line: 2 },
+        ),
+        // that there is no RAM is known at the end alone
+        (
+            b"0-7ff : System RAM\n0-7ff : System RAM",
+            MapFault::RamOverlaps { line: 2 },
+        ),
+        (
+            b"0-7ff : System RAM\n2-1 : Reserved",
+            MapFault::Backwards { line: 2 },
+        ),
+    ];
+    for (text, wanted) in rows {
+        assert!(rt; is_fault(rt.alloc(), text, wanted));
+    }
+}

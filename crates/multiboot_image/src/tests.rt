@@ -70,7 +70,7 @@ fn loaded(alloc: Global, file: &[u8]) -> Loaded {
 }
 
 /// The bytes of a file, the place of its header and the header's flags, and where the header is found.
-const HEADERS: [(usize, usize, u32, Result<usize, MbFault>); 12] = [
+const HEADERS: [(usize, usize, u32, Result<usize, MbFault>); 13] = [
     // The header's 12 bytes lie inside the first 8,192.
     (8192, 8180, 0, Ok(8180)),
     (16_384, 8184, 0, Err(MbFault::NoHeader)),
@@ -85,6 +85,8 @@ const HEADERS: [(usize, usize, u32, Result<usize, MbFault>); 12] = [
     (64, 4, 0xfffe_0000, Ok(4)),
     // With bit 16 set the addresses lie there too.
     (8192, 8164, 0x1_0000, Err(MbFault::BadKludge)),
+    // A flag that is not served comes before addresses that are cut off.
+    (8192, 8164, 0x1_0004, Err(MbFault::UnknownFlag { bit: 2 })),
     (8192, 8160, 0x1_0000, Ok(8160)),
 ];
 
@@ -180,7 +182,7 @@ fn headers_at_each_place_around_the_end_of_the_search(rt: HostRuntime) -> Result
 }
 
 // The other addresses of that header, and what comes of them.
-const ADDRESSES: [([u32; 4], Loaded); 16] = [
+const ADDRESSES: [([u32; 4], Loaded); 17] = [
     (
         [0x10_0000, 0x10_0000, 0, 0],
         Ok(Some((0x10_0000, 0x1000, 64))),
@@ -225,6 +227,8 @@ const ADDRESSES: [([u32; 4], Loaded); 16] = [
         Err(MbFault::TooLarge { pages: 0x1_0001 }),
     ),
     ([0xffff_ffd0, 0xffff_ffd0, 0, 0], Err(MbFault::BadKludge)),
+    // Addresses that do not fit come before too many pages.
+    ([0, 1, 0, 0xffff_ffff], Err(MbFault::BadKludge)),
     // Without a byte to load and without memory there is no segment.
     ([0x10_0800, 0x10_0800, 0x10_0800, 0], Ok(None)),
     (
@@ -276,6 +280,38 @@ fn without_addresses_it_is_elf32(rt: HostRuntime) -> Result<(), Fail> {
     ];
     for (rows, wanted) in files {
         assert_eq!(rt; entry(rt.alloc(), &file(rt.alloc(), 128, rows)?), wanted);
+    }
+    Ok(())
+}
+
+/// An ELF64 file with a load of 65,537 pages, and the same as ELF32. The header stands behind the program headers.
+const WIDE_LARGE: [(usize, &[u32]); 6] = [
+    (0, &[0x464c_457f, 0x0001_0102]),
+    (16, &[0x003e_0002]),
+    (32, &[64]),
+    (52, &[0x0038_0040, 1]),
+    (64, &[1, 0, 0, 0, 0, 0, 0, 0, 0, 0, 0x1000_1000]),
+    (128, &PLAIN),
+];
+
+const NARROW_LARGE: [(usize, &[u32]); 5] = [
+    (0, &[0x464c_457f, 0x0001_0101]),
+    (16, &[0x0003_0002, 1, 0x1234, 52]),
+    (40, &[0x0020_0034, 1]),
+    (52, &[1, 0, 0, 0, 0, 0x1000_1000]),
+    (128, &PLAIN),
+];
+
+// An ELF64 file is refused before its pages are counted.
+#[test]
+fn the_class_comes_before_the_pages(rt: HostRuntime) -> Result<(), Fail> {
+    let files: [(&[(usize, &[u32])], ElfFault); 2] = [
+        (&WIDE_LARGE, ElfFault::Class),
+        (&NARROW_LARGE, ElfFault::TooLarge { pages: 0x1_0001 }),
+    ];
+    for (rows, fault) in files {
+        let file = file(rt.alloc(), 256, rows)?;
+        assert_eq!(rt; entry(rt.alloc(), &file), Err(MbFault::Elf { fault }));
     }
     Ok(())
 }

@@ -133,3 +133,22 @@ fn gives_the_passed_pages_once_the_limit_is_raised(rt: HostRuntime) -> Result<()
     assert!(rt; pool.draw().is_none());
     Ok(())
 }
+
+// Two faults in one text, for each neighbour in the order in which they are tested.
+#[test]
+fn of_two_faults_the_first_is_told(rt: HostRuntime) {
+    let rows: [(&[u8], PoolFault); 7] = [
+        (b"3-\n4-2", PoolFault::BadLine { line: 1 }),
+        (b"4-2\n\n", PoolFault::Backwards { line: 1 }),
+        // backwards and past the limit, past the limit and too many, too many and twice
+        (b"500000000-400000000", PoolFault::Backwards { line: 1 }),
+        (b"0-400000000", PoolFault::PastLimit { line: 1 }),
+        (b"7\n0-3ffff", PoolFault::TooMany { line: 2 }),
+        // that a page stands twice is told behind the last line
+        (b"1\n1\n\n", PoolFault::BadLine { line: 3 }),
+        (b"1\n1\n0-400000000", PoolFault::PastLimit { line: 3 }),
+    ];
+    for (text, wanted) in rows {
+        assert!(rt; is_fault(rt.alloc(), text, wanted));
+    }
+}
