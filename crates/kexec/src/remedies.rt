@@ -1,4 +1,4 @@
-//! What helps where a kernel, a purgatory or a load record was refused.
+//! What helps where a kernel, a purgatory, a load record or the headers of a crash kernel were refused.
 
 use boot_params::ParamsFault;
 use bzimage::BzFault;
@@ -7,6 +7,7 @@ use kexec_main::{InputFault, Status};
 use kexec_plan::PlanFault;
 use load_record::RecFault;
 use purgatory_link::LinkFault;
+use vmcore_file::CoreFault;
 
 // An ELF file of another kind than the one that is wanted.
 fn elf_remedy(fault: &ElfFault, wanted: &'static str) -> Option<&'static str> {
@@ -80,11 +81,24 @@ fn input_remedy(fault: &InputFault) -> Option<&'static str> {
     }
 }
 
+fn core_remedy(fault: &CoreFault) -> Option<&'static str> {
+    match fault {
+        CoreFault::NotHeaders => Some(
+            "load-panic puts them at N times 1024, in hexadecimal, where the kernel's command ends with elfcorehdr=NK",
+        ),
+        CoreFault::TooLarge { .. } => {
+            Some("load the crash kernel with a memory map that has less System RAM")
+        }
+        _ => None,
+    }
+}
+
 /// What the user can do about a refusal, where its sentence does not say so yet.
 pub(crate) fn remedy_of(status: &Status, is_crash: bool) -> Option<&'static str> {
     match status {
         Status::Plan { fault } => plan_remedy(fault, is_crash),
         Status::Input { fault } => input_remedy(fault),
+        Status::Core { fault } => core_remedy(fault),
         _ => None,
     }
 }
