@@ -1,4 +1,4 @@
-//! What helps where a kernel, a purgatory, a load record or a pool was refused.
+//! What helps where a kernel, a purgatory, a load record, a pool, a pair of resident pages or crash headers were refused.
 
 use boot_params::ParamsFault;
 use bzimage::BzFault;
@@ -8,6 +8,7 @@ use kexec_plan::PlanFault;
 use load_record::RecFault;
 use purgatory_link::LinkFault;
 use resident_planner::ResidentFault;
+use vmcore_file::CoreFault;
 
 // An ELF file of another kind than the one that is wanted.
 fn elf_remedy(fault: &ElfFault, wanted: &'static str) -> Option<&'static str> {
@@ -89,6 +90,18 @@ fn resident_remedy(fault: &ResidentFault) -> Option<&'static str> {
     }
 }
 
+fn core_remedy(fault: &CoreFault) -> Option<&'static str> {
+    match fault {
+        CoreFault::NotHeaders => Some(
+            "load-panic puts them at N times 1024, in hexadecimal, where the kernel's command ends with elfcorehdr=NK",
+        ),
+        CoreFault::TooLarge { .. } => {
+            Some("load the crash kernel with a memory map that has less System RAM")
+        }
+        _ => None,
+    }
+}
+
 /// What the user can do about a refusal, where its sentence does not say so yet.
 pub(crate) fn remedy_of(status: &Status, is_crash: bool) -> Option<&'static str> {
     match status {
@@ -96,6 +109,7 @@ pub(crate) fn remedy_of(status: &Status, is_crash: bool) -> Option<&'static str>
         Status::Input { fault } => input_remedy(fault),
         Status::Resident { fault } => resident_remedy(fault),
         Status::Slots { .. } => Some("take it out of the pool, or reserve another area"),
+        Status::Core { fault } => core_remedy(fault),
         _ => None,
     }
 }

@@ -2,6 +2,7 @@
 //! call. What was put before stays whole, what would have come later is not there, and nothing is said. `sample` makes
 //! one call, its say, behind the moves of 64 MiB, which no test makes: scripts/attack-devices tries it.
 
+use crate::core_tests::MACHINE;
 use crate::crash_example::{BEFORE, LINUX_KERNEL, NOTES, RESERVED};
 use crate::first_example::{ABC, LOADED, MAP, NO_PAGES, RECORD};
 use crate::scene::Piece::Bytes;
@@ -26,10 +27,11 @@ const FILES: Files = &[
     ("reserved", RESERVED),
     ("notes", NOTES),
     ("linux", LINUX_KERNEL),
+    ("machine", MACHINE),
 ];
 
 /// The words of a command, the files that it takes and those that it puts, each in its order.
-const COMMANDS: [(&str, &str, &str); 8] = [
+const COMMANDS: [(&str, &str, &str); 9] = [
     ("boot --type raw --at 2000 m p o k", "m p k", "o"),
     ("load --type raw --at 2000 m p o r k", "m p k", "o r"),
     (
@@ -42,10 +44,11 @@ const COMMANDS: [(&str, &str, &str); 8] = [
     ("exec list record o", "list record", "o"),
     ("trace list o 11002 9", "list", "o"),
     ("migrate record o", "record", "o"),
+    ("core machine o 101000", "machine", "o"),
 ];
 
 /// Commands that take their files, and then refuse what these are.
-const REFUSED: [(&str, &str); 3] = [
+const REFUSED: [(&str, &str); 4] = [
     (
         "boot --map f --initrd i --purgatory u m p o k a b",
         "m p f k i u a b",
@@ -55,6 +58,7 @@ const REFUSED: [(&str, &str); 3] = [
         "m p f k i u a b",
     ),
     ("exec --twice list record o", "list record"),
+    ("core m o 0", "m"),
 ];
 
 /// The outputs o and r, where they are there.

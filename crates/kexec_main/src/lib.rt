@@ -24,6 +24,8 @@ mod check;
 mod core_file;
 mod core_inputs;
 #[cfg(test)]
+mod core_tests;
+#[cfg(test)]
 mod crash_example;
 mod crash_exec;
 mod crash_loading;

@@ -18,6 +18,7 @@ const LIMITS: [(&str, usize); 9] = [
     ("boot --map f --initrd long m p o half", 134_217_728),
     ("boot --map f m p o half rest long", 0),
     ("boot --map f --purgatory long m p o k", 16_777_216),
+    ("core long o 0", 537_919_504),
 ];
 
 const HALF: Pieces = &[Repeated(0, 134_217_728)];

@@ -4,3 +4,4 @@ pub mod Lists
 pub mod Runs
 pub mod Maps
 pub mod Records
+pub mod Cores
