@@ -1,6 +1,6 @@
 //! The sentences about a request that has no plan, told by what was given.
 
-use kexec_plan::PlanFault;
+use kexec_plan::{Part, PlanFault};
 use kexec_usage::{Given, text_of};
 use segments::SegFault;
 use std::fmt::{self, Formatter, Write};
@@ -69,6 +69,35 @@ fn write_placed<W: Write>(
     }
 }
 
+// The option or word of a part that is given, and what it is.
+fn option_of(part: &Part) -> Option<(&'static str, &'static str)> {
+    match part {
+        Part::Initrd => Some(("--initrd", "initrd")),
+        Part::Module => Some(("MODULES", "module")),
+        Part::Command => Some(("--command", "command line")),
+        _ => None,
+    }
+}
+
+// A part that kernels of this type take none of.
+fn write_unused<W: Write>(part: &Part, given: &[Given<'_>], f: &mut Formatter<W>) -> fmt::Result {
+    let Some((option, what)) = option_of(part) else {
+        return write!(f, "{part} is given, and a kernel of this type takes none");
+    };
+    match text_of(given, option) {
+        Some(text) => write!(f, "{option} {text:?}: ")?,
+        None => write!(f, "{option}: ")?,
+    }
+    match text_of(given, "--type") {
+        Some(kind) if kind != "auto" => write!(f, "a kernel of type {kind} takes no {what}"),
+        _ => write!(
+            f,
+            "a kernel of the type of {:?} takes no {what}",
+            text_of(given, "KERNEL").unwrap_or("")
+        ),
+    }
+}
+
 /// Why a request has no plan.
 pub(crate) fn write_plan<W: Write>(
     fault: &PlanFault,
@@ -88,6 +117,10 @@ pub(crate) fn write_plan<W: Write>(
         PlanFault::UnknownImage if is_crash => {
             f.write_str("the kernel file is no bzImage, and a crash kernel has to be one")
         }
+        PlanFault::Unused { part } => write_unused(part, given, f),
+        PlanFault::NoReserved => f.write_str(
+            "the memory map has no line Crash kernel with a whole page: boot the kernel whose map this is, the one that runs now, with crashkernel=",
+        ),
         fault => write!(f, "{fault}"),
     }
 }

@@ -6,6 +6,7 @@ use elf_image::ElfFault;
 use kexec_main::{InputFault, Status};
 use kexec_plan::PlanFault;
 use load_record::RecFault;
+use page_pool::PoolFault;
 use purgatory_link::LinkFault;
 use resident_planner::ResidentFault;
 use vmcore_file::CoreFault;
@@ -78,6 +79,11 @@ fn input_remedy(fault: &InputFault) -> Option<&'static str> {
         InputFault::Rec {
             fault: RecFault::WrongDigest { .. },
         } => Some("load the kernel again, or fetch the load record again"),
+        InputFault::Pool {
+            fault: PoolFault::PastLimit { .. } | PoolFault::TooMany { .. },
+        } => Some(
+            "a pool has page numbers, not addresses: leave the last three digits of an address out",
+        ),
         _ => None,
     }
 }

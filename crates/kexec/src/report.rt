@@ -16,7 +16,9 @@ pub(crate) struct Report<'a> {
     /// The words as the command takes them.
     pub(crate) answer: Answer<'a>,
     /// What the system says of a file that could not be read or written.
-    pub(crate) cause: Option<io::Error>,
+    pub(crate) cause: Option<&'a io::Error>,
+    /// What the front of the refused file tells.
+    pub(crate) hint: Option<&'static str>,
 }
 
 // The pool has too few pages below the limit that was given.
@@ -38,7 +40,7 @@ impl Report<'_> {
 
     fn write_status<W: Write>(&self, f: &mut Formatter<W>) -> fmt::Result {
         let given = &self.answer.given;
-        match (self.status, &self.cause) {
+        match (self.status, self.cause) {
             (Status::Unread { name }, Some(cause)) => write!(f, "{name:?} cannot be read: {cause}"),
             (Status::Unwritten { name }, Some(cause)) => {
                 write!(f, "{name:?} cannot be written: {cause}")
@@ -68,7 +70,7 @@ impl Display for Report<'_> {
             write!(f, "{name:?}: ")?;
         }
         self.write_status(f)?;
-        match remedy_of(self.status, self.is_crash()) {
+        match self.hint.or(remedy_of(self.status, self.is_crash())) {
             Some(remedy) => write!(f, "; {remedy}"),
             None => Ok(()),
         }

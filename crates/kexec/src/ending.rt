@@ -1,0 +1,149 @@
+//! How the program ends: its exit status, and what it says on standard error.
+
+ghost use Rattle.std.specs.Prelude.{◌≡◌, IsSome, IsNone};
+ghost use Rattle.kexec_main.specs.Statuses.{code_of};
+
+use crate::report::Report;
+use kexec_main::Status;
+use kexec_usage::{asks_for_help, read_answer};
+use kexec_words::help_of;
+use std::alloc::Global;
+use std::fmt::{self, Display, Formatter, Write};
+use std::io;
+
+/// The exit status where the system does not give the words; no status of a command has it.
+const NO_WORDS: u8 = 65;
+
+/// What is said on standard error.
+#[derive(Drop)]
+pub(crate) enum Notice<'a> {
+    /// The system did not give the words.
+    NoWords,
+    /// The help that was asked for.
+    Help {
+        text: &'static str,
+    },
+    /// Why words were refused, and of their help the front; then how to get the rest of it.
+    Usage {
+        report: Report<'a>,
+        front: &'static str,
+        rest: &'static str,
+    },
+    /// Why a command was refused otherwise.
+    Refusal {
+        report: Report<'a>,
+    },
+}
+
+impl Display for Notice<'_> {
+    fn fmt<W: Write>(&self, f: &mut Formatter<W>) -> fmt::Result {
+        match self {
+            Notice::NoWords => f.write_str(
+                "kexec: no words: an argument is no text in UTF-8, or there is not enough memory for the arguments",
+            ),
+            Notice::Help { text } => f.write_str(text),
+            Notice::Usage {
+                report,
+                front,
+                rest,
+            } => write!(f, "{report}\n{front}{rest}"),
+            Notice::Refusal { report } => write!(f, "{report}"),
+        }
+    }
+}
+
+// The help behind a sentence about words: whole where no word follows the first, and else its first line.
+fn help_behind(words: &[String]) -> (&'static str, &'static str) {
+    let help = help_of(words);
+    if words.len() < 2 {
+        return (help, "");
+    }
+    let front = help.lines().next().unwrap_or("");
+    (
+        front,
+        "\nThe argument --help behind the command tells what it takes.",
+    )
+}
+
+/// What is known of a refusal beside its status.
+#[derive(Clone, Copy)]
+pub(crate) struct Beside<'a> {
+    /// What the system says of a file that could not be read or written.
+    pub(crate) cause: Option<&'a io::Error>,
+    /// What the front of the refused file tells.
+    pub(crate) hint: Option<&'static str>,
+}
+
+// Why the command was refused.
+fn notice_of<'a>(
+    alloc: Global,
+    words: &'a [String],
+    status: &'a Status,
+    beside: Beside<'a>,
+) -> Notice<'a> {
+    let is_usage = matches!(status, Status::Usage { .. });
+    if is_usage && asks_for_help(words) {
+        return Notice::Help {
+            text: help_of(words),
+        };
+    }
+    let report = Report {
+        status,
+        words,
+        answer: read_answer(alloc, words),
+        cause: beside.cause,
+        hint: beside.hint,
+    };
+    if !is_usage {
+        return Notice::Refusal { report };
+    }
+    let (front, rest) = help_behind(words);
+    Notice::Usage {
+        report,
+        front,
+        rest,
+    }
+}
+
+/// The exit status, and what is said before it.
+#[derive(Drop)]
+pub(crate) struct Ending<'a> {
+    pub(crate) code: u8,
+    pub(crate) notice: Option<Notice<'a>>,
+}
+
+impl<'a> Ending<'a> {
+    /// The system did not give the words.
+    pub(crate) fn without_words() -> Ending<'a>
+        ensures code { result.code ≡ 65 }
+        ensures told { IsSome result.notice }
+    {
+        Ending {
+            code: NO_WORDS,
+            notice: Some(Notice::NoWords),
+        }
+    }
+
+    /// A command ended so.
+    pub(crate) fn of(
+        alloc: Global,
+        words: &'a [String],
+        status: &'a Status,
+        beside: Beside<'a>,
+    ) -> Ending<'a>
+        // The exit status is the one of the answer.
+        ensures code { result.code ≡ code_of status.now }
+
+        // What is not done is told, and what is done says nothing.
+        ensures told { (code_of status.now ≡ 0 → ⊥) → IsSome result.notice }
+        ensures silent { code_of status.now ≡ 0 → IsNone result.notice }
+    {
+        let code = status.code();
+        let notice = if code == 0 {
+            None
+        } else {
+            Some(notice_of(alloc, words, status, beside))
+        };
+        Ending { code, notice }
+    }
+}

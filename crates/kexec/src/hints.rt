@@ -1,0 +1,123 @@
+//! What the front of a refused file tells, where its reader cannot say it: the file is of another kind.
+
+use crate::files::file_of;
+use bzimage::BzFault;
+use elf_image::ElfFault;
+use kexec_main::{InputFault, Status};
+use kexec_plan::PlanFault;
+use kexec_usage::{read_answer, text_of};
+use memory_map::MapFault;
+use multiboot_image::MbFault;
+use std::fs;
+use std::io::Read;
+use std::rt::Files;
+
+/// How many bytes of a file are looked at.
+const FRONT: usize = 4096;
+
+// The program that unpacks a file, by the magic number in front: RFC 1952, section 2.3.1; the .xz file format, section
+// 2.1.1.1; RFC 8878, section 3.1.1.
+fn unpack_hint(front: &[u8]) -> Option<&'static str> {
+    if front.starts_with(&[0x1f, 0x8b]) {
+        return Some("it is packed: unpack it first, by gzip -dc");
+    }
+    if front.starts_with(b"\xfd7zXZ\0") {
+        return Some("it is packed: unpack it first, by xz -dc");
+    }
+    if front.starts_with(&[0x28, 0xb5, 0x2f, 0xfd]) {
+        return Some("it is packed: unpack it first, by zstd -dc");
+    }
+    None
+}
+
+// The kernel's file has not the mark of its type, or of any.
+fn is_unmarked(fault: &PlanFault) -> bool {
+    matches!(
+        fault,
+        PlanFault::UnknownImage
+            | PlanFault::CrashNeedsBzimage
+            | PlanFault::Elf {
+                fault: ElfFault::NotElf,
+            }
+            | PlanFault::Bzimage {
+                fault: BzFault::NotKernel,
+            }
+            | PlanFault::Multiboot {
+                fault: MbFault::NoHeader,
+            }
+    )
+}
+
+// A line ends with a carriage return, which belongs to its name.
+fn line_hint(front: &[u8]) -> Option<&'static str> {
+    if front.contains(&b'\r') {
+        Some("its lines end with carriage returns: take them off, by tr -d '\\r'")
+    } else {
+        None
+    }
+}
+
+fn memory_hint(front: &[u8]) -> Option<&'static str> {
+    if front.starts_with(b"KXMEM001") {
+        None
+    } else {
+        Some("a raw dump of memory is no memory file")
+    }
+}
+
+/// What these first bytes of the refused file tell.
+pub(crate) fn hint_in(status: &Status, is_memory: bool, front: &[u8]) -> Option<&'static str> {
+    match status {
+        Status::Plan { fault } if is_unmarked(fault) => unpack_hint(front),
+        Status::Input {
+            fault: InputFault::Map {
+                fault: MapFault::NoRam | MapFault::BadLine { .. },
+            },
+        } => line_hint(front),
+        Status::Input {
+            fault: InputFault::Mem { .. },
+        } => memory_hint(front),
+        Status::TooLong { .. } if is_memory => memory_hint(front),
+        _ => None,
+    }
+}
+
+// The name of the file to look at, and whether it is the memory file.
+fn looked_at<'a>(
+    status: &'a Status,
+    file: Option<&'a str>,
+    memory: Option<&'a str>,
+) -> (Option<&'a str>, bool) {
+    match status {
+        Status::TooLong { name, .. } => (memory.filter(|one| *one == name.as_str()), true),
+        _ => (file, false),
+    }
+}
+
+// The first bytes of a regular file, as many as one read gives.
+fn read_front<R: Files>(rt: &R, name: &str, front: &mut [u8; FRONT]) -> usize {
+    let Ok(about) = fs::metadata(rt, name) else {
+        return 0;
+    };
+    if !about.is_file() {
+        return 0;
+    }
+    match fs::open(rt, name) {
+        Ok(mut file) => file.read(front).unwrap_or(0),
+        Err(_) => 0,
+    }
+}
+
+/// What the front of the refused file tells, where the system gives it once more.
+pub(crate) fn hint_of<R: Files + AllocGlobal>(
+    rt: &R,
+    words: &[String],
+    status: &Status,
+) -> Option<&'static str> {
+    let answer = read_answer(rt.alloc(), words);
+    let memory = text_of(&answer.given, "MEMORY");
+    let (name, is_memory) = looked_at(status, file_of(status, &answer.given), memory);
+    let mut front = [0u8; FRONT];
+    let count = read_front(rt, name?, &mut front);
+    hint_in(status, is_memory, front.get(..count)?)
+}

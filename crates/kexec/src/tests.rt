@@ -1,0 +1,256 @@
+use crate::ending::{Beside, Ending};
+use crate::hints::hint_in;
+use boot_params::ParamsFault;
+use kexec_main::{InputFault, Status, kexec};
+use kexec_plan::{Part, PlanFault};
+use kx_edge::{HostShelf, MemorySink};
+use list_checker::{ListFault, Why};
+use memory_map::MapFault;
+use page_memory::MemFault;
+use page_pool::PoolFault;
+use segments::SegFault;
+use std::alloc::{AllocError, Global};
+use std::fs;
+use std::test::Fail;
+
+const NOTHING: Beside<'static> = Beside {
+    cause: None,
+    hint: None,
+};
+
+// The words of a line, with one space between them.
+fn words_of(alloc: Global, line: &str) -> Result<Vec<String>, AllocError> {
+    let mut words = Vec::new(alloc);
+    for word in line.split(' ') {
+        words.push(String::from_str(alloc, word)?)?;
+    }
+    Ok(words)
+}
+
+// Whether a command with these words that ended so ends with this exit status and this sentence: none where it is empty.
+fn is_told(
+    rt: &HostRuntime,
+    line: &str,
+    status: &Status,
+    beside: Beside<'_>,
+    (code, wanted): (u8, &str),
+) -> Result<bool, Fail> {
+    let words = words_of(rt.alloc(), line)?;
+    let ending = Ending::of(rt.alloc(), &words, status, beside);
+    let is_said = match &ending.notice {
+        None => wanted.is_empty(),
+        Some(notice) => notice.to_string(rt.alloc())?.as_str() == wanted,
+    };
+    Ok(ending.code == code && is_said)
+}
+
+fn input(fault: InputFault) -> Status {
+    Status::Input { fault }
+}
+
+fn plan(fault: PlanFault) -> Status {
+    Status::Plan { fault }
+}
+
+// Exit statuses as docs/FORMATS.md lists them.
+#[test]
+fn each_answer_has_its_status_and_sentence(rt: HostRuntime) -> Result<(), Fail> {
+    let rows = [
+        (Status::Done, (0, "")),
+        (
+            Status::NotAccepted {
+                fault: ListFault {
+                    word: 3,
+                    why: Why::Flags,
+                },
+            },
+            (
+                1,
+                "kexec: the list is not accepted: word 3: Flags, since its low twelve bits are not exactly one of the flags 1, 2, 4 and 8",
+            ),
+        ),
+        (
+            Status::Unsaid,
+            (
+                5,
+                "kexec: standard output cannot be written: it has to be open and to have room",
+            ),
+        ),
+        (
+            Status::NoPages { pool: 2, need: 5 },
+            (
+                9,
+                "kexec: \"p\": the pool has too few usable pages: 2 where the load takes 5; give it at least 3 more",
+            ),
+        ),
+        (
+            Status::Memory,
+            (
+                12,
+                "kexec: there is not enough memory for the work: free some and try again",
+            ),
+        ),
+    ];
+    for (status, wanted) in &rows {
+        let line = "boot m p o k";
+        assert!(rt; is_told(&rt, line, status, NOTHING, *wanted)?);
+    }
+    Ok(())
+}
+
+#[test]
+fn the_pool_below_a_limit_is_told(rt: HostRuntime) -> Result<(), Fail> {
+    let status = Status::NoPages { pool: 2, need: 5 };
+    let wanted = (
+        9,
+        "kexec: \"p\": the pool has too few usable pages below --below 100000: 2 where the load takes 5; give it at least 3 more there, or raise the limit",
+    );
+    let line = "boot --below 100000 m p o k";
+    assert!(rt; is_told(&rt, line, &status, NOTHING, wanted)?);
+    Ok(())
+}
+
+#[test]
+fn a_refused_file_is_named(rt: HostRuntime) -> Result<(), Fail> {
+    let rows = [
+        (
+            input(InputFault::Mem {
+                fault: MemFault::BadMagic,
+            }),
+            "kexec: \"m\": the memory file does not begin with KXMEM001",
+        ),
+        (
+            input(InputFault::Pool {
+                fault: PoolFault::PastLimit { line: 2 },
+            }),
+            "kexec: \"p\": line 2 of the pool file names a page that is not below 0x400000000; a pool has page numbers, not addresses: leave the last three digits of an address out",
+        ),
+        (
+            input(InputFault::Map {
+                fault: MapFault::BadLine { line: 4 },
+            }),
+            "kexec: \"map\": line 4 of the memory map is not `first-last : name` with first and last in hexadecimal",
+        ),
+    ];
+    for (status, wanted) in &rows {
+        let line = "boot --map map m p o k";
+        assert!(rt; is_told(&rt, line, status, NOTHING, (7, wanted))?);
+    }
+    Ok(())
+}
+
+#[test]
+fn a_request_without_a_plan_says_what_is_in_the_way(rt: HostRuntime) -> Result<(), Fail> {
+    let rows = [
+        (
+            plan(PlanFault::Unused { part: Part::Initrd }),
+            "kexec: --initrd \"i\": a kernel of type elf takes no initrd",
+        ),
+        (
+            plan(PlanFault::Segments {
+                fault: SegFault::NotRam { i: 1 },
+            }),
+            "kexec: segment 1 of the kernel has a page that is no System RAM of the memory map \"map\"",
+        ),
+        (
+            plan(PlanFault::Params {
+                fault: ParamsFault::CommandTooLong {
+                    length: 21,
+                    most: 20,
+                },
+            }),
+            "kexec: the kernel's command has 21 bytes, and the kernel takes 20 or fewer",
+        ),
+        (
+            plan(PlanFault::NoHole { part: Part::Kernel }),
+            "kexec: there is no place for the kernel: the memory map has no free run of pages where it may lie",
+        ),
+    ];
+    for (status, wanted) in &rows {
+        let line = "boot --map map --type elf --initrd i m p o k";
+        assert!(rt; is_told(&rt, line, status, NOTHING, (8, wanted))?);
+    }
+    Ok(())
+}
+
+// Asked for, the help is all that is said; the status is that of words that are refused.
+#[test]
+fn without_words_there_is_a_sentence(rt: HostRuntime) -> Result<(), Fail> {
+    let ending = Ending::without_words();
+    assert_eq!(rt; ending.code, 65);
+    let notice = ending.notice.ok_or("a sentence")?;
+    let text = notice.to_string(rt.alloc())?;
+    assert_eq!(rt;
+        text.as_str(),
+        "kexec: no words: an argument is no text in UTF-8, or there is not enough memory for the arguments"
+    );
+    Ok(())
+}
+
+// Magic numbers of RFC 1952, the .xz file format and RFC 8878.
+#[test]
+fn the_front_of_a_file_tells_its_kind(rt: HostRuntime) {
+    let unknown = plan(PlanFault::UnknownImage);
+    let map = input(InputFault::Map {
+        fault: MapFault::NoRam,
+    });
+    let memory = input(InputFault::Mem {
+        fault: MemFault::BadMagic,
+    });
+    let gzip = Some("it is packed: unpack it first, by gzip -dc");
+    let xz = Some("it is packed: unpack it first, by xz -dc");
+    let zstd = Some("it is packed: unpack it first, by zstd -dc");
+    let rows: [(&Status, &[u8], Option<&str>); 9] = [
+        (&unknown, &[0x1f, 0x8b, 8], gzip),
+        (&unknown, &[0xfd, 0x37, 0x7a, 0x58, 0x5a, 0], xz),
+        (&unknown, &[0x28, 0xb5, 0x2f, 0xfd], zstd),
+        (&unknown, b"MZ", None),
+        (&unknown, b"", None),
+        (&map, b"0-fff : Reserved\n", None),
+        (
+            &map,
+            b"0-fff : System RAM\r\n",
+            Some("its lines end with carriage returns: take them off, by tr -d '\\r'"),
+        ),
+        (
+            &memory,
+            b"\0\0\0\0",
+            Some("a raw dump of memory is no memory file"),
+        ),
+        (&memory, b"KXMEM001", None),
+    ];
+    for (status, front, wanted) in rows {
+        assert!(rt; hint_in(status, false, front) == wanted);
+    }
+}
+
+// The exit status of `trace` over the system's files.
+fn traced(rt: &HostRuntime, line: &str) -> Result<u8, Fail> {
+    let words = words_of(rt.alloc(), line)?;
+    let mut shelf = HostShelf::new(rt);
+    let mut sink = MemorySink::new(rt.alloc(), Vec::new(rt.alloc()));
+    sink.reserve(4096)?;
+    Ok(kexec(rt.alloc(), &words, &mut shelf, &mut sink).code())
+}
+
+// A memory without pages, and a list of the done word alone.
+#[test]
+fn files_that_cannot_be_read_or_written_are_told(rt: HostRuntime) -> Result<(), Fail> {
+    fs::write(&rt, "memory", b"KXMEM001\0\0\0\0\0\0\0\0")?;
+    fs::create_dir(&rt, "folder")?;
+    let rows = [
+        ("trace memory out 4 9", 0),
+        ("trace missing out 4 9", 3),
+        ("trace folder out 4 9", 3),
+        ("trace memory missing/out 4 9", 4),
+        ("trace memory folder 4 9", 4),
+    ];
+    for (line, wanted) in rows {
+        assert_eq!(rt; traced(&rt, line)?, wanted);
+    }
+    // A full device takes no byte, where there is one.
+    if fs::metadata(&rt, "/dev/full").is_ok() {
+        assert_eq!(rt; traced(&rt, "trace memory /dev/full 4 9")?, 4);
+    }
+    Ok(())
+}
