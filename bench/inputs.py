@@ -38,6 +38,24 @@ def write_kernel(file, pages):
             out.write(page_bytes(number ^ 0x5A5A5A5A))
 
 
+def write_resident(folder, first, sources):
+    """A memory, a raw kernel for the pages from `first` on, and the pairs of its pages: page first + k is to have what lies at
+    first + sources[k]. Where that is None no page of memory has it; of such pages each 256th is zeros, as a memory file has
+    no room for all sources and destinations of the largest kernel and for its list."""
+    places = sorted(place for place in sources if place is not None)
+    with open(f"{folder}/memory", "wb") as memory:
+        memory.write(b"KXMEM001" + struct.pack("<Q", len(places)))
+        for place in places:
+            memory.write(struct.pack("<Q", first + place) + page_bytes(first + place))
+    with open(f"{folder}/kernel", "wb") as kernel, open(f"{folder}/pairs", "w", encoding="ascii") as pairs:
+        for number, place in enumerate(sources):
+            if place is None:
+                kernel.write(page_bytes(number ^ 0x5A5A5A5A) if number % 256 else bytes(PAGE))
+            else:
+                kernel.write(page_bytes(first + place))
+                pairs.write(f"{first + number:x} {first + place:x}\n")
+
+
 def write_pool(file, pages):
     with open(file, "w", encoding="ascii") as out:
         out.writelines(f"{number:x}\n" for number in pages)

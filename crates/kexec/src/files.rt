@@ -5,6 +5,7 @@ use crash_headers::CrashFault;
 use kexec_main::{InputFault, Status};
 use kexec_plan::PlanFault;
 use kexec_usage::{Given, text_of};
+use resident_planner::ResidentFault;
 
 // The word or option of the file that its reader refused.
 fn input_word(fault: &InputFault) -> &'static str {
@@ -14,6 +15,7 @@ fn input_word(fault: &InputFault) -> &'static str {
         InputFault::Map { .. } => "--map",
         InputFault::Rec { .. } => "RECORD",
         InputFault::Notes { .. } => "--notes",
+        InputFault::Pairs { .. } => "PAIRS",
     }
 }
 
@@ -37,6 +39,14 @@ fn plan_word(fault: &PlanFault) -> Option<&'static str> {
     }
 }
 
+// The word of the file for which no list is made.
+fn resident_word(fault: &ResidentFault) -> &'static str {
+    match fault {
+        ResidentFault::NoPages { .. } => "POOL",
+        _ => "PAIRS",
+    }
+}
+
 /// The name of the file that was refused, where it is one file's fault and the sentence does not name it.
 pub(crate) fn file_of<'a>(status: &Status, given: &[Given<'a>]) -> Option<&'a str> {
     let word = match status {
@@ -44,6 +54,7 @@ pub(crate) fn file_of<'a>(status: &Status, given: &[Given<'a>]) -> Option<&'a st
         Status::Plan { fault } => plan_word(fault)?,
         Status::NoPages { .. } => "POOL",
         Status::NotKept => "RECORD",
+        Status::Resident { fault } => resident_word(fault),
         Status::Core { .. } => "MEMORY",
         _ => return None,
     };

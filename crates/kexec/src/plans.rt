@@ -5,12 +5,14 @@ use kexec_usage::{Given, text_of};
 use segments::SegFault;
 use std::fmt::{self, Formatter, Write};
 
+// Whether the kernel is raw. The command with resident pages takes no other.
+fn is_raw(given: &[Given<'_>]) -> bool {
+    text_of(given, "--type") == Some("raw") || text_of(given, "PAIRS").is_some()
+}
+
 // The address of a raw kernel, as it is given: such a kernel is the first segment.
 fn raw_address<'a>(given: &[Given<'a>]) -> Option<&'a str> {
-    match text_of(given, "--type") {
-        Some("raw") => text_of(given, "--at"),
-        _ => None,
-    }
+    if is_raw(given) { text_of(given, "--at") } else { None }
 }
 
 // The memory map that was given.

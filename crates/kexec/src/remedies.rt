@@ -7,6 +7,7 @@ use kexec_main::{InputFault, Status};
 use kexec_plan::PlanFault;
 use load_record::RecFault;
 use purgatory_link::LinkFault;
+use resident_planner::ResidentFault;
 
 // An ELF file of another kind than the one that is wanted.
 fn elf_remedy(fault: &ElfFault, wanted: &'static str) -> Option<&'static str> {
@@ -80,11 +81,20 @@ fn input_remedy(fault: &InputFault) -> Option<&'static str> {
     }
 }
 
+fn resident_remedy(fault: &ResidentFault) -> Option<&'static str> {
+    match fault {
+        ResidentFault::NotWanted { .. } | ResidentFault::Stale { .. } => Some("leave the pair out"),
+        ResidentFault::Repeats { .. } => Some("keep one of them"),
+        _ => None,
+    }
+}
+
 /// What the user can do about a refusal, where its sentence does not say so yet.
 pub(crate) fn remedy_of(status: &Status, is_crash: bool) -> Option<&'static str> {
     match status {
         Status::Plan { fault } => plan_remedy(fault, is_crash),
         Status::Input { fault } => input_remedy(fault),
+        Status::Resident { fault } => resident_remedy(fault),
         _ => None,
     }
 }

@@ -1,4 +1,5 @@
 pub mod Boot
+pub mod BootResident
 pub mod Load
 pub mod LoadPanic
 pub mod Check
@@ -14,6 +15,7 @@ use Rattle.kexec_words.specs.Values.{CommandValue}
 use Rattle.kexec_words.specs.Values as words
 use Rattle.kexec_main.specs.Commands.{entry_of}
 use Rattle.kexec_main.proofs.Commands.Boot.{boot_keeps}
+use Rattle.kexec_main.proofs.Commands.BootResident.{boot_resident_keeps}
 use Rattle.kexec_main.proofs.Commands.Load.{load_keeps}
 use Rattle.kexec_main.proofs.Commands.LoadPanic.{load_panic_keeps}
 use Rattle.kexec_main.proofs.Commands.Check.{check_keeps}
@@ -34,4 +36,5 @@ keeps (words.exec v) = exec_keeps v
 keeps (words.trace v) = trace_keeps v
 keeps (words.migrate v) = migrate_keeps v
 keeps (words.sample v) = sample_keeps v
+keeps (words.boot_resident v) = boot_resident_keeps v
 keeps (words.core v) = core_keeps v

@@ -12,6 +12,7 @@ pub mod Pages
 pub mod Again
 pub mod Ending
 pub mod Reread
+pub mod Resident
 pub mod Together
 pub mod Proving
 pub mod Places

@@ -45,7 +45,7 @@ heavy N other light h = h
 pub no_fault : (p : Plan) (f : PlanFault) → ◌≡◌ {A = Result Plan PlanFault} (Ok p) (Err f) → ⊥
 no_fault p f e = cc
 
-one_plan : (i : LoadInputs) (p q : Plan) → plan i.request i.map ≡ Ok p → plan i.request i.map ≡ Ok q → p ≡ q
+pub one_plan : (i : LoadInputs) (p q : Plan) → plan i.request i.map ≡ Ok p → plan i.request i.map ≡ Ok q → p ≡ q
 one_plan i p q a b = ok_same {F = PlanFault} p q (sym a ∙ b)
 
 too_few : (pool need left n : ℕ) → need ≤ pool → left ≡ pool → n ≡ need → left < n → ⊥

@@ -6,6 +6,7 @@ use Rattle.kexec_words.specs.Values.{CommandValue}
 use Rattle.kexec_words.specs.Values as words
 use Rattle.kexec_main.specs.declared.status.Reason.TheVariants.{Usage}
 use Rattle.kexec_main.specs.Boot.{boot_entry}
+use Rattle.kexec_main.specs.BootResident.{boot_resident_entry}
 use Rattle.kexec_main.specs.Check.{check_entry}
 use Rattle.kexec_main.specs.CoreFile.{core_entry}
 use Rattle.kexec_main.specs.Dump.{dump_entry}
@@ -28,6 +29,7 @@ entry_of (words.exec e) = exec_entry e
 entry_of (words.trace t) = trace_entry t
 entry_of (words.migrate m) = migrate_entry m
 entry_of (words.sample n) = sample_entry n
+entry_of (words.boot_resident b) = boot_resident_entry b
 entry_of (words.core c) = core_entry c
 
 -- this holds of the command that the words say

@@ -10,6 +10,7 @@ pub mod Runs
 pub mod Entry
 pub mod Loads
 pub mod Boot
+pub mod BootResident
 pub mod Load
 pub mod LoadPanic
 pub mod Check

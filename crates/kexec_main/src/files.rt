@@ -22,14 +22,14 @@ use std::alloc::Global;
 /// The most bytes of a memory file: 16 and 4,104 for each of 131,072 pages.
 const MEMORY_LIMIT: usize = 537_919_504;
 
-/// The most bytes of a pool file, of a memory map and of a file of notes.
-const TEXT_LIMIT: usize = 1_048_576;
+/// The most bytes of a pool file, of a memory map, of a file of notes and of a file of pairs.
+pub(crate) const TEXT_LIMIT: usize = 1_048_576;
 
 /// The most bytes of a load record: its head, the heads and digests of sixteen segments, and the bytes of 65,536 pages.
 const RECORD_LIMIT: usize = 268_436_448;
 
-// A file is refused by its reader.
-fn refused_by(fault: InputFault) -> TakeFault<Reason>
+/// A file is refused by its reader.
+pub(crate) fn refused_by(fault: InputFault) -> TakeFault<Reason>
     ensures { result ≡ TakeFault.Refused (Reason.Input fault) }
 {
     TakeFault::Refused {

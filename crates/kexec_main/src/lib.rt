@@ -8,7 +8,7 @@
 //! | `files`, `inputs`, `load_inputs` | the files of the commands, their limits and readers; the kind of a load that is taken; the request that a kernel's files make |
 //! | `loading`, `running`, `output`, `text` | the work in memory: a plan, its load, a run, the file of a memory, the text |
 //! | `crash_loading`, `crash_exec` | the same of a crash kernel, which is put in its place and never moves |
-//! | `boot`, `load`, `load_panic`, `check`, `dump`, `exec`, `trace`, `migrate`, `sample`, `core_file` | a command each, with its words |
+//! | `boot`, `boot_resident`, `load`, `load_panic`, `check`, `dump`, `exec`, `trace`, `migrate`, `sample`, `core_file` | a command each, with its words |
 //! | `migrate_inputs`, `core_inputs` | what these two take, which holds a fact of it |
 //! | `laws` | what commands do together, and where they are refused for pages |
 //! | `status` | how a command ended, and why it may be refused |
@@ -18,6 +18,7 @@
 #[cfg(test)]
 mod below_tests;
 mod boot;
+mod boot_resident;
 mod calm;
 mod check;
 mod core_file;
@@ -60,6 +61,8 @@ mod migrate_inputs;
 mod output;
 #[cfg(test)]
 mod refused_memory_tests;
+#[cfg(test)]
+mod resident_tests;
 mod run;
 mod running;
 mod sample;

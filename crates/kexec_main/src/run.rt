@@ -15,6 +15,7 @@ ghost use Rattle.kexec_main.specs.Laid.{HasLaid};
 ghost use Rattle.kexec_main.specs.declared.status.Reason.{Reason};
 
 use crate::boot::BootWords;
+use crate::boot_resident::BootResidentWords;
 use crate::check::CheckWords;
 use crate::core_file::CoreWords;
 use crate::dump::DumpWords;
@@ -54,6 +55,7 @@ fn run_command<S: Shelf, O: Sink>(
         Command::Trace(words) => run(alloc, TraceWords { words }, shelf, out),
         Command::Migrate(words) => run(alloc, MigrateWords { words }, shelf, out),
         Command::Sample { number } => run(alloc, SampleWords { number }, shelf, out),
+        Command::BootResident(words) => run(alloc, BootResidentWords { words }, shelf, out),
         Command::Core(words) => run(alloc, CoreWords { words }, shelf, out),
     }
 }

@@ -15,6 +15,8 @@ pub(crate) enum Piece {
     At(usize, &'static [u8]),
     /// A byte, so many times.
     Repeated(u8, usize),
+    /// These bytes, so many times.
+    Lines(&'static [u8], usize),
     /// These numbers, of eight bytes each.
     Numbers(&'static [u64]),
     /// A page of a memory: its number, and its bytes, which are these and then zeros.
@@ -73,6 +75,14 @@ fn push_repeated(file: &mut Vec<u8>, byte: u8, count: usize) -> Result<(), Alloc
     file.extend_from_slice(&page[..count % 4096])
 }
 
+// Adds a line so many times.
+fn push_lines(file: &mut Vec<u8>, line: &[u8], count: usize) -> Result<(), AllocError> {
+    for _ in 0..count {
+        file.extend_from_slice(line)?;
+    }
+    Ok(())
+}
+
 // Adds zeros up to this length.
 fn pad(file: &mut Vec<u8>, length: usize) -> Result<(), AllocError> {
     if file.len() < length {
@@ -104,6 +114,7 @@ fn push_piece(file: &mut Vec<u8>, piece: Piece) -> Result<(), AllocError> {
             file.extend_from_slice(bytes)
         }
         Piece::Repeated(byte, count) => push_repeated(file, byte, count),
+        Piece::Lines(line, count) => push_lines(file, line, count),
         Piece::Numbers(numbers) => push_numbers(file, numbers),
         Piece::Page(number, bytes) => push_page(file, number, bytes),
         Piece::List(number, words) => push_list(file, number, words),

@@ -15,6 +15,7 @@ use load_record::RecFault;
 use memory_map::MapFault;
 use page_memory::MemFault;
 use page_pool::PoolFault;
+use resident_planner::{PairsFault, ResidentFault};
 use thiserror::Error;
 use vmcore_file::CoreFault;
 
@@ -36,6 +37,9 @@ pub enum InputFault {
     /// The file of notes.
     #[error("{fault}")]
     Notes { fault: NoteFault },
+    /// The file of pairs.
+    #[error("{fault}")]
+    Pairs { fault: PairsFault },
 }
 
 /// Why a command is refused, in the order in which its work is done.
@@ -51,6 +55,8 @@ pub enum Reason {
     Plan { fault: PlanFault },
     /// The pool has fewer usable pages than the load takes.
     NoPages { pool: u64, need: u64 },
+    /// No list is made of the resident pages.
+    Resident { fault: ResidentFault },
     /// The memory to write has more pages that are not all zeros than a memory file can have.
     Heavy { count: u64 },
     /// The memory has no core file by the headers at the address.
@@ -96,6 +102,9 @@ pub enum Status {
     /// `exec --twice` was given a record that is not in kept mode.
     #[error("the load record is in plain mode, as that of a crash kernel always is, and --twice needs one that was loaded with --kept")]
     NotKept,
+    /// No list is made of the resident pages.
+    #[error("{fault}")]
+    Resident { fault: ResidentFault },
     /// The memory has no core file by the headers at the address.
     #[error("{fault}")]
     Core { fault: CoreFault },
@@ -123,6 +132,7 @@ impl Status {
             Status::Heavy { .. } => 10,
             Status::NotKept => 11,
             Status::Memory => 12,
+            Status::Resident { .. } => 13,
             Status::Core { .. } => 15,
         }
     }
@@ -138,6 +148,7 @@ impl From<Reason> for Status {
             Reason::NotKept => Status::NotKept,
             Reason::Plan { fault } => Status::Plan { fault },
             Reason::NoPages { pool, need } => Status::NoPages { pool, need },
+            Reason::Resident { fault } => Status::Resident { fault },
             Reason::Heavy { count } => Status::Heavy { count },
             Reason::Core { fault } => Status::Core { fault },
         }

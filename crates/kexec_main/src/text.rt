@@ -71,8 +71,8 @@ pub(crate) fn load_lines(
     Ok(text)
 }
 
-// Adds a run, and how many steps it took.
-fn push_ran_line(alloc: Global, text: &mut String, steps: u64) -> Result<(), AllocError>
+/// Adds a run, and how many steps it took.
+pub(crate) fn push_ran_line(alloc: Global, text: &mut String, steps: u64) -> Result<(), AllocError>
     ensures { OnOk result (string_bytes text.new ≡ string_bytes text.old ++ ran_line steps) }
 {
     text.push_str(&format!(in alloc; "ran {steps}\n")?)?;

@@ -75,7 +75,7 @@ pub(crate) fn is_written(help: &'static str, name: &str) -> bool {
 /// Whether the word or option of this name is a file.
 pub(crate) fn is_file(help: &'static str, name: &str) -> bool {
     if !name.starts_with("--") {
-        return !matches!(name, "HEAD" | "LIMIT" | "NUMBER");
+        return !matches!(name, "HEAD" | "LIMIT" | "NUMBER" | "ADDRESS");
     }
     match option_in(help, name) {
         Some(Form::Value { name }) => name == "FILE",

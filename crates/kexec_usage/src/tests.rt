@@ -78,6 +78,11 @@ fn names_the_word_that_is_refused(rt: HostRuntime) -> Result<(), Fail> {
             "--kept takes no value, and has to stand alone",
         ),
         ("exec -- --twice m", "OUT is missing"),
+        ("boot-resident m p o k", "PAIRS is missing"),
+        (
+            "drill m p o v --at 2000",
+            "\"--at\" is no option of this command",
+        ),
         (
             "trace - o 4 ten",
             "LIMIT is not a decimal number of 1 to 9 digits, at most 100000000: \"ten\" is given",
@@ -107,7 +112,7 @@ fn tells_what_has_to_be_given(rt: HostRuntime) -> Result<(), Fail> {
         ),
         (
             "reboot",
-            "\"reboot\" is no command; the first argument has to be a command: boot, load, load-panic, check, dump, exec, trace, migrate, sample or core",
+            "\"reboot\" is no command; the first argument has to be a command: boot, load, load-panic, check, dump, exec, trace, migrate, sample, boot-resident, drill or core",
         ),
         (
             "boot --map f m p o k 1 2 3 4 5 6 7 8 9 10 11 12 13 14",
@@ -123,8 +128,17 @@ fn tells_what_has_to_be_given(rt: HostRuntime) -> Result<(), Fail> {
         ),
         (
             "boot --type raw m p o k",
-            "--type raw needs --at ADDRESS, the address of the kernel",
+            "--at ADDRESS is needed, the address of a raw kernel",
         ),
+        (
+            "boot-resident m p o k q",
+            "--at ADDRESS is needed, the address of a raw kernel",
+        ),
+        (
+            "drill m p o o",
+            "OUT and EVENTS are both \"o\": a file that is written has to have a name of its own",
+        ),
+        ("core m 2000 2000", ""),
         (
             "boot m p o k",
             "--map FILE is needed: only boot and load with --type raw, and without --purgatory, go without a memory map; `cat /proc/iomem`, as root, prints the map of this machine",

@@ -7,12 +7,12 @@ use Rattle.clap.proofs.WalkLemmas.{both}
 use Rattle.kexec_words.specs.Found.{word_of, flag_of}
 use Rattle.kx_pages.specs.Numbers.{is_page_address}
 use Rattle.kexec_words.specs.Numbers.{number_of, if_passes, in_form, some_in_form, hex_of, page_address_of, steps_of, swap_of, head_of, limit_of, trace_numbers_from, is_headers_address, headers_address_of, core_address_of}
-use Rattle.kexec_words.specs.Values.{InputsValue, CrashInputsValue, ExecValue, MigrateValue, CoreValue, CommandValue}
-use Rattle.kexec_words.specs.Values.{boot, load, load_panic, check, dump, exec, trace, migrate, sample, core}
-use Rattle.kexec_words.specs.Meaning.{has_same_name, files_of, crash_files_of, with_numbers, map_answer, image_from, needs_map, image_or_refusal, image_where, inputs_of, boot_by, boot_with, boot_in, load_by, load_with, load_in, with_map, load_panic_with, load_panic_in, crash_inputs_of, exec_of, exec_with, exec_in, trace_with, trace_in, trace_numbers_by, migrate_of, migrate_with, migrate_in, sample_by, sample_in, core_by, core_with, core_in, answer_where, answer_by, command_by_name, plan_numbers_by}
+use Rattle.kexec_words.specs.Values.{InputsValue, CrashInputsValue, ExecValue, MigrateValue, CommandValue}
+use Rattle.kexec_words.specs.Values.{boot, load, load_panic, check, dump, exec, trace, migrate, sample, boot_resident, drill, core}
+use Rattle.kexec_words.specs.Meaning.{has_same_name, files_of, crash_files_of, with_numbers, map_answer, image_from, needs_map, image_or_refusal, image_where, inputs_of, boot_by, boot_with, boot_in, load_by, load_with, load_in, with_map, load_panic_with, load_panic_in, crash_inputs_of, exec_of, exec_with, exec_in, trace_with, trace_in, trace_numbers_by, migrate_of, migrate_with, migrate_in, sample_by, sample_in, boot_resident_at, boot_resident_with, boot_resident_in, resident_address_by, drill_by, drill_with, drill_in, core_by, core_with, core_in, answer_where, answer_by, command_by_name, plan_numbers_by}
 use Rattle.kexec_words.specs.Meaning.{Answers, load_names_in}
 use Rattle.kexec_words.specs.Values.{command_value}
-use Rattle.kexec_words.specs.Apps.{boot_app, load_app, load_panic_app, check_app, dump_app, exec_app, trace_app, migrate_app, sample_app, core_app}
+use Rattle.kexec_words.specs.Apps.{boot_app, load_app, load_panic_app, check_app, dump_app, exec_app, trace_app, migrate_app, sample_app, boot_resident_app, drill_app, core_app}
 use Rattle.kexec_words.specs.declared.commands.Command.{Command}
 use Rattle.kexec_words.specs.declared.faults.WordsFault.{WordsFault}
 use Rattle.kexec_words.specs.Limits.{HasParts, IsWithinLimits, HasOutputsApart}
@@ -205,6 +205,43 @@ core_keeps : (rows : List Row) → IfOk (core_in rows) (λ c. Keeps (core c))
 core_keeps rows = numbers_has (core_by rows) (core_with (word_of (codes "MEMORY") rows) (word_of (codes "OUT") rows)) (λ a. is_headers_address a ≡ true) _
     (address_has (word_of (codes "ADDRESS") rows)) (core_has (word_of (codes "MEMORY") rows) (word_of (codes "OUT") rows))
 
+-- ---- boot-resident and drill
+
+resident_has : (m p o k q : Text) (at : Option ℕ) → IfOk (boot_resident_with m p o k q at) (λ b. Keeps (boot_resident b))
+resident_has m p o k q None = go (has_same_name (o ∷ []) (m ∷ p ∷ k ∷ q ∷ []))
+  where
+    go : (x : Bool) → IfOk (if x then Err why.SameName else boot_resident_at m p o k q None) (λ b. Keeps (boot_resident b))
+    go true = tt
+    go false = tt
+resident_has m p o k q (Some at) = go (has_same_name (o ∷ []) (m ∷ p ∷ k ∷ q ∷ [])) refl
+  where
+    go : (x : Bool) → has_same_name (o ∷ []) (m ∷ p ∷ k ∷ q ∷ []) ≡ x
+        → IfOk (if x then Err why.SameName else boot_resident_at m p o k q (Some at)) (λ b. Keeps (boot_resident b))
+    go true e = tt
+    go false e = (tt, e)
+
+resident_keeps : (rows : List Row) → IfOk (boot_resident_in rows) (λ b. Keeps (boot_resident b))
+resident_keeps rows = numbers_has (resident_address_by rows)
+    (boot_resident_with (word_of (codes "MEMORY") rows) (word_of (codes "POOL") rows) (word_of (codes "OUT") rows) (word_of (codes "KERNEL") rows) (word_of (codes "PAIRS") rows))
+    (λ _. Unit {0}) _ (anything (resident_address_by rows))
+    (λ at _. resident_has (word_of (codes "MEMORY") rows) (word_of (codes "POOL") rows) (word_of (codes "OUT") rows) (word_of (codes "KERNEL") rows) (word_of (codes "PAIRS") rows) at)
+
+drill_has : (m p o v : Text) (map : Option Text) → IfOk (drill_with m p o v map) (λ d. Keeps (drill d))
+drill_has m p o v None = go (has_same_name (o ∷ []) (m ∷ p ∷ v ∷ []))
+  where
+    go : (x : Bool) → IfOk (if x then Err why.SameName else drill_by m p o v None) (λ d. Keeps (drill d))
+    go true = tt
+    go false = tt
+drill_has m p o v (Some map) = go (has_same_name (o ∷ []) (m ∷ p ∷ map ∷ v ∷ [])) refl
+  where
+    go : (x : Bool) → has_same_name (o ∷ []) (m ∷ p ∷ map ∷ v ∷ []) ≡ x
+        → IfOk (if x then Err why.SameName else drill_by m p o v (Some map)) (λ d. Keeps (drill d))
+    go true e = tt
+    go false e = (tt, e)
+
+drill_keeps : (rows : List Row) → IfOk (drill_in rows) (λ d. Keeps (drill d))
+drill_keeps rows = drill_has (word_of (codes "MEMORY") rows) (word_of (codes "POOL") rows) (word_of (codes "OUT") rows) (word_of (codes "EVENTS") rows) (first_of (codes "map") rows)
+
 -- ---- all commands
 
 said : {A : Type 0} (as_command : A → CommandValue) (app : App) (read : List Row → Result A UsageWhy) (words : List Text)
@@ -223,6 +260,8 @@ named_keeps (Some name.Exec) words = said exec exec_app exec_in words (λ rows. 
 named_keeps (Some name.Trace) words = said trace trace_app trace_in words trace_keeps
 named_keeps (Some name.Migrate) words = said migrate migrate_app migrate_in words (λ rows. migrate_has (migrate_of rows))
 named_keeps (Some name.Sample) words = said sample sample_app sample_in words sample_keeps
+named_keeps (Some name.BootResident) words = said boot_resident boot_resident_app boot_resident_in words resident_keeps
+named_keeps (Some name.Drill) words = said drill drill_app drill_in words drill_keeps
 named_keeps (Some name.Core) words = said core core_app core_in words core_keeps
 
 -- a command that is answered keeps the limits

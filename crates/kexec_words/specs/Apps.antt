@@ -82,6 +82,18 @@ migrate_app = app_with (codes "migrate") (word (codes "RECORD") ∷ word (codes 
 abbrev pub sample_app : App
 sample_app = app_with (codes "sample") (word (codes "NUMBER") ∷ [])
 
+abbrev pub boot_resident_app : App
+boot_resident_app =
+    app_with (codes "boot-resident")
+    (word (codes "MEMORY") ∷ word (codes "POOL") ∷ word (codes "OUT") ∷ word (codes "KERNEL")
+    ∷ word (codes "PAIRS") ∷ option (codes "at") ∷ [])
+
+abbrev pub drill_app : App
+drill_app =
+    app_with (codes "drill")
+    (word (codes "MEMORY") ∷ word (codes "POOL") ∷ word (codes "OUT") ∷ word (codes "EVENTS")
+    ∷ option (codes "map") ∷ [])
+
 abbrev pub core_app : App
 core_app =
     app_with (codes "core")

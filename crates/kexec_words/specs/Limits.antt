@@ -1,7 +1,7 @@
 -- What callers may rely on in a command that is read (this project's own).
 use Rattle.std.specs.Prelude.{◌≡◌, ◌<◌, ◌≤◌, ◌^◌, ◌%◌, true, false, length, is_some, IfSome, [], ◌∷◌}
 use Rattle.kexec_words.specs.Values.{InputsValue, TraceValue, CommandValue}
-use Rattle.kexec_words.specs.Values.{boot, load, load_panic, check, dump, exec, trace, migrate, sample, core}
+use Rattle.kexec_words.specs.Values.{boot, load, load_panic, check, dump, exec, trace, migrate, sample, boot_resident, drill, core}
 use Rattle.kexec_words.specs.Meaning.{needs_map, has_same_name, files_of, crash_files_of}
 use Rattle.kx_pages.specs.declared.image.ImageType.{ImageType}
 use Rattle.std.specs.Prelude.{Some}
@@ -24,6 +24,8 @@ IsWithinLimits (exec e) = Unit {0}
 IsWithinLimits (trace t) = HasRange t
 IsWithinLimits (migrate m) = Unit {0}
 IsWithinLimits (sample n) = n < 10 ^ 18
+IsWithinLimits (boot_resident b) = Unit {0}
+IsWithinLimits (drill d) = Unit {0}
 IsWithinLimits (core c) = (c.address < 2 ^ 46) × (c.address % 8 ≡ 0)
 
 -- no output has the name of an input or of another output
@@ -38,4 +40,8 @@ HasOutputsApart (exec e) = has_same_name (e.out ∷ []) (e.memory ∷ e.load_rec
 HasOutputsApart (trace t) = has_same_name (t.out ∷ []) (t.memory ∷ []) ≡ false
 HasOutputsApart (migrate m) = has_same_name (m.out ∷ []) (m.load_record ∷ []) ≡ false
 HasOutputsApart (sample n) = Unit {0}
+HasOutputsApart (boot_resident b) =
+    has_same_name (b.out ∷ []) (b.memory ∷ b.pool ∷ b.kernel ∷ b.pairs ∷ []) ≡ false
+HasOutputsApart (drill d) =
+    has_same_name (d.out ∷ []) (d.memory ∷ d.pool ∷ d.map ∷ d.events ∷ []) ≡ false
 HasOutputsApart (core c) = has_same_name (c.out ∷ []) (c.memory ∷ []) ≡ false

@@ -4,11 +4,11 @@ use Rattle.std.specs.List.{list_any}
 use Rattle.std.specs.Str.{bytes_eq}
 use Rattle.clap.specs.Words.{App, Text, Row, first_of, fault_of, matches_of}
 use Rattle.clap.specs.Kinds.{Kinds}
-use Rattle.kexec_words.specs.Apps.{boot_app, load_app, load_panic_app, check_app, dump_app, exec_app, trace_app, migrate_app, sample_app, core_app}
+use Rattle.kexec_words.specs.Apps.{boot_app, load_app, load_panic_app, check_app, dump_app, exec_app, trace_app, migrate_app, sample_app, boot_resident_app, drill_app, core_app}
 use Rattle.kexec_words.specs.Found.{word_of, words_of, flag_of}
-use Rattle.kexec_words.specs.Numbers.{plan_numbers_of, trace_numbers_of, sample_of, core_address_of}
-use Rattle.kexec_words.specs.Values.{InputsValue, BootValue, LoadValue, CrashInputsValue, LoadPanicValue, LoadNamesValue, ExecValue, TraceValue, MigrateValue, CoreValue, CommandValue}
-use Rattle.kexec_words.specs.Values.{boot, load, load_panic, check, dump, exec, trace, migrate, sample, core}
+use Rattle.kexec_words.specs.Numbers.{plan_numbers_of, trace_numbers_of, address_of, sample_of, core_address_of}
+use Rattle.kexec_words.specs.Values.{InputsValue, BootValue, LoadValue, CrashInputsValue, LoadPanicValue, LoadNamesValue, ExecValue, TraceValue, MigrateValue, BootResidentValue, DrillValue, CoreValue, CommandValue}
+use Rattle.kexec_words.specs.Values.{boot, load, load_panic, check, dump, exec, trace, migrate, sample, boot_resident, drill, core}
 use Rattle.kx_pages.specs.declared.image.ImageType.{ImageType}
 use Rattle.kx_pages.specs.declared.image.ImageType.TheVariants as image
 use Rattle.kexec_words.specs.declared.numbers.TypeWord.{TypeWord}
@@ -16,6 +16,7 @@ use Rattle.kexec_words.specs.declared.numbers.TypeWord.TheVariants as kind
 use Rattle.kexec_words.specs.declared.numbers.PlanNumbers.{PlanNumbers}
 use Rattle.kexec_words.specs.declared.numbers.TraceNumbers.{TraceNumbers}
 use Rattle.kexec_words.specs.declared.faults.Which.{Which}
+use Rattle.kexec_words.specs.declared.faults.Which.TheVariants as which
 use Rattle.kexec_words.specs.declared.faults.UsageWhy.{UsageWhy}
 use Rattle.kexec_words.specs.declared.faults.UsageWhy.TheVariants as why
 use Rattle.kexec_words.specs.declared.faults.WordsFault.{WordsFault}
@@ -217,6 +218,52 @@ sample_by rows = sample_of (word_of (codes "NUMBER") rows)
 abbrev pub sample_in : List Row → Result ℕ UsageWhy
 sample_in rows = with_numbers (sample_by rows) (λ n. Ok n)
 
+-- --at has to be given
+abbrev pub boot_resident_at : Text → Text → Text → Text → Text → Option ℕ
+    → Result BootResidentValue UsageWhy
+boot_resident_at memory pool out kernel pairs None = Err why.NeedsAt
+boot_resident_at memory pool out kernel pairs (Some at) =
+    Ok (record {
+      memory = memory;
+      pool = pool;
+      out = out;
+      kernel = kernel;
+      pairs = pairs;
+      at = at;
+    })
+
+abbrev pub boot_resident_with : Text → Text → Text → Text → Text → Option ℕ
+    → Result BootResidentValue UsageWhy
+boot_resident_with memory pool out kernel pairs at =
+    if has_same_name (out ∷ []) (memory ∷ pool ∷ kernel ∷ pairs ∷ []) then Err why.SameName
+    else boot_resident_at memory pool out kernel pairs at
+
+abbrev pub resident_address_by : List Row → Result (Option ℕ) Which
+resident_address_by rows = address_of which.At (first_of (codes "at") rows)
+
+abbrev pub boot_resident_in : List Row → Result BootResidentValue UsageWhy
+boot_resident_in rows =
+    with_numbers (resident_address_by rows)
+    (boot_resident_with (word_of (codes "MEMORY") rows) (word_of (codes "POOL") rows)
+    (word_of (codes "OUT") rows) (word_of (codes "KERNEL") rows) (word_of (codes "PAIRS") rows))
+
+-- --map has to be given
+abbrev pub drill_by : Text → Text → Text → Text → Option Text → Result DrillValue UsageWhy
+drill_by memory pool out events None = Err why.NeedsMap
+drill_by memory pool out events (Some map) =
+    Ok (record { memory = memory; pool = pool; out = out; events = events; map = map })
+
+abbrev pub drill_with : Text → Text → Text → Text → Option Text → Result DrillValue UsageWhy
+drill_with memory pool out events map =
+    if has_same_name (out ∷ []) (memory ∷ pool ∷ with_name map (events ∷ [])) then
+    Err why.SameName
+    else drill_by memory pool out events map
+
+abbrev pub drill_in : List Row → Result DrillValue UsageWhy
+drill_in rows =
+    drill_with (word_of (codes "MEMORY") rows) (word_of (codes "POOL") rows)
+    (word_of (codes "OUT") rows) (word_of (codes "EVENTS") rows) (first_of (codes "map") rows)
+
 abbrev pub core_by : List Row → Result ℕ Which
 core_by rows = core_address_of (word_of (codes "ADDRESS") rows)
 
@@ -251,7 +298,9 @@ name_of t = if bytes_eq t (codes "boot") then Some name.Boot
     else (if bytes_eq t (codes "trace") then Some name.Trace
     else (if bytes_eq t (codes "migrate") then Some name.Migrate
     else (if bytes_eq t (codes "sample") then Some name.Sample
-    else (if bytes_eq t (codes "core") then Some name.Core else None)))))))))
+    else (if bytes_eq t (codes "boot-resident") then Some name.BootResident
+    else (if bytes_eq t (codes "drill") then Some name.Drill
+    else (if bytes_eq t (codes "core") then Some name.Core else None)))))))))))
 
 abbrev pub command_by_name : Option Name → List Text → Result CommandValue UsageWhy
 command_by_name None words = Err why.Command
@@ -266,6 +315,9 @@ command_by_name (Some name.Trace) words = map_answer trace (answer_by trace_app 
 command_by_name (Some name.Migrate) words =
     map_answer migrate (answer_by migrate_app migrate_in words)
 command_by_name (Some name.Sample) words = map_answer sample (answer_by sample_app sample_in words)
+command_by_name (Some name.BootResident) words =
+    map_answer boot_resident (answer_by boot_resident_app boot_resident_in words)
+command_by_name (Some name.Drill) words = map_answer drill (answer_by drill_app drill_in words)
 command_by_name (Some name.Core) words = map_answer core (answer_by core_app core_in words)
 
 -- what the words after the program's name say, or the first reason to refuse them

@@ -32,6 +32,8 @@ help_text (Some name.Exec) = help.EXEC.now
 help_text (Some name.Trace) = help.TRACE.now
 help_text (Some name.Migrate) = help.MIGRATE.now
 help_text (Some name.Sample) = help.SAMPLE.now
+help_text (Some name.BootResident) = help.BOOT_RESIDENT.now
+help_text (Some name.Drill) = help.DRILL.now
 help_text (Some name.Core) = help.CORE.now
 
 -- the command that the first word names

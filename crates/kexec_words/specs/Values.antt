@@ -12,6 +12,8 @@ use Rattle.kexec_words.specs.declared.commands.LoadNames.{LoadNames}
 use Rattle.kexec_words.specs.declared.commands.Exec.{Exec}
 use Rattle.kexec_words.specs.declared.commands.Trace.{Trace}
 use Rattle.kexec_words.specs.declared.commands.Migrate.{Migrate}
+use Rattle.kexec_words.specs.declared.commands.BootResident.{BootResident}
+use Rattle.kexec_words.specs.declared.commands.Drill.{Drill}
 use Rattle.kexec_words.specs.declared.commands.Core.{Core}
 use Rattle.kexec_words.specs.declared.commands.Command.{Command}
 use Rattle.kexec_words.specs.declared.commands.Command.TheVariants as code
@@ -77,6 +79,21 @@ pub record MigrateValue : Type 0 where
   pub load_record : Text
   pub out : Text
 
+pub record BootResidentValue : Type 0 where
+  pub memory : Text
+  pub pool : Text
+  pub out : Text
+  pub kernel : Text
+  pub pairs : Text
+  pub at : ℕ
+
+pub record DrillValue : Type 0 where
+  pub memory : Text
+  pub pool : Text
+  pub out : Text
+  pub events : Text
+  pub map : Text
+
 pub record CoreValue : Type 0 where
   pub memory : Text
   pub out : Text
@@ -92,6 +109,8 @@ pub data CommandValue : Type 0 where
   trace : TraceValue → CommandValue
   migrate : MigrateValue → CommandValue
   sample : ℕ → CommandValue
+  boot_resident : BootResidentValue → CommandValue
+  drill : DrillValue → CommandValue
   core : CoreValue → CommandValue
 
 -- ---- the values of the program's types
@@ -169,6 +188,25 @@ trace_value t = record {
 abbrev pub migrate_value : Migrate → MigrateValue
 migrate_value m = record { load_record = string_bytes m.load_record; out = string_bytes m.out }
 
+abbrev pub boot_resident_value : BootResident → BootResidentValue
+boot_resident_value b = record {
+  memory = string_bytes b.memory;
+  pool = string_bytes b.pool;
+  out = string_bytes b.out;
+  kernel = string_bytes b.kernel;
+  pairs = string_bytes b.pairs;
+  at = b.at;
+}
+
+abbrev pub drill_value : Drill → DrillValue
+drill_value d = record {
+  memory = string_bytes d.memory;
+  pool = string_bytes d.pool;
+  out = string_bytes d.out;
+  events = string_bytes d.events;
+  map = string_bytes d.map;
+}
+
 abbrev pub core_value : Core → CoreValue
 core_value c =
     record { memory = string_bytes c.memory; out = string_bytes c.out; address = c.address }
@@ -187,4 +225,6 @@ command_value (code.Exec e) = exec (exec_value e)
 command_value (code.Trace t) = trace (trace_value t)
 command_value (code.Migrate m) = migrate (migrate_value m)
 command_value (code.Sample n) = sample n
+command_value (code.BootResident b) = boot_resident (boot_resident_value b)
+command_value (code.Drill d) = drill (drill_value d)
 command_value (code.Core c) = core (core_value c)

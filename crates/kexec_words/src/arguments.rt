@@ -64,6 +64,16 @@ const NUMBER: Argument = Argument {
     form: Form::Word,
 };
 
+const PAIRS: Argument = Argument {
+    id: "PAIRS",
+    form: Form::Word,
+};
+
+const EVENTS: Argument = Argument {
+    id: "EVENTS",
+    form: Form::Word,
+};
+
 const ADDRESS: Argument = Argument {
     id: "ADDRESS",
     form: Form::Word,
@@ -157,5 +167,9 @@ pub(crate) const TRACE: [Argument; 5] = [MEMORY, OUT, HEAD, LIMIT, SWAP];
 pub(crate) const MIGRATE: [Argument; 2] = [RECORD, OUT];
 
 pub(crate) const SAMPLE: [Argument; 1] = [NUMBER];
+
+pub(crate) const BOOT_RESIDENT: [Argument; 6] = [MEMORY, POOL, OUT, KERNEL, PAIRS, AT];
+
+pub(crate) const DRILL: [Argument; 5] = [MEMORY, POOL, OUT, EVENTS, MAP];
 
 pub(crate) const CORE: [Argument; 3] = [MEMORY, OUT, ADDRESS];

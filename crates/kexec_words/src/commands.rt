@@ -138,6 +138,38 @@ pub struct Migrate {
     pub out: String,
 }
 
+/// `boot-resident`: load a raw kernel of which pages stand in memory already, and run it.
+#[derive(Drop)]
+pub struct BootResident {
+    /// The memory file.
+    pub memory: String,
+    /// The pool file.
+    pub pool: String,
+    /// The file of the memory after the run.
+    pub out: String,
+    /// The kernel.
+    pub kernel: String,
+    /// The pairs of a page and the page where its bytes stand.
+    pub pairs: String,
+    /// The address of the kernel, where it is entered.
+    pub at: u64,
+}
+
+/// `drill`: apply events of several callers one after another.
+#[derive(Drop)]
+pub struct Drill {
+    /// The memory file.
+    pub memory: String,
+    /// The pool file.
+    pub pool: String,
+    /// The file of the memory after the last event.
+    pub out: String,
+    /// The events.
+    pub events: String,
+    /// The text of the memory map.
+    pub map: String,
+}
+
 /// `core`: write the core file of a memory, by the crash headers that stand in it.
 #[derive(Drop)]
 pub struct Core {
@@ -170,6 +202,10 @@ pub enum Command {
     Migrate(Migrate),
     /// Load and run a sample that is made from a number below 10^18.
     Sample { number: u64 },
+    /// Load a raw kernel of which pages stand in memory already, and run it.
+    BootResident(BootResident),
+    /// Apply events of several callers one after another.
+    Drill(Drill),
     /// Write the core file of a memory.
     Core(Core),
 }

@@ -38,7 +38,7 @@ pub enum Which {
 #[derive(Clone, Copy, Debug, PartialEq, Eq, Error)]
 pub enum UsageWhy {
     /// There is no word, or the first one names no command.
-    #[error("the first argument has to be a command: boot, load, load-panic, check, dump, exec, trace, migrate, sample or core")]
+    #[error("the first argument has to be a command: boot, load, load-panic, check, dump, exec, trace, migrate, sample, boot-resident, drill or core")]
     Command,
     /// The words after the first are not those that the command takes; asking for help is such a refusal.
     #[error("the arguments after the command are not those that it takes")]
@@ -52,10 +52,10 @@ pub enum UsageWhy {
     /// The name of an output is the name of an input or of another output.
     #[error("an output file has the name of an input file or of the other output file")]
     SameName,
-    /// The type is raw, and `--at` is not given.
-    #[error("--type raw needs --at ADDRESS, the address of the kernel")]
+    /// `--at` is not given, and the type is raw or the command is `boot-resident`.
+    #[error("--at ADDRESS is needed, the address of a raw kernel")]
     NeedsAt,
-    /// `--map` is not given, and the command is `load-panic`, the type is not raw, or there is a purgatory.
+    /// `--map` is not given, and the command is `load-panic` or `drill`, the type is not raw, or there is a purgatory.
     #[error("--map FILE is needed: only boot and load with --type raw, and without --purgatory, go without a memory map")]
     NeedsMap,
 }

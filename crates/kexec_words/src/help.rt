@@ -21,6 +21,9 @@ Commands:
   trace       run a list for some steps, whether it is accepted or not
   migrate     write a load record anew, as version 2
   sample      load and run what is made from a number
+  boot-resident  load a raw kernel of which pages stand in memory already, and
+              run it
+  drill       apply events of several callers one after another
   core        write the core file of a memory, by its crash headers
 
 Files:
@@ -224,6 +227,46 @@ Arguments:
   NUMBER  the number to begin with: a decimal number of 1 to 18 digits
 ";
 
+const BOOT_RESIDENT: &str = "\
+Usage: kexec boot-resident --at ADDRESS MEMORY POOL OUT KERNEL PAIRS
+
+Loads a raw kernel of which pages stand in memory already, so that these are not
+copied before the run, runs it, and writes the memory after the run.
+
+Arguments:
+  MEMORY  memory file to read: the memory before the load
+  POOL    pool file to read: the free pages in the order of their use, on each
+          line a hexadecimal page number or first-last
+  OUT     memory file to write: the memory after the run; none of the files that
+          are read
+  KERNEL  file to read: the kernel
+  PAIRS   file to read: on each line the number of a page of the kernel and the
+          number of the page of memory that has its bytes, both hexadecimal
+
+Options:
+  --at ADDRESS  the address of the kernel, where it is entered: a hexadecimal
+                number of 1 to 16 digits, without 0x; always needed
+";
+
+const DRILL: &str = "\
+Usage: kexec drill --map FILE MEMORY POOL OUT EVENTS
+
+Applies events of several callers one after another to one memory and one pool,
+says the reply to each, and writes the memory after the last event.
+
+Arguments:
+  MEMORY  memory file to read: the memory before the first event
+  POOL    pool file to read: the free pages in the order of their use, on each
+          line a hexadecimal page number or first-last
+  OUT     memory file to write: the memory after the last event; none of the
+          files that are read
+  EVENTS  file to read: on each line an event, as open 1 normal or panic
+
+Options:
+  --map FILE  file to read: the memory map, as /proc/iomem prints it; always
+              needed
+";
+
 const CORE: &str = "\
 Usage: kexec core MEMORY OUT ADDRESS
 
@@ -256,6 +299,8 @@ pub fn help_of(words: &[String]) -> &'static str
         Some(Name::Trace) => TRACE,
         Some(Name::Migrate) => MIGRATE,
         Some(Name::Sample) => SAMPLE,
+        Some(Name::BootResident) => BOOT_RESIDENT,
+        Some(Name::Drill) => DRILL,
         Some(Name::Core) => CORE,
     }
 }

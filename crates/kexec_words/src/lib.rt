@@ -2,7 +2,9 @@
 #![tactic(auto)]
 
 mod arguments;
+mod boot_resident;
 mod commands;
+mod drill;
 mod faults;
 mod help;
 mod naming;
@@ -13,8 +15,8 @@ mod reading;
 mod unplanned;
 
 pub use commands::{
-    Boot, Command, Core, CrashInputs, Exec, Inputs, Load, LoadNames, LoadPanic, Migrate, Runs,
-    Trace,
+    Boot, BootResident, Command, Core, CrashInputs, Drill, Exec, Inputs, Load, LoadNames,
+    LoadPanic, Migrate, Runs, Trace,
 };
 pub use faults::{UsageWhy, Which, WordsFault};
 pub use help::help_of;

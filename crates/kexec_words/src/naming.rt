@@ -17,6 +17,8 @@ pub(crate) enum Name {
     Trace,
     Migrate,
     Sample,
+    BootResident,
+    Drill,
     Core,
 }
 
@@ -41,6 +43,10 @@ pub(crate) fn name_of(word: &str) -> Option<Name>
         Some(Name::Migrate)
     } else if word == "sample" {
         Some(Name::Sample)
+    } else if word == "boot-resident" {
+        Some(Name::BootResident)
+    } else if word == "drill" {
+        Some(Name::Drill)
     } else if word == "core" {
         Some(Name::Core)
     } else {
@@ -48,7 +54,8 @@ pub(crate) fn name_of(word: &str) -> Option<Name>
     }
 }
 
-fn is_given(name: &Option<String>, text: &str) -> bool
+// Whether a name is given, and is this text.
+pub(crate) fn is_given(name: &Option<String>, text: &str) -> bool
     ensures { result ≡ is_among text.now (with_name (option_map string_bytes name.now) []) }
 {
     match name {

@@ -99,7 +99,7 @@ fn kept_in(text: Option<&str>) -> Result<Option<Runs>, Which>
     }
 }
 
-fn address_in(text: Option<&str>, which: Which) -> Result<Option<u64>, Which>
+pub(crate) fn address_in(text: Option<&str>, which: Which) -> Result<Option<u64>, Which>
     ensures { result ≡ address_of which (text_in text.entry) }
 {
     let Some(text) = text else {

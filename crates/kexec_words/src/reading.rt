@@ -5,7 +5,9 @@ ghost use Rattle.kexec_words.specs.Meaning.{Answers, command_of, command_by_name
 ghost use Rattle.kexec_words.specs.Limits.{IsWithinLimits, HasOutputsApart};
 ghost use Rattle.kexec_words.specs.Values.{command_value};
 
+use crate::boot_resident::read_boot_resident;
 use crate::commands::Command;
+use crate::drill::read_drill;
 use crate::faults::{UsageWhy, WordsFault};
 use crate::naming::{Name, name_of};
 use crate::planned::{read_boot, read_load};
@@ -31,6 +33,8 @@ fn read_named(alloc: Global, name: Name, words: &[String]) -> Result<Command, Wo
         Name::Sample => Command::Sample {
             number: read_sample(alloc, words)?,
         },
+        Name::BootResident => Command::BootResident(read_boot_resident(alloc, words)?),
+        Name::Drill => Command::Drill(read_drill(alloc, words)?),
         Name::Core => Command::Core(read_core(alloc, words)?),
     })
 }

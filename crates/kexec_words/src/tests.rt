@@ -96,6 +96,18 @@ fn refuses_words_of_each_command(rt: HostRuntime) -> Result<(), Fail> {
         ("migrate r r", Some(UsageWhy::SameName)),
         ("sample 1234567890123456789", number(Which::Number)),
         ("core m o 100c", number(Which::Address)),
+        ("boot-resident m p o k --at 2000", Some(UsageWhy::Parse)),
+        (
+            "boot-resident m p o k q --at 2000 --entry 2000",
+            Some(UsageWhy::Parse),
+        ),
+        ("boot-resident m p q k q --at 0x2000", number(Which::At)),
+        ("boot-resident m p q k q", Some(UsageWhy::SameName)),
+        ("boot-resident m p o k q", Some(UsageWhy::NeedsAt)),
+        ("drill m p o v --map f --map f", Some(UsageWhy::Parse)),
+        ("drill m p v v", Some(UsageWhy::SameName)),
+        ("drill m p f v --map f", Some(UsageWhy::SameName)),
+        ("drill m p o v", Some(UsageWhy::NeedsMap)),
         ("core m m 400000000000", number(Which::Address)),
         ("core m m 3ffffffffff8", Some(UsageWhy::SameName)),
     ] {
@@ -165,6 +177,8 @@ fn reads_each_command(rt: HostRuntime) -> Result<(), Fail> {
         "trace m o 20002 007",
         "migrate r o",
         "sample 1",
+        "boot-resident m p o k q --at ffffffffffffffff",
+        "drill --map f m p o v",
         "core m o 5fff000",
     ] {
         assert!(rt; why(alloc, line)? == None, "{line}");
@@ -189,6 +203,8 @@ fn says_what_is_wrong_and_what_is_wanted(rt: HostRuntime) -> Result<(), Fail> {
         ("trace m", "Usage: kexec trace "),
         ("migrate r", "Usage: kexec migrate "),
         ("sample x", "Usage: kexec sample "),
+        ("boot-resident", "Usage: kexec boot-resident "),
+        ("drill m", "Usage: kexec drill "),
         ("core m", "Usage: kexec core "),
     ] {
         assert!(rt; help_of(&split(alloc, line)?).starts_with(usage), "{line}");
