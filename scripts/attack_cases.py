@@ -104,6 +104,8 @@ def load_cases(object_file):
         Case("boot-multiboot", ["boot", "--map", "map", *four, "module"],
              of_map | {"kernel": multiboot(), "module": b"module"}, ["out"]),
     ]
+    drill = example("drill", "memory.kxmem", "pool", "map", "events")
+    cases.append(Case("drill", ["drill", "--map", "map", "memory.kxmem", "pool", "out", "events"], drill, ["out"]))
     if object_file:
         cases.append(Case("boot-purgatory", ["boot", "--type", "elf", "--map", "map", "--purgatory", "purgatory", *four],
                           of_map | {"kernel": elf["kernel"], "purgatory": object_file}, ["out"]))

@@ -16,6 +16,7 @@ fn input_word(fault: &InputFault) -> &'static str {
         InputFault::Rec { .. } => "RECORD",
         InputFault::Notes { .. } => "--notes",
         InputFault::Pairs { .. } => "PAIRS",
+        InputFault::Events { .. } => "EVENTS",
     }
 }
 
@@ -52,7 +53,7 @@ pub(crate) fn file_of<'a>(status: &Status, given: &[Given<'a>]) -> Option<&'a st
     let word = match status {
         Status::Input { fault } => input_word(fault),
         Status::Plan { fault } => plan_word(fault)?,
-        Status::NoPages { .. } => "POOL",
+        Status::NoPages { .. } | Status::Slots { .. } => "POOL",
         Status::NotKept => "RECORD",
         Status::Resident { fault } => resident_word(fault),
         Status::Core { .. } => "MEMORY",

@@ -1,4 +1,4 @@
-//! What helps where a kernel, a purgatory or a load record was refused.
+//! What helps where a kernel, a purgatory, a load record or a pool was refused.
 
 use boot_params::ParamsFault;
 use bzimage::BzFault;
@@ -95,6 +95,7 @@ pub(crate) fn remedy_of(status: &Status, is_crash: bool) -> Option<&'static str>
         Status::Plan { fault } => plan_remedy(fault, is_crash),
         Status::Input { fault } => input_remedy(fault),
         Status::Resident { fault } => resident_remedy(fault),
+        Status::Slots { .. } => Some("take it out of the pool, or reserve another area"),
         _ => None,
     }
 }

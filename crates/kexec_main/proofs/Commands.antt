@@ -8,6 +8,7 @@ pub mod Exec
 pub mod Trace
 pub mod Migrate
 pub mod Sample
+pub mod Drill
 pub mod CoreFile
 -- What is proved of each command.
 use Rattle.file_commands.proofs.Keeping.{Keeps}
@@ -24,6 +25,7 @@ use Rattle.kexec_main.proofs.Commands.Exec.{exec_keeps}
 use Rattle.kexec_main.proofs.Commands.Trace.{trace_keeps}
 use Rattle.kexec_main.proofs.Commands.Migrate.{migrate_keeps}
 use Rattle.kexec_main.proofs.Commands.Sample.{sample_keeps}
+use Rattle.kexec_main.proofs.Commands.Drill.{drill_keeps}
 use Rattle.kexec_main.proofs.Commands.CoreFile.{core_keeps}
 
 pub keeps : (c : CommandValue) → Keeps (entry_of c)
@@ -37,4 +39,5 @@ keeps (words.trace v) = trace_keeps v
 keeps (words.migrate v) = migrate_keeps v
 keeps (words.sample v) = sample_keeps v
 keeps (words.boot_resident v) = boot_resident_keeps v
+keeps (words.drill v) = drill_keeps v
 keeps (words.core v) = core_keeps v

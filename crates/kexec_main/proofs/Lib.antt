@@ -8,6 +8,7 @@ pub mod Commands
 pub mod Laid
 pub mod TooFew
 pub mod Mapped
+pub mod EventFile
 pub mod Pages
 pub mod Again
 pub mod Ending

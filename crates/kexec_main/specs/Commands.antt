@@ -9,6 +9,7 @@ use Rattle.kexec_main.specs.Boot.{boot_entry}
 use Rattle.kexec_main.specs.BootResident.{boot_resident_entry}
 use Rattle.kexec_main.specs.Check.{check_entry}
 use Rattle.kexec_main.specs.CoreFile.{core_entry}
+use Rattle.kexec_main.specs.Drill.{drill_entry}
 use Rattle.kexec_main.specs.Dump.{dump_entry}
 use Rattle.kexec_main.specs.Entry.{Program, ProgramEntry}
 use Rattle.kexec_main.specs.Exec.{exec_entry}
@@ -30,6 +31,7 @@ entry_of (words.trace t) = trace_entry t
 entry_of (words.migrate m) = migrate_entry m
 entry_of (words.sample n) = sample_entry n
 entry_of (words.boot_resident b) = boot_resident_entry b
+entry_of (words.drill d) = drill_entry d
 entry_of (words.core c) = core_entry c
 
 -- this holds of the command that the words say

@@ -6,6 +6,7 @@ pub mod Loading
 pub mod CrashLoading
 pub mod Outputs
 pub mod Texts
+pub mod Replies
 pub mod Runs
 pub mod Entry
 pub mod Loads
@@ -14,6 +15,8 @@ pub mod BootResident
 pub mod Load
 pub mod LoadPanic
 pub mod Check
+pub mod EventFile
+pub mod Drill
 pub mod Dump
 pub mod CrashExec
 pub mod Exec

@@ -23,6 +23,7 @@ answer_of (status.NoPages pool need) = refused (by (reasons.NoPages pool need))
 answer_of (status.Resident fault) = refused (by (reasons.Resident fault))
 answer_of (status.Heavy count) = refused (by (reasons.Heavy count))
 answer_of status.NotKept = refused (by reasons.NotKept)
+answer_of (status.Slots fault) = refused (by (reasons.Slots fault))
 answer_of (status.Core fault) = refused (by (reasons.Core fault))
 answer_of status.Memory = memory
 
@@ -42,4 +43,5 @@ code_of (status.Heavy count) = 10
 code_of status.NotKept = 11
 code_of status.Memory = 12
 code_of (status.Resident fault) = 13
+code_of (status.Slots fault) = 14
 code_of (status.Core fault) = 15

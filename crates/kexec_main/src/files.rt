@@ -1,6 +1,6 @@
 //! The files of the commands are taken, each with its limit, and read.
 
-ghost use Rattle.std.specs.Prelude.{◌≡◌, ℕ, ◌^◌, [], false, is_some, option_map, string_bytes, IfOk};
+ghost use Rattle.std.specs.Prelude.{◌≡◌, ℕ, ◌^◌, [], None, false, is_some, option_map, string_bytes, IfOk};
 ghost use Rattle.file_commands.specs.Calls.{Takes};
 ghost use Rattle.file_commands.specs.Files.{optional_file};
 ghost use Rattle.kexec_main.specs.Files.{load_by, load_files, load_record_file, map_file, memory_file, notes_file, pages_file, pool_file, some_notes, usable_below};
@@ -22,7 +22,7 @@ use std::alloc::Global;
 /// The most bytes of a memory file: 16 and 4,104 for each of 131,072 pages.
 const MEMORY_LIMIT: usize = 537_919_504;
 
-/// The most bytes of a pool file, of a memory map, of a file of notes and of a file of pairs.
+/// The most bytes of a pool file, of a memory map, of a file of notes, of a file of pairs and of a file of events.
 pub(crate) const TEXT_LIMIT: usize = 1_048_576;
 
 /// The most bytes of a load record: its head, the heads and digests of sixteen segments, and the bytes of 65,536 pages.
@@ -82,6 +82,7 @@ fn with_limit(pool: Pool, below: Option<Page>) -> Pool
     requires unfiled { (q : ℕ) → is_filed pool q ≡ false }
     ensures usable { usable_of result ≡ usable_below below pool.made }
     ensures unfiled { (q : ℕ) → is_filed result q ≡ false }
+    ensures limit { below ≡ None → result.limit ≡ 2 ^ 46 }
 {
     match below {
         Some(page) => pool.below(page.address()),
@@ -99,6 +100,7 @@ pub(crate) fn take_pool<S: Shelf>(
     ensures takes { Takes S.Shelf (pool_file (string_bytes name) below) (λ p. usable_of p)
         shelf.old result shelf.new }
     ensures unfiled { IfOk result (λ p. (q : ℕ) → is_filed p q ≡ false) }
+    ensures limit { IfOk result (λ p. below ≡ None → p.limit ≡ 2 ^ 46) }
 {
     let pool = take_pages(alloc, name, shelf)?;
     Ok(with_limit(pool, below))

@@ -6,10 +6,10 @@
 //! | Module | What it has |
 //! |---|---|
 //! | `files`, `inputs`, `load_inputs` | the files of the commands, their limits and readers; the kind of a load that is taken; the request that a kernel's files make |
-//! | `loading`, `running`, `output`, `text` | the work in memory: a plan, its load, a run, the file of a memory, the text |
+//! | `loading`, `running`, `output`, `text`, `replies` | the work in memory: a plan, its load, a run, the file of a memory, the text |
 //! | `crash_loading`, `crash_exec` | the same of a crash kernel, which is put in its place and never moves |
-//! | `boot`, `boot_resident`, `load`, `load_panic`, `check`, `dump`, `exec`, `trace`, `migrate`, `sample`, `core_file` | a command each, with its words |
-//! | `migrate_inputs`, `core_inputs` | what these two take, which holds a fact of it |
+//! | `boot`, `boot_resident`, `load`, `load_panic`, `check`, `dump`, `exec`, `trace`, `migrate`, `sample`, `drill`, `core_file` | a command each, with its words |
+//! | `migrate_inputs`, `drill_inputs`, `core_inputs` | what these three take, which holds a fact of it |
 //! | `laws` | what commands do together, and where they are refused for pages |
 //! | `status` | how a command ended, and why it may be refused |
 //! | `run`, `calm` | the top call, and the same over files in memory |
@@ -31,6 +31,10 @@ mod crash_loading;
 mod crash_tests;
 #[cfg(test)]
 mod device_tests;
+mod drill;
+mod drill_inputs;
+#[cfg(test)]
+mod drill_tests;
 mod dump;
 #[cfg(test)]
 mod each_command_tests;
@@ -61,6 +65,7 @@ mod migrate_inputs;
 mod output;
 #[cfg(test)]
 mod refused_memory_tests;
+mod replies;
 #[cfg(test)]
 mod resident_tests;
 mod run;

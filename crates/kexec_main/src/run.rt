@@ -18,6 +18,7 @@ use crate::boot::BootWords;
 use crate::boot_resident::BootResidentWords;
 use crate::check::CheckWords;
 use crate::core_file::CoreWords;
+use crate::drill::DrillWords;
 use crate::dump::DumpWords;
 use crate::exec::ExecWords;
 use crate::load::LoadWords;
@@ -56,6 +57,7 @@ fn run_command<S: Shelf, O: Sink>(
         Command::Migrate(words) => run(alloc, MigrateWords { words }, shelf, out),
         Command::Sample { number } => run(alloc, SampleWords { number }, shelf, out),
         Command::BootResident(words) => run(alloc, BootResidentWords { words }, shelf, out),
+        Command::Drill(words) => run(alloc, DrillWords { words }, shelf, out),
         Command::Core(words) => run(alloc, CoreWords { words }, shelf, out),
     }
 }

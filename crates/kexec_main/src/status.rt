@@ -8,6 +8,7 @@ ghost use Rattle.kexec_main.specs.Statuses.{answer_of, code_of};
 
 use crash_headers::NoteFault;
 use file_commands::Stop;
+use image_slots::{EventsFault, SlotsFault};
 use kexec_plan::PlanFault;
 use kexec_words::UsageWhy;
 use list_checker::ListFault;
@@ -40,6 +41,9 @@ pub enum InputFault {
     /// The file of pairs.
     #[error("{fault}")]
     Pairs { fault: PairsFault },
+    /// The file of events.
+    #[error("{fault}")]
+    Events { fault: EventsFault },
 }
 
 /// Why a command is refused, in the order in which its work is done.
@@ -59,6 +63,8 @@ pub enum Reason {
     Resident { fault: ResidentFault },
     /// The memory to write has more pages that are not all zeros than a memory file can have.
     Heavy { count: u64 },
+    /// There are no slots over the pool: one of its pages lies in the reserved area.
+    Slots { fault: SlotsFault },
     /// The memory has no core file by the headers at the address.
     Core { fault: CoreFault },
 }
@@ -105,6 +111,9 @@ pub enum Status {
     /// No list is made of the resident pages.
     #[error("{fault}")]
     Resident { fault: ResidentFault },
+    /// There are no slots over the pool: one of its pages lies in the reserved area.
+    #[error("{fault}")]
+    Slots { fault: SlotsFault },
     /// The memory has no core file by the headers at the address.
     #[error("{fault}")]
     Core { fault: CoreFault },
@@ -133,6 +142,7 @@ impl Status {
             Status::NotKept => 11,
             Status::Memory => 12,
             Status::Resident { .. } => 13,
+            Status::Slots { .. } => 14,
             Status::Core { .. } => 15,
         }
     }
@@ -150,6 +160,7 @@ impl From<Reason> for Status {
             Reason::NoPages { pool, need } => Status::NoPages { pool, need },
             Reason::Resident { fault } => Status::Resident { fault },
             Reason::Heavy { count } => Status::Heavy { count },
+            Reason::Slots { fault } => Status::Slots { fault },
             Reason::Core { fault } => Status::Core { fault },
         }
     }

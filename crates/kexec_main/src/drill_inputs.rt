@@ -1,0 +1,26 @@
+//! What `drill` takes.
+
+ghost use Rattle.std.specs.Prelude.{◌≡◌, ◌^◌, ℕ, false, true};
+ghost use Rattle.page_pool.specs.Pages.{is_filed};
+ghost use Rattle.kexec_main.specs.EventFile.{are_short};
+
+use image_slots::Event;
+use memory_map::Map;
+use page_memory::Memory;
+use page_pool::Pool;
+
+/// What `drill` took, and the name of its output.
+#[derive(Drop)]
+pub(crate) struct DrillInputs {
+    pub(crate) memory: Memory,
+    pub(crate) pool: Pool,
+    pub(crate) map: Map,
+    pub(crate) events: Vec<Event>,
+    pub(crate) out: String,
+    /// No page of a pool that was read is filed.
+    pub(crate) ghost unfiled: { (q : ℕ) → is_filed pool q ≡ false },
+    /// The pool has the limit of all addresses.
+    pub(crate) ghost limit: { pool.limit ≡ 2 ^ 46 },
+    /// Each store has at most a page.
+    pub(crate) ghost short: { are_short events.items ≡ true },
+}
