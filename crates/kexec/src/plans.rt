@@ -12,7 +12,11 @@ fn is_raw(given: &[Given<'_>]) -> bool {
 
 // The address of a raw kernel, as it is given: such a kernel is the first segment.
 fn raw_address<'a>(given: &[Given<'a>]) -> Option<&'a str> {
-    if is_raw(given) { text_of(given, "--at") } else { None }
+    if is_raw(given) {
+        text_of(given, "--at")
+    } else {
+        None
+    }
 }
 
 // The memory map that was given.
