@@ -8,7 +8,7 @@ use std::test::Fail;
 
 /// The words, and the most bytes that the file "long" can have, which is one byte too long. The kernel, the initrd and
 /// the modules have 256 MiB together, half of which the files "half" and "rest" have each.
-const LIMITS: [(&str, usize); 9] = [
+const LIMITS: [(&str, usize); 10] = [
     ("boot --type raw --at 2000 long p o k", 537_919_504),
     ("check m long", 268_436_448),
     ("load-panic --map f --notes long m o r k", 1_048_576),
