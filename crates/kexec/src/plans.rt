@@ -73,25 +73,22 @@ fn write_placed<W: Write>(
     }
 }
 
-// The option or word of a part that is given, and what it is.
-fn option_of(part: &Part) -> Option<(&'static str, &'static str)> {
-    match part {
-        Part::Initrd => Some(("--initrd", "initrd")),
-        Part::Module => Some(("MODULES", "module")),
-        Part::Command => Some(("--command", "command line")),
-        _ => None,
+// The option or word that gives a part, with its text.
+fn write_option<W: Write>(option: &str, text: Option<&str>, f: &mut Formatter<W>) -> fmt::Result {
+    match text {
+        Some(text) => write!(f, "{option} {text:?}: "),
+        None => write!(f, "{option}: "),
     }
 }
 
-// A part that kernels of this type take none of.
-fn write_unused<W: Write>(part: &Part, given: &[Given<'_>], f: &mut Formatter<W>) -> fmt::Result {
-    let Some((option, what)) = option_of(part) else {
-        return write!(f, "{part} is given, and a kernel of this type takes none");
-    };
-    match text_of(given, option) {
-        Some(text) => write!(f, "{option} {text:?}: ")?,
-        None => write!(f, "{option}: ")?,
-    }
+// What this option or word gives, which kernels of this type take none of.
+fn write_none_taken<W: Write>(
+    option: &str,
+    what: &str,
+    given: &[Given<'_>],
+    f: &mut Formatter<W>,
+) -> fmt::Result {
+    write_option(option, text_of(given, option), f)?;
     match text_of(given, "--type") {
         Some(kind) if kind != "auto" => write!(f, "a kernel of type {kind} takes no {what}"),
         _ => write!(
@@ -99,6 +96,16 @@ fn write_unused<W: Write>(part: &Part, given: &[Given<'_>], f: &mut Formatter<W>
             "a kernel of the type of {:?} takes no {what}",
             text_of(given, "KERNEL").unwrap_or("")
         ),
+    }
+}
+
+// A part that kernels of this type take none of.
+fn write_unused<W: Write>(part: &Part, given: &[Given<'_>], f: &mut Formatter<W>) -> fmt::Result {
+    match part {
+        Part::Initrd => write_none_taken("--initrd", "initrd", given, f),
+        Part::Module => write_none_taken("MODULES", "module", given, f),
+        Part::Command => write_none_taken("--command", "command line", given, f),
+        part => write!(f, "{part} is given, and a kernel of this type takes none"),
     }
 }
 
