@@ -27,6 +27,8 @@ _kernelyet_value() {
         load-panic:--purgatory) said='files' ;;
         load-panic:--notes) said='files' ;;
         trace:--swap) said='nothing' ;;
+        boot-resident:--at) said='nothing' ;;
+        drill:--map) said='files' ;;
     esac
     printf '%s' "$said"
 }
@@ -35,7 +37,7 @@ _kernelyet() {
     local word=${COMP_WORDS[COMP_CWORD]} command=${COMP_WORDS[1]} options='' words=() said='' place=0 at value
     COMPREPLY=()
     if [ "$COMP_CWORD" -eq 1 ]; then
-        mapfile -t COMPREPLY < <(compgen -W 'boot load load-panic check dump exec trace migrate sample core --help' -- "$word")
+        mapfile -t COMPREPLY < <(compgen -W 'boot load load-panic check dump exec trace migrate sample boot-resident drill core --help' -- "$word")
         return
     fi
     case $command in
@@ -48,6 +50,8 @@ _kernelyet() {
         trace) options='--swap' words=(files files nothing nothing) ;;
         migrate) options='' words=(files files) ;;
         sample) options='' words=(nothing) ;;
+        boot-resident) options='--at' words=(files files files files files) ;;
+        drill) options='--map' words=(files files files files) ;;
         core) options='' words=(files files nothing) ;;
     esac
     # the positional words before this one
