@@ -1,10 +1,8 @@
-//! Core files: where their parts stand, and which notes are kept.
+//! Core files: where their parts stand.
 
-ghost use Rattle.std.specs.Prelude.{◌≡◌, ◌++◌, ◌∷◌, [], Some, None, map, codes, replicate};
-ghost use Rattle.byteorder.specs.Endian.{little_bytes};
-ghost use Rattle.vmcore_file.specs.Notes.{up4, note_in, kept_size};
+ghost use Rattle.std.specs.Prelude.{◌≡◌, ◌∷◌, [], map};
 ghost use Rattle.vmcore_file.specs.Layout.{place_for, notes_place, loads_in_file};
-ghost use Rattle.worked_examples.specs.Cores.{core_note, no_name, long_note, load_of};
+ghost use Rattle.worked_examples.specs.Cores.{load_of};
 
 /// A load stands at the next place that is its address but for whole pages. The notes begin with a page, behind the rows: of 71
 /// loads these end with the first page.
@@ -19,17 +17,4 @@ pub fn places_in_a_core_file()
     ensures loads { map (λ r. r.offset)
         (loads_in_file (record { start = 0x10_0000; size = 24 } ∷ [])
         (load_of 0x10_0000 0x1000 ∷ load_of 0x10_2000 0x1000 ∷ [])) ≡ 0x2000 ∷ 0x3000 ∷ [] }
-{}
-
-/// Name and descriptor are filled up to a multiple of four bytes. The notes up to the first one without a name are kept, if each
-/// lies in its row.
-pub fn notes_of_a_row()
-    ensures filled { map up4 (0 ∷ 1 ∷ 4 ∷ 5 ∷ 0xffff_ffff ∷ []) ≡ 0 ∷ 4 ∷ 4 ∷ 8 ∷ 0x1_0000_0000 ∷ [] }
-    ensures whole { note_in core_note ≡ Some 24 }
-    ensures cut { note_in (no_name ++ core_note) ≡ None }
-    ensures long { note_in long_note ≡ None }
-    ensures one { kept_size (core_note ++ (no_name ++ core_note)) ≡ 24 }
-    ensures two { kept_size (core_note ++ core_note) ≡ 48 }
-    ensures eleven_left { kept_size (core_note ++ replicate 11 1) ≡ 24 }
-    ensures none { kept_size [] ≡ 0 }
 {}

@@ -17,7 +17,7 @@ mod records;
 mod runs;
 mod words;
 
-pub use cores::{notes_of_a_row, places_in_a_core_file};
+pub use cores::places_in_a_core_file;
 pub use exchanges::{
     exchanged_once, exchanged_twice, own_source_keeps_a_write, source_gets_a_write,
 };
