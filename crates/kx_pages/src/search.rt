@@ -29,7 +29,7 @@ fn span_at(spans: &[Span], i: usize) -> Option<Span>
 }
 
 /// Whether the page `number` is in one of the spans.
-pub fn any_has(spans: &[Span], number: u64) -> bool
+pub(crate) fn any_has(spans: &[Span], number: u64) -> bool
     requires { AreApart 0 spans.now }
     ensures { result ≡ in_spans spans.now number }
 {
@@ -40,7 +40,7 @@ pub fn any_has(spans: &[Span], number: u64) -> bool
 }
 
 /// Whether a page of `span` is in one of the spans.
-pub fn any_meets(spans: &[Span], span: Span) -> bool
+pub(crate) fn any_meets(spans: &[Span], span: Span) -> bool
     requires { AreApart 0 spans.now }
     ensures { result ≡ list_any (λ r. spans_meet r span) spans.now }
 {

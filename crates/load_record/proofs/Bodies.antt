@@ -18,14 +18,14 @@ use Rattle.kx_laws.proofs.Lists.{take_front, drop_front}
 use Rattle.kx_laws.proofs.Results.{bind_ok, guard_ok, ok_same}
 use Rattle.kx_pages.specs.Lists.{Each}
 use Rattle.segments.specs.Values.{SegmentValue}
-use Rattle.segments.proofs.Laws.{IsPlaced}
+use Rattle.segments.specs.Shape.{IsPlaced}
 use Rattle.load_record.specs.declared.fault.RecFault.{RecFault}
 use Rattle.load_record.specs.declared.fault.RecFault.TheVariants as faults
 use Rattle.load_record.specs.declared.body.SegmentHead.{SegmentHead}
 use Rattle.load_record.specs.declared.version.Version.{Version}
 use Rattle.load_record.specs.declared.version.Version.TheVariants.{First, Second}
-use Rattle.load_record.proofs.Heads.{at_most}
 use Rattle.load_record.specs.File.{FileSegment, digest_of, digest_size, is_wrong, has_wrong_digest, wrong_digest, values, without_wrong, segment_text, segment_format, head_of_segment, segment_of, file_segment, segment_behind, segment_at, segments_read, segments_tested}
+use Rattle.std.proofs.lemmas.Bool.{ltb-false}
 
 pub segment_is : IsFormat 24 segment_format
 segment_is = record { numbered = λ at fits. refl; whole = λ at fits. refl; apart = refl }
@@ -70,8 +70,8 @@ segment_spelled v total bytes e small h right =
     let a = guard_ok (nat_lt (length bytes) front) _ _ e h in
     let b = guard_ok (nat_lt (length (drop front bytes)) n) _ _ e a.1 in
     let same = ok_same _ e b.1 in
-    let long : front ≤ length bytes = at_most (length bytes) front a.0 in
-    let fits : n ≤ length (drop front bytes) = at_most (length (drop front bytes)) n b.0 in
+    let long : front ≤ length bytes = ltb-false (length bytes) front a.0 in
+    let fits : n ≤ length (drop front bytes) = ltb-false (length (drop front bytes)) n b.0 in
     ap (λ (e : FileSegment × List ℕ). segment_text v e.0.segment ++ e.1) (sym same)
     ∙ text_spelled v bytes n small long refl fits (ap (λ (e : FileSegment × List ℕ). has_wrong_digest v e.0) same ∙ right)
 

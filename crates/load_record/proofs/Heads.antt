@@ -2,7 +2,7 @@
 use Rattle.std.proofs.Common.{◌≡◌, ℕ, ◌%◌, ◌^◌, ◌<◌, ◌≤◌, List, ◌++◌, length, take, drop, Bool, true, false, cond, refl, sym, ap, ◌∙◌, arith, Ok, Err, Option, Some, None}
 use Rattle.std.specs.Prelude.{not, nat_lt, ◌==◌, ◌&&◌, ◌||◌}
 use Rattle.std.proofs.lemmas.Bool.Decides.{nat_tests}
-use Rattle.std.proofs.lemmas.Bool.{or_parts}
+use Rattle.std.proofs.lemmas.Bool.{or_parts, ltb-false}
 use Rattle.std.proofs.lemmas.List.{length-append}
 use Rattle.kx_fields.specs.Fields.{AreBytes}
 use Rattle.kx_fields.specs.Formats.{IsFormat, blank, read}
@@ -54,9 +54,6 @@ is_zero_there m k a h e = grind (arith, nat_tests)
 plain_there : (k m : ℕ) → ((k == 1) && (m == 1)) ≡ false → m ≤ 1 → k ≡ 1 → m ≡ 0
 plain_there k m h l e = grind (arith, nat_tests)
 
-pub at_most : (n k : ℕ) → nat_lt n k ≡ false → k ≤ n
-at_most n k h = grind (arith, nat_tests)
-
 is_some_there : (n : ℕ) → (n == 0) ≡ false → 0 < n
 is_some_there n h = grind (arith, nat_tests)
 
@@ -75,9 +72,9 @@ good_head h e =
     let x = good_address h.control p.0 in
     let y = good_address h.swap q.0 in
     record {
-      kind = at_most 1 h.kind a.0;
-      mode = at_most 1 h.mode m.0;
-      plain = plain_there h.kind h.mode m.1 (at_most 1 h.mode m.0);
+      kind = ltb-false 1 h.kind a.0;
+      mode = ltb-false 1 h.mode m.0;
+      plain = plain_there h.kind h.mode m.1 (ltb-false 1 h.mode m.0);
       control = x.0;
       control_below = x.1;
       swap = y.0;
@@ -85,7 +82,7 @@ good_head h e =
       no_control = is_zero_there 1 h.kind h.control r.0;
       no_swap = is_zero_there 0 h.mode h.swap r.1;
       some = is_some_there h.segments d.0;
-      few = at_most 16 h.segments f.0;
+      few = ltb-false 16 h.segments f.0;
     }
 
 pub no_fault_of : (h : Head) → nat_lt 1 h.kind ≡ false → is_bad_mode h ≡ false → is_bad_page h ≡ false → (h.segments == 0) ≡ false → nat_lt 16 h.segments ≡ false → head_fault h ≡ None

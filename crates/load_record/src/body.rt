@@ -15,6 +15,7 @@ use crate::fault::RecFault;
 use crate::load::LoadRecord;
 use crate::version::{Tested, Version};
 use kx_fields::Block;
+use kx_pages::copy_of;
 use segments::{Segment, Segments};
 use sha2::{Digest, Sha256};
 use std::alloc::{AllocError, Global};
@@ -67,16 +68,6 @@ impl SegmentHead {
             memsz: self.memsz,
         }
     }
-}
-
-// A copy of the bytes, its room made at once.
-fn copy_of(alloc: Global, bytes: &[u8]) -> Result<Vec<u8>, AllocError>
-    ensures { IfOk result (λ v. v.items ≡ bytes.now) }
-{
-    let mut copy = Vec::new(alloc);
-    copy.reserve_exact(bytes.len())?;
-    copy.extend_from_slice(bytes)?;
-    Ok(copy)
 }
 
 // The head of a segment, where it and the digest behind it are whole.
@@ -197,7 +188,7 @@ fn without_wrong(list: Vec<Segment>, wrong: Option<u64>) -> Result<Vec<Segment>,
 }
 
 /// The segments that follow the head of a whole file, so many, with nothing after them and no wrong digest.
-pub fn read_segments(
+pub(crate) fn read_segments(
     alloc: Global,
     version: Version,
     count: u64,
@@ -235,7 +226,7 @@ fn with_first(
 /// The segments that the bytes spell, so many, with nothing after them and no wrong digest: the last bytes of a file that
 /// has `total`. Those behind the first segment's own head and digest are handed in: the first segment, mostly by far the
 /// largest, keeps their buffer. Beside them their digests, where the version has them.
-pub fn take_segments(
+pub(crate) fn take_segments(
     alloc: Global,
     version: Version,
     total: u64,
@@ -297,7 +288,7 @@ fn put_segment(out: &mut Vec<u8>, segment: &Segment, digest: &[u8; 32]) -> Resul
 }
 
 /// Puts the segments behind the bytes.
-pub fn put_segments(out: &mut Vec<u8>, segments: &Segments) -> Result<(), AllocError>
+pub(crate) fn put_segments(out: &mut Vec<u8>, segments: &Segments) -> Result<(), AllocError>
     ensures { OnOk result
         (out.new.items ≡ out.old.items ++ flat_map (segment_text Second) segments.now) }
 {
@@ -310,7 +301,7 @@ pub fn put_segments(out: &mut Vec<u8>, segments: &Segments) -> Result<(), AllocE
 
 /// The first bytes and then the others, in the buffer of the others. These are moved once, and not at all where there
 /// are no first bytes.
-pub fn put_in_front(first: &[u8], mut others: Vec<u8>) -> Result<Vec<u8>, AllocError>
+pub(crate) fn put_in_front(first: &[u8], mut others: Vec<u8>) -> Result<Vec<u8>, AllocError>
     ensures { IfOk result (λ v. v.items ≡ first.now ++ others.items) }
 {
     if first.is_empty() {
@@ -343,7 +334,7 @@ fn put_before(
 }
 
 /// The bytes and then the segments with their digests, in the first segment's buffer, which gets room for `room` bytes.
-pub fn give_segments(
+pub(crate) fn give_segments(
     bytes: &[u8],
     mut list: Vec<Segment>,
     digests: &[[u8; 32]],
@@ -362,7 +353,7 @@ pub fn give_segments(
 }
 
 /// How many bytes the file of a record has.
-pub fn room_of(of: &LoadRecord) -> usize
+pub(crate) fn room_of(of: &LoadRecord) -> usize
     ensures { result ≡ length (record_file of.now) }
 {
     let segments = &of.segments;

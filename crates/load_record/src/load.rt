@@ -108,7 +108,7 @@ impl LoadRecord {
 
 /// The record that a file in two parts spells, as `LoadRecord::from_file` says, and the digests of its segments where the
 /// file has them.
-pub fn record_in_two(
+pub(crate) fn record_in_two(
     alloc: Global,
     front: &[u8],
     rest: Vec<u8>,

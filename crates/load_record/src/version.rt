@@ -25,10 +25,10 @@ pub struct Tested {
 }
 
 /// What a file of the first version begins with.
-pub const FIRST_MAGIC: &[u8; 8] = b"KXREC001";
+pub(crate) const FIRST_MAGIC: &[u8; 8] = b"KXREC001";
 
 /// What a file of the second version begins with.
-pub const SECOND_MAGIC: &[u8; 8] = b"KXREC002";
+pub(crate) const SECOND_MAGIC: &[u8; 8] = b"KXREC002";
 
 impl Version {
     /// The version of a file that begins with the magic of either.

@@ -16,10 +16,7 @@ use Rattle.load_states.specs.declared.accepted.Accepted.TheVariants as variants
 use Rattle.load_states.specs.States.{Checked, IsLeftAs, Load, swap_of}
 use Rattle.load_states.proofs.Outside.{walk_in}
 use Rattle.kx_pages.specs.Modes.{swap_page}
-
--- the memory, as a function
-same_memory : (M N : Mem) → ((p : ℕ) → M p ≡ N p) → M ≡ N
-same_memory M N h = λ i p. h p i
+use Rattle.kx_pages.proofs.Bytes.{same_memory}
 
 pub tells_alike : (c : Checked) → Told c.load c.words c.links c.pairs → TellsAlike c
 tells_alike c told d same other =

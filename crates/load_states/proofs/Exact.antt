@@ -5,7 +5,8 @@ use Rattle.kx_laws.proofs.Options.{some_of}
 use Rattle.kx_pages.specs.Lists.{Each, Has, count, sources}
 use Rattle.kx_pages.specs.declared.image.Wish.{Wish}
 use Rattle.segments.specs.Values.{SegmentValue, is_destination, need, pages}
-use Rattle.segments.proofs.Laws.{AreSegments, Has-from_is_destination, Distinct-pages}
+use Rattle.segments.specs.Shape.{AreSegments}
+use Rattle.segments.proofs.Laws.{Has-from_is_destination, Distinct-pages}
 use Rattle.kimage_list.specs.Load.{Loading, Request, begun, given, pages_of, requests, served}
 use Rattle.kimage_list.specs.Counted.{Allowed}
 use Rattle.kimage_list.proofs.Counting.{Full, full_on, counted_fit}

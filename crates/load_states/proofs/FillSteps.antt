@@ -13,7 +13,8 @@ use Rattle.kx_pages.specs.declared.image.Wish.TheVariants.{Plain, Kept}
 use Rattle.page_memory.specs.Contents.{Contents, at}
 use Rattle.kx_pages.specs.Bytes.{Mem}
 use Rattle.segments.specs.Values.{SegmentValue, is_destination, want, page_count, pages_of_segment, pages, need}
-use Rattle.segments.proofs.Laws.{AreSegments, is_destination-from_Has, Has-from_is_destination, Distinct-pages}
+use Rattle.segments.specs.Shape.{AreSegments}
+use Rattle.segments.proofs.Laws.{is_destination-from_Has, Has-from_is_destination, Distinct-pages, pages-append}
 use Rattle.kimage_list.specs.Load.{Entry, Start, Move, page_entries, pages_of, starts}
 use Rattle.kimage_list.specs.Writers.{Writer, StandsAt, IsAwaited, with_destination, with_source, with_bytes, destination_after, pages_in}
 use Rattle.kimage_list.specs.Calls.{load_begun}
@@ -101,10 +102,6 @@ entries_of-append [] ys = refl
 entries_of-append (s ∷ xs) ys =
     ap (λ es. Start (s.mem / 4096) ∷ page_entries (s.mem / 4096) (page_count s) ++ es) (entries_of-append xs ys)
     ∙ ap (λ es. Start (s.mem / 4096) ∷ es) (sym (append_assoc (page_entries (s.mem / 4096) (page_count s)) (entries_of xs) (entries_of ys)))
-
-pages-append : (xs ys : List SegmentValue) → pages (xs ++ ys) ≡ pages xs ++ pages ys
-pages-append [] ys = refl
-pages-append (s ∷ xs) ys = ap (λ ps. pages_of_segment s ++ ps) (pages-append xs ys) ∙ sym (append_assoc (pages_of_segment s) (pages xs) (pages ys))
 
 split_at : (ss : List SegmentValue) (i : ℕ) (s : SegmentValue) → slice_get ss i ≡ Some s → (rest : List SegmentValue) × (ss ≡ take i ss ++ s ∷ rest)
 split_at [] i s e = absurd (none-some s e)

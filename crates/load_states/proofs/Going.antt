@@ -1,18 +1,13 @@
 -- A segment while its pages are written.
-use Rattle.std.proofs.Common.{◌≡◌, ℕ, zero, suc, ◌+◌, ◌≤◌, List, [], ◌∷◌, ◌++◌, Some, None, subst, take}
-use Rattle.std.specs.List.{slice_get}
-use Rattle.std.proofs.lemmas.Option.{none-some}
-use Rattle.kx_pages.specs.Lists.{Each}
+use Rattle.std.proofs.Common.{◌≡◌, ℕ, ◌+◌, ◌≤◌, List, [], ◌∷◌, ◌++◌, Some, None, subst, take}
 use Rattle.kx_pages.specs.declared.image.Wish.{Wish}
 use Rattle.kx_pages.specs.Bytes.{Mem}
 use Rattle.segments.specs.Values.{SegmentValue}
-use Rattle.segments.proofs.Laws.{IsPlaced}
 use Rattle.kimage_list.specs.Load.{Entry, Move}
 use Rattle.kimage_list.specs.Writers.{History, Writer, StandsAt, with_destination, destination_after}
 use Rattle.load_states.specs.Loads.{entries_of}
 use Rattle.load_states.specs.Fillings.{Fills}
 use Rattle.load_states.proofs.FillSteps.{so_far, so_far-start, so_far-more, so_far-goes, start_filled}
-use Rattle.kx_laws.proofs.Options.{some_same}
 
 -- segment i is written up to this page: some load stands there, and so does each load that stood before the segment
 pub record Goes (ss : List SegmentValue) (i first number : ℕ) (before now : Writer) : Type 0 where
@@ -35,9 +30,3 @@ goes_more ss i first number before now v l k f = record { memory = k.memory; poo
   where
     go : (M : Mem) (pool : List ℕ) (wish : Wish) → Fills M pool wish ss (so_far ss i first number) now → Fills M pool wish ss (so_far ss i first (number + 1)) v
     go M pool wish g = subst (λ es. Fills M pool wish ss es v) (so_far-more ss i first number l) (f M pool wish (so_far ss i first number) g (so_far-goes ss i first number l))
-
--- a segment of the list is one of whole pages
-pub placed_at : (ss : List SegmentValue) (i : ℕ) (s : SegmentValue) → Each IsPlaced ss → slice_get ss i ≡ Some s → IsPlaced s
-placed_at [] i s k e = absurd (none-some s e)
-placed_at (r ∷ ss) zero s k e = subst IsPlaced (some_same r s e) k.0
-placed_at (r ∷ ss) (suc i) s k e = placed_at ss i s k.1 e

@@ -1,5 +1,5 @@
 -- Which pages the list of a sealed load uses.
-use Rattle.std.proofs.Common.{◌≡◌, ℕ, zero, suc, ◌+◌, ◌*◌, ◌<◌, ◌≤◌, ◌/◌, List, [], ◌∷◌, length, take, Option, Some, None, sym, ap, ◌∙◌, subst, inl, inr, arith}
+use Rattle.std.proofs.Common.{◌≡◌, ℕ, suc, ◌+◌, ◌*◌, ◌<◌, ◌≤◌, ◌/◌, List, [], ◌∷◌, length, take, Option, Some, None, sym, ap, ◌∙◌, subst, inl, inr, arith}
 use Rattle.std.specs.Prelude.{◌≢◌, slice_index}
 use Rattle.std.proofs.lemmas.List.{length-drop}
 use Rattle.kx_laws.proofs.Options.{none_some, some_same}
@@ -22,7 +22,7 @@ use Rattle.load_states.specs.Runs.{RestoresOthers}
 use Rattle.load_states.specs.States.{Checked, Load, Returned, swap_of}
 use Rattle.load_states.proofs.LaidAccepted.{pairs-chained, served_well}
 use Rattle.load_states.proofs.Ready.{Undoes, swap_is}
-use Rattle.kx_pages.proofs.Counting.{count-from_Has}
+use Rattle.kx_pages.proofs.Counting.{count-from_Has, count-at}
 use Rattle.kx_pages.specs.Needs.{first_count}
 use Rattle.kx_pages.specs.Modes.{swap_page}
 
@@ -38,11 +38,6 @@ sources_items t (Start s ∷ es) qs p h = sources_items s es qs p h
 sources_items t (Move s ∷ es) [] p h = sources_items t es [] p h
 sources_items t (Move s ∷ es) (q ∷ qs) p (inl e) = inl e
 sources_items t (Move s ∷ es) (q ∷ qs) p (inr h) = inr (sources_items (suc t) es qs p h)
-
-index_counted : (xs : List ℕ) (i : ℕ) → i < length xs → 1 ≤ count (slice_index xs i) xs
-index_counted [] i h = absurd (omega (arith, h))
-index_counted (x ∷ xs) zero h = grind arith
-index_counted (x ∷ xs) (suc i) h = omega (arith, index_counted xs i (omega (arith, h)))
 
 module _ (M : Mem) (pool : List ℕ) (wish : Wish) (s : Load) (k : IsSealed M pool wish s.segments s) where
   es : List Entry
@@ -75,7 +70,7 @@ module _ (M : Mem) (pool : List ℕ) (wish : Wish) (s : Load) (k : IsSealed M po
           let w : slice_index k.loading.spare 1 ≡ swap = some_same (slice_index k.loading.spare 1) swap e in
           let some_entries : 1 ≤ length k.loading.spare = omega (arith, n) in
           let two : 1 < length k.loading.spare = omega (arith, n) in
-          let c : 1 ≤ count (slice_index k.loading.spare 1) k.loading.spare = index_counted k.loading.spare 1 two in
+          let c : 1 ≤ count (slice_index k.loading.spare 1) k.loading.spare = count-at k.loading.spare 1 two in
           let d : 1 ≤ count swap k.loading.spare = subst (λ x. 1 ≤ count x k.loading.spare) w c in
           omega (arith, d, u, z)
 

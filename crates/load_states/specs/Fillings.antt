@@ -14,7 +14,7 @@ use Rattle.kimage_list.specs.Tracking.{whole_pool}
 use Rattle.kimage_list.specs.Calls.{HasDrawn}
 use Rattle.kimage_list.specs.Writers as writers
 use Rattle.segments.specs.Values.{SegmentValue, is_destination, want, need}
-use Rattle.segments.proofs.Laws.{AreSegments}
+use Rattle.segments.specs.Shape.{AreSegments}
 use Rattle.list_checker.specs.Walk.{IsAccepted}
 use Rattle.load_states.specs.States.{Load, part_code}
 use Rattle.load_states.specs.Loads.{entries_of, loading_of, memory_of}

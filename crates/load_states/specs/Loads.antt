@@ -6,7 +6,7 @@ use Rattle.kx_pages.specs.Bytes.{Mem}
 use Rattle.kimage_list.specs.Load.{Loading, Entry, Start, page_entries, loaded}
 use Rattle.kimage_list.specs.Laying.{laid, head_of, control_of, load_mode, list_of}
 use Rattle.segments.specs.Values.{SegmentValue, page_count, is_destination, need, want}
-use Rattle.segments.proofs.Laws.{AreSegments}
+use Rattle.segments.specs.Shape.{AreSegments}
 use Rattle.list_checker.specs.Walk.{IsAccepted}
 use Rattle.kx_pages.specs.Modes.{swap_page}
 

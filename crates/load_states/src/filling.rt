@@ -13,7 +13,7 @@ ghost use Rattle.kimage_list.specs.Tracking.{whole_pool};
 ghost use Rattle.kimage_list.specs.Writers.{destination_after};
 ghost use Rattle.kimage_list.specs.Calls.{Refuses};
 ghost use Rattle.segments.specs.Values.{is_destination, need};
-ghost use Rattle.segments.proofs.Laws.{AreSegments};
+ghost use Rattle.segments.specs.Shape.{AreSegments};
 ghost use Rattle.load_states.specs.Loads.{LoadsExactly, entries_of};
 ghost use Rattle.load_states.specs.Fillings.{Fills, FillsFrom, IsSealed, left};
 

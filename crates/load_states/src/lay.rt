@@ -2,7 +2,7 @@
 
 ghost use Rattle.std.specs.Prelude.{◌≡◌, ◌⊎◌, ℕ, ◌+◌, ◌++◌, ◌<◌, ◌≤◌, Some, IsSome, IsTrue, IfOk, OnOk};
 ghost use Rattle.std.specs.List.{range_with_len};
-ghost use Rattle.kx_pages.specs.Spans.{in_spans};
+ghost use Rattle.kx_pages.specs.Spans.{in_spans, AreApart};
 ghost use Rattle.page_memory.specs.Contents.{at, IsHeld};
 ghost use Rattle.segments.specs.Values.{want};
 ghost use Rattle.load_states.specs.Laying.{Lays, pages_of_spans};
@@ -23,9 +23,10 @@ fn push_span(pages: &mut Vec<Page>, span: Span) -> Result<(), AllocError>
     Ok(())
 }
 
-// The pages of the set, in rising order.
-fn rising_pages(alloc: Global, set: &PageSet) -> Result<Vec<Page>, AllocError>
-    ensures { IfOk result (λ pages. pages.items ≡ pages_of_spans set.now) }
+/// The pages of the set, in rising order. This project's own.
+pub fn rising_pages(alloc: Global, set: &PageSet) -> Result<Vec<Page>, AllocError>
+    ensures value { IfOk result (λ pages. pages.items ≡ pages_of_spans set.now) }
+    ensures apart { IfOk result (λ _. AreApart 0 set.now) }
 {
     let mut pages = Vec::new(alloc);
     pages.reserve_exact(set.total() as usize)?;

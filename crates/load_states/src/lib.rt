@@ -25,5 +25,6 @@ mod tests;
 pub use accepted::{Accepted, AcceptedKept, AcceptedPlain};
 pub use crash::{AcceptedCrash, CrashLoaded, load_crash};
 pub use filling::{BeginBack, Filling};
+pub use lay::rising_pages;
 pub use loaded::{Loaded, NotAccepted};
 pub use ran::{Back, RanKept, RanPlain};

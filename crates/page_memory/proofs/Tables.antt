@@ -7,12 +7,15 @@ use Rattle.std.specs.Map.{lookup}
 use Rattle.std.specs.BTreeMap.{is_at, BTreeMap}
 use Rattle.std.specs.BTreeMap as tree
 use Rattle.std.specs.Option.{IfSome}
-use Rattle.page_memory.specs.View.{AreFrames}
 use Rattle.kx_fields.specs.Fields.{IsBlock}
 use Rattle.std.specs.Prelude.{◌↔◌, IsTrue, IsSome, is_some}
 use Rattle.std.specs.FinMap.{FinMap, get, insert, same_map, get-from_entries, get-insert, nat_cmp-IsAntisymmetric}
 use Rattle.page_memory.specs.View.{pages_by}
 use Rattle.page_memory.specs.Frames.{Differs}
+
+-- each page of the table is one, and has bytes
+pub record AreFrames {X : Type 0} (f : X → List ℕ) (m : tree.BTreeMap ℕ X) : Type 0 where
+  pub each : (q : ℕ) → IfSome (tree.get nat_cmp m q) (λ x. (q < 2 ^ 34) × IsBlock 4096 (f x))
 
 option_map-cond : {X : Type 0} (f : X → List ℕ) (b : Bool) (x : X) (r : Option X) → cond b (Some (f x)) (option_map f r) ≡ option_map f (cond b (Some x) r)
 option_map-cond f true x r = refl

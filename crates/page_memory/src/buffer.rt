@@ -18,7 +18,7 @@ use std::alloc::AllocError;
 
 /// The frame that begins at a place of the buffer.
 #[tactic(auto, unfolding(crate::specs::Frames::frame_in))]
-pub fn frame(frames: &[u8], place: usize) -> &[u8]
+pub(crate) fn frame(frames: &[u8], place: usize) -> &[u8]
     requires { place + 4096 ≤ length frames.now }
     ensures { result.now ≡ frame_in frames.now place }
 {
@@ -62,7 +62,7 @@ fn fill_word(frames: &mut [u8], start: usize, place: usize, v: u64)
 }
 
 /// Writes a word at a place.
-pub fn put_word(frame: &mut [u8], place: usize, v: u64)
+pub(crate) fn put_word(frame: &mut [u8], place: usize, v: u64)
     requires { place + 8 ≤ length frame.old }
     ensures { frame.new ≡ page_with_word frame.old place v }
 {
@@ -71,7 +71,7 @@ pub fn put_word(frame: &mut [u8], place: usize, v: u64)
 }
 
 /// Page p, which has a frame, becomes these at most 4,096 bytes, then zeros.
-pub fn write_frame(frames: &mut Vec<u8>, table: &Table, p: Page, bytes: &[u8])
+pub(crate) fn write_frame(frames: &mut Vec<u8>, table: &Table, p: Page, bytes: &[u8])
     requires old { IsTable frames.old.items table.now.places }
     requires held { IsSome (finite.get (pages_in frames.old.items table.now.places) p) }
     requires fits { length bytes.now ≤ 4096 }
@@ -85,7 +85,7 @@ pub fn write_frame(frames: &mut Vec<u8>, table: &Table, p: Page, bytes: &[u8])
 }
 
 /// The eight bytes at a place of page p, which has a frame, become the little-endian number v.
-pub fn write_word(frames: &mut Vec<u8>, table: &Table, p: Page, place: usize, v: u64)
+pub(crate) fn write_word(frames: &mut Vec<u8>, table: &Table, p: Page, place: usize, v: u64)
     requires old { IsTable frames.old.items table.now.places }
     requires held { IsSome (finite.get (pages_in frames.old.items table.now.places) p) }
     requires fits { place + 8 ≤ 4096 }
@@ -116,7 +116,7 @@ fn move_frame(frames: &mut [u8], to: usize, from: usize)
 }
 
 /// Page d, which has a frame, becomes what page s reads as.
-pub fn copy_frame(frames: &mut Vec<u8>, table: &Table, d: Page, s: Page)
+pub(crate) fn copy_frame(frames: &mut Vec<u8>, table: &Table, d: Page, s: Page)
     requires old { IsTable frames.old.items table.now.places }
     requires held { IsSome (finite.get (pages_in frames.old.items table.now.places) d) }
     ensures value { IsCopied frames.old.items frames.new.items table.now.places d s }
@@ -132,7 +132,7 @@ pub fn copy_frame(frames: &mut Vec<u8>, table: &Table, d: Page, s: Page)
 static HEADS: [u8; FIRST_FRAME] = [0; FIRST_FRAME];
 
 /// Adds a page, in a slot of its own behind the others. Room is made first, so that a refusal leaves both as they were.
-pub fn add_frame(
+pub(crate) fn add_frame(
     frames: &mut Vec<u8>,
     table: &mut Table,
     p: Page,
@@ -182,7 +182,7 @@ fn place_of(table: &Table, p: Page) -> usize
 }
 
 /// The frames of two pages change places: no byte moves.
-pub fn exchange(table: &mut Table, d: Page, s: Page)
+pub(crate) fn exchange(table: &mut Table, d: Page, s: Page)
     requires d { IsSome (tree.get nat_cmp table.old.places d) }
     requires s { IsSome (tree.get nat_cmp table.old.places s) }
     requires apart { d ≢ s }

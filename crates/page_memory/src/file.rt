@@ -38,7 +38,7 @@ fn has_no_bit(bytes: &[u8]) -> bool
 }
 
 /// Whether all bytes are zero. Those behind the first ones are looked at only where the first ones are all zero.
-pub fn is_zero(bytes: &[u8]) -> bool
+pub(crate) fn is_zero(bytes: &[u8]) -> bool
     ensures { result ≡ is_all_zeros bytes.now }
 {
     let (first, rest) = bytes.split_at(bytes.len().min(FIRST));
@@ -67,7 +67,7 @@ fn count_at(bytes: &[u8]) -> Option<u64>
 
 /// The head of a file with so many pages.
 #[tactic(auto, unfolding(kx_fields::specs::Fields::with_field, kx_fields::specs::Fields::zeros))]
-pub fn head_of(count: u64) -> Block<16>
+pub(crate) fn head_of(count: u64) -> Block<16>
     ensures { result ≡ magic ++ little_bytes 8 count }
 {
     let mut head = Block::zeros();
@@ -158,7 +158,7 @@ fn table_of(alloc: Global, count: u64, bytes: &[u8]) -> Result<Table, MemFault>
 
 /// The table of the pages that a memory file spells, over the bytes of the file.
 #[tactic(auto, unfolding(crate::specs::File::pages_read))]
-pub fn file_table(alloc: Global, bytes: &[u8]) -> Result<Table, MemFault>
+pub(crate) fn file_table(alloc: Global, bytes: &[u8]) -> Result<Table, MemFault>
     ensures exact { Gives MemFault.Memory (λ t. pages_in bytes.now t.places) result
         (pages_read bytes.now) }
     ensures table { IfOk result (λ t. IsTable bytes.now t.places) }
@@ -231,7 +231,7 @@ fn text_of_pages(
 }
 
 /// The pages that the file of a memory has, each with the place of its frame.
-pub fn file_pages(
+pub(crate) fn file_pages(
     alloc: Global,
     frames: &[u8],
     table: &Table,
@@ -254,7 +254,7 @@ pub fn file_pages(
 }
 
 /// The file of the pages that are not all zeros.
-pub fn file_of(alloc: Global, frames: &[u8], table: &Table) -> Result<Vec<u8>, HeavyFault>
+pub(crate) fn file_of(alloc: Global, frames: &[u8], table: &Table) -> Result<Vec<u8>, HeavyFault>
     requires { IsTable frames.now table.now.places }
     ensures file { IfOk result (λ v. IsFileOf (stored_in frames.now table.now.places) v.items) }
     ensures ordered { IsOrdered nat_cmp table.now.places }

@@ -156,7 +156,7 @@ fn write_heads(frames: &mut [u8], pages: &[(Page, usize)])
 
 /// The file of the pages that are not all zeros, made in the buffer of their frames. It takes no memory but some bytes a
 /// page.
-pub fn file_in_place(
+pub(crate) fn file_in_place(
     alloc: Global,
     mut frames: Vec<u8>,
     table: &Table,

@@ -1,16 +1,16 @@
 //! The sizes of the memory file, and so of the buffer in which the frames lie.
 
 /// The bytes of a frame: a page, as a length.
-pub const FRAME_SIZE: usize = 4096;
+pub(crate) const FRAME_SIZE: usize = 4096;
 
 /// The bytes of the file's head: eight that tell the format, and the number of pages.
-pub const HEAD: usize = 16;
+pub(crate) const HEAD: usize = 16;
 
 /// The bytes of a page in the file: eight for its number, and its frame.
-pub const SLOT: usize = 4104;
+pub(crate) const SLOT: usize = 4104;
 
 /// Where the first page's frame begins: behind the head and the page's number.
-pub const FIRST_FRAME: usize = 24;
+pub(crate) const FIRST_FRAME: usize = 24;
 
 /// The most pages of a memory file (this project's own limit).
-pub const MOST_PAGES: u64 = 131072;
+pub(crate) const MOST_PAGES: u64 = 131072;

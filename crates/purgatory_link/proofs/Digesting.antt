@@ -1,5 +1,5 @@
 -- Tables of regions row by row, and what is wanted page by page.
-use Rattle.std.proofs.Common.{◌≡◌, ℕ, zero, suc, ◌+◌, ◌-◌, ◌*◌, ◌/◌, ◌^◌, ◌<◌, ◌≤◌, ◌++◌, List, [], ◌∷◌, Some, None, refl, sym, ap, ◌∙◌, subst, arith, length, take, drop, get_or, append_assoc, length-append}
+use Rattle.std.proofs.Common.{◌≡◌, ℕ, zero, suc, ◌+◌, ◌-◌, ◌*◌, ◌/◌, ◌^◌, ◌<◌, ◌≤◌, ◌++◌, List, [], ◌∷◌, Some, None, refl, sym, ap, ◌∙◌, arith, length, take, drop, get_or, append_assoc, length-append}
 use Rattle.std.specs.Prelude.{slice_get, unwrap_or, replicate}
 use Rattle.std.specs.List.{flat_map, range_with_len}
 use Rattle.std.proofs.lemmas.List.{append-nil, flat_map_more, take_more, take_rest, get_or-drop, drop-drop, drop-replicate, length-drop, length-take}
@@ -7,14 +7,15 @@ use Rattle.std.proofs.lemmas.Grind.{flat_map-append}
 use Rattle.std.proofs.lemmas.Option.{get_or_from_slice_get}
 use Rattle.byteorder.specs.Endian.{little_bytes}
 use Rattle.byteorder.specs.Numbers.{length-bytes_low_first}
-use Rattle.kx_pages.specs.Lists.{Each}
 use Rattle.kx_fields.specs.Fields.{zeros, with_field}
 use Rattle.kx_fields.proofs.Fields.{next_field}
 use Rattle.kx_pages.specs.Bytes.{Wants}
 use Rattle.segments.specs.Values.{SegmentValue, pages, pages_of_segment}
 use Rattle.segments.specs.Rules.{IsBare}
-use Rattle.segments.proofs.Laws.{IsPlaced, AreSegments-from_IsBare}
+use Rattle.segments.specs.Shape.{IsPlaced}
+use Rattle.segments.proofs.Laws.{AreSegments-from_IsBare}
 use Rattle.purgatory_link.specs.Regions.{others, wanted_bytes, row, region_table}
+use Rattle.kx_pages.proofs.Lists.{Each-slice_get}
 
 pub length-row : (s : SegmentValue) → length (row s) ≡ 16
 length-row s = omega (arith, length-append (little_bytes 8 s.mem) (little_bytes 8 s.memsz), length-bytes_low_first 0 8 s.mem, length-bytes_low_first 0 8 s.memsz)
@@ -100,20 +101,11 @@ pub fed_more : (W : Wants) (m ps qs rs : List ℕ) → ps ++ qs ≡ rs → (m ++
 fed_more W m ps qs rs e =
     append_assoc m (wanted_bytes W ps) (wanted_bytes W qs) ∙ ap (λ xs. m ++ xs) (sym (wanted_both W ps qs) ∙ ap (wanted_bytes W) e)
 
-pub pages_both : (ss ts : List SegmentValue) → pages (ss ++ ts) ≡ pages ss ++ pages ts
-pages_both ss ts = flat_map-append pages_of_segment ss ts
-
 pub pages_step : (ss : List SegmentValue) (from i j : ℕ) (s : SegmentValue) → from ≤ i → i < length ss → j ≡ i + 1 → slice_get ss i ≡ Some s → pages (take (i - from) (drop from ss)) ++ pages_of_segment s ≡ pages (take (j - from) (drop from ss))
 pages_step ss from i j s le lt next e =
     flat_map_more pages_of_segment [] (take (i - from) (drop from ss)) s ∙ ap pages (take_step ss from i j s le lt next e)
 
--- a segment's pages are pages
-placed_at : (ss : List SegmentValue) (i : ℕ) (s : SegmentValue) → Each IsPlaced ss → slice_get ss i ≡ Some s → IsPlaced s
-placed_at [] i s h e = cc
-placed_at (t ∷ ss) zero s h e = subst IsPlaced (cc) h.0
-placed_at (t ∷ ss) (suc i) s h e = placed_at ss i s h.1 e
-
 pub pages_inside : (ss : List SegmentValue) (i : ℕ) (s : SegmentValue) → IsBare ss → slice_get ss i ≡ Some s → s.mem / 4096 + s.memsz / 4096 ≤ 2 ^ 34
 pages_inside ss i s bare e =
-    let k = placed_at ss i s (AreSegments-from_IsBare ss bare).placed e in
+    let k = Each-slice_get IsPlaced ss i s (AreSegments-from_IsBare ss bare).placed e in
     omega (arith, k.starts, k.whole, k.below)

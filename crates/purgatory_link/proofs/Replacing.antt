@@ -7,10 +7,11 @@ use Rattle.kx_pages.specs.Lists.{Each, Has}
 use Rattle.kx_pages.specs.Bytes.{Wants, page_of}
 use Rattle.segments.specs.Values.{SegmentValue, is_page_of_segment, is_destination, bytes_from, want, pages, pages_of_segment}
 use Rattle.segments.specs.Rules.{IsBare, overlap_each_other}
-use Rattle.kx_pages.proofs.Lists.{Has-either}
-use Rattle.segments.proofs.Laws.{IsPlaced, Apart, AreSegments-from_IsBare, is_destination-from_Has}
+use Rattle.kx_pages.proofs.Lists.{Has-either, Each-slice_get}
+use Rattle.segments.specs.Shape.{IsPlaced, Apart}
+use Rattle.segments.proofs.Laws.{AreSegments-from_IsBare, is_destination-from_Has}
 use Rattle.purgatory_link.specs.Regions.{others, wanted_bytes, digest}
-use Rattle.purgatory_link.proofs.Standing.{at_index, one_page}
+use Rattle.purgatory_link.proofs.Standing.{one_page}
 
 others_behind : (t : SegmentValue) (ss : List SegmentValue) (g : ℕ) → others (t ∷ ss) (suc g) ≡ t ∷ others ss g
 others_behind t ss g =
@@ -61,7 +62,7 @@ not_other (t ∷ ss) zero s p k a e i h =
 not_other (t ∷ ss) (suc g) s p k a e i h =
     let j : Has p (pages (t ∷ others ss g)) = subst (λ us. Has p (pages us)) (others_behind t ss g) i in
     elim (Has-either p (pages_of_segment t) (pages (others ss g)) j) [
-      | inl here ↦ one_page s t p (at_index (λ r. overlap_each_other r t ≡ false) ss g s a.0 e) (page_is t p k.0 here) h
+      | inl here ↦ one_page s t p (Each-slice_get (λ r. overlap_each_other r t ≡ false) ss g s a.0 e) (page_is t p k.0 here) h
       | inr later ↦ not_other ss g s p k.1 a.1 e later h
     ]
 

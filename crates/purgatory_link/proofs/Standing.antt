@@ -7,26 +7,22 @@ use Rattle.std.proofs.lemmas.Bool.{cases_lt, false_from_ne_true}
 use Rattle.std.proofs.lemmas.List.{drop-drop, replicate-append-replicate, take_all, drop_all, take-append-le, drop-append-le}
 use Rattle.kx_laws.proofs.Lists.{take_front, drop_front}
 use Rattle.kx_laws.proofs.Options.{some_same}
-use Rattle.kx_pages.specs.Lists.{Each, Has}
+use Rattle.kx_pages.specs.Lists.{Has}
 use Rattle.kx_fields.specs.Fields.{zeros, bytes_at}
 use Rattle.kx_pages.specs.Bytes.{Mem, page_of}
 use Rattle.segments.specs.Values.{SegmentValue, is_page_of_segment, bytes_from, want, pages, pages_of_segment}
 use Rattle.segments.specs.Rules.{IsBare, overlap_each_other}
-use Rattle.kx_pages.proofs.Lists.{range-Has, Has-left, Has-right, Has-either}
-use Rattle.segments.proofs.Laws.{IsPlaced, Apart, AreSegments-from_IsBare}
+use Rattle.kx_pages.proofs.Lists.{range-Has, Has-left, Has-right, Has-either, Each-slice_get}
+use Rattle.segments.specs.Shape.{IsPlaced, Apart}
+use Rattle.segments.proofs.Laws.{AreSegments-from_IsBare, pages-append}
 use Rattle.kx_pages.proofs.Bytes.{length-page_of}
 use Rattle.purgatory_link.specs.declared.region_test.RegionTest.TheVariants as answers
 use Rattle.purgatory_link.specs.Regions.{others}
-use Rattle.purgatory_link.specs.RegionTest.{bytes_in, test}
+use Rattle.page_memory.specs.Addresses.{bytes_in}
+use Rattle.purgatory_link.specs.RegionTest.{test}
 use Rattle.purgatory_link.specs.Tie.{HasRegions, HasWanted}
-use Rattle.purgatory_link.proofs.Digesting.{pages_both}
-use Rattle.purgatory_link.proofs.Testing.{bytes_in-both, length-bytes_in}
+use Rattle.page_memory.proofs.Addresses.{bytes_in-both, length-bytes_in}
 use Rattle.purgatory_link.proofs.Tying.{page_bytes_in, same_where_digested}
-
-pub at_index : (P : SegmentValue → Type 0) (ss : List SegmentValue) (i : ℕ) (s : SegmentValue) → Each P ss → slice_get ss i ≡ Some s → P s
-at_index P [] i s h e = cc
-at_index P (t ∷ ss) zero s h e = subst P (cc) h.0
-at_index P (t ∷ ss) (suc i) s h e = at_index P ss i s h.1 e
 
 -- ---- a page is of one segment
 pub one_page : (r t : SegmentValue) (p : ℕ) → overlap_each_other r t ≡ false → is_page_of_segment t p ≡ true → is_page_of_segment r p ≡ true → ⊥
@@ -38,7 +34,7 @@ want_of (t ∷ ss) zero s p a e h =
     let same : s ≡ t = cc in
     subst (λ x. want (x ∷ ss) p ≡ Some (page_of (bytes_from s p))) same (ap (λ b. cond b (Some (page_of (bytes_from s p))) (want ss p)) h)
 want_of (t ∷ ss) (suc g) s p a e h =
-    let o : overlap_each_other s t ≡ false = at_index (λ r. overlap_each_other r t ≡ false) ss g s a.0 e in
+    let o : overlap_each_other s t ≡ false = Each-slice_get (λ r. overlap_each_other r t ≡ false) ss g s a.0 e in
     let other : is_page_of_segment t p ≡ false = false_from_ne_true (is_page_of_segment t p) (λ f. one_page s t p o f h) in
     ap (λ b. cond b (Some (page_of (bytes_from t p))) (want ss p)) other ∙ want_of ss g s p a.1 e h
 
@@ -99,8 +95,8 @@ filled_pages M (suc n) q xs few h =
 pub segment_bytes : (M : Mem) (ss : List SegmentValue) (g : ℕ) (s : SegmentValue) → IsBare ss → slice_get ss g ≡ Some s → ((p : ℕ) → Has p (pages_of_segment s) → want ss p ≡ Some (M p)) → bytes_in M s.mem s.memsz ≡ s.bytes ++ zeros (s.memsz - length s.bytes)
 segment_bytes M ss g s bare e h =
     let all = AreSegments-from_IsBare ss bare in
-    let k = at_index IsPlaced ss g s all.placed e in
-    let fit = at_index (λ r. length r.bytes ≤ r.memsz) ss g s all.fit e in
+    let k = Each-slice_get IsPlaced ss g s all.placed e in
+    let fit = Each-slice_get (λ r. length r.bytes ≤ r.memsz) ss g s all.fit e in
     let q = s.mem / 4096 in
     let n = s.memsz / 4096 in
     let m : s.mem ≡ 4096 * q = omega (arith, k.starts) in
@@ -145,9 +141,9 @@ bytes_inside M s r n are fit low high =
 -- ---- the test of a memory that has what is wanted
 pub others_are : (ss : List SegmentValue) (g p : ℕ) → Has p (pages (others ss g)) → Has p (pages ss)
 others_are ss g p h =
-    elim (Has-either p (pages (take g ss)) (pages (drop (g + 1) ss)) (subst (Has p) (pages_both (take g ss) (drop (g + 1) ss)) h)) [
-      | inl i ↦ subst (Has p) (sym (pages_both (take g ss) (drop g ss)) ∙ ap pages (take-append-drop g ss)) (Has-left p (pages (take g ss)) (pages (drop g ss)) i)
-      | inr i ↦ subst (Has p) (sym (pages_both (take (g + 1) ss) (drop (g + 1) ss)) ∙ ap pages (take-append-drop (g + 1) ss)) (Has-right p (pages (take (g + 1) ss)) (pages (drop (g + 1) ss)) i)
+    elim (Has-either p (pages (take g ss)) (pages (drop (g + 1) ss)) (subst (Has p) (pages-append (take g ss) (drop (g + 1) ss)) h)) [
+      | inl i ↦ subst (Has p) (sym (pages-append (take g ss) (drop g ss)) ∙ ap pages (take-append-drop g ss)) (Has-left p (pages (take g ss)) (pages (drop g ss)) i)
+      | inr i ↦ subst (Has p) (sym (pages-append (take (g + 1) ss) (drop (g + 1) ss)) ∙ ap pages (take-append-drop (g + 1) ss)) (Has-right p (pages (take (g + 1) ss)) (pages (drop (g + 1) ss)) i)
     ]
 
 pages_here : (ss : List SegmentValue) (g p : ℕ) (s : SegmentValue) → slice_get ss g ≡ Some s → Has p (pages_of_segment s) → Has p (pages ss)
@@ -158,8 +154,8 @@ pages_here (t ∷ ss) (suc g) p s e h = Has-right p (pages_of_segment t) (pages 
 pub same_where_wanted : (M : Mem) (ss : List SegmentValue) (g r t : ℕ) (s : SegmentValue) → IsBare ss → HasRegions ss g s r t → HasWanted M ss → test M r t ≡ answers.Same
 same_where_wanted M ss g r t s bare has wanted =
     let all = AreSegments-from_IsBare ss bare in
-    let k = at_index IsPlaced ss g s all.placed has.segment in
-    let fit = at_index (λ r. length r.bytes ≤ r.memsz) ss g s all.fit has.segment in
+    let k = Each-slice_get IsPlaced ss g s all.placed has.segment in
+    let fit = Each-slice_get (λ r. length r.bytes ≤ r.memsz) ss g s all.fit has.segment in
     let are = segment_bytes M ss g s bare has.segment (λ p i. wanted p (pages_here ss g p s has.segment i)) in
     same_where_digested M ss g r t bare
     (record {

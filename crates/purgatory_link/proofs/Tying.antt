@@ -18,14 +18,17 @@ use Rattle.kx_pages.specs.Bytes.{Mem, Wants}
 use Rattle.segments.specs.Values.{SegmentValue, want, pages, pages_of_segment}
 use Rattle.segments.specs.Rules.{IsBare}
 use Rattle.kx_pages.proofs.Lists.{Each-append, Each-left, Each-right, Has-left, Has-right}
-use Rattle.segments.proofs.Laws.{IsPlaced, AreSegments-from_IsBare}
+use Rattle.segments.specs.Shape.{IsPlaced}
+use Rattle.segments.proofs.Laws.{AreSegments-from_IsBare, pages-append}
 use Rattle.purgatory_link.proofs.Wanted.{length-want}
 use Rattle.purgatory_link.specs.declared.region_test.RegionTest.TheVariants as answers
 use Rattle.purgatory_link.specs.Regions.{others, wanted_bytes, digest, row, region_table}
-use Rattle.purgatory_link.specs.RegionTest.{Region, nowhere, region, regions, bytes_in, regions_in, passes, is_wild, first_wild, verdict, unless_wild, test_table, test}
+use Rattle.page_memory.specs.Addresses.{bytes_in}
+use Rattle.purgatory_link.specs.RegionTest.{Region, nowhere, region, regions, regions_in, passes, is_wild, first_wild, verdict, unless_wild, test_table, test}
 use Rattle.purgatory_link.specs.Tie.{HoldsDigested}
-use Rattle.purgatory_link.proofs.Digesting.{length-row, wanted_both, pages_both}
-use Rattle.purgatory_link.proofs.Testing.{bytes_in-both, bytes_in-page, first_none, test_inside}
+use Rattle.purgatory_link.proofs.Digesting.{length-row, wanted_both}
+use Rattle.page_memory.proofs.Addresses.{bytes_in-both, bytes_in-page}
+use Rattle.purgatory_link.proofs.Testing.{first_none, test_inside}
 
 abbrev region_of : SegmentValue → Region
 region_of s = record { start = s.mem; size = s.memsz }
@@ -95,7 +98,7 @@ pages_nothing (suc n) = pages_nothing n
 
 pages_padded : (ts : List SegmentValue) → pages (padded ts) ≡ pages ts
 unfolding padded
-pages_padded ts = pages_both ts (replicate (16 - length ts) nothing) ∙ ap (λ ps. pages ts ++ ps) (pages_nothing (16 - length ts)) ∙ append-nil (pages ts)
+pages_padded ts = pages-append ts (replicate (16 - length ts) nothing) ∙ ap (λ ps. pages ts ++ ps) (pages_nothing (16 - length ts)) ∙ append-nil (pages ts)
 
 regions_are : (ts : List SegmentValue) → length ts ≤ 16 → Each IsPlaced ts → regions (region_table ts) ≡ map region_of (padded ts)
 unfolding regions
@@ -187,9 +190,9 @@ tail_pages (s ∷ xs) = omega (arith, length-append (pages_of_segment s) (pages 
 pages_others : (ss : List SegmentValue) (g : ℕ) → length (pages (others ss g)) ≤ length (pages ss)
 pages_others ss g =
     let whole = ap (λ xs. length (pages xs)) (take-append-drop g ss) in
-    let split = ap length (pages_both (take g ss) (drop g ss)) in
+    let split = ap length (pages-append (take g ss) (drop g ss)) in
     let sum = length-append (pages (take g ss)) (pages (drop g ss)) in
-    let split2 = ap length (pages_both (take g ss) (drop (g + 1) ss)) in
+    let split2 = ap length (pages-append (take g ss) (drop (g + 1) ss)) in
     let sum2 = length-append (pages (take g ss)) (pages (drop (g + 1) ss)) in
     let tail = tail_pages (drop g ss) in
     let next = ap (λ xs. length (pages xs)) (drop-drop 1 g ss) in

@@ -1,9 +1,10 @@
 -- The layout of the linked bytes: the loaded sections one after another, in the order of their indexes (ELF gABI,
 -- "Sections": sh_flags, sh_addralign, sh_type; this project's own, as the gABI leaves the order to the linker).
-use Rattle.std.specs.Prelude.{ℕ, ◌+◌, ◌-◌, ◌*◌, ◌/◌, ◌%◌, ◌^◌, ◌==◌, ◌&&◌, ◌||◌, not, Bool, false, List, [], ◌∷◌, ◌++◌, length, replicate, position, nat_lt, min, max, Option, Some, None, Result, Ok, Err, if◌then◌else◌}
+use Rattle.std.specs.Prelude.{ℕ, ◌+◌, ◌-◌, ◌%◌, ◌^◌, ◌==◌, ◌&&◌, ◌||◌, not, Bool, false, List, [], ◌∷◌, ◌++◌, length, replicate, position, nat_lt, min, max, Option, Some, None, Result, Ok, Err, if◌then◌else◌}
 use Rattle.std.specs.List.{slice_get}
 use Rattle.elf_image.specs.Numbers.{sht_null, sht_nobits, sht_rel}
 use Rattle.kx_fields.specs.Fields.{bytes_at}
+use Rattle.kx_pages.specs.Ranges.{whole_pages}
 use Rattle.elf_image.specs.declared.section.Section.{Section}
 use Rattle.purgatory_link.specs.declared.fault.LinkFault.{LinkFault}
 use Rattle.purgatory_link.specs.declared.fault.LinkFault.TheVariants as faults
@@ -56,7 +57,7 @@ filled n bytes = bytes ++ replicate (n - length bytes) 0
 
 -- whole pages, at least one
 abbrev pub in_pages : ℕ → ℕ
-in_pages n = max 4096 (4096 * ((n + 4095) / 4096))
+in_pages n = max 4096 (whole_pages n)
 
 -- an alignment is 0 or a power of two up to 4,096: these are the numbers that divide it
 abbrev pub is_align : ℕ → Bool

@@ -6,7 +6,7 @@ use Rattle.kx_pages.specs.Bytes.{Mem}
 use Rattle.segments.specs.Values.{SegmentValue, want, pages}
 use Rattle.purgatory_link.specs.Regions.{others, region_table}
 use Rattle.purgatory_link.specs.Regions as regions
-use Rattle.purgatory_link.specs.RegionTest.{bytes_in}
+use Rattle.page_memory.specs.Addresses.{bytes_in}
 
 -- memory holds what was digested of the segments but number g: each of their pages is what is wanted of it, and their
 -- table and their digest stand at the addresses r and t, below 2 ^ 46

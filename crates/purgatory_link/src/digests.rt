@@ -10,12 +10,9 @@ ghost use Rattle.segments.specs.Rules.{IsBare};
 ghost use Rattle.purgatory_link.specs.Regions.{others, wanted_bytes, digest, region_table};
 
 use kx_fields::Block;
-use kx_pages::{PAGE_SIZE, Page};
+use kx_pages::{PAGE_SIZE, Page, ZERO_PAGE};
 use segments::{Segment, Segments};
 use sha2::{Digest, Sha256};
-
-/// What follows the bytes of a page that is not full.
-static ZEROS: [u8; 4096] = [0; 4096];
 
 // Puts the segment's row behind the `k` rows of a table.
 fn put_region(table: &mut Block<256>, k: usize, segment: &Segment)
@@ -58,7 +55,7 @@ fn feed_page(hasher: &mut Sha256, bytes: &[u8])
     ensures { (m : List ℕ) → Holds256 hasher.old m → Holds256 hasher.new (m ++ page_of bytes.now) }
 {
     hasher.update(bytes);
-    let (zeros, _) = ZEROS.split_at(4096 - bytes.len());
+    let (zeros, _) = ZERO_PAGE.split_at(4096 - bytes.len());
     hasher.update(zeros);
 }
 

@@ -10,7 +10,7 @@ ghost use Rattle.std.specs.Prelude.{position};
 
 use crate::fault::LinkFault;
 use elf_image::{SHT_NOBITS, SHT_NULL, SHT_REL, Section};
-use kx_pages::PAGE_SIZE;
+use kx_pages::{PAGE_SIZE, whole_pages};
 use std::alloc::{AllocError, Global};
 
 /// How many bytes may be linked.
@@ -88,7 +88,7 @@ fn first_rel(sections: &[Section]) -> Option<usize>
 }
 
 /// Refuses the first section of relocations without addends of a loaded section.
-pub fn refuse_rel(sections: &[Section]) -> Result<(), LinkFault>
+pub(crate) fn refuse_rel(sections: &[Section]) -> Result<(), LinkFault>
     ensures { result ≡ unless_at faults.RelSection (position (is_rel sections.now) sections.now) }
 {
     match first_rel(sections) {
@@ -116,7 +116,7 @@ fn refuse_align(sections: &[Section]) -> Result<(), LinkFault>
 
 /// How many bytes are linked: whole pages, at least one.
 #[tactic(auto, unfolding(crate::specs::Layout::linked_size))]
-pub fn linked_size(sections: &[Section]) -> Result<u64, LinkFault>
+pub(crate) fn linked_size(sections: &[Section]) -> Result<u64, LinkFault>
     ensures exact { result ≡ linked_size sections.now }
     ensures small { IfOk result (λ _. end 0 sections.now ≤ 16777216) }
     ensures pages { IfOk result (λ n. n ≡ in_pages (end 0 sections.now)) }
@@ -129,7 +129,7 @@ pub fn linked_size(sections: &[Section]) -> Result<u64, LinkFault>
     if end > MOST {
         return Err(LinkFault::TooLarge { bytes: end });
     }
-    Ok(end.div_ceil(PAGE_SIZE).max(1) * PAGE_SIZE)
+    Ok(whole_pages(end).max(PAGE_SIZE))
 }
 
 // Where a section starts behind the first bytes, if it is loaded, and where it ends.
@@ -146,7 +146,7 @@ fn placed_behind(end: u64, section: &Section) -> (Option<u64>, u64)
 }
 
 /// Where each section starts.
-pub fn starts(alloc: Global, sections: &[Section]) -> Result<Vec<Option<u64>>, AllocError>
+pub(crate) fn starts(alloc: Global, sections: &[Section]) -> Result<Vec<Option<u64>>, AllocError>
     requires { end 0 sections.now ≤ 16777216 }
     ensures { IfOk result (λ v. v.items ≡ starts 0 sections.now) }
 {
@@ -186,7 +186,7 @@ fn put_section(out: &mut Vec<u8>, section: &Section, file: &[u8]) -> Result<(), 
 }
 
 /// The bytes of the loaded sections at their places, filled up to `size` bytes.
-pub fn laid(
+pub(crate) fn laid(
     alloc: Global,
     sections: &[Section],
     file: &[u8],

@@ -4,21 +4,19 @@ ghost use Rattle.std.specs.Prelude.{◌≡◌, ℕ, ◌+◌, ◌-◌, ◌*◌, �
 ghost use Rattle.sha2.specs.Hashers.{Holds256};
 ghost use Rattle.sha2.specs.Sha256.{sha256};
 ghost use Rattle.page_memory.specs.Contents.{at};
+ghost use Rattle.page_memory.specs.Addresses.{bytes_in};
 ghost use Rattle.kx_pages.specs.Bytes.{Mem};
 ghost use Rattle.segments.specs.Values.{SegmentValue};
 ghost use Rattle.segments.specs.Rules.{IsBare};
 ghost use Rattle.purgatory_link.specs.Regions.{others, digest};
 ghost use Rattle.purgatory_link.specs.Tie.{HoldsDigested, HasRegions, HasWanted, HasPlaces, with_regions};
-ghost use Rattle.purgatory_link.specs.RegionTest.{regions, bytes_in, regions_in, passes, is_wild, first_wild, verdict, test_table, test};
+ghost use Rattle.purgatory_link.specs.RegionTest.{regions, regions_in, passes, is_wild, first_wild, verdict, test_table, test};
 
 use crate::digests::digest_block;
 use kx_fields::Block;
-use kx_pages::{ADDRESS_LIMIT, PAGE_SIZE, Page};
+use kx_pages::ADDRESS_LIMIT;
 use page_memory::Memory;
 use sha2::{Digest, Sha256};
-
-/// What a page that is not held reads as.
-static ZEROS: [u8; 4096] = [0; 4096];
 
 /// How many rows a table of regions has.
 const ROWS: usize = 16;
@@ -43,53 +41,6 @@ pub enum RegionTest {
         /// The number of the region.
         region: usize,
     },
-}
-
-// What a page reads as.
-fn page_bytes(memory: &Memory, number: u64) -> &[u8]
-    requires { number < 2 ^ 34 }
-    ensures value { result.now ≡ at memory.now number }
-    ensures whole { length result.now ≡ 4096 }
-{
-    match memory.page(Page::from_number(number)) {
-        Some(bytes) => bytes,
-        None => &ZEROS,
-    }
-}
-
-// The bytes from an address on, up to the end of its page or to `end`.
-fn piece(memory: &Memory, address: u64, end: u64) -> &[u8]
-    requires before { address < end }
-    requires inside { end ≤ 2 ^ 46 }
-    ensures value { result.now ≡ bytes_in (at memory.now) address (length result.now) }
-    ensures some { 0 < length result.now }
-    ensures within { address + length result.now ≤ end }
-{
-    let page = page_bytes(memory, address / PAGE_SIZE);
-    let (_, rest) = page.split_at((address % PAGE_SIZE) as usize);
-    let left = end - address;
-    if left >= rest.len() as u64 {
-        return rest;
-    }
-    let (front, _) = rest.split_at(left as usize);
-    front
-}
-
-// The N bytes from an address on.
-fn block_at<const N: usize>(memory: &Memory, start: u64) -> Block<N>
-    requires small { N ≤ 4096 }
-    requires inside { start + N ≤ 2 ^ 46 }
-    ensures { result ≡ bytes_in (at memory.now) start N }
-{
-    let end = start + N as u64;
-    let mut block = Block::zeros();
-    let mut address = start;
-    while address < end {
-        let bytes = piece(memory, address, end);
-        block.put_bytes((address - start) as usize, bytes);
-        address += bytes.len() as u64;
-    }
-    block
 }
 
 // So many bytes from an address on pass 2^46.
@@ -127,7 +78,7 @@ fn feed_region(hasher: &mut Sha256, memory: &Memory, start: u64, size: u64)
     let end = start + size;
     let mut address = start;
     while address < end {
-        let bytes = piece(memory, address, end);
+        let bytes = memory.piece(address, end);
         hasher.update(bytes);
         address += bytes.len() as u64;
     }
@@ -184,8 +135,8 @@ pub fn test_regions(memory: &Memory, regions: u64, digest: u64) -> RegionTest
     if passes(regions, 256) || passes(digest, 32) {
         return RegionTest::Wild { region: ROWS };
     }
-    let table = block_at(memory, regions);
-    let wanted = block_at(memory, digest);
+    let table = memory.block(regions);
+    let wanted = memory.block(digest);
     test_table(memory, &table, wanted)
 }
 

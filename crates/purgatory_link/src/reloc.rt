@@ -88,7 +88,7 @@ fn put_value(
 }
 
 /// What a relocation puts, and where, behind the earlier ones.
-pub fn put_of(
+pub(crate) fn put_of(
     base: u64,
     object: &Object,
     starts: &[Option<u64>],

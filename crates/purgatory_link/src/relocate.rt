@@ -86,7 +86,7 @@ fn relocate_section(
 }
 
 /// Puts what all relocations put into the bytes.
-pub fn relocate(
+pub(crate) fn relocate(
     alloc: Global,
     base: u64,
     object: &Object,

@@ -8,10 +8,11 @@ ghost use Rattle.purgatory_link.specs.Symbols.{name_at, null_named, named, names
 use crate::fault::LinkFault;
 use crate::names::Name;
 use elf_image::{SHN_ABS, SHN_COMMON, SHN_UNDEF, Symbol};
+use kx_pages::copy_of;
 use std::alloc::{AllocError, Global};
 
 /// Where the section of this index starts, if it is there and loaded.
-pub fn start_at(starts: &[Option<u64>], index: usize) -> Option<u64>
+pub(crate) fn start_at(starts: &[Option<u64>], index: usize) -> Option<u64>
     ensures { result ≡ start_at starts.now index }
 {
     match starts.get(index) {
@@ -40,7 +41,7 @@ fn address(base: u64, start: u64, symbol: &Symbol) -> u64
 
 /// The value of the symbol of this index, or why it has none.
 #[tactic(auto, unfolding(crate::specs::Symbols::symbol_value))]
-pub fn symbol_value(
+pub(crate) fn symbol_value(
     base: u64,
     starts: &[Option<u64>],
     symbols: &[Symbol],
@@ -64,16 +65,6 @@ pub fn symbol_value(
         Some(start) => Ok(address(base, start, symbol)),
         None => Err(LinkFault::Undefined { symbol: index }),
     }
-}
-
-// A copy of the bytes, its room made at once.
-fn copy_of(alloc: Global, bytes: &[u8]) -> Result<Vec<u8>, AllocError>
-    ensures { IfOk result (λ v. v.items ≡ bytes.now) }
-{
-    let mut copy = Vec::new(alloc);
-    copy.reserve_exact(bytes.len())?;
-    copy.extend_from_slice(bytes)?;
-    Ok(copy)
 }
 
 // Puts the symbol behind the names, with this address.
@@ -144,7 +135,7 @@ fn push_all(
 
 /// The names, addresses and sizes of the symbols that are defined in loaded sections, in the order of their indexes.
 /// Symbol 0 has the address 0.
-pub fn names_of(
+pub(crate) fn names_of(
     alloc: Global,
     base: u64,
     starts: &[Option<u64>],

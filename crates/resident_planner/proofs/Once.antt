@@ -1,6 +1,5 @@
 -- One list is made of what is asked, or it has one fault.
-use Rattle.std.proofs.Common.{◌≡◌, ℕ, ◌+◌, ◌<◌, ◌≤◌, List, [], ◌∷◌, ◌++◌, length, Option, Some, None, refl, sym, ap, ◌∙◌, subst, inl, inr, take, drop, arith}
-use Rattle.std.specs.Prelude.{◌⊎◌}
+use Rattle.std.proofs.Common.{◌≡◌, ℕ, ◌≤◌, List, [], ◌++◌, length, Option, Some, None, refl, sym, ap, ◌∙◌, subst, take, drop, arith}
 use Rattle.std.proofs.lemmas.List.{length-append}
 use Rattle.kx_laws.proofs.Lists.{take_front, drop_front}
 use Rattle.kimage_list.proofs.Lists.{heads_same}
@@ -8,7 +7,7 @@ use Rattle.kx_laws.proofs.Options.{some_same, none_some}
 use Rattle.kx_pages.specs.Bytes.{Mem}
 use Rattle.kx_pages.specs.declared.image.Mode.TheVariants.{Plain}
 use Rattle.page_memory.specs.Contents.{at}
-use Rattle.segments.specs.Values.{SegmentValue, want, is_destination}
+use Rattle.segments.specs.Values.{SegmentValue, want}
 use Rattle.list_checker.specs.Walk.{pairs}
 use Rattle.resident_planner.specs.declared.fault.ResidentFault.{ResidentFault}
 use Rattle.resident_planner.specs.declared.fault.ResidentFault.TheVariants as faults
@@ -16,7 +15,7 @@ use Rattle.resident_planner.specs.declared.plan.Made.{Made}
 use Rattle.resident_planner.specs.Cycles.{cycles, deviating}
 use Rattle.resident_planner.specs.Plan.{Planned}
 use Rattle.resident_planner.specs.Laid.{plan_head, plan_memory}
-use Rattle.resident_planner.specs.Refusals.{AreTooFew, IsFault, resident_of, usable, link_count, need_of, pairs_refusal}
+use Rattle.resident_planner.specs.Refusals.{AreTooFew, IsFault, resident_of, link_count, need_of, pairs_refusal}
 use Rattle.resident_planner.specs.Made.{DeviatesAtLeast, IsMade}
 use Rattle.resident_planner.proofs.Needs.{one_plan}
 use Rattle.resident_planner.proofs.OneList.{accepted_copies, one_wanted_list}

@@ -5,7 +5,6 @@ use Rattle.std.specs.List.{flat_map, range_with_len}
 use Rattle.std.proofs.lemmas.Bool.Decides.{eqb_tells, nat_tests}
 use Rattle.std.proofs.lemmas.List.{append-nil, length-replicate}
 use Rattle.std.proofs.lemmas.Grind.{flat_map-append}
-use Rattle.page_pool.proofs.Adding.{range_more}
 use Rattle.std.specs.Ordering.{nat_cmp}
 use Rattle.std.specs.FinMap as finite
 use Rattle.kx_pages.specs.Bytes.{page_of, Mem}
@@ -14,6 +13,7 @@ use Rattle.page_memory.specs.Memory.{Agree, put}
 use Rattle.kx_pages.proofs.Bytes.{page_of-fits}
 use Rattle.page_memory.proofs.Laws.{frame_at-none}
 use Rattle.sample_load.specs.Samples.{filled_before, page_full_of, pages_of}
+use Rattle.kx_laws.proofs.Lists.{range_more}
 
 -- one more page is full
 pub fill_more : (M N : Mem) (k : ℕ) → 4096 ≤ k → Agree M (filled_before k) → ((q : ℕ) → N q ≡ put M k (page_full_of (1 + k % 251)) q) → Agree N (filled_before (k + 1))
@@ -32,10 +32,6 @@ pub filled_none : (M : Mem) → ((q : ℕ) → M q ≡ zero_page) → Agree M (f
 filled_none M h q =
     let none : (nat_le 4096 q && nat_lt q 4096) ≡ false = grind (arith, nat_tests) in
     h q ∙ sym (ap (λ b. cond b (page_full_of (1 + q % 251)) zero_page) none)
-
--- memories that agree are one
-pub one_memory : (N M : Mem) → Agree N M → N ≡ M
-one_memory N M h = λ i p. h p i
 
 -- no page yet, and one page more
 pub digest_none : (M : Mem) (m : List ℕ) (first number : ℕ) → number ≡ first → m ≡ m ++ pages_of M first (number - first)

@@ -10,19 +10,13 @@ use kx_pages::Page;
 use page_memory::Memory;
 use sha2::{Digest, Sha256};
 
-/// What a page that is not held reads as.
-static ZEROS: [u8; 4096] = [0; 4096];
-
 // Feeds what a page reads as.
 fn feed_page(hasher: &mut Sha256, memory: &Memory, number: u64)
     requires { number < 2 ^ 34 }
     ensures { (m : List ℕ) → Holds256 hasher.old m
         → Holds256 hasher.new (m ++ at memory.now number) }
 {
-    match memory.page(Page::from_number(number)) {
-        Some(bytes) => hasher.update(bytes),
-        None => hasher.update(&ZEROS),
-    }
+    hasher.update(memory.bytes(Page::from_number(number)));
 }
 
 // Feeds so many pages from number `first` on, one after the other.

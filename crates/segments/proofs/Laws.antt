@@ -1,13 +1,12 @@
 -- What holds of segments that no rule refuses. Crates above cite these.
-use Rattle.std.proofs.Common.{◌≡◌, ℕ, suc, ◌+◌, ◌*◌, ◌/◌, ◌%◌, ◌^◌, ◌<◌, ◌≤◌, ◌++◌, List, [], ◌∷◌, length, get_or, Option, Some, None, Bool, true, false, refl, sym, ap, ◌∙◌, ⊎_elim, arith}
-use Rattle.std.specs.Prelude.{◌||◌, ◌==◌, not, cond, nat_le, nat_lt}
-use Rattle.std.specs.Option.{option_map, option_or, is_some}
-use Rattle.std.specs.List.{position, position_or_len}
+use Rattle.std.proofs.Common.{◌≡◌, ℕ, ◌+◌, ◌*◌, ◌/◌, ◌%◌, ◌^◌, ◌<◌, ◌≤◌, ◌++◌, List, [], ◌∷◌, length, Some, None, Bool, true, false, refl, sym, ap, ◌∙◌, ⊎_elim, arith}
+use Rattle.std.specs.Prelude.{◌||◌, ◌==◌, not, nat_le, nat_lt}
+use Rattle.std.specs.Option.{option_map, is_some}
+use Rattle.std.specs.List.{position}
 use Rattle.std.proofs.lemmas.Bool.{false≢true, or_parts, or_cases}
 use Rattle.std.proofs.lemmas.Bool.Decides.{nat_tests}
 use Rattle.std.proofs.lemmas.Option.{none-some}
-use Rattle.kx_laws.proofs.Options.{some_of}
-use Rattle.std.proofs.lemmas.List.Sums.{fails_before_first}
+use Rattle.kx_laws.proofs.Options.{some_of, none_left, none_right, map_none}
 use Rattle.kx_pages.specs.Lists.{Each, Has, Distinct}
 use Rattle.kx_pages.specs.Bytes.{page_of}
 use Rattle.kx_pages.proofs.Bytes.{page_of-take}
@@ -16,60 +15,18 @@ use Rattle.segments.specs.declared.fault.Kind.{Kind}
 use Rattle.kx_pages.specs.Spans.{Run}
 use Rattle.segments.specs.Values.{SegmentValue, stop, is_page_of_segment, is_destination, bytes_from, want, wanted, page_count, pages_of_segment, pages}
 use Rattle.segments.specs.Rules.{where_true, at_first, is_bad_address, bad_address, overlap_each_other, overlap_after, overlap, is_too_full, too_full, bad_count, no_segments, too_many, too_large, shape_refusal, bare_refusal, refusal, half_of_memory, misplaced, IsBare}
-use Rattle.kx_pages.proofs.Lists.{Each-map, Each-left, Each-right, Has-left, Has-right, Has-either, Has-range, range-Has}
+pub use Rattle.segments.specs.Shape.{IsPlaced}
+use Rattle.segments.specs.Shape.{Apart, AreSegments}
+use Rattle.std.proofs.lemmas.Grind.{flat_map-append}
+use Rattle.kx_pages.proofs.Lists.{Each-map, Each-left, Each-right, Has-left, Has-right, Has-either, Has-range, range-Has, Each-from_no_first}
 use Rattle.kx_pages.proofs.Counting.{Distinct-append, Distinct-range}
-
--- a segment of whole pages below 2 ^ 46
-pub record IsPlaced (s : SegmentValue) : Type 0 where
-  pub starts : s.mem % 4096 ≡ 0
-  pub whole : s.memsz % 4096 ≡ 0
-  pub below : s.mem + s.memsz < 2 ^ 46
-
--- no two overlap
-abbrev pub Apart : List SegmentValue → Type 0
-Apart [] = Unit {0}
-Apart (s ∷ ss) = Each (λ r. overlap_each_other r s ≡ false) ss × Apart ss
-
--- what the rules leave
-pub record AreSegments (ss : List SegmentValue) : Type 0 where
-  pub some : 0 < length ss
-  pub few : length ss ≤ 16
-  pub placed : Each IsPlaced ss
-  pub apart : Apart ss
-  pub fit : Each (λ s. length s.bytes ≤ s.memsz) ss
-  pub small : length (pages ss) ≤ 65536
-
-none_left : (a b : Option SegFault) → option_or a b ≡ None → a ≡ None
-none_left None b e = refl
-none_left (Some x) b e = e
-
-none_right : (a b : Option SegFault) → option_or a b ≡ None → b ≡ None
-none_right None b e = e
-none_right (Some x) b e = absurd (none-some x (sym e))
 
 not_true : (b : Bool) (f : SegFault) → where_true b f ≡ None → b ≡ false
 not_true true f e = absurd (none-some f (sym e))
 not_true false f e = refl
 
-map_none : {A B : Type 0} (f : A → B) (o : Option A) → option_map f o ≡ None → o ≡ None
-map_none f None e = refl
-map_none f (Some x) e = absurd (none-some (f x) (sym e))
-
-Each-from_index : {X : Type 0} (P : X → Type 0) (xs : List X) → ((k : ℕ) (d : X) → k < length xs → P (get_or xs k d)) → Each P xs
-Each-from_index P [] h = tt
-Each-from_index P (x ∷ xs) h = (h 0 x (omega arith), Each-from_index P xs (λ k d l. h (suc k) d (omega (arith, l))))
-
-position_none : {X : Type 0} (p : X → Bool) (xs : List X) → position p xs ≡ None → Each (λ x. p x ≡ false) xs
-position_none p xs e = go (nat_lt (position_or_len p xs) (length xs)) refl
-  where
-    go : (b : Bool) → nat_lt (position_or_len p xs) (length xs) ≡ b → Each (λ x. p x ≡ false) xs
-    go true t = absurd (none-some (position_or_len p xs) (sym e ∙ ap (λ b. cond b (Some (position_or_len p xs)) None) t))
-    go false t =
-        let past : length xs ≤ position_or_len p xs = grind (arith, nat_tests) in
-        Each-from_index (λ x. p x ≡ false) xs (λ k d l. fails_before_first p xs k d (omega (arith, l, past)))
-
 none_fails : (test : SegmentValue → Bool) (fault : ℕ → SegFault) (ss : List SegmentValue) → at_first test fault ss ≡ None → Each (λ s. test s ≡ false) ss
-none_fails test fault ss e = position_none test ss (map_none fault (position test ss) e)
+none_fails test fault ss e = Each-from_no_first test ss (map_none fault (position test ss) e)
 
 good_address : (s : SegmentValue) → is_bad_address s ≡ false → IsPlaced s
 good_address s e =
@@ -209,3 +166,7 @@ unfolding bare_refusal shape_refusal
 addresses-from_IsBare ss e =
     let shape = none_left (shape_refusal ss) _ e in
     none_fails is_bad_address _ ss (none_left (bad_address ss) _ (none_right (bad_count ss) _ shape))
+
+-- the pages of segments in two parts
+pub pages-append : (ss ts : List SegmentValue) → pages (ss ++ ts) ≡ pages ss ++ pages ts
+pages-append ss ts = flat_map-append pages_of_segment ss ts

@@ -1,5 +1,5 @@
 -- Steps of loops over segments and spans.
-use Rattle.std.proofs.Common.{◌≡◌, ℕ, zero, suc, ◌+◌, ◌<◌, ◌≤◌, ◌++◌, List, [], ◌∷◌, Option, Some, None, Ok, Err, Result, Bool, true, false, refl, sym, ap, ◌∙◌, subst, inl, inr, ⊎_elim, arith, length, take, drop, get_or, drop-cons, length-append}
+use Rattle.std.proofs.Common.{◌≡◌, ℕ, zero, suc, ◌+◌, ◌<◌, ◌≤◌, ◌++◌, List, [], ◌∷◌, Option, Some, None, Ok, Err, Result, Bool, true, false, refl, sym, ap, ◌∙◌, subst, inl, inr, ⊎_elim, arith, length, take, drop, get_or, length-append}
 use Rattle.std.specs.Prelude.{IsTrue, ◌⊎◌, ◌||◌, ◌&&◌, cond, slice_get, nat_le, MatchResult}
 use Rattle.std.specs.List.{list_all, range_with_len, position}
 use Rattle.std.specs.Option.{option_map, option_or}
@@ -12,28 +12,20 @@ use Rattle.kx_pages.specs.Lists.{Each}
 use Rattle.kx_pages.specs.Spans.{Run, end, in_span, in_spans, IsMaximal}
 use Rattle.segments.specs.declared.fault.SegFault.{SegFault}
 use Rattle.segments.specs.declared.fault.SegFault.TheVariants as faults
-use Rattle.std.proofs.lemmas.Option.{none-some, slice_get-get_or}
+use Rattle.std.proofs.lemmas.Option.{slice_get-get_or}
 use Rattle.kx_laws.proofs.Options.{some_same}
 use Rattle.segments.specs.Values.{SegmentValue, page_count, pages_of_segment, pages, is_page_of_segment, is_destination, wanted, bytes_from}
 use Rattle.kx_laws.specs.Results.{unless}
 use Rattle.segments.specs.Rules.{Refuses, Answers, overlap_after, overlap_each_other}
-
-pub drop_at : {X : Type 0} (ss : List X) (i : ℕ) (s : X) → i < length ss → s ≡ get_or ss i s → drop i ss ≡ s ∷ drop (i + 1) ss
-drop_at ss i s l e = grind (arith, common_steps, drop-cons)
+use Rattle.kx_laws.proofs.Lists.{drop_read}
 
 -- the segment at place i, of a list under another name
 pub got : (ss ts : List SegmentValue) (i : ℕ) (s : SegmentValue) → ss ≡ ts → i < length ts → s ≡ get_or ss i s → slice_get ts i ≡ Some s
 got ss ts i s e l f = slice_get-get_or ts i s l ∙ ap Some (ap (λ xs. get_or xs i s) (sym e) ∙ sym f)
 
--- what holds of each segment holds of the one at place i
-pub Each-slice_get : (P : SegmentValue → Type 0) (ss : List SegmentValue) (i : ℕ) (s : SegmentValue) → Each P ss → slice_get ss i ≡ Some s → P s
-Each-slice_get P [] i s h e = absurd (none-some s e)
-Each-slice_get P (t ∷ ss) zero s h e = subst P (some_same t s e) h.0
-Each-slice_get P (t ∷ ss) (suc i) s h e = Each-slice_get P ss i s h.1 e
-
 pub count_more : (ss : List SegmentValue) (i : ℕ) (s : SegmentValue) → i < length ss → s ≡ get_or ss i s → length (pages (drop i ss)) ≡ page_count s + length (pages (drop (i + 1) ss))
 count_more ss i s l e =
-    ap (λ xs. length (pages xs)) (drop_at ss i s l e)
+    ap (λ xs. length (pages xs)) (drop_read ss i s l e)
     ∙ length-append (pages_of_segment s) (pages (drop (i + 1) ss))
     ∙ ap (λ n. n + length (pages (drop (i + 1) ss))) (length-range_with_len _ (page_count s))
 
@@ -104,7 +96,7 @@ none_more rs first n i s before at m e k l r found = ⊎_elim
 -- the segments before and from place i on, and the next one
 pub overlap_here : (ss : List SegmentValue) (i : ℕ) (s : SegmentValue) (j : ℕ) → i < length ss → s ≡ get_or ss i s → position (overlap_each_other s) (take i ss) ≡ Some j → overlap_after (take i ss) (drop i ss) ≡ Some (faults.Overlap i j)
 overlap_here ss i s j l e f =
-    ap (overlap_after (take i ss)) (drop_at ss i s l e)
+    ap (overlap_after (take i ss)) (drop_read ss i s l e)
     ∙ ap (λ o. option_or (option_map (faults.Overlap (length (take i ss))) o) (overlap_after (take i ss ++ s ∷ []) (drop (i + 1) ss))) f
     ∙ ap (λ n. Some (faults.Overlap n j)) (front ss i l)
   where
@@ -115,7 +107,7 @@ pub overlap_later : (ss : List SegmentValue) (i : ℕ) (s : SegmentValue) → i 
 overlap_later ss i s l e f =
     ap (λ xs. overlap_after xs (drop (i + 1) ss)) (longer ss i s l e)
     ∙ sym (ap (λ o. option_or (option_map (faults.Overlap (length (take i ss))) o) (overlap_after (take i ss ++ s ∷ []) (drop (i + 1) ss))) f)
-    ∙ sym (ap (overlap_after (take i ss)) (drop_at ss i s l e))
+    ∙ sym (ap (overlap_after (take i ss)) (drop_read ss i s l e))
   where
     longer : (ss : List SegmentValue) (i : ℕ) (s : SegmentValue) → i < length ss → s ≡ get_or ss i s → take (i + 1) ss ≡ take i ss ++ s ∷ []
     longer ss i s l e = grind (arith, common_steps)
@@ -126,7 +118,7 @@ pages_more a b c r ss i s l e same grown before q =
     ap (λ x. x || is_destination (drop (i + 1) ss) q) (grown q)
     ∙ ap (λ x. (a q || x) || is_destination (drop (i + 1) ss) q) (same q)
     ∙ assoc (a q) (is_page_of_segment s q) (is_destination (drop (i + 1) ss) q)
-    ∙ ap (λ xs. a q || is_destination xs q) (sym (drop_at ss i s l e))
+    ∙ ap (λ xs. a q || is_destination xs q) (sym (drop_read ss i s l e))
     ∙ before q
   where
     assoc : (a b c : Bool) → ((a || b) || c) ≡ (a || (b || c))
@@ -135,7 +127,7 @@ pages_more a b c r ss i s l e same grown before q =
 
 -- a fact of each segment from place i on
 pub each_here : (P : SegmentValue → Type 0) (ss : List SegmentValue) (i : ℕ) (s : SegmentValue) → i < length ss → s ≡ get_or ss i s → Each P (drop i ss) → P s × Each P (drop (i + 1) ss)
-each_here P ss i s l e h = subst (Each P) (drop_at ss i s l e) h
+each_here P ss i s l e h = subst (Each P) (drop_read ss i s l e) h
 
 pub drop_all : {X : Type 0} (xs : List X) (i : ℕ) → length xs ≤ i → drop i xs ≡ []
 drop_all xs i l = grind (arith, common_steps)
@@ -150,7 +142,7 @@ pages_all a c ss i l h q = or_false (a q) ∙ ap (λ xs. a q || is_destination x
 
 -- the segments from place i on, and the next one, for what a page is to have
 pub want_here : (ss : List SegmentValue) (i : ℕ) (s : SegmentValue) (p : ℕ) → i < length ss → s ≡ get_or ss i s → is_page_of_segment s p ≡ true → wanted (drop i ss) p ≡ Some (take 4096 (bytes_from s p))
-want_here ss i s p l e t = ap (λ xs. wanted xs p) (drop_at ss i s l e) ∙ ap (λ b. cond b (Some (take 4096 (bytes_from s p))) (wanted (drop (i + 1) ss) p)) t
+want_here ss i s p l e t = ap (λ xs. wanted xs p) (drop_read ss i s l e) ∙ ap (λ b. cond b (Some (take 4096 (bytes_from s p))) (wanted (drop (i + 1) ss) p)) t
 
 -- what a test of rules tells
 pub refused : (o : Option SegFault) (e : SegFault) → unless o ≡ Err e → o ≡ Some e

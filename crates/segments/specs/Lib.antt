@@ -1,3 +1,4 @@
 pub mod Values
 pub mod Rules
 pub mod Sets
+pub mod Shape

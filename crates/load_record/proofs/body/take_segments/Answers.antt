@@ -1,4 +1,4 @@
-use Rattle.std.proofs.Common.{◌≡◌, ◌-◌, ◌++◌, suc, ◌∷◌, take, drop, cond, ◌⊎◌, Some, None, Err, arith, sym, ap, ◌∙◌, subst}
+use Rattle.std.proofs.Common.{◌≡◌, ◌-◌, suc, ◌∷◌, take, drop, cond, ◌⊎◌, Some, None, Err, arith, sym, ap, ◌∙◌, subst}
 use Rattle.std.specs.Prelude.{IfSome}
 use Rattle.load_record.specs.declared.fault.RecFault.TheVariants.{Memory}
 use Rattle.load_record.specs.File.{digests_of, file_segment, segment_of}

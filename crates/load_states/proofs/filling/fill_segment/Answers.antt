@@ -7,14 +7,16 @@ use Rattle.segments.proofs.Spans.{segment_with_span}
 use Rattle.load_states.specs.Loads.{entries_of}
 use Rattle.load_states.specs.Fillings.{Fills}
 use Rattle.load_states.proofs.FillSteps.{some_left, started_few, so_far, so_far-goes, so_far-end, is_page, not_yet}
-use Rattle.load_states.proofs.Going.{Goes, goes_begun, goes_more, placed_at}
+use Rattle.load_states.proofs.Going.{Goes, goes_begun, goes_more}
 use Rattle.load_states.proofs.Holding.{hold_same_too}
 use Rattle.load_states.proofs.filling.fill_segment.Goals as goal
+use Rattle.kx_pages.proofs.Lists.{Each-slice_get}
+use Rattle.segments.specs.Shape.{IsPlaced}
 
 pub from_number-requires : goal.from_number-requires
 from_number-requires c =
     let w = segment_with_span c.args.segments.now c.args.i c.span-run.result c.span-run.ensures in
-    let k = placed_at c.args.segments.now c.args.i w.0 c.requires.good.placed w.1 in
+    let k = Each-slice_get IsPlaced c.args.segments.now c.args.i w.0 c.requires.good.placed w.1 in
     omega (arith, k.below, c.first-first.ensures.value, ap (λ (r : Run). r.first) w.2)
 
 pub add_destination-requires : goal.add_destination-requires

@@ -1,6 +1,6 @@
 use Rattle.std.proofs.Common.{[]}
-use Rattle.page_pool.proofs.Adding.{added}
 use Rattle.sample_load.proofs.memory.pages_from.Goals as goal
+use Rattle.kx_laws.proofs.Lists.{range_pushed}
 
 pub loop-i-preserved : goal.loop-i-preserved
-loop-i-preserved c = rw (c.in_ok-push.ensures.items, c.from_number.ensures) (added [] c.loop-i.pages.items c.args.first c.loop-i.i c.loop-i.invariant)
+loop-i-preserved c = rw (c.in_ok-push.ensures.items, c.from_number.ensures) (range_pushed [] c.loop-i.pages.items c.args.first c.loop-i.i c.loop-i.invariant)

@@ -2,8 +2,9 @@ use Rattle.std.proofs.Common.{◌≡◌, arith, subst}
 use Rattle.page_memory.specs.Contents.{at}
 use Rattle.page_memory.specs.Memory.{Agree}
 use Rattle.sample_load.specs.Samples.{filled_before}
-use Rattle.sample_load.proofs.Filled.{fill_more, filled_none, one_memory}
+use Rattle.sample_load.proofs.Filled.{fill_more, filled_none}
 use Rattle.sample_load.proofs.memory.sample_memory.Goals as goal
+use Rattle.kx_pages.proofs.Bytes.{same_memory}
 
 pub loop-number-init : goal.loop-number-init
 loop-number-init c = record {
@@ -20,4 +21,4 @@ loop-number-preserved c = record {
 pub returns : goal.returns
 returns c =
     let end : c.loop-number.number ≡ 20480 = omega arith in
-    one_memory (at c.loop-number.memory) (filled_before 20480) (subst (λ n. Agree (at c.loop-number.memory) (filled_before n)) end c.loop-number.invariant.filled)
+    same_memory (at c.loop-number.memory) (filled_before 20480) (subst (λ n. Agree (at c.loop-number.memory) (filled_before n)) end c.loop-number.invariant.filled)

@@ -3,8 +3,9 @@ use Rattle.std.specs.Option.{option_map}
 use Rattle.segments.specs.Values.{span_of}
 use Rattle.segments.specs.Rules.{IsBare, is_bad_address}
 use Rattle.segments.proofs.Laws.{addresses-from_IsBare}
-use Rattle.segments.proofs.Steps.{Each-slice_get, got}
+use Rattle.segments.proofs.Steps.{got}
 use Rattle.segments.proofs.list.Segments.span.Goals as goal
+use Rattle.kx_pages.proofs.Lists.{Each-slice_get}
 
 pub span-requires : goal.span-requires
 span-requires c =
