@@ -67,9 +67,9 @@ fn help_behind(words: &[String]) -> (&'static str, &'static str) {
 
 /// What is known of a refusal beside its status.
 #[derive(Clone, Copy)]
-pub(crate) struct Beside<'a> {
-    /// What the system says of a file that could not be read or written.
-    pub(crate) cause: Option<&'a io::Error>,
+pub(crate) struct Beside {
+    /// What the system said of the file or the output that failed.
+    pub(crate) cause: Option<io::Error>,
     /// What the front of the refused file tells.
     pub(crate) hint: Option<&'static str>,
 }
@@ -79,7 +79,7 @@ fn notice_of<'a>(
     alloc: Global,
     words: &'a [String],
     status: &'a Status,
-    beside: Beside<'a>,
+    beside: Beside,
 ) -> Notice<'a> {
     let is_usage = matches!(status, Status::Usage { .. });
     if is_usage && asks_for_help(words) {
@@ -129,7 +129,7 @@ impl<'a> Ending<'a> {
         alloc: Global,
         words: &'a [String],
         status: &'a Status,
-        beside: Beside<'a>,
+        beside: Beside,
     ) -> Ending<'a>
         // The exit status is the one of the answer.
         ensures code { result.code ≡ code_of status.now }

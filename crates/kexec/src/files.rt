@@ -4,8 +4,24 @@ use boot_params::ParamsFault;
 use crash_headers::CrashFault;
 use kexec_main::{InputFault, Status};
 use kexec_plan::PlanFault;
-use kexec_usage::{Given, text_of};
+use kexec_usage::Given;
 use resident_planner::ResidentFault;
+
+// The words and options of all commands that give a file.
+const FILE_WORDS: [&str; 12] = [
+    "MEMORY",
+    "POOL",
+    "OUT",
+    "RECORD",
+    "KERNEL",
+    "MODULES",
+    "PAIRS",
+    "EVENTS",
+    "--map",
+    "--initrd",
+    "--purgatory",
+    "--notes",
+];
 
 // The word or option of the file that its reader refused.
 fn input_word(fault: &InputFault) -> &'static str {
@@ -48,8 +64,8 @@ fn resident_word(fault: &ResidentFault) -> &'static str {
     }
 }
 
-/// The name of the file that was refused, where it is one file's fault and the sentence does not name it.
-pub(crate) fn file_of<'a>(status: &Status, given: &[Given<'a>]) -> Option<&'a str> {
+/// The file that was refused, with its name in the help, where it is one file's fault and the sentence does not name it.
+pub(crate) fn file_of<'a>(status: &Status, given: &[Given<'a>]) -> Option<Given<'a>> {
     let word = match status {
         Status::Input { fault } => input_word(fault),
         Status::Plan { fault } => plan_word(fault)?,
@@ -59,5 +75,14 @@ pub(crate) fn file_of<'a>(status: &Status, given: &[Given<'a>]) -> Option<&'a st
         Status::Core { .. } => "MEMORY",
         _ => return None,
     };
-    text_of(given, word)
+    given.iter().copied().find(|one| one.name == word)
+}
+
+/// The name in the help of the word that gives this file; the first, where several do.
+pub(crate) fn word_of<'a>(name: &str, given: &[Given<'a>]) -> Option<&'a str> {
+    given
+        .iter()
+        .copied()
+        .find(|one| one.text == name && FILE_WORDS.contains(&one.name))
+        .map(|one| one.name)
 }

@@ -6,7 +6,6 @@ use elf_image::ElfFault;
 use kexec_main::{InputFault, Status};
 use kexec_plan::PlanFault;
 use kexec_usage::{read_answer, text_of};
-use memory_map::MapFault;
 use multiboot_image::MbFault;
 use std::fs;
 use std::io::Read;
@@ -48,7 +47,7 @@ fn is_unmarked(fault: &PlanFault) -> bool {
     )
 }
 
-// A line ends with a carriage return, which belongs to its name.
+// A line ends with a carriage return, which no text file here may have.
 fn line_hint(front: &[u8]) -> Option<&'static str> {
     if front.contains(&b'\r') {
         Some("its lines end with carriage returns: take them off, by tr -d '\\r'")
@@ -69,14 +68,15 @@ fn memory_hint(front: &[u8]) -> Option<&'static str> {
 pub(crate) fn hint_in(status: &Status, is_memory: bool, front: &[u8]) -> Option<&'static str> {
     match status {
         Status::Plan { fault } if is_unmarked(fault) => unpack_hint(front),
-        Status::Input {
-            fault: InputFault::Map {
-                fault: MapFault::NoRam | MapFault::BadLine { .. },
-            },
-        } => line_hint(front),
-        Status::Input {
-            fault: InputFault::Mem { .. },
-        } => memory_hint(front),
+        Status::Input { fault } => match fault {
+            InputFault::Mem { .. } => memory_hint(front),
+            InputFault::Rec { .. } => None,
+            InputFault::Pool { .. }
+            | InputFault::Map { .. }
+            | InputFault::Notes { .. }
+            | InputFault::Pairs { .. }
+            | InputFault::Events { .. } => line_hint(front),
+        },
         Status::TooLong { .. } if is_memory => memory_hint(front),
         _ => None,
     }
@@ -116,7 +116,8 @@ pub(crate) fn hint_of<R: Files + AllocGlobal>(
 ) -> Option<&'static str> {
     let answer = read_answer(rt.alloc(), words);
     let memory = text_of(&answer.given, "MEMORY");
-    let (name, is_memory) = looked_at(status, file_of(status, &answer.given), memory);
+    let file = file_of(status, &answer.given).map(|file| file.text);
+    let (name, is_memory) = looked_at(status, file, memory);
     let mut front = [0u8; FRONT];
     let count = read_front(rt, name?, &mut front);
     hint_in(status, is_memory, front.get(..count)?)

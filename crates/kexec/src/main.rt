@@ -4,7 +4,6 @@
 ghost use Rattle.std.specs.Prelude.{◌≡◌};
 ghost use Rattle.std.specs.Process.{exit_status};
 
-mod causes;
 mod ending;
 mod files;
 mod hints;
@@ -14,7 +13,6 @@ mod report;
 #[cfg(test)]
 mod tests;
 
-use causes::cause_of;
 use ending::{Beside, Ending};
 use hints::hint_of;
 use kexec_main::kexec;
@@ -46,9 +44,8 @@ fn main(rt: HostRuntime) -> ExitCode {
     let mut shelf = HostShelf::new(&rt);
     let mut sink = StdSink::new(&rt);
     let status = kexec(rt.alloc(), &words, &mut shelf, &mut sink);
-    let cause = cause_of(&rt, &status);
     let beside = Beside {
-        cause: cause.as_ref(),
+        cause: shelf.cause().or(sink.cause()),
         hint: hint_of(&rt, &words, &status),
     };
     finish(&rt, &Ending::of(rt.alloc(), &words, &status, beside))

@@ -9,6 +9,7 @@ use load_record::RecFault;
 use page_pool::PoolFault;
 use purgatory_link::LinkFault;
 use resident_planner::ResidentFault;
+use segments::SegFault;
 use vmcore_file::CoreFault;
 
 // An ELF file of another kind than the one that is wanted.
@@ -70,6 +71,12 @@ fn plan_remedy(fault: &PlanFault, is_crash: bool) -> Option<&'static str> {
         PlanFault::Bzimage { fault } => bzimage_remedy(fault),
         PlanFault::Link { fault } => link_remedy(fault),
         PlanFault::Params { fault } => params_remedy(fault, is_crash),
+        PlanFault::NoHole { .. }
+        | PlanFault::Segments {
+            fault: SegFault::HalfOfMemory,
+        } => Some(
+            "for a Linux kernel, scripts/will-it-load prints the sizes and the largest holes",
+        ),
         _ => None,
     }
 }
@@ -104,6 +111,17 @@ fn core_remedy(fault: &CoreFault) -> Option<&'static str> {
         CoreFault::TooLarge { .. } => {
             Some("load the crash kernel with a memory map that has less System RAM")
         }
+        _ => None,
+    }
+}
+
+/// What is said of a file that is too long, where this word gives it: the rest of what several files have together may be
+/// less than the file's own limit.
+pub(crate) fn budget_remedy(word: &str) -> Option<&'static str> {
+    match word {
+        "KERNEL" | "--initrd" | "MODULES" => Some(
+            "the kernel, the initrd and the modules have 268435456 bytes together",
+        ),
         _ => None,
     }
 }

@@ -1,12 +1,12 @@
 //! The sentence about a command that was refused.
 
-use crate::files::file_of;
+use crate::files::{file_of, word_of};
 use crate::plans::write_plan;
-use crate::remedies::remedy_of;
+use crate::remedies::{budget_remedy, remedy_of};
 use kexec_main::Status;
 use kexec_usage::{Answer, Refusal, text_of};
 use std::fmt::{self, Display, Formatter, Write};
-use std::io;
+use std::io::{self, ErrorKind};
 
 /// One sentence: what was wrong, in which file, option or word, and what is wanted.
 #[derive(Drop)]
@@ -15,10 +15,18 @@ pub(crate) struct Report<'a> {
     pub(crate) words: &'a [String],
     /// The words as the command takes them.
     pub(crate) answer: Answer<'a>,
-    /// What the system says of a file that could not be read or written.
-    pub(crate) cause: Option<&'a io::Error>,
+    /// What the system said of the file or the output that failed.
+    pub(crate) cause: Option<io::Error>,
     /// What the front of the refused file tells.
     pub(crate) hint: Option<&'static str>,
+}
+
+// Standard output failed. A reader that has ended, as `head` does, is no want of room.
+fn write_unsaid<W: Write>(cause: io::Error, f: &mut Formatter<W>) -> fmt::Result {
+    if cause.kind() == ErrorKind::BrokenPipe {
+        return f.write_str("standard output cannot be written: its reader has ended");
+    }
+    write!(f, "standard output cannot be written: {cause}")
 }
 
 // The pool has too few pages below the limit that was given.
@@ -38,6 +46,31 @@ impl Report<'_> {
             .is_some_and(|word| word.as_str() == "load-panic")
     }
 
+    // The word that gives the file at fault, and the file's name where the sentence does not begin with it.
+    fn write_file<W: Write>(&self, f: &mut Formatter<W>) -> fmt::Result {
+        let given = &self.answer.given;
+        match self.status {
+            Status::Unread { name } | Status::Unwritten { name } | Status::TooLong { name, .. } => {
+                match word_of(name, given) {
+                    Some(word) => write!(f, "{word} "),
+                    None => Ok(()),
+                }
+            }
+            status => match file_of(status, given) {
+                Some(file) => write!(f, "{} {:?}: ", file.name, file.text),
+                None => Ok(()),
+            },
+        }
+    }
+
+    // What helps, where the sentence does not say so yet.
+    fn remedy(&self) -> Option<&'static str> {
+        match self.status {
+            Status::TooLong { name, .. } => budget_remedy(word_of(name, &self.answer.given)?),
+            status => remedy_of(status, self.is_crash()),
+        }
+    }
+
     fn write_status<W: Write>(&self, f: &mut Formatter<W>) -> fmt::Result {
         let given = &self.answer.given;
         match (self.status, self.cause) {
@@ -45,6 +78,7 @@ impl Report<'_> {
             (Status::Unwritten { name }, Some(cause)) => {
                 write!(f, "{name:?} cannot be written: {cause}")
             }
+            (Status::Unsaid, Some(cause)) => write_unsaid(cause, f),
             (Status::Plan { fault }, _) => write_plan(fault, self.is_crash(), given, f),
             (Status::NoPages { pool, need }, _) => match text_of(given, "--below") {
                 Some(limit) => write_below(*pool, *need, limit, f),
@@ -66,11 +100,9 @@ impl Display for Report<'_> {
             };
             return write!(f, "{refusal}");
         }
-        if let Some(name) = file_of(self.status, &self.answer.given) {
-            write!(f, "{name:?}: ")?;
-        }
+        self.write_file(f)?;
         self.write_status(f)?;
-        match self.hint.or(remedy_of(self.status, self.is_crash())) {
+        match self.hint.or(self.remedy()) {
             Some(remedy) => write!(f, "; {remedy}"),
             None => Ok(()),
         }

@@ -11,9 +11,10 @@ use page_pool::PoolFault;
 use segments::SegFault;
 use std::alloc::{AllocError, Global};
 use std::fs;
+use std::io::{self, ErrorKind};
 use std::test::Fail;
 
-const NOTHING: Beside<'static> = Beside {
+const NOTHING: Beside = Beside {
     cause: None,
     hint: None,
 };
@@ -32,7 +33,7 @@ fn is_told(
     rt: &HostRuntime,
     line: &str,
     status: &Status,
-    beside: Beside<'_>,
+    beside: Beside,
     (code, wanted): (u8, &str),
 ) -> Result<bool, Fail> {
     let words = words_of(rt.alloc(), line)?;
@@ -80,7 +81,7 @@ fn each_answer_has_its_status_and_sentence(rt: HostRuntime) -> Result<(), Fail> 
             Status::NoPages { pool: 2, need: 5 },
             (
                 9,
-                "kexec: \"p\": the pool has too few usable pages: 2 where the load takes 5; give it at least 3 more",
+                "kexec: POOL \"p\": the pool has too few usable pages: 2 where the load takes 5; give it at least 3 more",
             ),
         ),
         (
@@ -98,12 +99,89 @@ fn each_answer_has_its_status_and_sentence(rt: HostRuntime) -> Result<(), Fail> 
     Ok(())
 }
 
+// What the system says of a device that failed; the numbers are Linux's, of errno-base.h.
+#[test]
+fn what_the_system_said_is_told(rt: HostRuntime) -> Result<(), Fail> {
+    let alloc = rt.alloc();
+    let rows = [
+        (
+            Status::Unread {
+                name: String::from_str(alloc, "p")?,
+            },
+            5,
+            (
+                3,
+                "kexec: POOL \"p\" cannot be read: Input/output error (os error 5)",
+            ),
+        ),
+        (
+            Status::Unwritten {
+                name: String::from_str(alloc, "o")?,
+            },
+            28,
+            (
+                4,
+                "kexec: OUT \"o\" cannot be written: No space left on device (os error 28)",
+            ),
+        ),
+        (
+            Status::Unsaid,
+            28,
+            (
+                5,
+                "kexec: standard output cannot be written: No space left on device (os error 28)",
+            ),
+        ),
+        (
+            Status::Unsaid,
+            32,
+            (
+                5,
+                "kexec: standard output cannot be written: its reader has ended",
+            ),
+        ),
+    ];
+    for (status, number, wanted) in &rows {
+        let beside = Beside {
+            cause: Some(io::Error::from_raw_os_error(*number)),
+            hint: None,
+        };
+        // A command of the new kernel is no file, whatever it is called.
+        let line = "boot --command p m p o k";
+        assert!(rt; is_told(&rt, line, status, beside, *wanted)?);
+    }
+    Ok(())
+}
+
+#[test]
+fn a_file_that_is_too_long_is_told_with_its_limit(rt: HostRuntime) -> Result<(), Fail> {
+    let rows = [
+        (
+            "p",
+            "kexec: POOL \"p\" is longer than 9 bytes, which is the most that it can have here",
+        ),
+        (
+            "i",
+            "kexec: --initrd \"i\" is longer than 9 bytes, which is the most that it can have here; the kernel, the initrd and the modules have 268435456 bytes together",
+        ),
+    ];
+    for (name, wanted) in rows {
+        let status = Status::TooLong {
+            name: String::from_str(rt.alloc(), name)?,
+            limit: 9,
+        };
+        let line = "boot --initrd i m p o k";
+        assert!(rt; is_told(&rt, line, &status, NOTHING, (6, wanted))?);
+    }
+    Ok(())
+}
+
 #[test]
 fn the_pool_below_a_limit_is_told(rt: HostRuntime) -> Result<(), Fail> {
     let status = Status::NoPages { pool: 2, need: 5 };
     let wanted = (
         9,
-        "kexec: \"p\": the pool has too few usable pages below --below 100000: 2 where the load takes 5; give it at least 3 more there, or raise the limit",
+        "kexec: POOL \"p\": the pool has too few usable pages below --below 100000: 2 where the load takes 5; give it at least 3 more there, or raise the limit",
     );
     let line = "boot --below 100000 m p o k";
     assert!(rt; is_told(&rt, line, &status, NOTHING, wanted)?);
@@ -117,19 +195,19 @@ fn a_refused_file_is_named(rt: HostRuntime) -> Result<(), Fail> {
             input(InputFault::Mem {
                 fault: MemFault::BadMagic,
             }),
-            "kexec: \"m\": the memory file does not begin with KXMEM001",
+            "kexec: MEMORY \"m\": the memory file does not begin with KXMEM001",
         ),
         (
             input(InputFault::Pool {
                 fault: PoolFault::PastLimit { line: 2 },
             }),
-            "kexec: \"p\": line 2 of the pool file names a page that is not below 0x400000000; a pool has page numbers, not addresses: leave the last three digits of an address out",
+            "kexec: POOL \"p\": line 2 of the pool file names a page that is not below 0x400000000; a pool has page numbers, not addresses: leave the last three digits of an address out",
         ),
         (
             input(InputFault::Map {
                 fault: MapFault::BadLine { line: 4 },
             }),
-            "kexec: \"map\": line 4 of the memory map is not `first-last : name` with first and last in hexadecimal",
+            "kexec: --map \"map\": line 4 of the memory map is not `first-last : name` with first and last in hexadecimal",
         ),
     ];
     for (status, wanted) in &rows {
@@ -163,7 +241,7 @@ fn a_request_without_a_plan_says_what_is_in_the_way(rt: HostRuntime) -> Result<(
         ),
         (
             plan(PlanFault::NoHole { part: Part::Kernel }),
-            "kexec: there is no place for the kernel: the memory map has no free run of pages where it may lie",
+            "kexec: there is no place for the kernel: the memory map has no free run of pages where it may lie; for a Linux kernel, scripts/will-it-load prints the sizes and the largest holes",
         ),
     ];
     for (status, wanted) in &rows {
@@ -197,10 +275,13 @@ fn the_front_of_a_file_tells_its_kind(rt: HostRuntime) {
     let memory = input(InputFault::Mem {
         fault: MemFault::BadMagic,
     });
+    let pool = input(InputFault::Pool {
+        fault: PoolFault::BadLine { line: 1 },
+    });
     let gzip = Some("it is packed: unpack it first, by gzip -dc");
     let xz = Some("it is packed: unpack it first, by xz -dc");
     let zstd = Some("it is packed: unpack it first, by zstd -dc");
-    let rows: [(&Status, &[u8], Option<&str>); 9] = [
+    let rows: [(&Status, &[u8], Option<&str>); 11] = [
         (&unknown, &[0x1f, 0x8b, 8], gzip),
         (&unknown, &[0xfd, 0x37, 0x7a, 0x58, 0x5a, 0], xz),
         (&unknown, &[0x28, 0xb5, 0x2f, 0xfd], zstd),
@@ -218,19 +299,26 @@ fn the_front_of_a_file_tells_its_kind(rt: HostRuntime) {
             Some("a raw dump of memory is no memory file"),
         ),
         (&memory, b"KXMEM001", None),
+        (
+            &pool,
+            b"10-13\r\n",
+            Some("its lines end with carriage returns: take them off, by tr -d '\\r'"),
+        ),
+        (&pool, b"10 13\n", None),
     ];
     for (status, front, wanted) in rows {
         assert!(rt; hint_in(status, false, front) == wanted);
     }
 }
 
-// The exit status of `trace` over the system's files.
-fn traced(rt: &HostRuntime, line: &str) -> Result<u8, Fail> {
+// How `trace` ends over the system's files: its exit status, and what the system said.
+fn end_of_trace(rt: &HostRuntime, line: &str) -> Result<(u8, Option<ErrorKind>), Fail> {
     let words = words_of(rt.alloc(), line)?;
     let mut shelf = HostShelf::new(rt);
     let mut sink = MemorySink::new(rt.alloc(), Vec::new(rt.alloc()));
     sink.reserve(4096)?;
-    Ok(kexec(rt.alloc(), &words, &mut shelf, &mut sink).code())
+    let status = kexec(rt.alloc(), &words, &mut shelf, &mut sink);
+    Ok((status.code(), shelf.cause().map(|cause| cause.kind())))
 }
 
 // A memory without pages, and a list of the done word alone.
@@ -239,18 +327,25 @@ fn files_that_cannot_be_read_or_written_are_told(rt: HostRuntime) -> Result<(), 
     fs::write(&rt, "memory", b"KXMEM001\0\0\0\0\0\0\0\0")?;
     fs::create_dir(&rt, "folder")?;
     let rows = [
-        ("trace memory out 4 9", 0),
-        ("trace missing out 4 9", 3),
-        ("trace folder out 4 9", 3),
-        ("trace memory missing/out 4 9", 4),
-        ("trace memory folder 4 9", 4),
+        ("trace memory out 4 9", (0, None)),
+        ("trace missing out 4 9", (3, Some(ErrorKind::NotFound))),
+        ("trace folder out 4 9", (3, Some(ErrorKind::IsADirectory))),
+        (
+            "trace memory missing/out 4 9",
+            (4, Some(ErrorKind::NotFound)),
+        ),
+        (
+            "trace memory folder 4 9",
+            (4, Some(ErrorKind::IsADirectory)),
+        ),
     ];
     for (line, wanted) in rows {
-        assert_eq!(rt; traced(&rt, line)?, wanted);
+        assert!(rt; end_of_trace(&rt, line)? == wanted);
     }
     // A full device takes no byte, where there is one.
     if fs::metadata(&rt, "/dev/full").is_ok() {
-        assert_eq!(rt; traced(&rt, "trace memory /dev/full 4 9")?, 4);
+        let full = (4, Some(ErrorKind::StorageFull));
+        assert!(rt; end_of_trace(&rt, "trace memory /dev/full 4 9")? == full);
     }
     Ok(())
 }

@@ -50,6 +50,8 @@ mod inputs;
 #[cfg(test)]
 mod kept_tests;
 #[cfg(test)]
+mod kernel_fault_tests;
+#[cfg(test)]
 mod kernel_files;
 #[cfg(test)]
 mod kernel_tests;

@@ -64,7 +64,7 @@ fn run_command<S: Shelf, O: Sink>(
 
 // What each answer says, in one clause.
 #[tactic(auto, unfolding(file_commands::specs::Taking::Took))]
-fn answered<S: Shelf, O: Sink>(
+fn run_words<S: Shelf, O: Sink>(
     alloc: Global,
     words: &[String],
     shelf: &mut S,
@@ -151,5 +151,5 @@ pub fn kexec<S: Shelf, O: Sink>(
         → Rose (S.faults shelf.old) (S.faults shelf.new) }
     ensures unsaid { answer_of result ≡ unsaid → Rose (O.faults out.old) (O.faults out.new) }
 {
-    answered(alloc, words, shelf, out)
+    run_words(alloc, words, shelf, out)
 }

@@ -8,31 +8,31 @@ use Rattle.kexec_main.proofs.Laid.{has_laid}
 use Rattle.kexec_main.proofs.run.kexec.Goals as goal
 
 pub returns-clause-told : goal.returns-clause-told
-returns-clause-told g c = told entry_of Usage g.S.Shelf g.O.Sink _ _ _ _ _ (command_of (map string_bytes c.args.words.now)) c.answered.ensures
+returns-clause-told g c = told entry_of Usage g.S.Shelf g.O.Sink _ _ _ _ _ (command_of (map string_bytes c.args.words.now)) c.run_words.ensures
 
 pub returns-clause-done : goal.returns-clause-done
-returns-clause-done g c = λ w e f. said_done entry_of Usage g.S.Shelf g.O.Sink _ _ _ _ _ (command_of (map string_bytes c.args.words.now)) keeps w e f c.answered.ensures
+returns-clause-done g c = λ w e f. said_done entry_of Usage g.S.Shelf g.O.Sink _ _ _ _ _ (command_of (map string_bytes c.args.words.now)) keeps w e f c.run_words.ensures
 
 pub returns-clause-laid : goal.returns-clause-laid
-returns-clause-laid g c = λ w e f. said_gives entry_of Usage g.S.Shelf g.O.Sink _ _ _ _ _ (command_of (map string_bytes c.args.words.now)) w e f (λ held m. has_laid g.S.Shelf g.O.Sink held _ _ _ _ w m) c.answered.ensures
+returns-clause-laid g c = λ w e f. said_gives entry_of Usage g.S.Shelf g.O.Sink _ _ _ _ _ (command_of (map string_bytes c.args.words.now)) w e f (λ held m. has_laid g.S.Shelf g.O.Sink held _ _ _ _ w m) c.run_words.ensures
 
 pub returns-clause-without_files : goal.returns-clause-without_files
-returns-clause-without_files g c = λ w e. said_alone entry_of Usage g.S.Shelf g.O.Sink _ _ _ _ _ (command_of (map string_bytes c.args.words.now)) keeps w e c.answered.ensures
+returns-clause-without_files g c = λ w e. said_alone entry_of Usage g.S.Shelf g.O.Sink _ _ _ _ _ (command_of (map string_bytes c.args.words.now)) keeps w e c.run_words.ensures
 
 pub returns-clause-complete : goal.returns-clause-complete
-returns-clause-complete g c = λ w e. said_complete entry_of Usage g.S.Shelf g.O.Sink _ _ _ _ _ (command_of (map string_bytes c.args.words.now)) keeps w e c.answered.ensures
+returns-clause-complete g c = λ w e. said_complete entry_of Usage g.S.Shelf g.O.Sink _ _ _ _ _ (command_of (map string_bytes c.args.words.now)) keeps w e c.run_words.ensures
 
 pub returns-clause-in_order : goal.returns-clause-in_order
-returns-clause-in_order g c = λ w e f. said_ready entry_of Usage g.S.Shelf g.O.Sink _ _ _ _ _ (command_of (map string_bytes c.args.words.now)) keeps w e f c.answered.ensures
+returns-clause-in_order g c = λ w e f. said_ready entry_of Usage g.S.Shelf g.O.Sink _ _ _ _ _ (command_of (map string_bytes c.args.words.now)) keeps w e f c.run_words.ensures
 
 pub returns-clause-refused : goal.returns-clause-refused
-returns-clause-refused g c = λ w e. said_refused entry_of Usage g.S.Shelf g.O.Sink _ _ _ _ _ (command_of (map string_bytes c.args.words.now)) keeps w e c.answered.ensures
+returns-clause-refused g c = λ w e. said_refused entry_of Usage g.S.Shelf g.O.Sink _ _ _ _ _ (command_of (map string_bytes c.args.words.now)) keeps w e c.run_words.ensures
 
 pub returns-clause-unread : goal.returns-clause-unread
-returns-clause-unread g c = λ n e. unread_rose entry_of Usage g.S.Shelf g.O.Sink _ _ _ _ _ (command_of (map string_bytes c.args.words.now)) n e c.answered.ensures
+returns-clause-unread g c = λ n e. unread_rose entry_of Usage g.S.Shelf g.O.Sink _ _ _ _ _ (command_of (map string_bytes c.args.words.now)) n e c.run_words.ensures
 
 pub returns-clause-unwritten : goal.returns-clause-unwritten
-returns-clause-unwritten g c = λ n e. unwritten_rose entry_of Usage g.S.Shelf g.O.Sink _ _ _ _ _ (command_of (map string_bytes c.args.words.now)) n e c.answered.ensures
+returns-clause-unwritten g c = λ n e. unwritten_rose entry_of Usage g.S.Shelf g.O.Sink _ _ _ _ _ (command_of (map string_bytes c.args.words.now)) n e c.run_words.ensures
 
 pub returns-clause-unsaid : goal.returns-clause-unsaid
-returns-clause-unsaid g c = λ e. unsaid_rose entry_of Usage g.S.Shelf g.O.Sink _ _ _ _ _ (command_of (map string_bytes c.args.words.now)) e c.answered.ensures
+returns-clause-unsaid g c = λ e. unsaid_rose entry_of Usage g.S.Shelf g.O.Sink _ _ _ _ _ (command_of (map string_bytes c.args.words.now)) e c.run_words.ensures
