@@ -1,6 +1,6 @@
 -- What stands behind the command: nothing, or zeros and the record of the rows that are left.
 use Rattle.std.proofs.Common.{◌≡◌, ℕ, ◌+◌, ◌-◌, ◌*◌, ◌<◌, ◌≤◌, List, [], ◌∷◌, ◌++◌, append_assoc, append-nil, length, length-append, take, drop, refl, sym, ap, ◌∙◌, Bool, true, false, cond, arith, length-drop}
-use Rattle.std.specs.Prelude.{get_or, replicate, slice_index, nat_lt, ◌==◌}
+use Rattle.std.specs.Prelude.{get_or, replicate, slice_index, nat_lt}
 use Rattle.std.specs.List.{flat_map}
 use Rattle.std.proofs.Math.Seq.{drop-append-add}
 use Rattle.std.proofs.lemmas.Bool.Decides.{nat_tests}
@@ -47,9 +47,6 @@ unextended n = refl
 pub none_left : (n : ℕ) (rows : List Row) (items : List ℕ) → length rows ≡ 0 → items ≡ items ++ extension n rows
 none_left n [] items none = sym (append-nil items) ∙ ap (λ l. items ++ l) (sym (unextended n))
 none_left n (r ∷ rows) items none = absurd (omega (arith, none))
-
-pub is_some : (n : ℕ) → false ≡ (n == 0) → 0 < n
-is_some n h = grind (arith, nat_tests)
 
 -- zeros, head and rows were put
 pub all_put : (n : ℕ) (rows : List Row) (items filled headed done head : List ℕ) → 0 < length rows → filled ≡ items ++ zeros (gap n) → headed ≡ filled ++ head → head ≡ head_text (head_of (length rows)) → done ≡ headed ++ flat_map row_text rows → done ≡ items ++ extension n rows

@@ -53,7 +53,7 @@ fn the_first_fault_is_told(rt: HostRuntime) -> Result<(), Fail> {
         length: 21,
         most: 20,
     };
-    let table: [(usize, &[u8], Option<ParamsFault>); 9] = [
+    let table: [(usize, &[u8], Option<ParamsFault>); 10] = [
         (1152, b"quiet", None),
         (0, b"", None),
         (
@@ -62,6 +62,11 @@ fn the_first_fault_is_told(rt: HostRuntime) -> Result<(), Fail> {
             Some(ParamsFault::TooManyRanges { rows: 1153 }),
         ),
         (1153, b"\0", Some(ParamsFault::TooManyRanges { rows: 1153 })),
+        (
+            1153,
+            b"console=ttyS0 quiet  ",
+            Some(ParamsFault::TooManyRanges { rows: 1153 }),
+        ),
         (1, b"console=ttyS0 quiet ", None),
         (1, b"console=ttyS0 quiet  ", Some(long)),
         (1, b"\0console=ttyS0 quiet ", Some(long)),

@@ -2,7 +2,7 @@
 use Rattle.std.proofs.Common.{◌≡◌, ℕ, ◌-◌, ◌^◌, ◌<◌, ◌≤◌, List, length, drop, Bool, true, false, cond, refl, sym, ap, ◌∙◌, subst, Ok, Err, Option, Some, arith, length-drop}
 use Rattle.std.specs.Prelude.{◌&&◌, ◌==◌, nat_lt, nat_le, not, IsTrue}
 use Rattle.std.proofs.lemmas.Bool.Decides.{nat_tests}
-use Rattle.std.proofs.lemmas.Bool.{or_parts}
+use Rattle.std.proofs.lemmas.Bool.{or_parts, ltb-false, leb-false}
 use Rattle.std.proofs.lemmas.List.{length-take-le}
 use Rattle.std.specs.Int.{is_power_of_two, IsPowerOfTwo}
 use Rattle.bzimage.proofs.Powers.{power_of_two}
@@ -25,12 +25,6 @@ least end h = grind (arith, nat_tests)
 most : (end : ℕ) → IsTrue (is_header_end end) → end ≤ 0x290
 most end h = grind (arith, nat_tests)
 
-at_most : (n m : ℕ) → nat_lt n m ≡ false → m ≤ n
-at_most n m h = grind (arith, nat_tests)
-
-below : (n m : ℕ) → nat_le n m ≡ false → m < n
-below n m h = grind (arith, nat_tests)
-
 pub tested : (n : ℕ) (h : SetupHeader) → unless (header_fault n h) ≡ Ok tt → IsTested n h
 unfolding header_fault
 tested n h e =
@@ -46,8 +40,8 @@ tested n h e =
       least_end = least (header_end h) good;
       most_end = most (header_end h) good;
       align = so (is_alignment h.kernel_alignment) i.0;
-      whole = at_most n (header_end h) j.0;
-      start = below n (kernel_start h) j.1;
+      whole = ltb-false n (header_end h) j.0;
+      start = leb-false n (kernel_start h) j.1;
     }
 
 pub fails : (file : List ℕ) (e : BzFault) → header_tested file ≡ Err e → kernel_reading file ≡ Err e

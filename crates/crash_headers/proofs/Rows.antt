@@ -1,27 +1,19 @@
 -- Program headers put one after another.
-use Rattle.std.proofs.Common.{◌≡◌, ℕ, zero, suc, ◌+◌, ◌*◌, ◌<◌, ◌≤◌, List, [], ◌∷◌, ◌++◌, length, take, drop, get_or, map, refl, sym, ap, ◌∙◌, subst, arith}
+use Rattle.std.proofs.Common.{◌≡◌, ℕ, zero, suc, ◌+◌, ◌*◌, ◌<◌, ◌≤◌, List, [], ◌∷◌, ◌++◌, length, take, drop, get_or, map, sym, ap, ◌∙◌, subst, arith}
 use Rattle.std.specs.List.{flat_map, AllByRecursion}
 use Rattle.std.proofs.lemmas.List.{take_all, take-append-le, map_more, flat_map_more, length-append, length-map}
-use Rattle.std.proofs.Math.Seq.{drop-append-add, take-append_seam}
+use Rattle.std.proofs.Math.Seq.{drop-append-add}
 use Rattle.kx_laws.proofs.Lists.{take_front}
-use Rattle.kx_fields.specs.Fields.{AreBytes, bytes_at, zeros}
-use Rattle.kx_fields.specs.Formats.{IsFormat, Fits, blank, read, written}
-use Rattle.kx_fields.proofs.Bytes.{AreBytes-zeros, AreBytes-from_test, length-zeros}
-use Rattle.kx_fields.proofs.Formats.{AreBytes-blank, length-written, length-blank, read_written, blank_begins}
+use Rattle.kx_fields.specs.Fields.{bytes_at}
+use Rattle.kx_fields.specs.Formats.{Fits, read}
 use Rattle.memory_map.specs.declared.row.Row.{Row}
+use Rattle.elf_headers.specs.declared.program_header.ProgramHeader.{ProgramHeader}
+use Rattle.elf_headers.specs.FileHeader.{file_header, core_header, header_text, IsHeaderReadBack}
+use Rattle.elf_headers.specs.ProgramHeader.{program_header, row_text, IsRowReadBack, AreReadBack}
+use Rattle.elf_headers.proofs.Headers.{header_size, header_ident, rows_size, all_append, one_row, row_reads}
 use Rattle.crash_headers.specs.declared.note.Note.{Note}
-use Rattle.crash_headers.specs.declared.program_header.ProgramHeader.{ProgramHeader}
-use Rattle.crash_headers.specs.declared.file_header.FileHeader.{FileHeader}
-use Rattle.crash_headers.specs.FileHeader.{ident, file_header, core_header, header_text, IsHeaderReadBack}
-use Rattle.crash_headers.specs.ProgramHeader.{program_header, row_text, note_row, load_row, IsRowReadBack, AreReadBack}
+use Rattle.crash_headers.specs.ProgramHeader.{note_row, load_row}
 use Rattle.crash_headers.specs.Headers.{count_of, rows, headers, length_for, HasIdentification, HasFileHeader, HasProgramHeaders}
-
--- the tables
-pub file_header_is : IsFormat 64 file_header
-file_header_is = record { numbered = λ at fits. refl; whole = λ at fits. refl; apart = refl }
-
-pub program_header_is : IsFormat 56 program_header
-program_header_is = record { numbered = λ at fits. refl; whole = λ at fits. refl; apart = refl }
 
 -- what stands where no range does
 abbrev pub no_row : Row
@@ -31,10 +23,6 @@ pub each_at : (P : Row → Type 0) (xs : List Row) (i : ℕ) (d : Row) → AllBy
 each_at P [] i d all l = absurd (omega (arith, l))
 each_at P (y ∷ ys) zero d all l = all.0
 each_at P (y ∷ ys) (suc i) d all l = each_at P ys i d all.1 (omega (arith, l))
-
-pub all_append : (P : ProgramHeader → Type 0) (xs ys : List ProgramHeader) → AllByRecursion P xs → AllByRecursion P ys → AllByRecursion P (xs ++ ys)
-all_append P [] ys a b = b
-all_append P (x ∷ xs) ys a b = (a.0, all_append P xs ys a.1 b)
 
 -- one more row that reads back, behind the others
 pub back_more : {X : Type 0} (f : X → ProgramHeader) (xs : List X) (i : ℕ) (d : X) → i < length xs → IsRowReadBack (f (get_or xs i d)) → AreReadBack (map f (take i xs)) → AreReadBack (map f (take (i + 1) xs))
@@ -58,47 +46,16 @@ row_more f xs i d old out new l step so_far =
 pub rows_all : {X : Type 0} (f : X → ProgramHeader) (xs : List X) (i : ℕ) (old out : List ℕ) → i ≡ length xs → out ≡ old ++ flat_map row_text (map f (take i xs)) → out ≡ old ++ flat_map row_text (map f xs)
 rows_all f xs i old out e so_far = so_far ∙ ap (λ x. old ++ flat_map row_text (map f x)) (take_all i xs (omega (arith, e)))
 
-pub row_size : (h : ProgramHeader) → length (row_text h) ≡ 56
-unfolding row_text
-row_size h = length-written 56 program_header h (zeros 56) program_header_is (length-zeros 56)
-
-pub rows_size : (hs : List ProgramHeader) → length (flat_map row_text hs) ≡ 56 * length hs
-rows_size [] = refl
-rows_size (h ∷ hs) = omega (arith, length-append (row_text h) (flat_map row_text hs), row_size h, rows_size hs)
-
-pub header_size : (h : FileHeader) → length (header_text h) ≡ 64
-unfolding header_text
-header_size h = length-written 64 file_header h _ file_header_is (length-blank 64 ident (omega arith))
-
 pub headers_size : (notes : List Note) (ranges : List Row) → length (headers notes ranges) ≡ length_for (length notes) ranges
 unfolding headers
 headers_size notes ranges =
     let h = header_text (core_header (count_of notes ranges)) in
     omega (arith, length-append h (flat_map row_text (rows notes ranges)), header_size (core_header (count_of notes ranges)), rows_size (rows notes ranges), length-append (map note_row notes) (map load_row ranges), length-map notes note_row, length-map ranges load_row)
 
--- a program header whose numbers fit reads back
-pub row_back : (h : ProgramHeader) → Fits program_header h → IsRowReadBack h
-unfolding row_text
-row_back h fits = read_written 56 program_header h (zeros 56) program_header_is refl fits (length-zeros 56) (AreBytes-zeros 56)
-
-ident_bytes : AreBytes ident
-ident_bytes = AreBytes-from_test ident refl
-
 -- the numbers of a core file's header fit
 pub core_fits : (n : ℕ) → n ≤ 1024 → Fits file_header (core_header n)
 core_fits n few =
     (omega arith, (omega arith, (omega arith, (omega arith, (omega arith, (omega arith, (omega arith, (omega arith, (omega arith, (omega (arith, few), (omega arith, (omega arith, (omega arith, tt)))))))))))))
-
-pub header_back : (h : FileHeader) → Fits file_header h → IsHeaderReadBack h
-unfolding header_text
-header_back h fits =
-    read_written 64 file_header h (blank 64 ident) file_header_is refl fits (length-blank 64 ident (omega arith)) (AreBytes-blank 64 ident ident_bytes)
-
-header_ident : (h : FileHeader) → take 16 (header_text h) ≡ ident
-unfolding header_text
-header_ident h =
-    ap (take 16) (blank_begins 64 file_header h ident file_header_is refl (omega arith))
-    ∙ take-append_seam ident (drop 16 (written file_header h (blank 64 ident)))
 
 -- the identification of the headers
 pub headers_ident : (notes : List Note) (ranges : List Row) (bytes : List ℕ) → bytes ≡ headers notes ranges → HasIdentification bytes
@@ -116,21 +73,6 @@ headers_file_header notes ranges bytes e back =
     let h = header_text (core_header (count_of notes ranges)) in
     ap (read file_header) (ap (take 64) e ∙ take_front h (flat_map row_text (rows notes ranges)) 64 (header_size (core_header (count_of notes ranges))))
     ∙ back
-
-pub one_row : (hs : List ProgramHeader) (i : ℕ) (d : ProgramHeader) → i < length hs → bytes_at (56 * i) 56 (flat_map row_text hs) ≡ row_text (get_or hs i d)
-one_row [] i d below = absurd (omega arith)
-one_row (h ∷ hs) zero d below = take_front (row_text h) (flat_map row_text hs) 56 (row_size h)
-one_row (h ∷ hs) (suc i) d below =
-    let size = row_size h in
-    let place : 56 * suc i ≡ length (row_text h) + 56 * i = omega (arith, size) in
-    ap (λ n. take 56 (drop n (row_text h ++ flat_map row_text hs))) place
-    ∙ ap (take 56) (drop-append-add (row_text h) (flat_map row_text hs) (56 * i))
-    ∙ one_row hs i d (omega arith)
-
-pub row_reads : (hs : List ProgramHeader) (i : ℕ) (d : ProgramHeader) → i < length hs → AreReadBack hs → read program_header (row_text (get_or hs i d)) ≡ get_or hs i d
-row_reads [] i d below back = absurd (omega arith)
-row_reads (h ∷ hs) zero d below back = back.0
-row_reads (h ∷ hs) (suc i) d below back = row_reads hs i d (omega arith) back.1
 
 pub headers_rows : (notes : List Note) (ranges : List Row) (bytes : List ℕ) → bytes ≡ headers notes ranges → AreReadBack (rows notes ranges) → HasProgramHeaders (rows notes ranges) bytes
 unfolding headers

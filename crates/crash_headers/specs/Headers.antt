@@ -5,12 +5,13 @@ use Rattle.std.specs.List.{position}
 use Rattle.kx_fields.specs.Fields.{bytes_at}
 use Rattle.kx_fields.specs.Formats.{read}
 use Rattle.memory_map.specs.declared.row.Row.{Row}
+use Rattle.elf_headers.specs.declared.program_header.ProgramHeader.{ProgramHeader}
+use Rattle.elf_headers.specs.FileHeader.{ident, file_header, core_header, header_text}
+use Rattle.elf_headers.specs.ProgramHeader.{program_header, table_text}
 use Rattle.crash_headers.specs.declared.note.Note.{Note}
-use Rattle.crash_headers.specs.declared.program_header.ProgramHeader.{ProgramHeader}
 use Rattle.crash_headers.specs.declared.fault.CrashFault.{CrashFault}
 use Rattle.crash_headers.specs.declared.fault.CrashFault.TheVariants as faults
-use Rattle.crash_headers.specs.FileHeader.{ident, file_header, core_header, header_text}
-use Rattle.crash_headers.specs.ProgramHeader.{program_header, table_text, note_row, load_row}
+use Rattle.crash_headers.specs.ProgramHeader.{note_row, load_row}
 use Rattle.crash_headers.specs.Notes.{is_outside}
 
 -- the program headers: the notes, then the ranges

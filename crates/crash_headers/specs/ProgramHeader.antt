@@ -1,61 +1,33 @@
--- Program headers of an ELF64 file (ELF gABI, chapter 5, Program Header; Elf64_Phdr, whose p_align is zero), and those
--- that a crash kernel gets (Linux, Documentation/admin-guide/kdump).
-use Rattle.std.specs.Prelude.{◌≡◌, ℕ, ◌+◌, List, [], ◌∷◌}
-use Rattle.std.specs.List.{flat_map, AllByRecursion}
-use Rattle.kx_fields.specs.Fields.{zeros}
-use Rattle.kx_fields.specs.Formats.{Format, read, written}
+-- The program headers that a crash kernel gets (ELF gABI, chapter 5, "Program Header"; Linux,
+-- Documentation/admin-guide/kdump). Their p_align is zero.
+use Rattle.std.specs.Prelude.{◌+◌}
 use Rattle.memory_map.specs.declared.row.Row.{Row}
+use Rattle.elf_headers.specs.declared.program_header.ProgramHeader.{ProgramHeader}
+use Rattle.elf_headers.specs.Numbers.{pt_load, pt_note}
 use Rattle.crash_headers.specs.declared.note.Note.{Note}
-use Rattle.crash_headers.specs.declared.program_header.ProgramHeader.{ProgramHeader}
-
-abbrev pub program_header : Format ProgramHeader
-program_header = record {
-  layout = λ at. record {
-    kind = at 0 4;
-    flags = at 4 4;
-    offset = at 8 8;
-    vaddr = at 16 8;
-    paddr = at 24 8;
-    filesz = at 32 8;
-    memsz = at 40 8;
-  };
-  numbers = λ h. h.kind ∷ h.flags ∷ h.offset ∷ h.vaddr ∷ h.paddr ∷ h.filesz ∷ h.memsz ∷ [];
-}
-
-unfoldable pub row_text : ProgramHeader → List ℕ
-row_text h = written program_header h (zeros 56)
-
--- its bytes read as it is
-abbrev pub IsRowReadBack : ProgramHeader → Type 0
-IsRowReadBack h = read program_header (row_text h) ≡ h
-
-abbrev pub AreReadBack : List ProgramHeader → Type 0
-AreReadBack hs = AllByRecursion IsRowReadBack hs
-
--- program headers, one after another
-abbrev pub table_text : List ProgramHeader → List ℕ
-table_text hs = flat_map row_text hs
 
 -- the PT_NOTE of a note
 abbrev pub note_row : Note → ProgramHeader
 note_row n = record {
-  kind = 4;
+  kind = pt_note;
   flags = 0;
   offset = n.start;
   vaddr = 0;
   paddr = n.start;
   filesz = n.size;
   memsz = n.size;
+  align = 0;
 }
 
 -- the PT_LOAD of a range: PF_R, PF_W and PF_X, mapped where x86-64 Linux maps all of memory
 abbrev pub load_row : Row → ProgramHeader
 load_row r = record {
-  kind = 1;
+  kind = pt_load;
   flags = 7;
   offset = r.start;
   vaddr = r.start + 0xffff888000000000;
   paddr = r.start;
   filesz = r.size;
   memsz = r.size;
+  align = 0;
 }

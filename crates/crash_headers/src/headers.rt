@@ -5,25 +5,25 @@ ghost use Rattle.kx_laws.specs.Results.{Gives};
 ghost use Rattle.memory_map.specs.Rows.{AreBelow};
 ghost use Rattle.memory_map.specs.Maps.{core_ranges};
 ghost use Rattle.crash_headers.specs.declared.fault.CrashFault.TheVariants.{Memory};
-ghost use Rattle.crash_headers.specs.FileHeader.{core_header, IsHeaderReadBack};
-ghost use Rattle.crash_headers.specs.ProgramHeader.{row_text, table_text, note_row, load_row, IsRowReadBack, AreReadBack};
+ghost use Rattle.elf_headers.specs.FileHeader.{core_header, IsHeaderReadBack};
+ghost use Rattle.elf_headers.specs.ProgramHeader.{row_text, table_text, IsRowReadBack, AreReadBack};
+ghost use Rattle.crash_headers.specs.ProgramHeader.{note_row, load_row};
 ghost use Rattle.crash_headers.specs.Headers.{count_of, rows, headers, headers_length, length_for, headers_or_fault, HasIdentification, HasFileHeader, HasProgramHeaders};
 
 use crate::fault::CrashFault;
-use crate::file_header::FileHeader;
 use crate::note::{Note, first_outside};
-use crate::program_header::ProgramHeader;
+use crate::program_header::{load_row, note_row};
+use elf_headers::{FILE_HEADER_SIZE, FileHeader, PROGRAM_HEADER_SIZE, ProgramHeader};
 use memory_map::{Map, Row};
 use std::alloc::{AllocError, Global};
 
 /// The most program headers (this project's own limit).
 const MOST_HEADERS: usize = 1024;
 
-/// The bytes of a file header.
-const FILE_HEADER: usize = 64;
+/// The bytes of a file header and of a program header.
+const FILE_HEADER: usize = FILE_HEADER_SIZE as usize;
 
-/// The bytes of a program header.
-const PROGRAM_HEADER: usize = 56;
+const PROGRAM_HEADER: usize = PROGRAM_HEADER_SIZE as usize;
 
 /// Puts a program header behind the others.
 fn put_row(out: &mut Vec<u8>, row: ProgramHeader) -> Result<(), AllocError>
@@ -41,7 +41,7 @@ fn put_notes(out: &mut Vec<u8>, notes: &[Note]) -> Result<(), AllocError>
     ensures back { OnOk result (AreReadBack (map note_row notes.now)) }
 {
     for note in notes {
-        put_row(out, ProgramHeader::of_note(*note))?;
+        put_row(out, note_row(*note))?;
     }
     Ok(())
 }
@@ -54,7 +54,7 @@ fn put_loads(out: &mut Vec<u8>, ranges: &[Row]) -> Result<(), AllocError>
     ensures back { OnOk result (AreReadBack (map load_row ranges.now)) }
 {
     for range in ranges {
-        put_row(out, ProgramHeader::of_range(*range))?;
+        put_row(out, load_row(*range))?;
     }
     Ok(())
 }

@@ -6,7 +6,6 @@
 #![tactic(auto)]
 
 mod fault;
-mod file_header;
 mod headers;
 mod note;
 mod program_header;
@@ -15,7 +14,5 @@ mod ranges;
 mod tests;
 
 pub use fault::{CrashFault, NoteFault};
-pub use file_header::FileHeader;
 pub use headers::{length, make};
 pub use note::{Note, read_notes};
-pub use program_header::ProgramHeader;

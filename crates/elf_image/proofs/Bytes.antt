@@ -4,6 +4,7 @@ use Rattle.std.specs.Prelude.{nat_le, ◌⊎◌, map, replicate}
 use Rattle.std.specs.List.{range_with_len, AllByRecursion}
 use Rattle.std.proofs.lemmas.Bool.Decides.{nat_tests}
 use Rattle.std.proofs.lemmas.Bool.{cases_lt, cases_eq, cond-true, cond-false, eq-eqb, ne_eqb, or_from, or_left, or_right, or_parts}
+use Rattle.kx_laws.proofs.Booleans.{or_first}
 use Rattle.std.proofs.lemmas.List.{ext_get_or, length-append, length-take, length-drop, length-replicate, get_or_append_left, get_or-append_right, get_or-replicate, get_or-take, get_or-drop}
 use Rattle.std.proofs.lemmas.List.Folds.{list_any-append}
 use Rattle.std.proofs.lemmas.List.FromFn.{length-map-range_with_len, get_or-map-range_with_len}
@@ -118,12 +119,8 @@ byte_same file pre rest a h = picked file pre rest a h (is_file pre a) refl
     picked file pre rest a h true e = byte_front file pre rest a e
     picked file pre rest a h false e = byte_behind file pre rest a e ∙ byte_none file rest a h ∙ sym (byte_none file pre a e)
 
-or_false : (b c : Bool) → c ≡ false → (b || c) ≡ b
-or_false true c h = refl
-or_false false c h = h
-
 file_more : (pre rest : List Load) (a : ℕ) → is_file rest a ≡ false → is_file (pre ++ rest) a ≡ is_file pre a
-file_more pre rest a h = list_any-append (is_file_of a) pre rest ∙ or_false (is_file pre a) (is_file rest a) h
+file_more pre rest a h = list_any-append (is_file_of a) pre rest ∙ or_first (is_file pre a) (is_file rest a) h
 
 bytes_same : (file : List ℕ) (pre rest : List Load) (a n : ℕ) → ((k : ℕ) → k < n → is_file rest (a + k) ≡ false) → bytes_of file (pre ++ rest) a n ≡ bytes_of file pre a n
 bytes_same file pre rest a n h =

@@ -3,7 +3,7 @@ use Rattle.std.proofs.Common.{◌≡◌, ℕ, ◌+◌, ◌*◌, ◌/◌, ◌<◌
 use Rattle.std.specs.Prelude.{◌⊎◌, nat_lt, not, ◌==◌, ◌||◌, map}
 use Rattle.std.specs.List.{All, slice_get, range_with_len}
 use Rattle.std.proofs.lemmas.Bool.Decides.{nat_tests}
-use Rattle.std.proofs.lemmas.Bool.{or_cases}
+use Rattle.std.proofs.lemmas.Bool.{or_cases, ltb-true}
 use Rattle.std.proofs.lemmas.List.{length-map}
 use Rattle.std.proofs.lemmas.Option.{get_or_from_slice_get, slice_get_within}
 use Rattle.std.proofs.lemmas.List.Elements.{All-nil, All-cons, All-append, All-map}
@@ -87,9 +87,6 @@ unfolding symbols_read
 symbols_defined file t ss e = at_defined file t (first_of sht_symtab 0 t.headers) ss e
 
 -- ---- relocations
-less_of : (n m : ℕ) → nat_lt n m ≡ true → n < m
-less_of n m h = grind (arith, nat_tests)
-
 target_below : (t : Table) (place : ℕ) (h : SectionHeader) → unless (rela_fault t place h) ≡ Ok tt → h.info < length t.headers
 unfolding rela_fault
 target_below t place h e =
@@ -99,7 +96,7 @@ target_below t place h e =
     below (nat_lt h.info (length t.headers)) refl c.0
   where
     below : (b : Bool) → nat_lt h.info (length t.headers) ≡ b → not b ≡ false → h.info < length t.headers
-    below true t h = less_of _ _ t
+    below true t h = ltb-true _ _ t
     below false t h = cc
 
 -- the entries of a section whose bytes lie in the file do

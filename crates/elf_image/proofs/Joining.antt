@@ -1,15 +1,16 @@
 -- Loads taken in one after another, and the pages that they meet.
-use Rattle.std.proofs.Common.{◌≡◌, ℕ, zero, suc, ◌+◌, ◌<◌, ◌≤◌, ◌||◌, List, [], ◌∷◌, ◌++◌, append_assoc, length, take, drop, get_or, Bool, true, false, refl, sym, ap, ◌∙◌, arith}
+use Rattle.std.proofs.Common.{◌≡◌, ℕ, zero, suc, ◌+◌, ◌<◌, ◌≤◌, ◌||◌, List, [], ◌∷◌, ◌++◌, append_assoc, length, take, drop, get_or, true, false, refl, sym, ap, ◌∙◌, arith}
 use Rattle.std.specs.Prelude.{nat_le, ◌==◌}
 use Rattle.std.specs.List.{AllByRecursion}
 use Rattle.std.proofs.lemmas.Bool.Decides.{nat_tests}
 use Rattle.std.proofs.lemmas.Bool.{cond-true, cond-false}
 use Rattle.std.proofs.lemmas.List.{drop_more, drop_all, take_all}
 use Rattle.std.proofs.lemmas.List.Folds.{list_any-append, list_any_more}
+use Rattle.kx_laws.proofs.Booleans.{or_false}
 use Rattle.kx_pages.specs.Spans.{Run, in_span, in_spans}
 use Rattle.segments.specs.Values.{SegmentValue}
 use Rattle.elf_image.specs.declared.load.Load.{Load}
-use Rattle.elf_image.specs.Image.{meets_page, is_met}
+use Rattle.elf_image.specs.Image.{load_meets_page, is_met}
 use Rattle.elf_image.specs.Joined.{first_of, end_of, grown, part, joined_to, joined}
 
 -- what stands where no load does
@@ -33,9 +34,6 @@ is_beyond l n stop e h = grind (arith, nat_tests)
 
 pub is_none : (n : ℕ) → true ≡ (n == 0) → n ≡ 0
 is_none n h = grind (arith, nat_tests)
-
-pub is_some : (n : ℕ) → false ≡ (n == 0) → 0 < n
-is_some n h = grind (arith, nat_tests)
 
 pub touches : (file bytes more : List ℕ) (mem stop mem2 stop2 : ℕ) (l : Load) (ls : List Load) → nat_le (first_of l) stop ≡ true → more ≡ grown file l bytes mem → mem2 ≡ mem → stop2 ≡ end_of l → joined_to file more mem2 stop2 ls ≡ joined_to file bytes mem stop (l ∷ ls)
 unfolding joined_to
@@ -76,16 +74,12 @@ unfolding joined_to
 join_last file bytes mem stop i ls list new all l n h =
     n ∙ ap (λ x. list ++ joined_to file bytes mem stop x) (sym (drop_all i ls l)) ∙ h
 
-pub met_more : (ls : List Load) (i : ℕ) (d : Load) (spans new : List Run) (s : Run) → i < length ls → new ≡ spans ++ s ∷ [] → ((p : ℕ) → in_span s p ≡ meets_page p (get_or ls i d)) → ((p : ℕ) → in_spans spans p ≡ is_met (take i ls) p) → (p : ℕ) → in_spans new p ≡ is_met (take (i + 1) ls) p
+pub met_more : (ls : List Load) (i : ℕ) (d : Load) (spans new : List Run) (s : Run) → i < length ls → new ≡ spans ++ s ∷ [] → ((p : ℕ) → in_span s p ≡ load_meets_page p (get_or ls i d)) → ((p : ℕ) → in_spans spans p ≡ is_met (take i ls) p) → (p : ℕ) → in_spans new p ≡ is_met (take (i + 1) ls) p
 met_more ls i d spans new s less n one old p =
     ap (λ x. in_spans x p) n ∙ list_any-append (λ r. in_span r p) spans (s ∷ [])
     ∙ ap (λ b. in_spans spans p || b) (or_false (in_span s p) ∙ one p)
-    ∙ ap (λ b. b || meets_page p (get_or ls i d)) (old p)
-    ∙ sym (list_any_more (meets_page p) ls i d less)
-  where
-    or_false : (b : Bool) → (b || false) ≡ b
-    or_false true = refl
-    or_false false = refl
+    ∙ ap (λ b. b || load_meets_page p (get_or ls i d)) (old p)
+    ∙ sym (list_any_more (load_meets_page p) ls i d less)
 
 pub met_all : (ls : List Load) (i : ℕ) (spans : List Run) → length ls ≤ i → ((p : ℕ) → in_spans spans p ≡ is_met (take i ls) p) → (p : ℕ) → in_spans spans p ≡ is_met ls p
 met_all ls i spans l h p = h p ∙ ap (λ x. is_met x p) (take_all i ls l)

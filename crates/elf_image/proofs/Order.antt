@@ -11,7 +11,7 @@ use Rattle.kx_pages.specs.Spans.{Run}
 use Rattle.segments.specs.Values.{SegmentValue}
 use Rattle.elf_image.specs.declared.load.Load.{Load}
 use Rattle.elf_image.specs.Loads.{load_stop}
-use Rattle.elf_image.specs.Image.{meets_page, is_met, is_file_of, is_file, byte_at, bytes_of, segment_of, segments_of, runs}
+use Rattle.elf_image.specs.Image.{load_meets_page, is_met, is_file_of, is_file, byte_at, bytes_of, segment_of, segments_of, runs}
 use Rattle.elf_image.specs.Joined.{IsLoad, AreLoads, AreSound, is_memory_of, Rise, joined}
 use Rattle.elf_image.proofs.Joining.{each_at}
 use Rattle.elf_image.proofs.Pages.{runs_same}
@@ -132,5 +132,5 @@ sorted_segments file ls ys s p up =
     let g = permuted_each (length file) ls ys p s.each in
     let one : (a : ℕ) → count_by (is_memory_of a) ys ≤ 1 = λ a. let e = sum_by-IsPermutation (λ x. cond (is_memory_of a x) 1 0) ls ys p in let o = s.apart a in omega (arith, e, o) in
     all_segments file ys (rises (length file) 0 ys (starts ys) g up one) g
-    ∙ ap (map (segment_of file ys)) (runs_same (is_met ys) (is_met ls) 0 (2 ^ 34) (λ q. sym (list_any-IsPermutation (meets_page q) ls ys p)))
+    ∙ ap (map (segment_of file ys)) (runs_same (is_met ys) (is_met ls) 0 (2 ^ 34) (λ q. sym (list_any-IsPermutation (load_meets_page q) ls ys p)))
     ∙ same_segments file ls ys (runs (is_met ls) 0 (2 ^ 34)) (λ x. sym (list_any-IsPermutation (is_file_of x) ls ys p)) (λ x. same_byte (length file) file ls ys x p g (one x))

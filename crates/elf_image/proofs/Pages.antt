@@ -3,18 +3,16 @@ use Rattle.std.proofs.Common.{◌≡◌, ℕ, zero, suc, ◌+◌, ◌-◌, ◌*�
 use Rattle.std.specs.Prelude.{nat_le, nat_lt, ◌==◌, map}
 use Rattle.std.proofs.lemmas.Bool.Decides.{nat_tests}
 use Rattle.std.proofs.lemmas.Bool.{cases_lt, cases_eq, cond-true, cond-false, eq-eqb, ne_eqb, or_from}
-use Rattle.kx_pages.specs.Spans.{Run, end, in_span, in_spans, AreApart, passing}
+use Rattle.kx_laws.proofs.Booleans.{or_shift}
+use Rattle.kx_pages.specs.Ranges.{pages_for}
+use Rattle.kx_pages.specs.Spans.{Run, end, in_span, in_spans, AreApart}
+use Rattle.kx_pages.proofs.Spans.{low_none, none_above}
 use Rattle.kx_pages.proofs.Same.{same_spans}
 use Rattle.segments.specs.Values.{SegmentValue}
 use Rattle.elf_image.specs.declared.load.Load.{Load}
 use Rattle.elf_image.specs.Loads.{load_stop}
-use Rattle.elf_image.specs.Image.{meets_page, is_met, with_number, runs, segment_of, segments_of, run_of, AreRuns}
+use Rattle.elf_image.specs.Image.{load_meets_page, is_met, with_number, runs, segment_of, segments_of, run_of, AreRuns}
 use Rattle.elf_image.specs.Joined.{IsLoad, AreLoads, Rise}
-
-pub passing_same : (f g : ℕ → Bool) (n : ℕ) → ((q : ℕ) → f q ≡ g q) → passing f n ≡ passing g n
-unfolding passing
-passing_same f g zero h = refl
-passing_same f g (suc n) h = rw (h n, passing_same f g n h) refl
 
 pub runs_same : (f g : ℕ → Bool) (p n : ℕ) → ((q : ℕ) → f q ≡ g q) → runs f p n ≡ runs g p n
 unfolding runs
@@ -25,20 +23,6 @@ runs_same f g p (suc n) h = rw (h p, runs_same f g (suc p) n h) refl
 apart_from : (b c : ℕ) (rs : List Run) → b ≤ c → AreApart c rs → AreApart b rs
 apart_from b c [] h a = tt
 apart_from b c (r ∷ rs) h a = (omega arith, a.1, a.2, a.3)
-
-not_in : (r : Run) (q : ℕ) → q < r.first → in_span r q ≡ false
-not_in r q h = grind (arith, nat_tests)
-
-not_behind : (r : Run) (q : ℕ) → end r ≤ q → in_span r q ≡ false
-not_behind r q h = grind (arith, nat_tests)
-
-none_before : (b : ℕ) (rs : List Run) (q : ℕ) → AreApart b rs → q < b → in_spans rs q ≡ false
-none_before b [] q a h = refl
-none_before b (r ∷ rs) q a h = or_from _ _ (not_in r q (omega arith)) (none_before (end r + 1) rs q a.3 (omega arith))
-
-none_above : (b : ℕ) (rs : List Run) (q : ℕ) → AreApart b rs → 2 ^ 34 ≤ q → in_spans rs q ≡ false
-none_above b [] q a h = refl
-none_above b (r ∷ rs) q a h = or_from _ _ (not_behind r q (omega (arith, a.2))) (none_above (end r + 1) rs q a.3 h)
 
 -- ---- the runs of a test
 numbered_apart : (p : ℕ) (rs : List Run) → p < 2 ^ 34 → AreApart (suc p) rs → AreApart p (with_number p rs)
@@ -64,15 +48,11 @@ one_number p q = grind (arith, nat_tests)
 longer : (p q f c : ℕ) → f ≡ suc p → (nat_le p q && nat_lt q (p + suc c)) ≡ ((q == p) || (nat_le f q && nat_lt q (f + c)))
 longer p q f c e = grind (arith, nat_tests)
 
-or_assoc : (a b c : Bool) → ((a || b) || c) ≡ (a || (b || c))
-or_assoc true b c = refl
-or_assoc false b c = refl
-
 numbered_has : (p : ℕ) (rs : List Run) (q : ℕ) → in_spans (with_number p rs) q ≡ ((q == p) || in_spans rs q)
 numbered_has p [] q = ap (λ b. b || false) (one_number p q)
 numbered_has p (r ∷ rs) q =
     elim (cases_eq r.first (suc p)) [
-      | inl e ↦ ap (λ xs. in_spans xs q) (cond-true _ _ _ (eq-eqb _ _ e)) ∙ ap (λ b. b || in_spans rs q) (longer p q r.first r.count e) ∙ or_assoc (q == p) (in_span r q) (in_spans rs q)
+      | inl e ↦ ap (λ xs. in_spans xs q) (cond-true _ _ _ (eq-eqb _ _ e)) ∙ ap (λ b. b || in_spans rs q) (longer p q r.first r.count e) ∙ or_shift (q == p) (in_span r q) (in_spans rs q)
       | inr ne ↦ ap (λ xs. in_spans xs q) (cond-false _ _ _ (ne_eqb _ _ ne)) ∙ ap (λ b. b || in_spans (r ∷ rs) q) (one_number p q)
     ]
 
@@ -81,7 +61,7 @@ unfolding runs
 runs_has f p zero q h lo hi = absurd (omega arith)
 runs_has f p (suc n) q h lo hi =
     elim (cases_eq q p) [
-      | inl e ↦ here (f p) p q (runs f (suc p) n) e (none_before (suc p) (runs f (suc p) n) q (runs_apart f (suc p) n (omega arith)) (omega arith)) ∙ sym (ap f e)
+      | inl e ↦ here (f p) p q (runs f (suc p) n) e (low_none (suc p) (runs f (suc p) n) q (runs_apart f (suc p) n (omega arith)) (omega arith)) ∙ sym (ap f e)
       | inr ne ↦ there (f p) p q (runs f (suc p) n) ne ∙ runs_has f (suc p) n q (omega arith) (omega arith) (omega arith)
     ]
   where
@@ -98,7 +78,7 @@ abbrev pub first_number : Load → ℕ
 first_number l = l.paddr / 4096
 
 abbrev pub end_number : Load → ℕ
-end_number l = (load_stop l + 4095) / 4096
+end_number l = pages_for (load_stop l)
 
 abbrev pub between : ℕ → ℕ → Run
 between f e = record { first = f; count = e - f }
@@ -148,7 +128,7 @@ run_apart n f e s (l ∷ ls) some last h r g =
       | inl t ↦ subst (AreApart f) (sym (cond-false _ _ _ (le_false (first_number l) e t))) (omega arith, omega arith, omega arith, apart_from _ (first_number l) _ (omega (arith, t, some)) (run_apart n (first_number l) (end_number l) (load_stop l) ls w.some w.last (ends_at l) r.1 g.1))
     ]
 
-met_between : (l : Load) (q : ℕ) → 0 < l.memsz → in_span (between (first_number l) (end_number l)) q ≡ meets_page q l
+met_between : (l : Load) (q : ℕ) → 0 < l.memsz → in_span (between (first_number l) (end_number l)) q ≡ load_meets_page q l
 met_between l q some = grind (arith, nat_tests)
 
 run_on : (f g e h q : ℕ) → f ≤ g → g ≤ e → e ≤ h → f < e → g < h → in_span (between f h) q ≡ (in_span (between f e) q || in_span (between g h) q)
@@ -167,7 +147,7 @@ run_has n f e s (l ∷ ls) q some last h r g =
       | inr t ↦ ap (λ xs. in_spans xs q) (cond-true _ _ _ (le_true (first_number l) e t))
           ∙ run_has n f (end_number l) (load_stop l) ls q (omega (arith, w.on, some)) w.last (ends_at l) r.1 g.1
           ∙ ap (λ b. b || is_met ls q) (run_on f (first_number l) e (end_number l) q ordered t w.on some w.some)
-          ∙ or_assoc (in_span (between f e) q) (in_span (between (first_number l) (end_number l)) q) (is_met ls q)
+          ∙ or_shift (in_span (between f e) q) (in_span (between (first_number l) (end_number l)) q) (is_met ls q)
           ∙ ap (λ b. in_span (between f e) q || (b || is_met ls q)) met
       | inl t ↦ ap (λ xs. in_spans xs q) (cond-false _ _ _ (le_false (first_number l) e t))
           ∙ ap (λ b. in_span (between f e) q || b) (run_has n (first_number l) (end_number l) (load_stop l) ls q w.some w.last (ends_at l) r.1 g.1 ∙ ap (λ b. b || is_met ls q) met)
@@ -204,7 +184,7 @@ none_past : (n : ℕ) (ls : List Load) (q : ℕ) → AreLoads n ls → 2 ^ 34 �
 none_past n [] q g h = refl
 none_past n (l ∷ ls) q g h = or_from _ _ (not_met l q g.0.low h) (none_past n ls q g.1 h)
   where
-    not_met : (l : Load) (q : ℕ) → load_stop l ≤ 2 ^ 46 → 2 ^ 34 ≤ q → meets_page q l ≡ false
+    not_met : (l : Load) (q : ℕ) → load_stop l ≤ 2 ^ 46 → 2 ^ 34 ≤ q → load_meets_page q l ≡ false
     not_met l q low h = grind (arith, nat_tests)
 
 are_runs : (n : ℕ) (ls : List Load) → AreLoads n ls → AreRuns (is_met ls) (runs (is_met ls) 0 (2 ^ 34))

@@ -1,7 +1,7 @@
 -- The header and the loads of a file that was read.
-use Rattle.std.proofs.Common.{◌≡◌, ℕ, ◌≤◌, List, length, false, refl, sym, ap, ◌∙◌, subst, Ok, Err, Result, arith}
-use Rattle.std.specs.Prelude.{nat_lt, not, ◌==◌, ◌&&◌}
-use Rattle.std.proofs.lemmas.Bool.Decides.{nat_tests}
+use Rattle.std.proofs.Common.{◌≡◌, ℕ, List, length, false, refl, sym, ap, ◌∙◌, subst, Ok, Err, Result}
+use Rattle.std.specs.Prelude.{not, ◌==◌, ◌&&◌}
+use Rattle.std.proofs.lemmas.Bool.{ltb-false}
 use Rattle.elf_image.specs.declared.load.Load.{Load}
 use Rattle.elf_image.specs.declared.fault.ElfFault.{ElfFault}
 use Rattle.elf_image.specs.declared.file_header.Header.{Header}
@@ -32,11 +32,8 @@ table_from n h e =
     let d = peel (not (h.file.phnum == 0) && not (h.file.phentsize == entry_size h.wide)) _ _ c.1 in
     (peel (is_table_cut n h) _ _ d.1).0
 
-not_cut : (n m : ℕ) → nat_lt n m ≡ false → m ≤ n
-not_cut n m h = grind (arith, nat_tests)
-
 pub has_table : (bytes : List ℕ) (h : Header) → exec_header bytes ≡ Ok h → HasTable (length bytes) h
-has_table bytes h e = record { inside = not_cut (length bytes) _ (table_from (length bytes) h (tested_fault bytes h e)) }
+has_table bytes h e = record { inside = ltb-false (length bytes) _ (table_from (length bytes) h (tested_fault bytes h e)) }
 
 pub header_fails : (bytes : List ℕ) (e : ElfFault) → exec_header bytes ≡ Err e → Fails e (exec_reading bytes)
 unfolding exec_reading

@@ -3,6 +3,7 @@ use Rattle.std.proofs.Common.{◌≡◌, ℕ, suc, ◌+◌, ◌*◌, ◌≤◌, 
 use Rattle.std.specs.Prelude.{nat_lt, not, ◌==◌, ◌&&◌, position}
 use Rattle.std.specs.List.{All, position_or_len}
 use Rattle.std.proofs.lemmas.Bool.Decides.{nat_tests}
+use Rattle.kx_laws.proofs.Lists.{none_first}
 use Rattle.std.proofs.lemmas.List.Elements.{All-nil, All-cons}
 use Rattle.std.proofs.lemmas.List.FromFn.{length-map-range_with_len}
 use Rattle.kx_fields.specs.Fields.{bytes_at}
@@ -61,9 +62,6 @@ inside_of file h e = record { inside = λ a b. by (h.kind == 0) (h.kind == 8) re
     by false true p q a b t = absurd (b (grind (arith, nat_tests)))
     by false false p q a b t = grind (arith, nat_tests)
 
-none_before : (p : SectionHeader → Bool) (hs : List SectionHeader) → position p hs ≡ None → length hs ≤ position_or_len p hs
-none_before p hs h = grind (arith, nat_tests)
-
 all_pass : (file : List ℕ) (hs : List SectionHeader) → length hs ≤ position_or_len (is_section_cut (length file)) hs → All (λ h. IsInside file (section_of h)) hs
 all_pass file [] h = All-nil (λ h. IsInside file (section_of h))
 all_pass file (x ∷ hs) h = by (is_section_cut (length file) x) refl h (λ few. all_pass file hs few)
@@ -76,4 +74,4 @@ pub table_is : (file : List ℕ) (h : Header) (hs : List SectionHeader) → obje
 table_is file h hs e is cut =
     let long : length hs ≡ h.file.shnum = ap length is ∙ length-map-range_with_len (λ i. read section_header (bytes_at (h.file.shoff + 64 * i) 64 file)) 0 h.file.shnum in
     let within = table_within file h e in
-    record { inside = omega (arith, long, within); each = all_pass file hs (none_before (is_section_cut (length file)) hs cut) }
+    record { inside = omega (arith, long, within); each = all_pass file hs (none_first (is_section_cut (length file)) hs cut) }

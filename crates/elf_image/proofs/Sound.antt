@@ -10,7 +10,7 @@ use Rattle.elf_image.specs.declared.fault.ElfFault.{ElfFault}
 use Rattle.elf_image.specs.declared.fault.ElfFault.TheVariants as faults
 use Rattle.elf_image.specs.declared.file_header.Header.{Header}
 use Rattle.segments.specs.Values.{SegmentValue}
-use Rattle.elf_image.specs.Image.{pages_met, segments_of, image}
+use Rattle.elf_image.specs.Image.{page_count, segments_of, image}
 use Rattle.kx_laws.specs.Results.{◌>>=◌, unless}
 use Rattle.elf_image.specs.FileHeader.{exec_header}
 use Rattle.elf_image.specs.ProgramHeader.{loads_of}
@@ -121,10 +121,10 @@ exec_sound bytes e h =
     subst (AreSound (length bytes)) (ap loads_in b.2) (loads_sound bytes a.0 b.0 b.1)
 
 -- ---- the image
-pub image_large : (file : List ℕ) (ls : List Load) (n : ℕ) → n ≡ pages_met ls → 65536 < n → image file ls ≡ Err (faults.TooLarge n)
+pub image_large : (file : List ℕ) (ls : List Load) (n : ℕ) → n ≡ page_count ls → 65536 < n → image file ls ≡ Err (faults.TooLarge n)
 unfolding image
-image_large file ls n e h = cond-true _ _ _ (lt-ltb 65536 (pages_met ls) (omega (arith, e, h))) ∙ ap (λ k. Err (faults.TooLarge k)) (sym e)
+image_large file ls n e h = cond-true _ _ _ (lt-ltb 65536 (page_count ls) (omega (arith, e, h))) ∙ ap (λ k. Err (faults.TooLarge k)) (sym e)
 
-pub image_made : (file : List ℕ) (ls : List Load) (n : ℕ) (ss : List SegmentValue) → n ≡ pages_met ls → n ≤ 65536 → ss ≡ segments_of file ls → image file ls ≡ Ok ss
+pub image_made : (file : List ℕ) (ls : List Load) (n : ℕ) (ss : List SegmentValue) → n ≡ page_count ls → n ≤ 65536 → ss ≡ segments_of file ls → image file ls ≡ Ok ss
 unfolding image
-image_made file ls n ss e h is = cond-false _ _ _ (le-ltb 65536 (pages_met ls) (omega (arith, e, h))) ∙ ap Ok (sym is)
+image_made file ls n ss e h is = cond-false _ _ _ (le-ltb 65536 (page_count ls) (omega (arith, e, h))) ∙ ap Ok (sym is)

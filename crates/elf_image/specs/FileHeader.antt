@@ -4,12 +4,13 @@ use Rattle.std.specs.Prelude.{ℕ, ◌+◌, ◌*◌, ◌≤◌, ◌==◌, ◌&&�
 use Rattle.std.specs.List.{starts_with}
 use Rattle.kx_fields.specs.Fields.{bytes_at}
 use Rattle.kx_fields.specs.Formats.{Format, read}
-use Rattle.elf_image.specs.declared.file_header.FileHeader.{FileHeader}
+use Rattle.elf_headers.specs.declared.file_header.FileHeader.{FileHeader}
+use Rattle.elf_headers.specs.FileHeader.{file_header}
+use Rattle.elf_headers.specs.Numbers.{et_rel, et_exec, em_386, em_x86_64, pn_xnum}
 use Rattle.elf_image.specs.declared.file_header.Header.{Header}
 use Rattle.elf_image.specs.declared.fault.ElfFault.{ElfFault}
 use Rattle.elf_image.specs.declared.fault.ElfFault.TheVariants as faults
 use Rattle.elf_image.specs.declared.fault.ElfPart.TheVariants as parts
-use Rattle.elf_image.specs.Numbers.{et_rel, et_exec, em_386, em_x86_64, pn_xnum}
 use Rattle.kx_laws.specs.Results.{◌>>=◌, unless}
 
 -- 0x7f and "ELF" (ELFMAG)
@@ -29,42 +30,30 @@ class_read bytes =
     else if not (is_known bytes) then Err faults.Class
     else Ok (slice_index bytes 4 == 2)
 
-abbrev pub elf64 : Format FileHeader
-elf64 = record {
-  numbers = λ h. [];
-  layout = λ at. record {
-    kind = at 16 2;
-    machine = at 18 2;
-    entry = at 24 8;
-    phoff = at 32 8;
-    shoff = at 40 8;
-    phentsize = at 54 2;
-    phnum = at 56 2;
-    shentsize = at 58 2;
-    shnum = at 60 2;
-  };
-}
-
 abbrev pub elf32 : Format FileHeader
 elf32 = record {
   numbers = λ h. [];
   layout = λ at. record {
     kind = at 16 2;
     machine = at 18 2;
+    version = at 20 4;
     entry = at 24 4;
     phoff = at 28 4;
     shoff = at 32 4;
+    flags = at 36 4;
+    ehsize = at 40 2;
     phentsize = at 42 2;
     phnum = at 44 2;
     shentsize = at 46 2;
     shnum = at 48 2;
+    shstrndx = at 50 2;
   };
 }
 
--- the format of a class, and how many bytes it takes
-abbrev pub file_header : Bool → Format FileHeader
-file_header true = elf64
-file_header false = elf32
+-- the format of a class (ELF64 or ELF32), and how many bytes it takes
+abbrev pub header_format : Bool → Format FileHeader
+header_format true = file_header
+header_format false = elf32
 
 abbrev pub header_size : Bool → ℕ
 header_size wide = cond wide 64 52
@@ -76,7 +65,7 @@ header_of bytes wide =
     else Ok
     (record {
       wide = wide;
-      file = read (file_header wide) (bytes_at 0 (header_size wide) bytes);
+      file = read (header_format wide) (bytes_at 0 (header_size wide) bytes);
     })
 
 -- the file header of an ELF file, and that of an ELF64 file

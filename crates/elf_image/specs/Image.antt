@@ -1,8 +1,9 @@
 -- The image of an executable: which bytes stand at which addresses (ELF gABI, chapter 5, Program Loading), and the
 -- segments that hold them, one for each run of pages (this project's own). A page has 4,096 bytes.
-use Rattle.std.specs.Prelude.{◌≡◌, ℕ, zero, suc, ◌+◌, ◌-◌, ◌*◌, ◌/◌, ◌^◌, ◌==◌, ◌&&◌, Bool, List, [], ◌∷◌, map, nat_lt, nat_le, min, max, slice_index, if◌then◌else◌, Result, Ok, Err}
+use Rattle.std.specs.Prelude.{◌≡◌, ℕ, zero, suc, ◌+◌, ◌-◌, ◌*◌, ◌/◌, ◌^◌, ◌==◌, ◌&&◌, Bool, List, [], ◌∷◌, map, nat_lt, nat_le, slice_index, if◌then◌else◌, Result, Ok, Err}
 use Rattle.std.specs.List.{list_any, range_with_len}
 use Rattle.kx_pages.specs.Limits.{segment_page_limit}
+use Rattle.kx_pages.specs.Ranges.{meets_page}
 use Rattle.kx_pages.specs.Spans.{Run, in_spans, AreApart, passing}
 use Rattle.segments.specs.Values.{SegmentValue}
 use Rattle.elf_image.specs.declared.load.Load.{Load}
@@ -26,12 +27,12 @@ byte_at file (l ∷ ls) a =
     else byte_at file ls a
 
 -- a load meets page p: some byte of its memory is one of the page's
-abbrev pub meets_page : ℕ → Load → Bool
-meets_page p l = nat_lt (max l.paddr (4096 * p)) (min (load_stop l) (4096 * p + 4096))
+abbrev pub load_meets_page : ℕ → Load → Bool
+load_meets_page p l = meets_page l.paddr (load_stop l) p
 
 -- one of the loads meets page p
 abbrev pub is_met : List Load → ℕ → Bool
-is_met ls p = list_any (meets_page p) ls
+is_met ls p = list_any (load_meets_page p) ls
 
 -- p put before runs of numbers above it
 abbrev pub with_number : ℕ → List Run → List Run
@@ -64,8 +65,8 @@ segment_of file ls r = record {
 }
 
 -- how many pages the loads meet
-abbrev pub pages_met : List Load → ℕ
-pages_met ls = passing (is_met ls) (2 ^ 34)
+abbrev pub page_count : List Load → ℕ
+page_count ls = passing (is_met ls) (2 ^ 34)
 
 -- the segments of an image: the maximal runs of pages that loads meet, in rising order
 abbrev pub segments_of : List ℕ → List Load → List SegmentValue
@@ -74,7 +75,7 @@ segments_of file ls = map (segment_of file ls) (runs (is_met ls) 0 (2 ^ 34))
 -- the image of the loads of a file, which has no more pages than a load may have
 unfoldable pub image : List ℕ → List Load → Result (List SegmentValue) ElfFault
 image file ls =
-    if nat_lt segment_page_limit (pages_met ls) then Err (faults.TooLarge (pages_met ls))
+    if nat_lt segment_page_limit (page_count ls) then Err (faults.TooLarge (page_count ls))
     else Ok (segments_of file ls)
 
 -- the pages of a segment

@@ -1,6 +1,7 @@
 -- Loads that rise, joined one after another into segments (this project's own).
 use Rattle.std.specs.Prelude.{ℕ, ◌+◌, ◌-◌, ◌*◌, ◌/◌, ◌^◌, ◌++◌, ◌<◌, ◌≤◌, ◌==◌, ◌&&◌, Bool, List, [], ◌∷◌, length, take, drop, replicate, nat_lt, nat_le, if◌then◌else◌}
 use Rattle.std.specs.List.{AllByRecursion, count_by}
+use Rattle.kx_pages.specs.Ranges.{whole_pages}
 use Rattle.segments.specs.Values.{SegmentValue}
 use Rattle.elf_image.specs.declared.load.Load.{Load}
 use Rattle.elf_image.specs.Loads.{load_stop}
@@ -34,7 +35,7 @@ abbrev pub first_of : Load → ℕ
 first_of l = 4096 * (l.paddr / 4096)
 
 abbrev pub end_of : Load → ℕ
-end_of l = 4096 * ((load_stop l + 4095) / 4096)
+end_of l = whole_pages (load_stop l)
 
 -- the bytes of a segment at mem, and behind them the file part of a load, with zeros between
 abbrev pub grown : List ℕ → Load → List ℕ → ℕ → List ℕ

@@ -4,23 +4,11 @@ use Rattle.std.specs.List.{filter_map, range_with_len}
 use Rattle.kx_fields.specs.Fields.{bytes_at}
 use Rattle.kx_fields.specs.Formats.{Format, read}
 use Rattle.elf_image.specs.declared.load.Load.{Load}
-use Rattle.elf_image.specs.declared.program_header.ProgramHeader.{ProgramHeader}
+use Rattle.elf_headers.specs.declared.program_header.ProgramHeader.{ProgramHeader}
+use Rattle.elf_headers.specs.ProgramHeader.{program_header}
+use Rattle.elf_headers.specs.Numbers.{pt_load}
 use Rattle.elf_image.specs.declared.file_header.Header.{Header}
-use Rattle.elf_image.specs.Numbers.{pt_load}
 use Rattle.elf_image.specs.FileHeader.{entry_size}
-
-abbrev pub elf64 : Format ProgramHeader
-elf64 = record {
-  numbers = λ h. [];
-  layout =
-      λ at. record {
-        kind = at 0 4;
-        offset = at 8 8;
-        paddr = at 24 8;
-        filesz = at 32 8;
-        memsz = at 40 8;
-      };
-}
 
 abbrev pub elf32 : Format ProgramHeader
 elf32 = record {
@@ -28,17 +16,20 @@ elf32 = record {
   layout =
       λ at. record {
         kind = at 0 4;
+        flags = at 24 4;
         offset = at 4 4;
+        vaddr = at 8 4;
         paddr = at 12 4;
         filesz = at 16 4;
         memsz = at 20 4;
+        align = at 28 4;
       };
 }
 
 -- the format of a class
-abbrev pub program_header : Bool → Format ProgramHeader
-program_header true = elf64
-program_header false = elf32
+abbrev pub row_format : Bool → Format ProgramHeader
+row_format true = program_header
+row_format false = elf32
 
 -- the load that a program header is: none where its type is another than PT_LOAD
 abbrev pub load_of : ProgramHeader → Option Load
@@ -50,7 +41,7 @@ load_of p =
 -- the program header number k
 abbrev pub header_at : Header → List ℕ → ℕ → ProgramHeader
 header_at h bytes k =
-    read (program_header h.wide)
+    read (row_format h.wide)
     (bytes_at (h.file.phoff + entry_size h.wide * k) (entry_size h.wide) bytes)
 
 abbrev pub load_at : Header → List ℕ → ℕ → Option Load

@@ -3,75 +3,41 @@
 ghost use Rattle.std.specs.Prelude.{◌≡◌, ◌+◌, ◌*◌, ◌==◌, true, false, nat_lt};
 ghost use Rattle.kx_fields.specs.Formats.{read};
 ghost use Rattle.kx_laws.specs.Results.{unless};
-ghost use Rattle.elf_image.specs.FileHeader.{class_read, elf64, elf32, header_of, header_read, elf64_read, entry_size, is_table_cut, exec_fault, exec_header, object_fault, object_header};
+ghost use Rattle.elf_image.specs.FileHeader.{class_read, elf32, header_of, header_read, elf64_read, entry_size, is_table_cut, exec_fault, exec_header, object_fault, object_header};
 
 use crate::fault::{ElfFault, ElfPart};
-use crate::numbers::{EM_386, EM_X86_64, ET_EXEC, ET_REL, PN_XNUM};
+use elf_headers::{EM_386, EM_X86_64, ET_EXEC, ET_REL, FileHeader, PN_XNUM};
 use kx_fields::Block;
 
 /// The identification of an ELF file.
 const MAGIC: &[u8; 4] = b"\x7fELF";
 
-/// The numbers of a file header, of either class (ELF gABI, chapter 4, "ELF Header").
-#[derive(Clone, Copy)]
-pub(crate) struct FileHeader {
-    pub(crate) kind: u16,
-    pub(crate) machine: u16,
-    pub(crate) entry: u64,
-    pub(crate) phoff: u64,
-    pub(crate) shoff: u64,
-    pub(crate) phentsize: u16,
-    pub(crate) phnum: u16,
-    pub(crate) shentsize: u16,
-    pub(crate) shnum: u16,
-}
-
-// The places in an ELF64 file header.
-macro_rules! elf64 {
-    ($($use:tt)*) => {
-        kx_fields::fields!($($use)* {
-            kind: u16 @ 16,
-            machine: u16 @ 18,
-            entry: u64 @ 24,
-            phoff: u64 @ 32,
-            shoff: u64 @ 40,
-            phentsize: u16 @ 54,
-            phnum: u16 @ 56,
-            shentsize: u16 @ 58,
-            shnum: u16 @ 60,
-        })
-    };
-}
-
-// The places in an ELF32 file header.
+// The places in an ELF32 file header (ELF gABI, chapter 4, "ELF Header": `Elf32_Ehdr`).
 macro_rules! elf32 {
     ($($use:tt)*) => {
         kx_fields::fields!($($use)* {
             kind: u16 @ 16,
             machine: u16 @ 18,
+            version: u32 @ 20,
             entry: u32 as u64 @ 24,
             phoff: u32 as u64 @ 28,
             shoff: u32 as u64 @ 32,
+            flags: u32 @ 36,
+            ehsize: u16 @ 40,
             phentsize: u16 @ 42,
             phnum: u16 @ 44,
             shentsize: u16 @ 46,
             shnum: u16 @ 48,
+            shstrndx: u16 @ 50,
         })
     };
 }
 
-impl FileHeader {
-    fn read64(block: &Block<64>) -> FileHeader
-        ensures { result ≡ read elf64 block.now }
-    {
-        elf64!(get block, FileHeader)
-    }
-
-    fn read32(block: &Block<52>) -> FileHeader
-        ensures { result ≡ read elf32 block.now }
-    {
-        elf32!(get block, FileHeader)
-    }
+// What the first bytes of an ELF32 file say.
+fn read32(block: &Block<52>) -> FileHeader
+    ensures { result ≡ read elf32 block.now }
+{
+    elf32!(get block, FileHeader)
 }
 
 /// The file header, and whether it is that of an ELF64 file.
@@ -102,7 +68,7 @@ fn read_wide(bytes: &[u8]) -> Result<Header, ElfFault>
     match Block::<64>::cut(bytes, 0) {
         Some(block) => Ok(Header {
             wide: true,
-            file: FileHeader::read64(&block),
+            file: FileHeader::read(&block),
         }),
         None => Err(ElfFault::Truncated {
             part: ElfPart::Header,
@@ -117,7 +83,7 @@ fn read_narrow(bytes: &[u8]) -> Result<Header, ElfFault>
     match Block::<52>::cut(bytes, 0) {
         Some(block) => Ok(Header {
             wide: false,
-            file: FileHeader::read32(&block),
+            file: read32(&block),
         }),
         None => Err(ElfFault::Truncated {
             part: ElfPart::Header,

@@ -9,13 +9,13 @@ ghost use Rattle.kx_pages.specs.Spans.{Run, in_span, in_spans};
 ghost use Rattle.segments.specs.Values.{SegmentValue};
 ghost use Rattle.elf_image.specs.declared.load.Load.{Load};
 ghost use Rattle.elf_image.specs.Loads.{load_stop, exec_reading};
-ghost use Rattle.elf_image.specs.Image.{meets_page, is_met, segments_of, image, run_of, AreRuns};
+ghost use Rattle.elf_image.specs.Image.{load_meets_page, is_met, segments_of, image, run_of, AreRuns};
 ghost use Rattle.elf_image.specs.Joined.{IsLoad, AreLoads, AreSound, Rise, first_of, end_of, grown, part, joined_to, joined};
 
 use crate::exec::Exec;
 use crate::fault::ElfFault;
 use crate::load::Load;
-use kx_pages::{PAGE_SIZE, PageSet, SEGMENT_PAGE_LIMIT, Span, room_for};
+use kx_pages::{PAGE_SIZE, PageSet, SEGMENT_PAGE_LIMIT, Span, room_for, whole_pages};
 use segments::Segment;
 use std::alloc::{AllocError, Global};
 
@@ -29,13 +29,10 @@ struct Open {
 
 // The pages that a load meets.
 fn met_pages(load: &Load) -> Span
-    requires some { 0 < load.now.memsz }
-    requires low { load_stop load.now ≤ 2 ^ 46 }
-    ensures { (p : ℕ) → in_span result p ≡ meets_page p load.now }
+    requires { load_stop load.now ≤ 2 ^ 46 }
+    ensures { (p : ℕ) → in_span result p ≡ load_meets_page p load.now }
 {
-    let first = load.paddr / PAGE_SIZE;
-    let end = (load.paddr + load.memsz + (PAGE_SIZE - 1)) / PAGE_SIZE;
-    Span::new(first, end - first).unwrap()
+    Span::meeting(load.paddr, load.paddr + load.memsz)
 }
 
 fn met_spans(alloc: Global, loads: &[Load]) -> Result<Vec<Span>, AllocError>
@@ -82,7 +79,7 @@ impl Load {
         requires { load_stop self.now ≤ 2 ^ 46 }
         ensures { result ≡ end_of self.now }
     {
-        (self.paddr + self.memsz + (PAGE_SIZE - 1)) / PAGE_SIZE * PAGE_SIZE
+        whole_pages(self.paddr + self.memsz)
     }
 
     // Its bytes in the file.

@@ -1,22 +1,4 @@
-//! Numbers that stand for something in an ELF file (System V ABI, gABI, chapters 4 and 5).
-
-/// The type of a relocatable object (`e_type`).
-pub(crate) const ET_REL: u16 = 1;
-
-/// The type of an executable (`e_type`).
-pub(crate) const ET_EXEC: u16 = 2;
-
-/// The machine i386 (`e_machine`).
-pub(crate) const EM_386: u16 = 3;
-
-/// The machine x86-64 (`e_machine`).
-pub(crate) const EM_X86_64: u16 = 62;
-
-/// This number of program headers stands for another, which does not fit its field (`e_phnum`).
-pub(crate) const PN_XNUM: u16 = 0xffff;
-
-/// The type of a program header whose part of the file is loaded (`p_type`).
-pub(crate) const PT_LOAD: u32 = 1;
+//! Numbers that stand for something in the sections and symbols of an ELF file (System V ABI, gABI, chapter 4).
 
 /// No section (`sh_type`).
 pub const SHT_NULL: u32 = 0;

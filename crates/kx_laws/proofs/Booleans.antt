@@ -1,6 +1,8 @@
 -- Laws of Booleans and of comparing.
 use Rattle.std.proofs.Common.{◌≡◌, Bool, true, false, refl, is_eq}
-use Rattle.std.specs.Prelude.{not, ◌&&◌, ◌||◌}
+use Rattle.std.specs.Prelude.{ℕ, ◌<◌, not, ◌&&◌, ◌||◌, ◌==◌}
+use Rattle.std.proofs.Common.{sym, arith}
+use Rattle.std.proofs.lemmas.Bool.Decides.{nat_tests}
 use Rattle.std.specs.declared.cmp.Ordering.{Ordering}
 use Rattle.std.specs.declared.cmp.Ordering.TheVariants.{Less, Equal, Greater}
 
@@ -23,6 +25,15 @@ pub or_true : (b : Bool) → (b || true) ≡ true
 or_true true = refl
 or_true false = refl
 
+-- a part that is false falls away
+pub or_first : (a b : Bool) → b ≡ false → (a || b) ≡ a
+or_first true b h = refl
+or_first false b h = h
+
+pub or_second : (a b : Bool) → a ≡ false → (a || b) ≡ b
+or_second true b h = cc
+or_second false b h = refl
+
 pub and_true : (b : Bool) → (b && true) ≡ b
 and_true true = refl
 and_true false = refl
@@ -35,6 +46,22 @@ and_parts false b h = cc
 pub or_shift : (a b c : Bool) → ((a || b) || c) ≡ (a || (b || c))
 or_shift true b c = refl
 or_shift false b c = refl
+
+-- tests that follow from each other are one test
+pub same_truth : (a b : Bool) → (a ≡ true → b ≡ true) → (b ≡ true → a ≡ true) → a ≡ b
+same_truth true b f g = sym (f refl)
+same_truth false true f g = g refl
+same_truth false false f g = refl
+
+-- what is not 0 is above it
+pub is_above_zero : (n : ℕ) → false ≡ (n == 0) → 0 < n
+is_above_zero n h = grind (arith, nat_tests)
+
+-- what is found equal is equal
+pub Equal-from_is_eq : (r : Ordering) → is_eq r ≡ true → r ≡ Equal
+Equal-from_is_eq Less h = cc
+Equal-from_is_eq Equal h = refl
+Equal-from_is_eq Greater h = cc
 
 -- what is not equal is not found equal
 pub is_eq-false : (r : Ordering) → (r ≡ Equal → ⊥) → is_eq r ≡ false

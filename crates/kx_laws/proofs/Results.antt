@@ -1,5 +1,6 @@
 -- Laws of what readers answer.
 use Rattle.std.proofs.Common.{◌≡◌, Bool, true, false, cond, refl, Result, Ok, Err}
+use Rattle.std.specs.Prelude.{OnErr}
 use Rattle.kx_laws.specs.Results.{◌>>=◌}
 
 pub ok_same : {A F : Type 0} (x y : A) → ◌≡◌ {A = Result A F} (Ok x) (Ok y) → x ≡ y
@@ -18,3 +19,8 @@ guard_ok false fault r y h = (refl, h)
 pub choose_ok : {A F : Type 0} (b : Bool) (fault : F) (x y : A) → cond b (Ok x) (Err fault) ≡ Ok y → (b ≡ true) × (x ≡ y)
 choose_ok true fault x y h = (refl, cc)
 choose_ok false fault x y h = cc
+
+-- what holds in any case holds after a refusal
+pub on_err : {A F : Type 0} (r : Result A F) (P : Type 0) → P → OnErr r P
+on_err (Ok x) P h = tt
+on_err (Err e) P h = h

@@ -1,8 +1,8 @@
--- The bytes of a page.
+-- The bytes of a page, and memory as a function.
 use Rattle.std.proofs.Common.{◌≡◌, ℕ, ◌-◌, ◌≤◌, ◌++◌, List, length, take, ap, ◌∙◌, arith}
 use Rattle.std.specs.Prelude.{replicate}
 use Rattle.std.proofs.lemmas.List.{take_all, length-append, length-replicate, length-take}
-use Rattle.kx_pages.specs.Bytes.{page_of}
+use Rattle.kx_pages.specs.Bytes.{Mem, page_of}
 
 -- bytes that fit a page are not cut
 pub page_of-fits : (xs : List ℕ) → length xs ≤ 4096 → page_of xs ≡ xs ++ replicate (4096 - length xs) 0
@@ -21,3 +21,7 @@ page_of-take xs =
 pub length-page_of : (xs : List ℕ) → length (page_of xs) ≡ 4096
 unfolding page_of
 length-page_of xs = omega (arith, length-append {A = ℕ} (take 4096 xs) (replicate (4096 - length xs) 0), length-take 4096 xs, length-replicate {A = ℕ} (4096 - length xs) 0)
+
+-- what reads the same at each page is one memory
+pub same_memory : (M N : Mem) → ((p : ℕ) → M p ≡ N p) → M ≡ N
+same_memory M N h = λ i p. h p i

@@ -1,11 +1,12 @@
 -- Laws of counting: how often a number stands in a list, lists of distinct numbers, and how many of these there can be.
-use Rattle.std.proofs.Common.{◌≡◌, ℕ, zero, suc, ◌+◌, ◌<◌, ◌≤◌, ◌++◌, List, [], ◌∷◌, length, refl, sym, ap, ◌∙◌, subst, inl, inr, arith, true, false, cond}
-use Rattle.std.specs.Prelude.{◌≢◌, ◌⊎◌, eqb}
-use Rattle.std.specs.List.{range_with_len}
+use Rattle.std.proofs.Common.{◌≡◌, ℕ, zero, suc, ◌+◌, ◌<◌, ◌≤◌, ◌++◌, List, [], ◌∷◌, length, refl, sym, ap, ◌∙◌, subst, inl, inr, arith, Bool, true, false, cond}
+use Rattle.std.specs.Prelude.{◌≢◌, ◌⊎◌, eqb, slice_index}
+use Rattle.std.specs.List.{range_with_len, filter}
 use Rattle.std.proofs.lemmas.Bool.{or_parts}
 use Rattle.std.proofs.lemmas.Bool.Decides.{eqb_tells}
+use Rattle.std.proofs.lemmas.List.FromFn.{length-range_with_len}
 use Rattle.kx_pages.specs.Lists.{Each, Has, has, Distinct, count}
-use Rattle.kx_pages.proofs.Lists.{Each-map, Each-both, Each-append, Each-right, Each-from_Has, Has-range, range-Has}
+use Rattle.kx_pages.proofs.Lists.{Each-map, Each-filter, Each-both, Each-append, Each-right, Each-from_Has, Has-range, range-Has}
 
 pub count-append : (x : ℕ) (xs ys : List ℕ) → count x (xs ++ ys) ≡ count x xs + count x ys
 count-append x [] ys = omega arith
@@ -15,6 +16,11 @@ pub count-from_Has : (p : ℕ) (xs : List ℕ) → Has p xs → 1 ≤ count p xs
 count-from_Has p [] h = absurd h
 count-from_Has p (x ∷ xs) (inl e) = grind (arith, e)
 count-from_Has p (x ∷ xs) (inr h) = omega (arith, count-from_Has p xs h)
+
+pub count-at : (xs : List ℕ) (i : ℕ) → i < length xs → 1 ≤ count (slice_index xs i) xs
+count-at [] i h = absurd (omega (arith, h))
+count-at (x ∷ xs) zero h = grind arith
+count-at (x ∷ xs) (suc i) h = omega (arith, count-at xs i (omega (arith, h)))
 
 pub Each-from_count : (P : ℕ → Type 0) (xs : List ℕ) → ((x : ℕ) → 1 ≤ count x xs → P x) → Each P xs
 Each-from_count P [] h = tt
@@ -60,6 +66,15 @@ Distinct-append (x ∷ xs) ys d e apart = (
   Each-append (λ y. x ≢ y) xs ys d.0 (Each-from_Has (λ y. x ≢ y) ys (λ y k same. apart x (inl refl) (subst (λ z. Has z ys) (sym same) k))),
   Distinct-append xs ys d.1 e (λ p h k. apart p (inr h) k),
 )
+
+-- those of distinct numbers that pass a test
+pub Distinct-filter : (f : ℕ → Bool) (xs : List ℕ) → Distinct xs → Distinct (filter f xs)
+Distinct-filter f [] d = tt
+Distinct-filter f (x ∷ xs) d = go (f x) (Distinct-filter f xs d.1)
+  where
+    go : (b : Bool) → Distinct (filter f xs) → Distinct (cond b (x ∷ filter f xs) (filter f xs))
+    go true k = (Each-filter (λ y. x ≢ y) f xs d.0, k)
+    go false k = k
 
 -- one more number at the end
 pub Distinct-push : (xs : List ℕ) (p : ℕ) → Distinct xs → Each (λ x. x ≢ p) xs → Distinct (xs ++ p ∷ [])
@@ -110,12 +125,8 @@ no_longer (x ∷ xs) ys d h =
     let ih = no_longer xs (less x ys) d.1 (Each-both xs (λ y n k. Has-less x y ys n k) d.0 h.1) in
     omega (arith, ih, length-less x ys h.0)
 
-length-range : (n first : ℕ) → length (range_with_len first n) ≡ n
-length-range zero first = refl
-length-range (suc n) first = ap suc (length-range n (first + 1))
-
 -- the pigeonhole law: distinct numbers below n are at most n
 pub room : (n : ℕ) (xs : List ℕ) → Distinct xs → Each (λ x. x < n) xs → length xs ≤ n
 room n xs d h =
     let r = no_longer xs (range_with_len 0 n) d (Each-map xs (λ x l. range-Has n 0 x (omega arith) (omega (arith, l))) h) in
-    omega (arith, r, length-range n 0)
+    omega (arith, r, length-range_with_len 0 n)

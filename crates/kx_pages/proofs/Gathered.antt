@@ -9,7 +9,7 @@ use Rattle.std.proofs.lemmas.List.Folds.{list_any_more}
 use Rattle.std.proofs.lemmas.List.Sorted.{list_any-IsPermutation}
 use Rattle.kx_pages.specs.Spans.{Run, end, in_span, in_spans, AreApart}
 use Rattle.kx_pages.specs.Edits.{if_some}
-use Rattle.kx_pages.proofs.Counted.{low_none}
+use Rattle.kx_pages.proofs.Spans.{low_none, none_above}
 use Rattle.kx_pages.proofs.Sets.{in_if_some, has-append, some_ahead, apart_lower}
 
 -- ---- spans taken in one after another
@@ -86,13 +86,6 @@ pub are_gaps_apart : (xs ys : List Run) → AreApart 0 xs → ys ≡ gaps_from 0
 are_gaps_apart xs ys a e = subst (λ (zs : List Run). AreApart 0 zs) (sym e) (apart_gaps 0 xs a (omega arith))
 
 -- ---- the difference
-below_limit : (b : ℕ) (rs : List Run) (q : ℕ) → AreApart b rs → 2 ^ 34 ≤ q → in_spans rs q ≡ false
-below_limit b [] q a h = refl
-below_limit b (r ∷ rs) q a h = rw (behind r q (omega (arith, a.2))) (below_limit (end r + 1) rs q a.3 h)
-  where
-    behind : (r : Run) (q : ℕ) → end r ≤ q → in_span r q ≡ false
-    behind r q h = grind (arith, nat_tests)
-
 less_below : (a b : Bool) → (true && not ((true && not a) || b)) ≡ (a && not b)
 less_below true true = refl
 less_below true false = refl
@@ -104,5 +97,5 @@ in_difference xs ys gs os fs q a g o f =
     f ∙ ap (λ z. nat_lt q (2 ^ 34) && not z) (o ∙ has-append gs ys q ∙ ap (λ z. z || in_spans ys q) g)
     ∙ elim (cases_lt q (2 ^ 34)) [
       | inl l ↦ ap (λ t. t && not ((t && not (in_spans xs q)) || in_spans ys q)) (lt-ltb q (2 ^ 34) l) ∙ less_below (in_spans xs q) (in_spans ys q)
-      | inr l ↦ ap (λ t. t && not ((t && not (in_spans xs q)) || in_spans ys q)) (le-ltb q (2 ^ 34) l) ∙ sym (ap (λ z. z && not (in_spans ys q)) (below_limit 0 xs q a l))
+      | inr l ↦ ap (λ t. t && not ((t && not (in_spans xs q)) || in_spans ys q)) (le-ltb q (2 ^ 34) l) ∙ sym (ap (λ z. z && not (in_spans ys q)) (none_above 0 xs q a l))
     ]

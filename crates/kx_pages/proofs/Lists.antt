@@ -1,8 +1,11 @@
 -- Laws of lists: what holds of each element, membership, and how often a number stands in a list.
-use Rattle.std.proofs.Common.{◌≡◌, ℕ, zero, suc, ◌+◌, ◌<◌, ◌≤◌, ◌++◌, List, [], ◌∷◌, length, take, drop, refl, ap, subst, ⊎_elim, inl, inr, arith, true, false}
+use Rattle.std.proofs.Common.{◌≡◌, ℕ, zero, suc, ◌+◌, ◌<◌, ◌≤◌, ◌++◌, ◌||◌, List, [], ◌∷◌, length, get_or, take, drop, Bool, true, false, cond, not, Some, None, refl, sym, ap, ◌∙◌, subst, ⊎_elim, inl, inr, arith}
 use Rattle.std.specs.Prelude.{◌≢◌, ◌⊎◌, eqb, All}
-use Rattle.std.specs.List.{range_with_len}
+use Rattle.std.specs.List.{range_with_len, filter, slice_get, position, position_or_len}
 use Rattle.std.proofs.lemmas.Bool.{or_cases, or_parts, eqb-true, eqb-false, ne_eqb, false≢true, cases_eq}
+use Rattle.kx_laws.proofs.Booleans.{or_false, or_shift}
+use Rattle.kx_laws.proofs.Options.{some_same}
+use Rattle.kx_laws.proofs.Lists.{none_first}
 use Rattle.kx_pages.specs.Lists.{Each, Has, has, destinations, sources}
 
 -- ---- what holds of each element
@@ -36,6 +39,31 @@ pub Each-drop : {X : Type 0} (P : X → Type 0) (n : ℕ) (xs : List X) → Each
 Each-drop P zero xs h = h
 Each-drop P (suc n) [] h = tt
 Each-drop P (suc n) (x ∷ xs) h = Each-drop P n xs h.1
+
+pub Each-filter : {X : Type 0} (P : X → Type 0) (f : X → Bool) (xs : List X) → Each P xs → Each P (filter f xs)
+Each-filter P f [] h = tt
+Each-filter P f (x ∷ xs) h = more (f x) (Each-filter P f xs h.1)
+  where
+    more : (b : Bool) → Each P (filter f xs) → Each P (cond b (x ∷ filter f xs) (filter f xs))
+    more true k = (h.0, k)
+    more false k = k
+
+pub Each-slice_get : {X : Type 0} (P : X → Type 0) (xs : List X) (i : ℕ) (x : X) → Each P xs → slice_get xs i ≡ Some x → P x
+Each-slice_get P [] i x h e = cc
+Each-slice_get P (y ∷ xs) zero x h e = subst P (some_same y x e) h.0
+Each-slice_get P (y ∷ xs) (suc i) x h e = Each-slice_get P xs i x h.1 e
+
+-- where none is the first that passes a test, each fails it
+pub Each-from_no_first : {X : Type 0} (p : X → Bool) (xs : List X) → position p xs ≡ None → Each (λ x. p x ≡ false) xs
+Each-from_no_first p xs none = each_fails p xs (none_first p xs none)
+  where
+    each_fails : {X : Type 0} (p : X → Bool) (xs : List X) → length xs ≤ position_or_len p xs → Each (λ x. p x ≡ false) xs
+    each_fails p [] h = tt
+    each_fails p (x ∷ xs) h = by (p x) refl h (λ few. each_fails p xs few)
+      where
+        by : (b : Bool) → p x ≡ b → suc (length xs) ≤ cond (not b) (1 + position_or_len p xs) 0 → (length xs ≤ position_or_len p xs → Each (λ x. p x ≡ false) xs) → Each (λ x. p x ≡ false) (x ∷ xs)
+        by true e few rest = absurd (omega arith)
+        by false e few rest = (e, rest (omega (arith, few)))
 
 -- from the words of the standard library
 pub Each-from_All : (P : ℕ → Type 0) (xs : List ℕ) → All P xs → Each P xs
@@ -96,6 +124,16 @@ Each-from_has_not p (x ∷ xs) h = let q = or_parts (eqb x p) (has p xs) h in (e
 pub has_not-from_Each : (p : ℕ) (xs : List ℕ) → Each (λ x. x ≢ p) xs → has p xs ≡ false
 has_not-from_Each p [] h = refl
 has_not-from_Each p (x ∷ xs) h = rw (ne_eqb x p h.0) (has_not-from_Each p xs h.1)
+
+pub has-push : (p x : ℕ) (xs : List ℕ) → has p (xs ++ x ∷ []) ≡ (has p xs || eqb x p)
+has-push p x [] = or_false (eqb x p)
+has-push p x (y ∷ xs) = ap (λ b. eqb y p || b) (has-push p x xs) ∙ sym (or_shift (eqb y p) (has p xs) (eqb x p))
+
+-- what stands at a place stands in the list
+pub Has-get_or : (xs : List ℕ) (i : ℕ) → i < length xs → Has (get_or xs i 0) xs
+Has-get_or [] i h = absurd (omega (arith, h))
+Has-get_or (x ∷ xs) zero h = inl refl
+Has-get_or (x ∷ xs) (suc i) h = inr (Has-get_or xs i (omega (arith, h)))
 
 -- membership in two lists together
 pub Has-left : (p : ℕ) (xs ys : List ℕ) → Has p xs → Has p (xs ++ ys)

@@ -4,17 +4,11 @@ use Rattle.std.proofs.lemmas.Bool.Decides.{nat_tests}
 use Rattle.std.proofs.lemmas.Bool.{cases_lt, cond-true, cond-false, lt-ltb, le-ltb, or_from}
 use Rattle.std.specs.List.{slice_get}
 use Rattle.std.specs.List.Sorted.{IsNonDecreasingBy}
+use Rattle.kx_laws.proofs.Booleans.{or_first, or_second}
 use Rattle.kx_pages.specs.Spans.{Run, end, in_span, in_spans, AreApart}
 use Rattle.kx_pages.specs.Edits.{spans_meet, reaching}
-use Rattle.kx_pages.proofs.Counted.{low_none, behind_none, any_meets}
-
-or_false : (x y : Bool) → y ≡ false → (x || y) ≡ x
-or_false true y h = refl
-or_false false y h = h
-
-or_second : (x y : Bool) → x ≡ false → (x || y) ≡ y
-or_second true y h = cc
-or_second false y h = refl
+use Rattle.kx_pages.proofs.Spans.{low_none, behind_none}
+use Rattle.kx_pages.proofs.Counted.{any_meets}
 
 -- whether q is in the span, where there is one
 abbrev pub found_has : Option Run → ℕ → Bool
@@ -36,7 +30,7 @@ pub has_by_reaching : (b : ℕ) (rs : List Run) (q : ℕ) → AreApart b rs → 
 has_by_reaching b [] q a = refl
 has_by_reaching b (r ∷ rs) q a =
     elim (cases_lt q (end r)) [
-      | inl h ↦ or_false (in_span r q) (in_spans rs q) (low_none (end r + 1) rs q a.3 (omega arith)) ∙ sym (ap (λ o. found_has o q) (reaching-here r rs q h))
+      | inl h ↦ or_first (in_span r q) (in_spans rs q) (low_none (end r + 1) rs q a.3 (omega arith)) ∙ sym (ap (λ o. found_has o q) (reaching-here r rs q h))
       | inr h ↦ or_second (in_span r q) (in_spans rs q) (behind_none r q h) ∙ has_by_reaching (end r + 1) rs q a.3 ∙ sym (ap (λ o. found_has o q) (reaching-later r rs q h))
     ]
 

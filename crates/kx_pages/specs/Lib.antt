@@ -1,5 +1,6 @@
 pub mod Numbers
 pub mod Spans
+pub mod Ranges
 pub mod Edits
 pub mod Items
 pub mod Lists

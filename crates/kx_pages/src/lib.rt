@@ -5,6 +5,7 @@
 //! core (`kimage_entry_t`).
 #![tactic(auto)]
 
+mod copy;
 mod image;
 mod item;
 mod limits;
@@ -12,14 +13,17 @@ mod needs;
 mod page;
 mod page_set;
 mod room;
+mod rounding;
 mod search;
 mod span;
 
+pub use copy::copy_of;
 pub use image::{Image, ImageType, Mode, Start, Wish};
 pub use item::Item;
 pub use limits::{KERNEL_LIMIT, SEGMENT_LIMIT, SEGMENT_PAGE_LIMIT};
 pub use needs::{first_pages, pages_needed};
-pub use page::{ADDRESS_LIMIT, PAGE_LIMIT, PAGE_SIZE, Page, is_page_address};
+pub use page::{ADDRESS_LIMIT, PAGE_LIMIT, PAGE_SIZE, Page, ZERO_PAGE, is_page_address};
 pub use page_set::{PageSet, have_one_form};
 pub use room::room_for;
+pub use rounding::{pages_for, whole_pages};
 pub use span::Span;

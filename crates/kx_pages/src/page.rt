@@ -14,6 +14,9 @@ pub const ADDRESS_LIMIT: u64 = 0x4000_0000_0000;
 /// The bytes of a page.
 pub const PAGE_SIZE: u64 = 4096;
 
+/// The bytes of a page of zeros: what a page reads as that nothing was put into.
+pub static ZERO_PAGE: [u8; 4096] = [0; 4096];
+
 /// A page. Contracts see its number, which is below 2^34.
 #[derive(Clone, Copy, Debug, PartialEq, Eq, PartialOrd, Ord)]
 pub struct Page {

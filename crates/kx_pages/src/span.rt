@@ -1,10 +1,12 @@
 //! Runs of pages.
 
-ghost use Rattle.std.specs.Prelude.{◌≡◌, ◌+◌, ◌-◌, ◌≤◌, ◌^◌, ◌↔◌, IsSome, IfSome};
+ghost use Rattle.std.specs.Prelude.{◌≡◌, ℕ, ◌+◌, ◌-◌, ◌≤◌, ◌^◌, ◌↔◌, ◌&&◌, nat_lt, min, IsSome, IfSome};
 ghost use Rattle.kx_pages.specs.Spans.{Run, end, in_span};
+ghost use Rattle.kx_pages.specs.Ranges.{meets_page, pages_met};
 ghost use Rattle.kx_pages.specs.Edits.{hull, spans_meet};
 
-use crate::page::PAGE_LIMIT;
+use crate::page::{ADDRESS_LIMIT, PAGE_LIMIT, PAGE_SIZE};
+use crate::rounding::pages_for;
 use std::marker::Model;
 
 /// Pages that follow one another: `count` pages from page `first` on. Contracts see the two numbers.
@@ -37,6 +39,21 @@ impl Span {
             Some(Span { first, count })
         } else {
             None
+        }
+    }
+
+    /// The pages below 2^34 that have one of the addresses from `start` on and before `stop`. This project's own.
+    pub fn meeting(start: u64, stop: u64) -> Span
+        ensures exact { result ≡ pages_met start (min stop (2 ^ 46)) }
+        ensures pages { (p : ℕ) → in_span result p ≡ (nat_lt p (2 ^ 34) && meets_page start stop p) }
+        ensures low { stop ≤ 2 ^ 46 → (p : ℕ) → in_span result p ≡ meets_page start stop p }
+    {
+        let first = (start / PAGE_SIZE).min(PAGE_LIMIT);
+        let stop = stop.min(ADDRESS_LIMIT);
+        if start < stop {
+            Span::between(first, pages_for(stop))
+        } else {
+            Span::between(first, first)
         }
     }
 

@@ -1,7 +1,8 @@
 -- What a Multiboot kernel is loaded as (Multiboot Specification 0.6.96, sections 3.1.3 and 3.2): by the addresses in its
 -- header, or as an ELF32 executable.
-use Rattle.std.specs.Prelude.{◌≡◌, ℕ, ◌+◌, ◌-◌, ◌*◌, ◌/◌, ◌%◌, ◌^◌, ◌++◌, ◌==◌, ◌&&◌, ◌||◌, not, Bool, List, [], ◌∷◌, length, take, drop, replicate, nat_lt, nat_le, min, max, if◌then◌else◌, Option, Some, None, IfSome, Result, Ok, Err}
+use Rattle.std.specs.Prelude.{◌≡◌, ℕ, ◌+◌, ◌-◌, ◌*◌, ◌/◌, ◌%◌, ◌^◌, ◌++◌, ◌==◌, ◌&&◌, ◌||◌, not, Bool, List, [], ◌∷◌, length, take, drop, replicate, nat_lt, if◌then◌else◌, Option, Some, None, IfSome, Result, Ok, Err}
 use Rattle.kx_pages.specs.Limits.{segment_page_limit}
+use Rattle.kx_pages.specs.Ranges.{meets_page, count_met}
 use Rattle.segments.specs.Values.{SegmentValue, is_destination}
 use Rattle.elf_image.specs.Loads.{Executable, exec_reading}
 use Rattle.elf_image.specs.Image.{image}
@@ -47,32 +48,30 @@ is_bad s =
     || (not (s.kludge.bss_end_addr == 0) && nat_lt s.kludge.bss_end_addr (load_stop s))))))
 
 -- how many pages the memory meets
-abbrev pub pages_met : Site → ℕ
-pages_met s =
-    if nat_le (memory_stop s) s.kludge.load_addr then 0
-    else (memory_stop s + 4095) / 4096 - s.kludge.load_addr / 4096
+abbrev pub page_count : Site → ℕ
+page_count s = count_met s.kludge.load_addr (memory_stop s)
 
 -- some byte of page p is one of the memory's
-abbrev pub meets_page : ℕ → Site → Bool
-meets_page p s = nat_lt (max s.kludge.load_addr (4096 * p)) (min (memory_stop s) (4096 * p + 4096))
+abbrev pub memory_meets_page : ℕ → Site → Bool
+memory_meets_page p s = meets_page s.kludge.load_addr (memory_stop s) p
 
 -- the segment of these pages: zeros up to load_addr, then the loaded bytes
 abbrev pub segment : List ℕ → Site → SegmentValue
 segment file s = record {
   bytes = replicate (s.kludge.load_addr % 4096) 0 ++ take (loaded s) (drop (place s) file);
   mem = 4096 * (s.kludge.load_addr / 4096);
-  memsz = 4096 * pages_met s;
+  memsz = 4096 * page_count s;
 }
 
 -- the segments: none where no page is met
 abbrev pub segments : List ℕ → Site → List SegmentValue
-segments file s = if pages_met s == 0 then [] else segment file s ∷ []
+segments file s = if page_count s == 0 then [] else segment file s ∷ []
 
 -- by the addresses in the header
 unfoldable pub kludge_parts : List ℕ → Site → Result Loaded MbFault
 kludge_parts file s =
     if is_bad s then Err faults.BadKludge
-    else if nat_lt segment_page_limit (pages_met s) then Err (faults.TooLarge (pages_met s))
+    else if nat_lt segment_page_limit (page_count s) then Err (faults.TooLarge (page_count s))
     else Ok (record { list = segments file s; entry = s.kludge.entry_addr })
 
 -- a fault of the ELF file
@@ -108,4 +107,4 @@ parts h file = parts_by file h.at h.kludge
 -- with addresses in the header the pages are those that some byte of the memory from load_addr on is in
 abbrev pub HasPagesMet : List ℕ → Header → Loaded → Type 0
 HasPagesMet file h r =
-    IfSome h.kludge (λ k. (p : ℕ) → is_destination r.list p ≡ meets_page p (site file h.at k))
+    IfSome h.kludge (λ k. (p : ℕ) → is_destination r.list p ≡ memory_meets_page p (site file h.at k))

@@ -4,21 +4,18 @@ ghost use Rattle.std.specs.Prelude.{◌≡◌, ◌+◌, ◌++◌, ◌≤◌, ◌
 ghost use Rattle.kx_laws.specs.Results.{Gives};
 ghost use Rattle.segments.specs.Values.{is_destination};
 ghost use Rattle.multiboot_image.specs.declared.fault.MbFault.TheVariants.{Memory};
-ghost use Rattle.multiboot_image.specs.Parts.{place, loaded, load_stop, memory_stop, is_bad, pages_met, segment, meets_page, HasPagesMet, kludge_parts, elf_parts, parts};
+ghost use Rattle.multiboot_image.specs.Parts.{place, loaded, load_stop, memory_stop, is_bad, page_count, segment, memory_meets_page, HasPagesMet, kludge_parts, elf_parts, parts};
 
 use crate::fault::MbFault;
 use crate::header::{Header, Kludge};
 use elf_image::{ElfFault, image_pages, read_exec};
-use kx_pages::{PAGE_SIZE, SEGMENT_PAGE_LIMIT, room_for};
+use kx_pages::{PAGE_SIZE, SEGMENT_PAGE_LIMIT, Span, room_for};
 use segments::Segment;
 use std::alloc::{AllocError, Global};
 use std::marker::Model;
 
 /// The first address behind the memory that 32 bits reach.
 const MEMORY_LIMIT: u128 = 0x1_0000_0000;
-
-/// The bytes of a page.
-const PAGE: u128 = 4096;
 
 /// What a kernel is loaded as, and where it is entered.
 #[derive(Debug, Drop)]
@@ -99,23 +96,19 @@ impl Site {
     }
 
     /// How many pages the memory meets.
-    fn pages_met(self) -> u128
-        ensures value { result ≡ pages_met self }
-        ensures small { result < 2 ^ 54 }
+    fn page_count(self) -> u64
+        requires { is_bad self ≡ false }
+        ensures { result ≡ page_count self }
     {
-        let start = u128::from(self.kludge.load_addr);
-        let stop = self.memory_stop();
-        if stop <= start {
-            return 0;
-        }
-        (stop + (PAGE - 1)) / PAGE - start / PAGE
+        let start = u64::from(self.kludge.load_addr);
+        Span::meeting(start, self.memory_stop() as u64).count()
     }
 
     /// Its segment, with so many pages.
     fn segment(self, alloc: Global, file: &[u8], pages: u64) -> Result<Segment, AllocError>
         requires fits { is_bad self ≡ false }
         requires file { length file.now ≡ self.total }
-        requires pages { pages ≡ pages_met self }
+        requires pages { pages ≡ page_count self }
         requires few { pages ≤ 65536 }
         ensures { IfOk result (λ s. s ≡ segment file.now self) }
     {
@@ -148,12 +141,12 @@ fn padded(alloc: Global, front: usize, part: &[u8]) -> Result<Vec<u8>, AllocErro
 fn kludge_parts(alloc: Global, site: Site, file: &[u8]) -> Result<Parts, MbFault>
     requires { length file.now ≡ site.total }
     ensures exact { Gives Memory (λ p. p) result (kludge_parts file.now site) }
-    ensures pages { IfOk result (λ r. (p : ℕ) → is_destination r.list p ≡ meets_page p site) }
+    ensures pages { IfOk result (λ r. (p : ℕ) → is_destination r.list p ≡ memory_meets_page p site) }
 {
     if site.is_bad() {
         return Err(MbFault::BadKludge);
     }
-    let pages = site.pages_met() as u64;
+    let pages = site.page_count();
     if pages > SEGMENT_PAGE_LIMIT {
         return Err(MbFault::TooLarge { pages });
     }

@@ -1,7 +1,6 @@
 -- Pages as blocks of bytes.
-use Rattle.std.proofs.Common.{◌≡◌, ◌∙◌, ℕ, ◌+◌, ◌-◌, ◌≤◌, List, length, ap, arith}
-use Rattle.std.specs.Prelude.{replicate}
-use Rattle.std.proofs.lemmas.List.{length-replicate, length-append}
+use Rattle.std.proofs.Common.{◌∙◌, ℕ, ◌+◌, ◌≤◌, List, arith}
+use Rattle.std.proofs.lemmas.List.{length-replicate}
 use Rattle.kx_fields.specs.Fields.{IsBlock, with_field, zeros}
 use Rattle.kx_fields.proofs.Fields.{length-with_field}
 use Rattle.kx_fields.proofs.Bytes.{AreBytes-zeros, AreBytes-with_field}

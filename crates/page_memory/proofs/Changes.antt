@@ -22,15 +22,15 @@ use Rattle.page_memory.proofs.Laws.{frame_at-found, frame_at-insert_other, frame
 use Rattle.page_memory.proofs.OneFile.{list_zeros, zeros_are}
 use Rattle.kx_fields.specs.Fields.{AreBytes, IsBlock}
 use Rattle.kx_fields.proofs.Bytes.{AreBytes-append}
-use Rattle.kx_laws.proofs.Booleans.{true_false}
+use Rattle.kx_laws.proofs.Booleans.{true_false, Equal-from_is_eq}
 use Rattle.kx_laws.proofs.Lists.{take_front, drop_front}
-use Rattle.kx_laws.proofs.Options.{none_some, some_same}
+use Rattle.kx_laws.proofs.Options.{none_some, some_same, map_none}
 use Rattle.kx_pages.specs.Bytes.{page_of}
 use Rattle.page_memory.specs.Contents.{frame_at}
 use Rattle.page_memory.specs.Frames.{frame_in, IsTable, pages_in, Differs}
 use Rattle.page_memory.specs.InPlace.{AreInSlots, slots_of}
 use Rattle.page_memory.proofs.Stored.{all_kept, distinct_kept, kept_in}
-use Rattle.page_memory.proofs.Tables.{get-pages_by, equal_of_is_eq, pages_by-differs, some_held}
+use Rattle.page_memory.proofs.Tables.{get-pages_by, pages_by-differs, some_held}
 use Rattle.page_memory.proofs.Frames.{other_frames, inside_found, frame_in-append, frame_in-last, IsBlock-frame_in}
 
 -- what is asked of a frame
@@ -58,7 +58,7 @@ pages-added xs heads bytes m n p i is last whole h =
 
 -- where a value at q comes from
 here_or_old : (p q i k : ℕ) (b : Bool) (o : Option ℕ) → is_at (nat_cmp p) q ≡ b → cond b (Some i) o ≡ Some k → ((q ≡ p) × (k ≡ i)) ⊎ (o ≡ Some k)
-here_or_old p q i k true o t e = inl (sym (nat_cmp-IsAntisymmetric p q (equal_of_is_eq (nat_cmp p q) t)), sym (some_same i k e))
+here_or_old p q i k true o t e = inl (sym (nat_cmp-IsAntisymmetric p q (Equal-from_is_eq (nat_cmp p q) t)), sym (some_same i k e))
 here_or_old p q i k false o t e = inr e
 
 from_differs : (m n : BTreeMap ℕ ℕ) (p i q k : ℕ) → Differs m n p i → tree.get nat_cmp n q ≡ Some k → ((q ≡ p) × (k ≡ i)) ⊎ (tree.get nat_cmp m q ≡ Some k)
@@ -118,7 +118,7 @@ not_at : (p q : ℕ) → is_at (nat_cmp p) q ≡ false → q ≢ p
 not_at p q e same = true_false (sym ((eq_by_cmp_equiv nat_cmp_total).refl p) ∙ ap (λ q. is_at (nat_cmp p) q) (sym same) ∙ e)
 
 at_it : (p q : ℕ) → is_at (nat_cmp p) q ≡ true → q ≡ p
-at_it p q t = sym (nat_cmp-IsAntisymmetric p q (equal_of_is_eq (nat_cmp p q) t))
+at_it p q t = sym (nat_cmp-IsAntisymmetric p q (Equal-from_is_eq (nat_cmp p q) t))
 
 which_of : (m : BTreeMap ℕ ℕ) (d s i j q k : ℕ) (a b : Bool) → is_at (nat_cmp d) q ≡ a → is_at (nat_cmp s) q ≡ b → tree.get nat_cmp m d ≡ Some i → tree.get nat_cmp m s ≡ Some j → cond a (Some j) (cond b (Some i) (tree.get nat_cmp m q)) ≡ Some k → (r : ℕ) × (tree.get nat_cmp m r ≡ Some k) × Which d s q r
 which_of m d s i j q k true b is_a is_b at_d at_s e = (s, at_s ∙ e, inl (at_it d q is_a, refl))
@@ -215,13 +215,9 @@ AreInSlots-kept xs m sorted is =
       apart = distinct_kept xs m.entries (slots_distinct xs m m.entries is sorted (all_found m sorted) slots);
     }
 
-none_of_map : {X Y : Type 0} (f : X → Y) (o : Option X) → option_map f o ≡ None → o ≡ None
-none_of_map f None h = refl
-none_of_map f (Some x) h = cc
-
 -- a page that the map lacks has no entry
 pub none_in : (xs : List ℕ) (m : BTreeMap ℕ ℕ) (p : ℕ) → get (pages_in xs m) p ≡ None → tree.get nat_cmp m p ≡ None
-none_in xs m p h = none_of_map (frame_in xs) (tree.get nat_cmp m p) (sym (get-pages_by (frame_in xs) m.entries p) ∙ h)
+none_in xs m p h = map_none (frame_in xs) (tree.get nat_cmp m p) (sym (get-pages_by (frame_in xs) m.entries p) ∙ h)
 
 -- one that the map has has one
 pub some_in : (xs : List ℕ) (m : BTreeMap ℕ ℕ) (p : ℕ) → IsSome (get (pages_in xs m) p) → IsSome (tree.get nat_cmp m p)

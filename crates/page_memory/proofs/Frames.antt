@@ -16,10 +16,10 @@ use Rattle.page_memory.specs.View.{pages_by}
 use Rattle.kx_fields.specs.Fields.{AreBytes, IsBlock}
 use Rattle.kx_fields.proofs.Fields.{AreBytes-drop}
 use Rattle.kx_fields.proofs.Bytes.{AreBytes-take}
-use Rattle.kx_laws.proofs.Booleans.{true_false}
+use Rattle.kx_laws.proofs.Booleans.{true_false, Equal-from_is_eq}
 use Rattle.kx_laws.proofs.Lists.{take_front, drop_front}
 use Rattle.page_memory.specs.Frames.{frame_in, put_frame, IsTable}
-use Rattle.page_memory.proofs.Tables.{get-pages_by, equal_of_is_eq}
+use Rattle.page_memory.proofs.Tables.{get-pages_by}
 
 take_long : (xs : List ℕ) (n : ℕ) → n ≤ length xs → length (take n xs) ≡ n
 take_long xs n h = omega (arith, length-take n xs)
@@ -89,7 +89,7 @@ pub pages_by-written : (f g : ℕ → List ℕ) (m : BTreeMap ℕ ℕ) (p i : �
 pages_by-written f g m p i ys at_p new others = same_map nat_cmp_total nat_cmp-IsAntisymmetric _ _ (λ q.
     get-pages_by g m.entries q
     ∙ written_case f g ys (tree.get nat_cmp m q) (is_at (nat_cmp q) p)
-    (λ e. ap (option_map g) (ap (tree.get nat_cmp m) (nat_cmp-IsAntisymmetric q p (equal_of_is_eq (nat_cmp q p) e)) ∙ at_p) ∙ ap Some new)
+    (λ e. ap (option_map g) (ap (tree.get nat_cmp m) (nat_cmp-IsAntisymmetric q p (Equal-from_is_eq (nat_cmp q p) e)) ∙ at_p) ∙ ap Some new)
     (λ e. other_frames f g (tree.get nat_cmp m q) (λ j is. others q j (λ same. true_false (sym ((eq_by_cmp_equiv nat_cmp_total).refl p) ∙ ap (λ q. is_at (nat_cmp q) p) (sym same) ∙ e)) is))
     ∙ sym (get-insert nat_cmp_total (pages_by f m.entries) p ys q ∙ ap (cond (is_at (nat_cmp q) p) (Some ys)) (get-pages_by f m.entries q)))
 

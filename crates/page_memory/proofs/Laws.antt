@@ -1,17 +1,16 @@
 -- What pages read as after a change. Crates above cite these.
 use Rattle.std.specs.Prelude.{◌≡◌, ℕ, ◌≢◌, List, Bool, true, false, cond, Some, None, Option, IsSome, is_some, unwrap_or, refl}
-use Rattle.std.proofs.Common.{sym, ap, ◌∙◌, arith, ◌/◌, ◌%◌, ◌≤◌, ◌++◌, length, take, drop}
+use Rattle.std.proofs.Common.{sym, ap, ◌∙◌, arith, ◌/◌, ◌%◌, drop}
 use Rattle.byteorder.specs.Endian.{little_number}
 use Rattle.std.specs.Ordering.{nat_cmp, is_eq}
 use Rattle.std.specs.Cmp.{nat_cmp_total, eq_by_cmp_equiv}
 use Rattle.std.specs.declared.cmp.Ordering.{Ordering}
 use Rattle.std.specs.declared.cmp.Ordering.TheVariants.{Less, Equal, Greater}
 use Rattle.std.specs.FinMap.{FinMap, get, insert, get-insert, nat_cmp-IsAntisymmetric}
-use Rattle.std.specs.Prelude.{◌⊎◌, eqb, replicate}
-use Rattle.std.proofs.Common.{inl, inr, ◌-◌}
+use Rattle.std.specs.Prelude.{◌⊎◌, eqb}
+use Rattle.std.proofs.Common.{inl, inr}
 use Rattle.std.proofs.lemmas.Bool.Decides.{eqb_tells}
-use Rattle.std.proofs.lemmas.List.{take_all, length-take}
-use Rattle.kx_pages.specs.Bytes.{page_of, Mem}
+use Rattle.kx_pages.specs.Bytes.{Mem}
 use Rattle.page_memory.specs.Contents.{Contents, at, with_page, after_set, with_word, page_with_word, frame_at, zero_page}
 use Rattle.page_memory.specs.Memory.{word, put, set_word}
 use Rattle.kx_laws.proofs.Booleans.{is_eq-false}

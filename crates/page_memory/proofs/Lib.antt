@@ -1,3 +1,4 @@
+pub mod Addresses
 pub mod Bytes
 pub mod Changes
 pub mod Frames

@@ -8,12 +8,11 @@ use Rattle.std.specs.FinMap.{find, is_sorted, entries, entries_sorted, get-entri
 use Rattle.std.proofs.lemmas.Bool.{cases_lt}
 use Rattle.std.proofs.lemmas.Bool.Decides.{nat_tests}
 use Rattle.kx_fields.specs.Fields.{IsBlock}
-use Rattle.kx_laws.proofs.Booleans.{and_parts, is_eq-false}
+use Rattle.kx_laws.proofs.Booleans.{and_parts, is_eq-false, Equal-from_is_eq}
 use Rattle.kx_laws.proofs.Options.{none_some, some_same}
 use Rattle.page_memory.specs.Contents.{Contents, at, zero_page, frame_at}
 use Rattle.page_memory.specs.Memory.{Agree}
 use Rattle.page_memory.specs.File.{is_stored, is_all_zeros, stored, file, text_of}
-use Rattle.page_memory.proofs.Tables.{equal_of_is_eq}
 
 abbrev pub Entries : Type 0
 Entries = List (ℕ × List ℕ)
@@ -100,7 +99,7 @@ kept_other bytes h = ap (λ b. cond b None (Some bytes)) h
 
 stored_step : (q : ℕ) (e : ℕ × List ℕ) (es : Entries) (z t : Bool) → is_all_zeros e.1 ≡ z → eq_by_cmp nat_cmp q e.0 ≡ t → Rising (e.0 + 1) es → find nat_cmp q (filter is_stored es) ≡ kept (unwrap_or (find nat_cmp q es) zero_page) → find nat_cmp q (cond (not z) (e ∷ filter is_stored es) (filter is_stored es)) ≡ kept (unwrap_or (cond t (Some e.1) (find nat_cmp q es)) zero_page)
 stored_step q e es true true is at_e rising rest =
-    let same : q ≡ e.0 = nat_cmp-IsAntisymmetric q e.0 (equal_of_is_eq (nat_cmp q e.0) at_e) in
+    let same : q ≡ e.0 = nat_cmp-IsAntisymmetric q e.0 (Equal-from_is_eq (nat_cmp q e.0) at_e) in
     rest ∙ ap (λ o. kept (unwrap_or o zero_page)) (find-below q (e.0 + 1) es rising (omega (arith, same))) ∙ kept_zeros zero_page zero_page_is ∙ sym (kept_zeros e.1 is)
 stored_step q e es true false is at_e rising rest = rest
 stored_step q e es false true is at_e rising rest = ap (λ b. cond b (Some e.1) (find nat_cmp q (filter is_stored es))) at_e ∙ sym (kept_other e.1 is)

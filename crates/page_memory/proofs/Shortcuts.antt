@@ -10,7 +10,7 @@ use Rattle.std.specs.FinMap.{nat_cmp-IsAntisymmetric}
 use Rattle.kx_laws.proofs.Options.{some_same}
 use Rattle.page_memory.specs.Frames.{Differs}
 use Rattle.page_memory.specs.Shortcuts.{AreInPlace, SayWhat, shortcut_place}
-use Rattle.page_memory.proofs.Tables.{equal_of_is_eq}
+use Rattle.kx_laws.proofs.Booleans.{Equal-from_is_eq}
 
 -- a row of shortcuts
 abbrev Row : Type 0
@@ -54,7 +54,7 @@ at_itself : (p : ℕ) → is_at (nat_cmp p) p ≡ true
 at_itself p = (eq_by_cmp_equiv nat_cmp_total).refl p
 
 same_key : (p q : ℕ) → is_at (nat_cmp p) q ≡ true → q ≡ p
-same_key p q t = sym (nat_cmp-IsAntisymmetric p q (equal_of_is_eq (nat_cmp p q) t))
+same_key p q t = sym (nat_cmp-IsAntisymmetric p q (Equal-from_is_eq (nat_cmp p q) t))
 
 other_or_same : (p q : ℕ) (b : Bool) → is_at (nat_cmp p) q ≡ b → (q ≡ p → ⊥) → b ≡ false
 other_or_same p q true t apart = absurd (apart (same_key p q t))

@@ -7,11 +7,8 @@ use Rattle.std.specs.Map.{lookup}
 use Rattle.std.specs.BTreeMap.{is_at, BTreeMap}
 use Rattle.std.specs.BTreeMap as tree
 use Rattle.std.specs.Option.{IfSome}
-use Rattle.std.specs.Ordering.{is_eq}
-use Rattle.std.specs.declared.cmp.Ordering.{Ordering}
 use Rattle.page_memory.specs.View.{AreFrames}
 use Rattle.kx_fields.specs.Fields.{IsBlock}
-use Rattle.std.specs.declared.cmp.Ordering.TheVariants.{Less, Equal, Greater}
 use Rattle.std.specs.Prelude.{◌↔◌, IsTrue, IsSome, is_some}
 use Rattle.std.specs.FinMap.{FinMap, get, insert, same_map, get-from_entries, get-insert, nat_cmp-IsAntisymmetric}
 use Rattle.page_memory.specs.View.{pages_by}
@@ -47,11 +44,6 @@ IsSome-option_map f (Some x) = (λ h. h, λ h. h)
 -- the map of a table that differs at one key
 pub pages_by-differs : {X : Type 0} (f : X → List ℕ) (m n : BTreeMap ℕ X) (k : ℕ) (v : X) (bytes : List ℕ) → Differs m n k v → f v ≡ bytes → pages_by f n.entries ≡ insert (pages_by f m.entries) k bytes
 pages_by-differs f m n k v bytes h e = pages_by-updated f m.entries n.entries k v h ∙ ap (insert (pages_by f m.entries) k) e
-
-pub equal_of_is_eq : (r : Ordering) → is_eq r ≡ true → r ≡ Equal
-equal_of_is_eq Less h = cc
-equal_of_is_eq Equal h = refl
-equal_of_is_eq Greater h = cc
 
 -- what is not in the table is not held
 pub none_held : {X : Type 0} (f : X → List ℕ) (m : BTreeMap ℕ X) (k : ℕ) → None ≡ tree.get nat_cmp m k → get (pages_by f m.entries) k ≡ None

@@ -1,5 +1,5 @@
 -- A memory: a finite map from page numbers to 4,096 bytes each, and a number of sets. This project's own.
-use Rattle.std.specs.Prelude.{ℕ, ◌+◌, ◌-◌, ◌<◌, ◌^◌, ◌/◌, ◌%◌, ◌++◌, List, length, drop, take, unwrap_or, replicate, IfSome}
+use Rattle.std.specs.Prelude.{ℕ, ◌+◌, ◌<◌, ◌^◌, ◌/◌, ◌%◌, ◌++◌, List, drop, take, unwrap_or, replicate, IfSome}
 use Rattle.std.specs.Ordering.{nat_cmp}
 use Rattle.std.specs.FinMap as finite
 use Rattle.std.specs.Prelude.{refl, IsSome}

@@ -1,5 +1,6 @@
 pub mod Contents
 pub mod Memory
+pub mod Addresses
 pub mod View
 pub mod File
 pub mod Frames

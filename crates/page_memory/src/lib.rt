@@ -13,6 +13,7 @@ mod file;
 mod in_place;
 mod layout;
 mod memory;
+mod pieces;
 mod table;
 #[cfg(test)]
 mod tests;

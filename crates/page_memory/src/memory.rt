@@ -16,16 +16,13 @@ use crate::buffer::{add_frame, copy_frame, exchange, frame, write_frame, write_w
 use crate::fault::{HeavyFault, MemFault};
 use crate::file::{file_of, file_table, is_zero};
 use crate::in_place::file_in_place;
-use crate::layout::{FRAME_SIZE, HEAD, SLOT};
+use crate::layout::{HEAD, SLOT};
 use crate::table::Table;
 use byteorder::{ByteOrder, LittleEndian};
-use kx_pages::{PAGE_SIZE, Page, room_for};
+use kx_pages::{PAGE_SIZE, Page, ZERO_PAGE, copy_of, room_for};
 use std::alloc::{AllocError, Global};
 use std::collections::BTreeMap;
 use std::marker::Model;
-
-// What a page that is not held reads as.
-static ZEROS: [u8; FRAME_SIZE] = [0; FRAME_SIZE];
 
 /// A memory image. A page that is held stays held in every call, after a refusal too.
 #[derive(Drop)]
@@ -101,7 +98,7 @@ impl Memory {
     {
         match self.table.get(p) {
             Some(_) => (),
-            None => add_frame(&mut self.frames, &mut self.table, p, &ZEROS)?,
+            None => add_frame(&mut self.frames, &mut self.table, p, &ZERO_PAGE)?,
         }
         Ok(())
     }
@@ -250,14 +247,14 @@ impl Memory {
         self.bytes(p) == other.bytes(p)
     }
 
-    // What a page reads as.
-    fn bytes(&self, p: Page) -> &[u8]
+    /// The 4,096 bytes that a page reads as, held or not, lent and not copied. It takes no memory. This project's own.
+    pub fn bytes(&self, p: Page) -> &[u8]
         ensures value { result.now ≡ at self.now p }
         ensures bytes { IsBlock 4096 result.now }
     {
         match self.page(p) {
             Some(bytes) => bytes,
-            None => &ZEROS,
+            None => &ZERO_PAGE,
         }
     }
 }
@@ -332,12 +329,4 @@ impl Memory {
         } = self;
         file_in_place(alloc, frames, &table)
     }
-}
-
-fn copy_of(alloc: Global, bytes: &[u8]) -> Result<Vec<u8>, AllocError>
-    ensures { IfOk result (λ v. v.items ≡ bytes.now) }
-{
-    let mut copy = Vec::new(alloc);
-    copy.extend_from_slice(bytes)?;
-    Ok(copy)
 }

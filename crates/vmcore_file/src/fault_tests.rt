@@ -254,7 +254,7 @@ fn rows_are_counted_and_lie_below_the_limit(rt: HostRuntime) -> Result<(), Fail>
     Ok(())
 }
 
-// Headers that are none are told before the number of their rows.
+// Headers that pass the limit are told before what they are, and headers that are none before the number of their rows.
 #[test]
 fn no_headers_are_told_before_too_many_rows(rt: HostRuntime) -> Result<(), Fail> {
     let alloc = rt.alloc();
@@ -263,5 +263,7 @@ fn no_headers_are_told_before_too_many_rows(rt: HostRuntime) -> Result<(), Fail>
     *bytes.get_mut(57).ok_or("a count")? = 5;
     assert_eq!(rt; told_at(alloc, HEADERS, &bytes)?, Err(NotHeaders));
     assert_eq!(rt; told_at(alloc, HEADERS, &[])?, Err(NotHeaders));
+    let address = 0x3fff_ffff_ffc8;
+    assert_eq!(rt; told_at(alloc, address, &[])?, Err(PastLimit { address }));
     Ok(())
 }

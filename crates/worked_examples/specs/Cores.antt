@@ -1,6 +1,6 @@
 -- Loads of a core file.
 use Rattle.std.specs.Prelude.{ℕ}
-use Rattle.crash_headers.specs.declared.program_header.ProgramHeader.{ProgramHeader}
+use Rattle.elf_headers.specs.declared.program_header.ProgramHeader.{ProgramHeader}
 
 -- the load of so many bytes from an address on
 abbrev pub load_of : ℕ → ℕ → ProgramHeader
@@ -12,4 +12,5 @@ load_of start size = record {
   paddr = start;
   filesz = size;
   memsz = size;
+  align = 0;
 }

@@ -1,6 +1,7 @@
-use Rattle.crash_headers.specs.FileHeader.{core_header}
+use Rattle.elf_headers.specs.FileHeader.{core_header}
 use Rattle.crash_headers.specs.Headers.{count_of}
-use Rattle.crash_headers.proofs.Rows.{back_rows, core_fits, header_back}
+use Rattle.elf_headers.proofs.Headers.{header_back}
+use Rattle.crash_headers.proofs.Rows.{back_rows, core_fits}
 use Rattle.crash_headers.proofs.headers.headers.Goals as goal
 
 pub returns-clause-first : goal.returns-clause-first

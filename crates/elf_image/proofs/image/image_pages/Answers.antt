@@ -1,8 +1,9 @@
 use Rattle.std.proofs.Common.{◌≡◌, ◌^◌, ap, sym, ◌∙◌, subst, length, arith, inl}
-use Rattle.elf_image.specs.Image.{pages_met, segments_of}
+use Rattle.kx_pages.proofs.Spans.{passing_same}
+use Rattle.elf_image.specs.Image.{page_count, segments_of}
 use Rattle.elf_image.specs.Joined.{AreLoads, AreSound}
 use Rattle.elf_image.specs.Loads.{Executable}
-use Rattle.elf_image.proofs.Pages.{passing_same, segments_runs}
+use Rattle.elf_image.proofs.Pages.{segments_runs}
 use Rattle.elf_image.proofs.Sound.{exec_sound, image_large, image_made}
 use Rattle.elf_image.proofs.image.image_pages.Goals as goal
 
@@ -15,7 +16,7 @@ met_set-requires c =
 pub returns-then-total-gt-SEGMENT_PAGE_LIMIT-clause-exact : goal.returns-then-total-gt-SEGMENT_PAGE_LIMIT-clause-exact
 returns-then-total-gt-SEGMENT_PAGE_LIMIT-clause-exact c =
     let same : c.deref.result.now ≡ c.args.exec.loads = c.deref.ensures.value ∙ ap (λ (e : Executable). e.loads) c.exec.view_is in
-    let total : c.total-total.result ≡ pages_met c.args.exec.loads = c.total-total.ensures.count (2 ^ 34) (omega arith) ∙ passing_same _ _ (2 ^ 34) c.in_ok-pages.ensures ∙ ap pages_met same in
+    let total : c.total-total.result ≡ page_count c.args.exec.loads = c.total-total.ensures.count (2 ^ 34) (omega arith) ∙ passing_same _ _ (2 ^ 34) c.in_ok-pages.ensures ∙ ap page_count same in
     inl (image_large c.args.bytes.now c.args.exec.loads c.total-total.result total c.if-total-gt-SEGMENT_PAGE_LIMIT.true)
 
 pub make_segments-requires : goal.make_segments-requires
@@ -27,7 +28,7 @@ pub returns-clause-exact : goal.returns-clause-exact
 returns-clause-exact c =
     let same : c.deref.result.now ≡ c.args.exec.loads = c.deref.ensures.value ∙ ap (λ (e : Executable). e.loads) c.exec.view_is in
     let also : c.exec.inside.loads.items ≡ c.args.exec.loads = ap (λ (e : Executable). e.loads) c.exec.view_is in
-    let total : c.total-total.result ≡ pages_met c.args.exec.loads = c.total-total.ensures.count (2 ^ 34) (omega arith) ∙ passing_same _ _ (2 ^ 34) c.in_ok-pages.ensures ∙ ap pages_met same in
+    let total : c.total-total.result ≡ page_count c.args.exec.loads = c.total-total.ensures.count (2 ^ 34) (omega arith) ∙ passing_same _ _ (2 ^ 34) c.in_ok-pages.ensures ∙ ap page_count same in
     image_made c.args.bytes.now c.args.exec.loads c.total-total.result c.in_ok-list.list.items total c.if-total-gt-SEGMENT_PAGE_LIMIT.false (c.in_ok-list.ensures ∙ ap (segments_of c.args.bytes.now) also)
 
 pub returns-clause-maximal : goal.returns-clause-maximal

@@ -1,8 +1,9 @@
--- The file header of an ELF64 file (ELF gABI, chapter 4, ELF Header; Elf64_Ehdr), behind its identification, and that
+-- The file header of an ELF64 file (ELF gABI, chapter 4, "ELF Header": Elf64_Ehdr), behind its identification, and that
 -- of a core file.
 use Rattle.std.specs.Prelude.{◌≡◌, ℕ, List, [], ◌∷◌, replicate}
 use Rattle.kx_fields.specs.Formats.{Format, blank, read, written}
-use Rattle.crash_headers.specs.declared.file_header.FileHeader.{FileHeader}
+use Rattle.elf_headers.specs.declared.file_header.FileHeader.{FileHeader}
+use Rattle.elf_headers.specs.Numbers.{et_core, em_x86_64}
 
 -- e_ident: ELFCLASS64, ELFDATA2LSB, EV_CURRENT
 abbrev pub ident : List ℕ
@@ -11,19 +12,19 @@ ident = 0x7f ∷ 0x45 ∷ 0x4c ∷ 0x46 ∷ 2 ∷ 1 ∷ 1 ∷ replicate 9 0
 abbrev pub file_header : Format FileHeader
 file_header = record {
   layout = λ at. record {
-    kind = at 0x10 2;
-    machine = at 0x12 2;
-    version = at 0x14 4;
-    entry = at 0x18 8;
-    phoff = at 0x20 8;
-    shoff = at 0x28 8;
-    flags = at 0x30 4;
-    ehsize = at 0x34 2;
-    phentsize = at 0x36 2;
-    phnum = at 0x38 2;
-    shentsize = at 0x3a 2;
-    shnum = at 0x3c 2;
-    shstrndx = at 0x3e 2;
+    kind = at 16 2;
+    machine = at 18 2;
+    version = at 20 4;
+    entry = at 24 8;
+    phoff = at 32 8;
+    shoff = at 40 8;
+    flags = at 48 4;
+    ehsize = at 52 2;
+    phentsize = at 54 2;
+    phnum = at 56 2;
+    shentsize = at 58 2;
+    shnum = at 60 2;
+    shstrndx = at 62 2;
   };
   numbers =
       λ h. h.kind ∷ h.machine ∷ h.version ∷ h.entry ∷ h.phoff ∷ h.shoff ∷ h.flags ∷ h.ehsize
@@ -41,8 +42,8 @@ IsHeaderReadBack h = read file_header (header_text h) ≡ h
 -- ET_CORE for EM_X86_64 with n program headers right behind the file header, and no sections
 abbrev pub core_header : ℕ → FileHeader
 core_header n = record {
-  kind = 4;
-  machine = 62;
+  kind = et_core;
+  machine = em_x86_64;
   version = 1;
   entry = 0;
   phoff = 64;
