@@ -182,7 +182,7 @@ fn headers_at_each_place_around_the_end_of_the_search(rt: HostRuntime) -> Result
 }
 
 // The other addresses of that header, and what comes of them.
-const ADDRESSES: [([u32; 4], Loaded); 17] = [
+const ADDRESSES: [([u32; 4], Loaded); 16] = [
     (
         [0x10_0000, 0x10_0000, 0, 0],
         Ok(Some((0x10_0000, 0x1000, 64))),
@@ -207,7 +207,11 @@ const ADDRESSES: [([u32; 4], Loaded); 17] = [
         [0x10_0000, 0x10_0000, 0, 0x10_003f],
         Err(MbFault::BadKludge),
     ),
-    ([0x10_0000, 0x10_0001, 0, 0], Err(MbFault::BadKludge)),
+    // Addresses that do not fit come before pages that are too many.
+    (
+        [0x10_0000, 0x10_0001, 0, 0xffff_ffff],
+        Err(MbFault::BadKludge),
+    ),
     ([0x10_0001, 0x10_0000, 0, 0], Err(MbFault::BadKludge)),
     (
         [0x10_0fff, 0x10_0fff, 0, 0],
@@ -227,11 +231,6 @@ const ADDRESSES: [([u32; 4], Loaded); 17] = [
         Err(MbFault::TooLarge { pages: 0x1_0001 }),
     ),
     ([0xffff_ffd0, 0xffff_ffd0, 0, 0], Err(MbFault::BadKludge)),
-    // Addresses that do not fit come before pages that are too many.
-    (
-        [0x10_0000, 0x10_0001, 0, 0xffff_ffff],
-        Err(MbFault::BadKludge),
-    ),
     // Without a byte to load and without memory there is no segment.
     ([0x10_0800, 0x10_0800, 0x10_0800, 0], Ok(None)),
     (
