@@ -6,7 +6,8 @@ use Rattle.kx_pages.specs.Spans.{Run, end, in_spans, AreApart, IsMaximal}
 use Rattle.hole_search.specs.declared.search.Wanted.{Wanted}
 use Rattle.hole_search.specs.Holes.{EachPage}
 use Rattle.hole_search.specs.Walk.{IsClear, AreAhead}
-use Rattle.hole_search.proofs.Rising.{inside, none_behind, same_before}
+use Rattle.hole_search.proofs.Rising.{none_behind, same_before}
+use Rattle.kx_pages.proofs.Spans.{inside}
 
 -- ---- taken spans
 pub still_ahead : (rs : List Run) (n b c : ℕ) → AreAhead rs n b → c ≤ b → AreAhead rs n c

@@ -5,7 +5,7 @@ use Rattle.hole_search.specs.declared.search.End.{End}
 use Rattle.hole_search.specs.declared.search.Wanted.{Wanted}
 use Rattle.hole_search.specs.Holes.{EachPage, Fits, IsHole}
 use Rattle.hole_search.specs.Walk.{IsClear}
-use Rattle.hole_search.proofs.Rising.{inside}
+use Rattle.kx_pages.proofs.Spans.{inside}
 
 -- what fits is clear
 pub clear_of : (ram taken : ℕ → Bool) (w : Wanted) (x : ℕ) → Fits ram taken w x → IsClear taken w x

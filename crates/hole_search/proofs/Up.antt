@@ -6,7 +6,8 @@ use Rattle.kx_pages.specs.Spans.{Run, end, in_spans, AreApart, IsMaximal}
 use Rattle.hole_search.specs.declared.search.Wanted.{Wanted}
 use Rattle.hole_search.specs.Holes.{EachPage}
 use Rattle.hole_search.specs.Walk.{IsClear, ArePassed}
-use Rattle.hole_search.proofs.Rising.{inside, none_before, same_behind}
+use Rattle.hole_search.proofs.Rising.{none_before, same_behind}
+use Rattle.kx_pages.proofs.Spans.{inside}
 
 -- ---- taken spans
 pub still_passed : (rs : List Run) (i a b : ℕ) → ArePassed rs i a → a ≤ b → ArePassed rs i b

@@ -46,7 +46,7 @@ fn clear_down(taken: &PageSet, upto: &mut usize, wanted: Wanted, start: u64) -> 
 }
 
 /// The greatest address that fits.
-pub fn greatest(ram: &PageSet, taken: &PageSet, wanted: Wanted) -> Option<u64>
+pub(crate) fn greatest(ram: &PageSet, taken: &PageSet, wanted: Wanted) -> Option<u64>
     requires { IsBounded wanted }
     ensures hole { IsHole Greatest (in_spans ram.now) (in_spans taken.now) wanted result }
     ensures low { IfSome result (λ a. a + wanted.size ≤ 2 ^ 46) }

@@ -39,7 +39,7 @@ fn clear_up(taken: &PageSet, from: &mut usize, wanted: Wanted, start: u64) -> u6
 }
 
 /// The least address that fits.
-pub fn least(ram: &PageSet, taken: &PageSet, wanted: Wanted) -> Option<u64>
+pub(crate) fn least(ram: &PageSet, taken: &PageSet, wanted: Wanted) -> Option<u64>
     requires { IsBounded wanted }
     ensures hole { IsHole Least (in_spans ram.now) (in_spans taken.now) wanted result }
     ensures low { IfSome result (λ a. a + wanted.size ≤ 2 ^ 46) }

@@ -11,13 +11,29 @@ use Rattle.kx_laws.proofs.Booleans.{is_eq-false}
 use Rattle.kimage_list.proofs.Lists.{eqb-self}
 use Rattle.kimage_list.specs.Load.{Loading, without, source_of, at_home, is_for, draw, taken}
 use Rattle.kimage_list.specs.Tables.{Slots, slot, source_in, place_in}
-use Rattle.kimage_list.specs.Tracking.{Tracks, fate_of, Took, Gives, Reaches, Draws, Exchanged as Pair, whole_pool}
+use Rattle.kimage_list.specs.Tracking.{Tracks, fate_of, Took, Gives, Exchanged as Pair, whole_pool}
 use Rattle.kimage_list.specs.declared.table.PageSource.{PageSource}
 use Rattle.kimage_list.specs.declared.taking.Fate.{Fate}
 use Rattle.kimage_list.specs.declared.taking.Fate.TheVariants.{Exchanged, Given, Filed}
 use Rattle.kimage_list.specs.declared.taking.TakenPage.{TakenPage}
 use Rattle.kx_pages.specs.Lists.{has, count}
 use Rattle.kx_pages.proofs.Counting.{count-append}
+
+-- drawing from this pool and table on gives what drawing from l gives
+pub record Reaches (D : ℕ → Bool) (r : Option ℕ) (l : Loading) (pool : Pages) (table : Slots)
+    : Type 0 where
+  pub now : Loading
+  pub tracks : Tracks D now pool table
+  pub same : draw D r now.pairs now.spare now.filed now.left
+      ≡ draw D r l.pairs l.spare l.filed l.left
+  pub pairs : now.pairs ≡ l.pairs
+
+-- the loop that draws
+pub record Draws (r : Option ℕ) (pool : Pages) (table : Slots) (pool' : Pages) (table' : Slots)
+    : Type 0 where
+  pub reaches : (D : ℕ → Bool) (l : Loading) → Tracks D l pool table → Reaches D r l pool' table'
+  pub same : table' ≡ table
+  pub pages : whole_pool pool' ≡ whole_pool pool
 
 abbrev pub loading : List ℕ → List ℕ → List (ℕ × ℕ) → List ℕ → Loading
 loading left filed pairs spare = record { left = left; filed = filed; pairs = pairs; spare = spare }

@@ -5,7 +5,6 @@ use Rattle.std.proofs.lemmas.Bool.Decides.{eqb_tells}
 use Rattle.page_memory.specs.Contents.{Contents, at, IsHeld}
 use Rattle.page_pool.specs.Pages.{Pages}
 use Rattle.kimage_list.proofs.Exchange.{still, keys_are}
-use Rattle.kimage_list.proofs.InHand.{count-first}
 use Rattle.kimage_list.proofs.Linking.{items-full, place-inside, next-listed, sources-keys, word-still, word-apart}
 use Rattle.kimage_list.proofs.Lists.{heads_same, nil_cons}
 use Rattle.kimage_list.proofs.OpenList.{entry_added}
@@ -16,12 +15,12 @@ use Rattle.kimage_list.specs.Load.{Entry, Start, Move, pages_of}
 use Rattle.kimage_list.specs.Opening.{open_pages, entry_place, next_place, Tight, number}
 use Rattle.kimage_list.specs.Tables.{Slots, slot, place_in}
 use Rattle.kx_pages.specs.Items.{code}
-use Rattle.kx_pages.specs.Lists.{Each, Distinct, destinations, sources, count}
+use Rattle.kx_pages.specs.Lists.{Distinct, destinations, sources, count}
 use Rattle.kx_pages.specs.declared.item.Item.{Item}
 use Rattle.kx_pages.specs.declared.item.Item.TheVariants.{Destination, Source}
 use Rattle.kx_pages.specs.Bytes.{Mem}
 use Rattle.page_memory.specs.Memory.{put, set_word}
-use Rattle.kx_pages.proofs.Counting.{count-append, Each-from_no_count, Distinct-from_count}
+use Rattle.kx_pages.proofs.Counting.{count-append, Each-from_no_count, Distinct-from_count, Each-from_count}
 use Rattle.page_memory.proofs.Laws.{put-apart}
 
 items-start : (es : List Entry) (ps : List (ℕ × ℕ)) (p : ℕ) → destinations ps ≡ pages_of es → items (es ++ Start p ∷ []) ps ≡ items es ps ++ Destination p ∷ []
@@ -93,10 +92,6 @@ next-entry (l ∷ (j ∷ ls)) n t h =
     next-entry (j ∷ ls) (n - 511) (omega (arith, t.0), omega (arith, t.1)) (omega (arith, h, t.0))
     ∙ sym (ap (λ x. 4096 * slice_index (l ∷ (j ∷ ls)) x + 8 * (n % 511)) d ∙ ap (λ x. 4096 * slice_index (j ∷ ls) ((n - 511) / 511) + 8 * x) r)
 
-each_count_of : (P : ℕ → Type 0) (xs : List ℕ) → ((x : ℕ) → 1 ≤ count x xs → P x) → Each P xs
-each_count_of P [] f = tt
-each_count_of P (x ∷ xs) f = (f x (omega (arith, count-first x xs)), each_count_of P xs (λ y h. f y (omega (arith, h))))
-
 module _ (d : Draft) (hand : List ℕ) (memory : Contents) (pool : Pages) (table : Slots) (next entries : ℕ) (w : Renders d hand memory pool table next entries) (free : HasRoom d) where
   pub in_spare : (x : ℕ) → count x d.loading.spare ≡ count x d.first + count x d.links
   in_spare x = ap (count x) w.spare ∙ count-append x d.first d.links
@@ -120,7 +115,7 @@ module _ (d : Draft) (hand : List ℕ) (memory : Contents) (pool : Pages) (table
 
   pub entries_low : entries < 511 * 2 ^ 34
   entries_low =
-      let few = room (2 ^ 34) d.links (λ x. omega (arith, w.once x, in_spare x)) (each_count_of (λ x. x < 2 ^ 34) d.links (λ x h. w.below x (omega (arith, h, in_spare x, w.within x)))) in
+      let few = room (2 ^ 34) d.links (λ x. omega (arith, w.once x, in_spare x)) (Each-from_count (λ x. x < 2 ^ 34) d.links (λ x h. w.below x (omega (arith, h, in_spare x, w.within x)))) in
       omega (arith, few, free, w.many)
 
   pub unsourced : count (next / 4096) (sources d.loading.pairs) ≡ 0

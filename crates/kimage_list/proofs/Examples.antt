@@ -4,10 +4,11 @@ use Rattle.kx_pages.specs.Lists.{Has}
 use Rattle.kx_pages.specs.Spans.{Run, in_span, in_spans}
 use Rattle.kimage_list.specs.Load.{Start, Move, page_entries, pages_of, starts}
 use Rattle.kimage_list.specs.Writers.{History, Writer, StandsAt, IsAwaited, with_destination, with_source, destination_after, pages_from}
-use Rattle.kimage_list.proofs.Spanned.{span_inside, span_tells, has-from, from-above}
+use Rattle.kimage_list.proofs.Spanned.{span_inside, has-from, from-above}
 use Rattle.kimage_list.proofs.Segmented.{pages_of-page_entries, starts-page_entries, after-page_entries, page_entries-more}
 use Rattle.kimage_list.proofs.Awaiting.{awaited_exactly}
 use Rattle.kx_pages.proofs.Counting.{count-from_Has}
+use Rattle.kx_pages.proofs.Spans.{inside}
 
 -- the writer stands behind n pages of the one segment
 pub record IsOneSegment (wanted : List Run) (first n : ℕ) (w : Writer) : Type 0 where
@@ -28,7 +29,7 @@ module _ (wanted : List Run) (first n : ℕ) (w : Writer) (k : IsOneSegment want
   pub next_awaited : (total : ℕ) → ((q : ℕ) → in_spans wanted q ≡ in_span (record { first = first; count = total }) q) → n < total → IsAwaited w (first + n)
   next_awaited total h l =
       (awaited_exactly k.load w k.stands (first + n)).1 (
-        ap (λ rs. in_spans rs (first + n)) k.wanted_by ∙ h (first + n) ∙ span_tells (record { first = first; count = total }) (first + n) (omega arith) (omega (arith, l)),
+        ap (λ rs. in_spans rs (first + n)) k.wanted_by ∙ h (first + n) ∙ inside (record { first = first; count = total }) (first + n) (omega arith) (omega (arith, l)),
         λ g. let one = count-from_Has (first + n) (pages_from first n) (subst (Has (first + n)) pages_so_far g) in omega (arith, one, from-above (first + n) first n (omega arith)),
       )
 

@@ -1,5 +1,5 @@
 -- Taking a page while a list is written.
-use Rattle.std.proofs.Common.{◌≡◌, ℕ, zero, suc, ◌+◌, ◌*◌, ◌^◌, ◌<◌, ◌≤◌, List, [], ◌∷◌, length, Option, Some, None, refl, sym, ap, ◌∙◌, subst, ⊎_elim, inl, inr, arith, Bool, true, false, cond}
+use Rattle.std.proofs.Common.{◌≡◌, ℕ, ◌+◌, ◌*◌, ◌^◌, ◌<◌, ◌≤◌, List, [], ◌∷◌, length, Option, Some, None, refl, sym, ap, ◌∙◌, subst, ⊎_elim, inl, inr, arith, Bool, true, false, cond}
 use Rattle.std.specs.Prelude.{◌≢◌, ◌⊎◌, ◌/◌, ◌%◌, eqb, slice_index}
 use Rattle.std.proofs.lemmas.Option.{none-some}
 use Rattle.std.proofs.lemmas.Bool.Decides.{eqb_tells}
@@ -23,7 +23,7 @@ use Rattle.kx_pages.specs.declared.item.Item.TheVariants.{Source}
 use Rattle.kx_pages.specs.Bytes.{Mem}
 use Rattle.page_memory.specs.Memory.{put, set_word}
 use Rattle.kx_pages.proofs.Lists.{Each-map}
-use Rattle.kx_pages.proofs.Counting.{count-append, Each-from_no_count, Distinct-from_count}
+use Rattle.kx_pages.proofs.Counting.{count-append, Each-from_no_count, Distinct-from_count, count-at}
 
 pub count-first : (x : ℕ) (xs : List ℕ) → count x (x ∷ xs) ≡ 1 + count x xs
 count-first x xs = ap (λ b. cond b 1 0 + count x xs) (eqb-self x)
@@ -42,11 +42,6 @@ count-source q s (p ∷ ps) e = go (eqb_tells p.0 q) (count-source q s ps)
     go (inr t) ih =
         let f : source_of q ps ≡ Some s = ap (λ b. cond b (Some p.1) (source_of q ps)) (sym t.0) ∙ e in
         omega (arith, ih f)
-
-count-nth : (xs : List ℕ) (i : ℕ) → i < length xs → 1 ≤ count (slice_index xs i) xs
-count-nth [] i h = absurd (omega (arith, h))
-count-nth (x ∷ xs) zero h = omega (arith, count-first x xs)
-count-nth (x ∷ xs) (suc i) h = omega (arith, count-nth xs i (omega (arith, h)))
 
 sources-apart : (q : ℕ) (ls : List ℕ) (ps : List (ℕ × ℕ)) → count q (sources ps) ≡ 0 → ((x : ℕ) → count x (sources ps) + count x ls ≤ 1) → Each (λ r. (r.1 ≢ q) × Each (λ l. r.1 ≢ l) ls) ps
 sources-apart q ls [] z h = tt
@@ -99,7 +94,7 @@ module _ (d : Draft) (memory : Contents) (pool : Pages) (table : Slots) (next en
       let inside : number q d.entries / 511 < length d.links = omega (arith, f.inside) in
       let small : number q d.entries % 511 < 511 = omega arith in
       let page : v.place / 4096 ≡ slice_index d.links i = omega (arith, place, small) in
-      let listed : 1 ≤ count (slice_index d.links i) d.room = omega (arith, count-nth d.links i inside, in_spare (slice_index d.links i), w.within (slice_index d.links i)) in
+      let listed : 1 ≤ count (slice_index d.links i) d.room = omega (arith, count-at d.links i inside, in_spare (slice_index d.links i), w.within (slice_index d.links i)) in
       let low : slice_index d.links i < 2 ^ 34 = w.below (slice_index d.links i) listed in
       let held : 1 ≤ count q d.room = omega (arith, drawn q t.0 p.0 p.1, can.within q) in (
         omega (arith, place, low, small),

@@ -24,6 +24,7 @@ use Rattle.page_memory.specs.Memory.{put, set_word}
 use Rattle.kx_pages.proofs.Lists.{Each-map}
 use Rattle.kx_pages.proofs.Counting.{count-append, Each-from_no_count, Distinct-from_count}
 use Rattle.page_memory.proofs.Laws.{put-apart}
+use Rattle.std.proofs.lemmas.List.{nil_from_length}
 
 -- each entry has its item
 pub items-full : (es : List Entry) (ps : List (ℕ × ℕ)) → destinations ps ≡ pages_of es → length (items es ps) ≡ length es
@@ -87,10 +88,6 @@ place-inside d hand memory pool table next entries w x a e =
 no_entries : (es : List Entry) → length es ≡ 0 → es ≡ []
 no_entries [] e = refl
 no_entries (x ∷ es) e = absurd (omega (arith, e))
-
-no_links : (ls : List ℕ) → length ls ≡ 0 → ls ≡ []
-no_links [] e = refl
-no_links (x ∷ ls) e = absurd (omega (arith, e))
 
 -- the page of the next place is a link page
 pub next-listed : (ls : List ℕ) (n : ℕ) → Tight ls n → 1 ≤ length ls → 1 ≤ count (next_place ls n / 4096) ls
@@ -180,7 +177,7 @@ module _ (d : Draft) (t : ℕ × Loading) (memory : Contents) (pool : Pages) (ta
   pub first : (memory' : Contents) → entries ≡ 0 → at memory' ≡ put (at memory) t.0 (page_of []) → ((q : ℕ) → IsHeld memory q → IsHeld memory' q) → Renders (linked d t) [] memory' pool table (4096 * t.0) entries
   first memory' z e stay =
       let es : d.entries ≡ [] = no_entries d.entries (omega (arith, w.many, z)) in
-      let ls : d.links ≡ [] = no_links d.links (omega (arith, w.many, z, full)) in
+      let ls : d.links ≡ [] = nil_from_length d.links (omega (arith, w.many, z, full)) in
       let pages : open_pages (t.0 ∷ []) [] ≡ open_pages (d.links ++ t.0 ∷ []) (items d.entries t.1.pairs) =
       ap (λ xs. open_pages (xs ++ t.0 ∷ []) []) (sym ls) ∙ ap (λ xs. open_pages (d.links ++ t.0 ∷ []) (items xs t.1.pairs)) (sym es) in
       relinked memory' stay
@@ -218,7 +215,7 @@ module _ (d : Draft) (t : ℕ × Loading) (memory : Contents) (pool : Pages) (ta
 
 pub head_first : (d : Draft) (k h entries : ℕ) → entries ≡ length d.entries → IsFull d → entries ≡ 0 → h ≡ code (Link k) → HeadIs (d.links ++ k ∷ []) h
 head_first d k h entries m full z e =
-    let ls : d.links ≡ [] = no_links d.links (omega (arith, m, z, full)) in
+    let ls : d.links ≡ [] = nil_from_length d.links (omega (arith, m, z, full)) in
     let P : List ℕ → Type 0 = λ xs. HeadIs (xs ++ k ∷ []) h in
     subst P (sym ls) e
 

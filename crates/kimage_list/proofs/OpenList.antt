@@ -5,7 +5,7 @@ use Rattle.std.proofs.lemmas.List.{take_all, length-drop, map-append, length-map
 use Rattle.kimage_list.proofs.Words.{next-word}
 use Rattle.kimage_list.proofs.Exchange.{put-written, still, keys_are}
 use Rattle.kimage_list.specs.Laying.{in_bytes, link_pages, Holds}
-use Rattle.kimage_list.specs.Opening.{open_pages, next_place, Tight, ended_pages}
+use Rattle.kimage_list.specs.Opening.{open_pages, next_place, Tight}
 use Rattle.kx_pages.specs.Items.{code}
 use Rattle.kx_pages.specs.Lists.{Each, Distinct}
 use Rattle.kx_pages.specs.declared.item.Item.{Item}
@@ -14,6 +14,14 @@ use Rattle.kx_pages.specs.Bytes.{page_of, Mem}
 use Rattle.page_memory.specs.Contents.{page_with_word}
 use Rattle.page_memory.specs.Memory.{put, set_word}
 use Rattle.page_memory.proofs.Laws.{put-same, put-apart}
+
+-- each link page with its bytes so far, where these words come last
+abbrev pub ended_pages : List ℕ → List Item → List ℕ → List (ℕ × List ℕ)
+ended_pages [] is ws = []
+ended_pages (l ∷ []) is ws = (l, page_of (in_bytes (map code (take 511 is) ++ ws))) ∷ []
+ended_pages (l ∷ (k ∷ ks)) is ws =
+    (l, page_of (in_bytes (map code (take 511 is) ++ code (Link k) ∷ [])))
+    ∷ ended_pages (k ∷ ks) (drop 511 is) ws
 
 -- no word is last yet
 pub ended-open : (ls : List ℕ) (is : List Item) → ended_pages ls is [] ≡ open_pages ls is

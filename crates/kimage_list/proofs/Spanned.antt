@@ -1,13 +1,14 @@
 -- The pages of spans, one by one.
-use Rattle.std.proofs.Common.{◌≡◌, ℕ, zero, suc, ◌+◌, ◌<◌, ◌≤◌, ◌^◌, List, [], ◌∷◌, ◌++◌, length, refl, ap, ⊎_elim, inl, inr, arith, length-append, Bool, true, false}
+use Rattle.std.proofs.Common.{◌≡◌, ℕ, zero, suc, ◌+◌, ◌<◌, ◌≤◌, ◌^◌, List, [], ◌∷◌, length, refl, ap, ⊎_elim, inl, inr, arith, length-append, true, false}
 use Rattle.std.specs.Prelude.{◌≢◌, ◌⊎◌, ◌||◌, eqb}
-use Rattle.std.proofs.lemmas.Bool.{cases_lt, or_cases, false≢true}
+use Rattle.std.proofs.lemmas.Bool.{cases_lt, or_cases, false≢true, or_right}
 use Rattle.std.proofs.lemmas.Bool.Decides.{eqb_tells}
 use Rattle.kx_pages.specs.Lists.{Each, Has, count}
 use Rattle.kx_pages.specs.Spans.{Run, end, in_span, in_spans, pages, AreApart}
 use Rattle.kimage_list.specs.Writers.{pages_from, pages_in}
-use Rattle.kx_pages.proofs.Lists.{Each-map, Each-append}
+use Rattle.kx_pages.proofs.Lists.{Each-map, Each-append, Has-left, Has-right}
 use Rattle.kx_pages.proofs.Counting.{count-append}
+use Rattle.kx_pages.proofs.Spans.{inside}
 
 length-from : (p n : ℕ) → length (pages_from p n) ≡ n
 length-from p zero = refl
@@ -16,15 +17,6 @@ length-from p (suc n) = ap suc (length-from (suc p) n)
 pub length-pages_in : (rs : List Run) → length (pages_in rs) ≡ pages rs
 length-pages_in [] = refl
 length-pages_in (r ∷ rs) = omega (arith, length-append (pages_from r.first r.count) (pages_in rs), length-from r.first r.count, length-pages_in rs)
-
-has-append_left : (x : ℕ) (xs ys : List ℕ) → Has x xs → Has x (xs ++ ys)
-has-append_left x [] ys h = absurd h
-has-append_left x (y ∷ xs) ys (inl e) = inl e
-has-append_left x (y ∷ xs) ys (inr h) = inr (has-append_left x xs ys h)
-
-has-append_right : (x : ℕ) (xs ys : List ℕ) → Has x ys → Has x (xs ++ ys)
-has-append_right x [] ys h = h
-has-append_right x (y ∷ xs) ys h = inr (has-append_right x xs ys h)
 
 pub has-from : (x p n : ℕ) → p ≤ x → x < p + n → Has x (pages_from p n)
 has-from x p zero a b = absurd (omega (arith, a, b))
@@ -41,8 +33,8 @@ span_inside r x h = grind (arith, h)
 pub has-pages_in : (rs : List Run) (x : ℕ) → in_spans rs x ≡ true → Has x (pages_in rs)
 has-pages_in [] x h = absurd (false≢true h)
 has-pages_in (r ∷ rs) x h = ⊎_elim
-    (λ a. let b = span_inside r x a in has-append_left x (pages_from r.first r.count) (pages_in rs) (has-from x r.first r.count b.0 b.1))
-    (λ a. has-append_right x (pages_from r.first r.count) (pages_in rs) (has-pages_in rs x a))
+    (λ a. let b = span_inside r x a in Has-left x (pages_from r.first r.count) (pages_in rs) (has-from x r.first r.count b.0 b.1))
+    (λ a. Has-right x (pages_from r.first r.count) (pages_in rs) (has-pages_in rs x a))
     (or_cases (in_span r x) (in_spans rs x) h)
 
 from-below : (x p n : ℕ) → x < p → count x (pages_from p n) ≡ 0
@@ -96,17 +88,10 @@ each-from : (p n : ℕ) → Each (λ x. (p ≤ x) × (x < p + n)) (pages_from p 
 each-from p zero = tt
 each-from p (suc n) = ((omega arith, omega arith), Each-map (pages_from (suc p) n) (λ x h. (omega (arith, h.0), omega (arith, h.1))) (each-from (suc p) n))
 
-pub span_tells : (r : Run) (x : ℕ) → r.first ≤ x → x < end r → in_span r x ≡ true
-span_tells r x a b = grind (arith, a, b)
-
-or_right : (b c : Bool) → c ≡ true → (b || c) ≡ true
-or_right true c h = refl
-or_right false c h = h
-
 -- each of their pages is one of the spans'
 pub each-pages_in : (rs : List Run) → Each (λ x. in_spans rs x ≡ true) (pages_in rs)
 each-pages_in [] = tt
 each-pages_in (r ∷ rs) =
     Each-append (λ x. in_spans (r ∷ rs) x ≡ true) (pages_from r.first r.count) (pages_in rs)
-    (Each-map (pages_from r.first r.count) (λ x h. ap (λ b. b || in_spans rs x) (span_tells r x h.0 h.1)) (each-from r.first r.count))
+    (Each-map (pages_from r.first r.count) (λ x h. ap (λ b. b || in_spans rs x) (inside r x h.0 h.1)) (each-from r.first r.count))
     (Each-map (pages_in rs) (λ x h. or_right (in_span r x) (in_spans rs x) h) (each-pages_in rs))

@@ -37,14 +37,6 @@ next_place (l ∷ (k ∷ ks)) n = next_place (k ∷ ks) (n - 511)
 abbrev pub Tight : List ℕ → ℕ → Type 0
 Tight ls n = (511 * length ls ≤ n + 511) × (n ≤ 511 * length ls)
 
--- each link page with its bytes so far, where these words come last
-abbrev pub ended_pages : List ℕ → List Item → List ℕ → List (ℕ × List ℕ)
-ended_pages [] is ws = []
-ended_pages (l ∷ []) is ws = (l, page_of (in_bytes (map code (take 511 is) ++ ws))) ∷ []
-ended_pages (l ∷ (k ∷ ks)) is ws =
-    (l, page_of (in_bytes (map code (take 511 is) ++ code (Link k) ∷ [])))
-    ∷ ended_pages (k ∷ ks) (drop 511 is) ws
-
 -- the number of page p's entry
 abbrev pub number : ℕ → List Entry → ℕ
 number p [] = 0

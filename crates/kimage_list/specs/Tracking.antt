@@ -7,7 +7,7 @@ use Rattle.kimage_list.specs.declared.taking.MovedPage.{MovedPage}
 use Rattle.kimage_list.specs.declared.taking.TakenPage.{TakenPage}
 use Rattle.kimage_list.specs.declared.taking.Fate.{Fate}
 use Rattle.kimage_list.specs.declared.taking.Fate.TheVariants as fate
-use Rattle.kimage_list.specs.Load.{Loading, source_of, at_home, draw}
+use Rattle.kimage_list.specs.Load.{Loading, source_of, at_home}
 use Rattle.kimage_list.specs.Tables.{Slots, slot, source_in, place_in}
 
 -- pool and table are those of a loading
@@ -48,22 +48,6 @@ fate_of false None = fate.Given
 fate_of false (Some None) = fate.Filed
 fate_of false (Some (Some x)) = fate.Exchanged x
 
--- drawing from this pool and table on gives what drawing from l gives
-pub record Reaches (D : ℕ → Bool) (r : Option ℕ) (l : Loading) (pool : Pages) (table : Slots)
-    : Type 0 where
-  pub now : Loading
-  pub tracks : Tracks D now pool table
-  pub same : draw D r now.pairs now.spare now.filed now.left
-      ≡ draw D r l.pairs l.spare l.filed l.left
-  pub pairs : now.pairs ≡ l.pairs
-
 -- what of a pool no draw changes: the pages drawn and then those usable, the pages that it was made of, and its limit
 abbrev pub whole_pool : Pages → List ℕ × List ℕ × ℕ
 whole_pool pool = (pool.drawn ++ usable_of pool, pool.made, pool.limit)
-
--- the loop that draws
-pub record Draws (r : Option ℕ) (pool : Pages) (table : Slots) (pool' : Pages) (table' : Slots)
-    : Type 0 where
-  pub reaches : (D : ℕ → Bool) (l : Loading) → Tracks D l pool table → Reaches D r l pool' table'
-  pub same : table' ≡ table
-  pub pages : whole_pool pool' ≡ whole_pool pool

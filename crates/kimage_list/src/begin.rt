@@ -16,7 +16,7 @@ use std::alloc::{AllocError, Global};
 
 /// All memory of a load is taken here, before the first page is written: so nothing after it can fail, and a load that
 /// is refused has changed nothing that is read. It is the table of the wanted pages, and the first usable pages of the pool.
-pub fn prepare(
+pub(crate) fn prepare(
     alloc: Global,
     memory: &mut Memory,
     pool: &Pool,

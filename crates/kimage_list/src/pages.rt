@@ -13,7 +13,7 @@ use kx_pages::{Item, Page};
 use page_memory::Memory;
 
 /// Writes a word at this address.
-pub fn write_word(memory: &mut Memory, place: u64, word: u64)
+pub(crate) fn write_word(memory: &mut Memory, place: u64, word: u64)
     requires inside { place < 2 ^ 46 }
     requires aligned { place % 8 ≡ 0 }
     requires held { IsHeld memory.old (place / 4096) }
@@ -25,7 +25,7 @@ pub fn write_word(memory: &mut Memory, place: u64, word: u64)
 }
 
 /// Fills a page with these bytes, then zeros.
-pub fn fill(memory: &mut Memory, p: Page, bytes: &[u8])
+pub(crate) fn fill(memory: &mut Memory, p: Page, bytes: &[u8])
     requires held { IsHeld memory.old p }
     requires fits { length bytes.now ≤ 4096 }
     ensures value { at memory.new ≡ put (at memory.old) p (page_of bytes.now) }
@@ -36,7 +36,7 @@ pub fn fill(memory: &mut Memory, p: Page, bytes: &[u8])
 }
 
 /// Copies the bytes of `from` to `page`, and writes at `place` the word that names `page` as their source.
-pub fn move_source(memory: &mut Memory, page: Page, from: Page, place: u64)
+pub(crate) fn move_source(memory: &mut Memory, page: Page, from: Page, place: u64)
     requires inside { place < 2 ^ 46 }
     requires aligned { place % 8 ≡ 0 }
     requires held { IsHeld memory.old page }
@@ -51,21 +51,21 @@ pub fn move_source(memory: &mut Memory, page: Page, from: Page, place: u64)
 }
 
 /// The word of a source.
-pub fn source_word(p: Page) -> u64
+pub(crate) fn source_word(p: Page) -> u64
     ensures { result ≡ code (Source p) }
 {
     Item::Source(p.number()).word()
 }
 
 /// The word that leads on to a link page.
-pub fn link_word(p: Page) -> u64
+pub(crate) fn link_word(p: Page) -> u64
     ensures { result ≡ code (Link p) }
 {
     Item::Link(p.number()).word()
 }
 
 /// The word of a segment's start.
-pub fn destination_word(p: Page) -> u64
+pub(crate) fn destination_word(p: Page) -> u64
     ensures { result ≡ code (Destination p) }
 {
     Item::Destination(p.number()).word()
@@ -74,7 +74,7 @@ pub fn destination_word(p: Page) -> u64
 /// Makes the exchange that freed the page: the loaded page gets its bytes from its old source, and its word in the list
 /// names it as its own source. The bytes go first, while the old source still has them; whoever asked for the page fills
 /// it after that.
-pub fn settle(memory: &mut Memory, taken: &TakenPage)
+pub(crate) fn settle(memory: &mut Memory, taken: &TakenPage)
     requires { CanMove taken.now.moved memory.old }
     ensures value { at memory.new ≡ moved (at memory.old) taken.now.moved taken.now.page }
     ensures stay { (q : ℕ) → IsHeld memory.old q → IsHeld memory.new q }

@@ -2,7 +2,6 @@
 use Rattle.std.proofs.Common.{◌≡◌, ℕ, zero, suc, ◌+◌, ◌-◌, ◌*◌, ◌^◌, ◌<◌, ◌≤◌, List, [], ◌∷◌, ◌++◌, length, Option, Some, None, refl, sym, ap, ◌∙◌, subst, inl, inr, arith, length-append, true, false, ⊎_elim}
 use Rattle.std.specs.Prelude.{◌≢◌, ◌⊎◌, ◌%◌, eqb, leb}
 use Rattle.std.specs.List.{IsDistinct, AllByRecursion, list_any}
-use Rattle.std.proofs.lemmas.Map.Steps.{length-le_from_distinct_below}
 use Rattle.std.proofs.lemmas.Bool.{or_cases, eqb-true, ne_eqb, true≢false, false≢true}
 use Rattle.std.proofs.lemmas.Option.{none-some}
 use Rattle.kx_pages.specs.declared.item.Item.{Item}
@@ -20,7 +19,7 @@ use Rattle.list_checker.proofs.Lists.{none_holds}
 use Rattle.list_checker.proofs.Checking.{check_exact}
 use Rattle.list_checker.proofs.OneWay.{not_both_by}
 use Rattle.kx_pages.proofs.Lists.{Each-append, Each-from_has_not}
-use Rattle.kx_pages.proofs.Counting.{Distinct-push}
+use Rattle.kx_pages.proofs.Counting.{Distinct-push, room}
 
 -- distinct numbers below n are at most n
 distinct_by_test : (xs : List ℕ) → Distinct xs → IsDistinct eqb xs
@@ -35,9 +34,6 @@ distinct_by_test (x ∷ xs) d = (each xs d.0, distinct_by_test xs d.1)
 each_below : (n : ℕ) (xs : List ℕ) → Each (λ x. x < n) xs → (q : ℕ) → list_any (eqb q) xs ≡ true → q < n
 each_below n [] h q e = absurd (false≢true e)
 each_below n (x ∷ xs) h q e = ⊎_elim (λ k. let s = eqb-true q x k in omega (arith, s, h.0)) (λ k. each_below n xs h.1 q k) (or_cases (eqb q x) (list_any (eqb q) xs) e)
-
-pub room : (n : ℕ) (xs : List ℕ) → Distinct xs → Each (λ x. x < n) xs → length xs ≤ n
-room n xs d h = length-le_from_distinct_below xs n (distinct_by_test xs d) (each_below n xs h)
 
 -- the bytes from a place to the end of its page
 abbrev pub bytes_left : Option ℕ → ℕ

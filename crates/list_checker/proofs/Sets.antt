@@ -9,11 +9,8 @@ use Rattle.std.proofs.lemmas.List.{map-append}
 use Rattle.kx_pages.specs.Lists.{has}
 use Rattle.list_checker.specs.Faults.{is_kept}
 use Rattle.list_checker.specs.Checked.{is_among}
-use Rattle.kx_laws.proofs.Booleans.{is_eq-false, or_false, or_shift, or_true}
-
-pub has-push : (q k : ℕ) (xs : List ℕ) → has q (xs ++ k ∷ []) ≡ (has q xs || eqb k q)
-has-push q k [] = or_false (eqb k q)
-has-push q k (x ∷ xs) = ap (λ b. eqb x q || b) (has-push q k xs) ∙ sym (or_shift (eqb x q) (has q xs) (eqb k q))
+use Rattle.kx_laws.proofs.Booleans.{is_eq-false, or_false, or_true}
+use Rattle.kx_pages.proofs.Lists.{has-push}
 
 -- a key that was inserted is at the end of the list that the set shows
 pub inserted : (o n : BTreeSet ℕ) (k : ℕ) (xs : List ℕ) → Updates nat_cmp o n k true → ((q : ℕ) → contains nat_cmp o q ≡ has q xs) → (q : ℕ) → contains nat_cmp n q ≡ has q (xs ++ k ∷ [])

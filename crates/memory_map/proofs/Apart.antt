@@ -1,15 +1,13 @@
 -- The System RAM of a map: no byte is in two of its ranges, nor in two of those outside the crash areas.
-use Rattle.std.proofs.Common.{◌≡◌, ℕ, zero, suc, ◌+◌, ◌-◌, ◌*◌, ◌^◌, ◌<◌, ◌≤◌, ◌++◌, List, [], ◌∷◌, Bool, true, false, cond, not, Ok, Err, refl, sym, ap, ◌∙◌, subst, arith, length}
-use Rattle.std.specs.Prelude.{◌&&◌, ◌||◌, ◌==◌, Result, nat_lt, nat_le, min, max, filter, if◌then◌else◌}
-use Rattle.std.specs.List.{list_any, count_by, flat_map, AllByRecursion}
-use Rattle.std.proofs.lemmas.Bool.{false≢true, and_parts, or_parts}
+use Rattle.std.proofs.Common.{◌≡◌, ℕ, ◌+◌, ◌-◌, ◌<◌, ◌≤◌, ◌++◌, List, [], ◌∷◌, Bool, true, false, cond, Ok, Err, refl, sym, ap, ◌∙◌, subst, arith}
+use Rattle.std.specs.Prelude.{◌&&◌, ◌||◌, ◌==◌, nat_lt, min, max, filter}
+use Rattle.std.specs.List.{count_by, flat_map}
+use Rattle.std.proofs.lemmas.Bool.{false≢true, or_parts}
 use Rattle.std.proofs.lemmas.Bool.Decides.{nat_tests}
 use Rattle.std.proofs.lemmas.List.{append-nil}
 use Rattle.std.proofs.lemmas.List.Sums.{sum_by-cons, sum_by-append}
-use Rattle.kx_laws.specs.Results.{◌>>=◌}
 use Rattle.kx_laws.proofs.Results.{ok_same, bind_ok}
 use Rattle.text_lines.specs.Lines.{lines}
-use Rattle.memory_map.specs.declared.fault.MapFault.{MapFault}
 use Rattle.memory_map.specs.declared.fault.MapFault.TheVariants as faults
 use Rattle.memory_map.specs.declared.row.Class.{Class}
 use Rattle.memory_map.specs.declared.row.Class.TheVariants as classes

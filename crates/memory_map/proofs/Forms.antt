@@ -1,6 +1,6 @@
 -- The reader takes exactly the lines of the grammar.
-use Rattle.std.proofs.Common.{◌≡◌, ℕ, ◌<◌, List, [], ◌∷◌, ◌++◌, length, drop, Bool, true, false, refl, sym, ap, ◌∙◌, Some, None, Option, arith}
-use Rattle.std.specs.Prelude.{◌==◌, ◌&&◌, ◌↔◌, not, nat_eq, codes, if◌then◌else◌, unwrap_or}
+use Rattle.std.proofs.Common.{◌≡◌, ℕ, List, [], ◌∷◌, ◌++◌, drop, Bool, true, false, refl, sym, ap, ◌∙◌, Some, None, Option, arith}
+use Rattle.std.specs.Prelude.{◌==◌, ◌↔◌, not, nat_eq, codes, if◌then◌else◌, unwrap_or}
 use Rattle.std.specs.List.{list_all, starts_with}
 use Rattle.std.proofs.lemmas.Bool.{and_parts, and_from}
 use Rattle.kx_laws.proofs.Booleans.{not_true}
@@ -8,9 +8,8 @@ use Rattle.kx_laws.proofs.Lists.{begins_with}
 use Rattle.text_lines.specs.Lines.{cut, number}
 use Rattle.text_lines.proofs.Cutting.{has_no, cut_parts, cut_behind, number_digits, number_has_no}
 use Rattle.memory_map.specs.declared.row.Class.{Class}
-use Rattle.memory_map.specs.declared.row.Class.TheVariants.{Other}
 use Rattle.memory_map.specs.Text.{class_of, without_spaces, entry_with_name, entry_to, entry_from, entry_of}
-use Rattle.memory_map.specs.Grammar.{IsMapLine, IsEntry}
+use Rattle.memory_map.specs.Grammar.{IsEntry}
 
 abbrev Entry : Type 0
 Entry = ℕ × ℕ × Class

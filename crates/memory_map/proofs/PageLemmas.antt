@@ -1,21 +1,20 @@
 -- Pages of rows, and spans of them.
-use Rattle.std.proofs.Common.{◌≡◌, ℕ, zero, suc, ◌+◌, ◌-◌, ◌*◌, ◌/◌, ◌<◌, ◌≤◌, ◌^◌, List, [], ◌∷◌, ◌++◌, Bool, true, false, refl, sym, ap, ◌∙◌, Some, None, Option, arith, inl, inr, length, take, get_or}
-use Rattle.std.specs.Prelude.{◌↔◌, IsSome, IfSome, IfOk, Result, Ok, Err, ◌&&◌, ◌||◌, ◌==◌, not, nat_lt, nat_le, min, max, if◌then◌else◌}
+use Rattle.std.proofs.Common.{◌≡◌, ℕ, ◌+◌, ◌-◌, ◌*◌, ◌/◌, ◌<◌, ◌≤◌, ◌^◌, List, [], ◌∷◌, ◌++◌, Bool, true, false, refl, sym, ap, ◌∙◌, Some, None, Option, arith, inl, inr, length, take, get_or}
+use Rattle.std.specs.Prelude.{◌↔◌, IsSome, IfSome, IfOk, Result, Ok, Err, ◌&&◌, ◌||◌, ◌==◌, not, nat_lt, nat_le, if◌then◌else◌}
 use Rattle.std.specs.List.{list_any}
 use Rattle.std.proofs.lemmas.Bool.Decides.{nat_tests}
 use Rattle.std.proofs.lemmas.Bool.{cases_lt, lt-ltb, le-ltb, le-leb, lt-leb, eq-eqb, ne_eqb, false≢true}
 use Rattle.std.proofs.lemmas.List.Folds.{list_any-append, list_any_more}
 use Rattle.kx_laws.proofs.Booleans.{or_false, or_shift}
+use Rattle.kx_pages.specs.Ranges.{pages_for}
 use Rattle.kx_pages.specs.Spans.{Run, in_span, in_spans, passing}
 use Rattle.memory_map.specs.declared.row.Row.{Row}
-use Rattle.memory_map.specs.Rows.{row_end, holds_page, meets_page}
-use Rattle.memory_map.specs.Maps.{MapValue, whole_pages, if_some_pages, has_page, is_whole, is_taken, is_ram, ram_pages}
+use Rattle.memory_map.specs.Rows.{row_end, holds_page}
+use Rattle.memory_map.specs.Maps.{MapValue, pages_inside, if_some_pages, has_page, is_whole, is_taken, is_ram, ram_pages}
+use Rattle.kx_pages.proofs.Spans.{passing_same}
 
 le_same : (a b c d : ℕ) → (a ≤ b → c ≤ d) → (b < a → d < c) → nat_le a b ≡ nat_le c d
 le_same a b c d f g = elim (cases_lt b a) [ inl h ↦ lt-leb a b h ∙ sym (lt-leb c d (g h)) | inr h ↦ le-leb a b h ∙ sym (le-leb c d (f h)) ]
-
-lt_same : (a b c d : ℕ) → (a < b → c < d) → (b ≤ a → d ≤ c) → nat_lt a b ≡ nat_lt c d
-lt_same a b c d f g = elim (cases_lt a b) [ inl h ↦ lt-ltb a b h ∙ sym (lt-ltb c d (f h)) | inr h ↦ le-ltb a b h ∙ sym (le-ltb c d (g h)) ]
 
 if_has : (b : Bool) (s : Run) (p : ℕ) → has_page (if b then None else Some s) p ≡ (not b && in_span s p)
 if_has true s p = refl
@@ -28,34 +27,15 @@ between f e p = grind (arith, nat_tests)
 has_between : (f e p : ℕ) → has_page (if_some_pages (record { first = f; count = e - f })) p ≡ (nat_le f p && nat_lt p e)
 has_between f e p = if_has (e - f == 0) (record { first = f; count = e - f }) p ∙ between f e p
 
-whole_from : (s p : ℕ) → nat_le ((s + 4095) / 4096) p ≡ nat_le s (4096 * p)
+whole_from : (s p : ℕ) → nat_le (pages_for s) p ≡ nat_le s (4096 * p)
 whole_from s p = le_same _ _ _ _ (λ h. omega (arith, h)) (λ h. omega (arith, h))
 
 whole_to : (e p : ℕ) → nat_lt p (e / 4096) ≡ nat_le (4096 * p + 4096) e
 whole_to e p = elim (cases_lt p (e / 4096)) [ inl h ↦ lt-ltb _ _ h ∙ sym (le-leb _ _ (omega (arith, h))) | inr h ↦ le-ltb _ _ h ∙ sym (lt-leb _ _ (omega (arith, h))) ]
 
-pub has_whole : (r : Row) (p : ℕ) → has_page (if_some_pages (whole_pages r)) p ≡ holds_page p r
+pub has_whole : (r : Row) (p : ℕ) → has_page (if_some_pages (pages_inside r)) p ≡ holds_page p r
 has_whole r p =
-    has_between ((r.start + 4095) / 4096) (row_end r / 4096) p ∙ ap (λ b. b && nat_lt p (row_end r / 4096)) (whole_from r.start p) ∙ ap (λ b. nat_le r.start (4096 * p) && b) (whole_to (row_end r) p)
-
-met_from : (s p : ℕ) → nat_le (s / 4096) p ≡ nat_lt s (4096 * p + 4096)
-met_from s p = elim (cases_lt p (s / 4096)) [ inl h ↦ lt-leb _ _ h ∙ sym (le-ltb _ _ (omega (arith, h))) | inr h ↦ le-leb _ _ h ∙ sym (lt-ltb _ _ (omega (arith, h))) ]
-
-met_to : (e p : ℕ) → nat_lt p ((e + 4095) / 4096) ≡ nat_lt (4096 * p) e
-met_to e p = lt_same _ _ _ _ (λ h. omega (arith, h)) (λ h. omega (arith, h))
-
-met_both : (s z q : ℕ) → 0 < z → (nat_lt s (q + 4096) && nat_lt q (s + z)) ≡ nat_lt (max s q) (min (s + z) (q + 4096))
-met_both s z q h = grind (arith, nat_tests)
-
-pub has_met : (r : Row) (p : ℕ) → 0 < r.size → has_page (if_some_pages (record { first = r.start / 4096; count = (row_end r + 4095) / 4096 - r.start / 4096 })) p ≡ meets_page p r
-has_met r p some =
-    has_between (r.start / 4096) ((row_end r + 4095) / 4096) p ∙ ap (λ b. b && nat_lt p ((row_end r + 4095) / 4096)) (met_from r.start p) ∙ ap (λ b. nat_lt r.start (4096 * p + 4096) && b) (met_to (row_end r) p) ∙ met_both r.start r.size (4096 * p) some
-
-met_none : (s z q : ℕ) → z ≡ 0 → false ≡ nat_lt (max s q) (min (s + z) (q + 4096))
-met_none s z q h = sym (le-ltb _ _ (omega (arith, h)))
-
-pub has_no_met : (r : Row) (p : ℕ) → r.size ≡ 0 → false ≡ meets_page p r
-has_no_met r p none = met_none r.start r.size (4096 * p) none
+    has_between (pages_for r.start) (row_end r / 4096) p ∙ ap (λ b. b && nat_lt p (row_end r / 4096)) (whole_from r.start p) ∙ ap (λ b. nat_le r.start (4096 * p) && b) (whole_to (row_end r) p)
 
 -- ---- lists of spans
 pub in_more : (xs ys : List Run) (s : Run) (o : Option Run) (p : ℕ) → ys ≡ xs ++ s ∷ [] → o ≡ Some s → in_spans ys p ≡ (in_spans xs p || has_page o p)
@@ -70,10 +50,6 @@ turn t rows i d a b c l new old =
     new ∙ ap (λ x. x || t (get_or rows i d)) old ∙ or_shift a (list_any t (take i rows)) (t (get_or rows i d)) ∙ ap (λ x. a || x) (sym (list_any_more t rows i d l))
 
 -- ---- counting
-pub passing_same : (f g : ℕ → Bool) (n : ℕ) → ((p : ℕ) → f p ≡ g p) → passing f n ≡ passing g n
-unfolding passing
-passing_same f g zero h = refl
-passing_same f g (suc n) h = rw (h n, passing_same f g n h) refl
 
 ram_count_of : (ram : List Run) (m : MapValue) (n : ℕ) → ((p : ℕ) → in_spans ram p ≡ is_ram m p) → ((k : ℕ) → 2 ^ 34 ≤ k → n ≡ passing (in_spans ram) k) → n ≡ ram_pages m
 ram_count_of ram m n is count = count (2 ^ 34) (omega arith) ∙ passing_same (in_spans ram) (is_ram m) (2 ^ 34) is

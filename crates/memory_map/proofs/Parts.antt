@@ -14,6 +14,7 @@ use Rattle.memory_map.specs.Rows.{row_end, is_inside, covers, AreParts, StartUpT
 use Rattle.memory_map.specs.Maps.{before_area, behind_area, without_area, outside}
 use Rattle.memory_map.specs.Walk.{part, walk}
 use Rattle.memory_map.proofs.Sets.{difference}
+use Rattle.kx_laws.proofs.Booleans.{or_second, or_false, or_shift}
 
 -- ---- one form
 past_none : (r : Row) (q : ℕ) → q < r.start → is_inside q r ≡ false
@@ -28,10 +29,6 @@ inside_some r q h k = grind (arith, nat_tests)
 pub low_none : (k b : ℕ) (rs : List Row) (q : ℕ) → AreParts k b rs → q < b → covers q rs ≡ false
 low_none k b [] q a h = refl
 low_none k b (r ∷ rs) q a h = or_from _ _ (past_none r q (omega arith)) (low_none k (row_end r + 1) rs q a.4 (omega arith))
-
-or_false : (x y : Bool) → x ≡ false → (x || y) ≡ y
-or_false true y h = cc
-or_false false y h = refl
 
 same_row : (x y : Row) → x.start ≡ y.start → x.size ≡ y.size → x.kind ≡ y.kind → x ≡ y
 same_row x y e f g =
@@ -65,7 +62,7 @@ rest_same : (k b c : ℕ) (x y : Row) (xs ys : List Row) → AreParts k b (x ∷
 rest_same k b c x y xs ys a d s e q =
     elim (cases_lt q (row_end x)) [
       | inl h ↦ low_none k (row_end x + 1) xs q a.4 (omega arith) ∙ sym (low_none k (row_end y + 1) ys q d.4 (omega arith))
-      | inr h ↦ sym (or_false _ _ (behind_none x q h)) ∙ s q ∙ or_false _ _ (behind_none y q (omega arith))
+      | inr h ↦ sym (or_second _ _ (behind_none x q h)) ∙ s q ∙ or_second _ _ (behind_none y q (omega arith))
     ]
 
 pub same_parts : (k b c : ℕ) (xs ys : List Row) → AreParts k b xs → AreParts k c ys → SameSet xs ys → xs ≡ ys
@@ -285,16 +282,8 @@ pub up_to_more : (n m : ℕ) (xs : List Row) → StartUpTo n xs → n ≤ m → 
 up_to_more n m [] h l = tt
 up_to_more n m (x ∷ xs) h l = (omega (arith, h.0), up_to_more n m xs h.1 l)
 
-or_none : (b : Bool) → (b || false) ≡ b
-or_none true = refl
-or_none false = refl
-
-or_shift : (a b c : Bool) → ((a || b) || c) ≡ (a || (b || c))
-or_shift true b c = refl
-or_shift false b c = refl
-
 pub covers-push : (xs : List Row) (s : Row) (q : ℕ) → covers q (xs ++ s ∷ []) ≡ (covers q xs || is_inside q s)
-covers-push xs s q = list_any-append (is_inside q) xs (s ∷ []) ∙ ap (λ b. covers q xs || b) (or_none (is_inside q s))
+covers-push xs s q = list_any-append (is_inside q) xs (s ∷ []) ∙ ap (λ b. covers q xs || b) (or_false (is_inside q s))
 
 hull_is : (s n t m q : ℕ) → s ≤ t → t ≤ s + n → (nat_le s q && nat_lt q (s + (max (s + n) (t + m) - s))) ≡ ((nat_le s q && nat_lt q (s + n)) || (nat_le t q && nat_lt q (t + m)))
 hull_is s n t m q h k = grind (arith, nat_tests)

@@ -1,7 +1,8 @@
 -- What the named lines of a memory map say: rows (with the E820 types of the Linux/x86 boot protocol), crash areas, and
 -- the RAM outside of them (this project's own).
-use Rattle.std.specs.Prelude.{◌≡◌, ℕ, ◌+◌, ◌-◌, ◌*◌, ◌/◌, ◌^◌, ◌++◌, ◌==◌, ◌&&◌, ◌||◌, not, Bool, false, List, [], ◌∷◌, length, nat_lt, min, max, filter, if◌then◌else◌, Option, Some, None, option_and_then}
+use Rattle.std.specs.Prelude.{◌≡◌, ℕ, ◌-◌, ◌*◌, ◌/◌, ◌^◌, ◌++◌, ◌==◌, ◌&&◌, ◌||◌, not, Bool, false, List, [], ◌∷◌, length, nat_lt, min, max, filter, if◌then◌else◌, Option, Some, None, option_and_then}
 use Rattle.std.specs.List.{list_any, flat_map, slice_get}
+use Rattle.kx_pages.specs.Ranges.{pages_for}
 use Rattle.kx_pages.specs.Spans.{Run, in_span, in_spans, passing}
 use Rattle.memory_map.specs.declared.row.Row.{Row}
 use Rattle.memory_map.specs.Rows.{row_end, holds_page, meets_page, is_ram_row, AreBelow}
@@ -41,9 +42,9 @@ abbrev pub ram_pages : MapValue → ℕ
 ram_pages m = passing (is_ram m) (2 ^ 34)
 
 -- the pages that lie wholly in a row
-abbrev pub whole_pages : Row → Run
-whole_pages r =
-    record { first = (r.start + 4095) / 4096; count = row_end r / 4096 - (r.start + 4095) / 4096 }
+abbrev pub pages_inside : Row → Run
+pages_inside r =
+    record { first = pages_for r.start; count = row_end r / 4096 - pages_for r.start }
 
 abbrev pub if_some_pages : Run → Option Run
 if_some_pages s = if s.count == 0 then None else Some s
@@ -51,7 +52,7 @@ if_some_pages s = if s.count == 0 then None else Some s
 -- the whole pages inside the last of these areas, if there are any
 abbrev pub reserved_in : List Row → Option Run
 reserved_in areas =
-    option_and_then (λ r. if_some_pages (whole_pages r)) (slice_get areas (length areas - 1))
+    option_and_then (λ r. if_some_pages (pages_inside r)) (slice_get areas (length areas - 1))
 
 abbrev pub reserved_area : MapValue → Option Run
 reserved_area m = reserved_in m.areas

@@ -1,6 +1,7 @@
 -- Ranges of bytes, and what they say of single bytes and pages (this project's own). A page has 4,096 bytes.
 use Rattle.std.specs.Prelude.{◌≡◌, ℕ, ◌<◌, ◌+◌, ◌*◌, ◌≤◌, ◌^◌, ◌==◌, ◌&&◌, Bool, List, [], ◌∷◌, nat_lt, nat_le, min, max}
 use Rattle.std.specs.List.{list_any, AllByRecursion}
+use Rattle.kx_pages.specs.Ranges as ranges
 use Rattle.memory_map.specs.declared.row.Row.{Row}
 
 -- the first byte behind a row
@@ -25,7 +26,7 @@ holds_page p r = nat_le r.start (4096 * p) && nat_le (4096 * p + 4096) (row_end 
 
 -- some byte of page p is one of the row's
 abbrev pub meets_page : ℕ → Row → Bool
-meets_page p r = nat_lt (max r.start (4096 * p)) (min (row_end r) (4096 * p + 4096))
+meets_page p r = ranges.meets_page r.start (row_end r) p
 
 -- System RAM
 abbrev pub is_ram_row : Row → Bool

@@ -1,6 +1,6 @@
 -- The text of a memory map (/proc/iomem): a line is spaces, the first and the last byte in hexadecimal with `-`
 -- between, ` : ` and a name.
-use Rattle.std.specs.Prelude.{◌≡◌, ℕ, ◌+◌, ◌-◌, ◌^◌, ◌++◌, ◌==◌, ◌&&◌, Bool, List, [], ◌∷◌, drop, codes, not, nat_lt, nat_eq, min, if◌then◌else◌, Option, Some, None, Result, Ok, Err}
+use Rattle.std.specs.Prelude.{ℕ, ◌+◌, ◌-◌, ◌^◌, ◌==◌, ◌&&◌, Bool, List, [], ◌∷◌, drop, codes, not, nat_lt, nat_eq, min, if◌then◌else◌, Option, Some, None, Result, Ok, Err}
 use Rattle.std.specs.List.{list_any, starts_with}
 use Rattle.std.specs.Str.{bytes_eq}
 use Rattle.kx_laws.specs.Results.{◌>>=◌}

@@ -4,10 +4,10 @@ ghost use Rattle.std.specs.Prelude.{◌≡◌, ℕ, ◌+◌, ◌-◌, ◌&&◌, 
 ghost use Rattle.std.specs.List.{list_any};
 ghost use Rattle.kx_pages.specs.Spans.{in_spans};
 ghost use Rattle.memory_map.specs.Rows.{is_ram_row, holds_page, meets_page, IsBelow, AreBelow};
-ghost use Rattle.memory_map.specs.Maps.{is_whole, is_ram, whole_pages, if_some_pages, reserved_in, has_page};
+ghost use Rattle.memory_map.specs.Maps.{is_whole, is_ram, pages_inside, if_some_pages, reserved_in, has_page};
 
 use crate::row::Row;
-use kx_pages::{PAGE_SIZE, PageSet, Span};
+use kx_pages::{PAGE_SIZE, PageSet, Span, pages_for};
 use std::alloc::{AllocError, Global};
 
 /// The pages from `first` on and before `end`, if there are any.
@@ -23,29 +23,12 @@ fn span_between(first: u64, end: u64) -> Option<Span>
 }
 
 /// The pages that lie wholly in the row, if there are any.
-fn whole_pages(row: Row) -> Option<Span>
+fn pages_inside(row: Row) -> Option<Span>
     requires { IsBelow row }
-    ensures value { result ≡ if_some_pages (whole_pages row) }
+    ensures value { result ≡ if_some_pages (pages_inside row) }
     ensures pages { (p : ℕ) → has_page result p ≡ holds_page p row }
 {
-    span_between(
-        (row.start + (PAGE_SIZE - 1)) / PAGE_SIZE,
-        (row.start + row.size) / PAGE_SIZE,
-    )
-}
-
-/// The pages that have a byte of the row, if there are any.
-fn met_pages(row: Row) -> Option<Span>
-    requires { IsBelow row }
-    ensures { (p : ℕ) → has_page result p ≡ meets_page p row }
-{
-    if row.size == 0 {
-        return None;
-    }
-    span_between(
-        row.start / PAGE_SIZE,
-        (row.start + row.size + (PAGE_SIZE - 1)) / PAGE_SIZE,
-    )
+    span_between(pages_for(row.start), (row.start + row.size) / PAGE_SIZE)
 }
 
 /// The whole pages inside the last of the areas, if there are any.
@@ -54,7 +37,7 @@ pub(crate) fn reserved_area(areas: &[Row]) -> Option<Span>
     ensures { result ≡ reserved_in areas.now }
 {
     match areas.last() {
-        Some(area) => whole_pages(*area),
+        Some(area) => pages_inside(*area),
         None => None,
     }
 }
@@ -81,7 +64,17 @@ fn push_whole(spans: &mut Vec<Span>, row: Row) -> Result<(), AllocError>
     if row.kind != 1 {
         return Ok(());
     }
-    push_some(spans, whole_pages(row))?;
+    push_some(spans, pages_inside(row))?;
+    Ok(())
+}
+
+/// Adds the pages that have a byte of the row.
+fn push_met(spans: &mut Vec<Span>, row: Row) -> Result<(), AllocError>
+    requires { IsBelow row }
+    ensures { IfOk result (λ _. (p : ℕ) → in_spans spans.new.items p
+        ≡ (in_spans spans.old.items p || meets_page p row)) }
+{
+    spans.push(Span::meeting(row.start, row.start + row.size))?;
     Ok(())
 }
 
@@ -94,7 +87,7 @@ fn push_other(spans: &mut Vec<Span>, row: Row) -> Result<(), AllocError>
     if row.kind == 1 {
         return Ok(());
     }
-    push_some(spans, met_pages(row))?;
+    push_met(spans, row)?;
     Ok(())
 }
 
@@ -130,7 +123,7 @@ fn push_areas(spans: &mut Vec<Span>, areas: &[Row]) -> Result<(), AllocError>
         ≡ (in_spans spans.old.items p || list_any (λ r. meets_page p r) areas.now)) }
 {
     for area in areas {
-        push_some(spans, met_pages(*area))?;
+        push_met(spans, *area)?;
     }
     Ok(())
 }

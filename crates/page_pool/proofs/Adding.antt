@@ -1,5 +1,5 @@
 -- Pages added, line by line.
-use Rattle.std.proofs.Common.{◌≡◌, ℕ, zero, suc, ◌+◌, ◌≤◌, ◌<◌, List, [], ◌∷◌, ◌++◌, append_assoc, add-one, refl, sym, ap, ◌∙◌, arith, length, length-append, Ok, Err, inl, inr, take, drop, drop-cons, true, false, Some, None, Bool, cond}
+use Rattle.std.proofs.Common.{◌≡◌, ℕ, suc, ◌+◌, ◌≤◌, ◌<◌, List, [], ◌∷◌, ◌++◌, refl, sym, ap, ◌∙◌, arith, length, length-append, Ok, Err, inl, inr, take, drop, drop-cons, true, false, Some, None, Bool, cond}
 use Rattle.std.specs.Prelude.{◌⊎◌, nat_eq, if◌then◌else◌, is_some, get_or}
 use Rattle.std.specs.List.{range_with_len, list_any}
 use Rattle.std.specs.BTreeMap as tree
@@ -11,15 +11,6 @@ use Rattle.page_pool.specs.Marks.{AreMarks}
 use Rattle.page_pool.specs.File.{pages_onto, line_onto}
 use Rattle.page_pool.specs.declared.fault.PoolFault.{PoolFault}
 use Rattle.page_pool.specs.declared.fault.PoolFault.TheVariants as faults
-
-pub range_more : (n a : ℕ) → range_with_len a (suc n) ≡ range_with_len a n ++ (a + n) ∷ []
-range_more zero a = ap (λ (x : ℕ). x ∷ []) (omega arith)
-range_more (suc n) a =
-    let place : a + 1 + n ≡ a + suc n = omega arith in
-    ap (λ (xs : List ℕ). a ∷ xs) (range_more n (a + 1) ∙ ap (λ (x : ℕ). range_with_len (a + 1) n ++ x ∷ []) place)
-
-pub added : (old pages : List ℕ) (a i : ℕ) → pages ≡ old ++ range_with_len a i → pages ++ (a + i) ∷ [] ≡ old ++ range_with_len a (i + 1)
-added old pages a i h = rw (h, add-one, range_more i a) (append_assoc old (range_with_len a i) _)
 
 pub onto_ok : (n : ℕ) (pages more line : List ℕ) (ls rest : List (List ℕ)) → ls ≡ line ∷ rest → line_onto n pages line ≡ Ok more → pages_onto n pages ls ≡ pages_onto (n + 1) more rest
 unfolding pages_onto

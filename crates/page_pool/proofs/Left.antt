@@ -1,17 +1,17 @@
 -- The pages left, and the usable ones among them.
 use Rattle.std.proofs.Common.{◌≡◌, ℕ, ◌+◌, ◌≤◌, ◌^◌, ◌++◌, ◌&&◌, ◌||◌, List, [], ◌∷◌, take, drop, length, cond, Bool, true, false, refl, sym, ap, ◌∙◌, subst, arith, inl, inr, length-append}
-use Rattle.std.specs.Prelude.{not, ◌≢◌, eqb}
+use Rattle.std.specs.Prelude.{not, eqb}
 use Rattle.std.specs.List.{filter}
 use Rattle.std.proofs.lemmas.Bool.{ne_eqb}
 use Rattle.std.proofs.lemmas.Bool.Decides.{nat_tests, eqb_tells}
 use Rattle.std.proofs.lemmas.List.{take-append-drop}
 use Rattle.std.proofs.lemmas.List.Elements.{filter-append}
 use Rattle.std.proofs.lemmas.List.Filters.{length-filter_both}
-use Rattle.kx_laws.proofs.Booleans.{and_parts, not_true, or_false, or_shift, true_false}
+use Rattle.kx_laws.proofs.Booleans.{and_parts, not_true, true_false}
 use Rattle.kx_pages.specs.Lists.{Each, Has, has, Distinct}
 use Rattle.kx_pages.specs.Numbers.{IsPage}
-use Rattle.kx_pages.proofs.Lists.{Each-map, Each-at, Each-from_Has, Has-from_has, has-from_Has}
-use Rattle.kx_pages.proofs.Counting.{no_longer, Distinct-append}
+use Rattle.kx_pages.proofs.Lists.{Each-map, Each-at, Each-from_Has, Has-from_has, has-from_Has, has-push}
+use Rattle.kx_pages.proofs.Counting.{no_longer, Distinct-append, Distinct-filter}
 use Rattle.page_pool.specs.Pages.{is_usable, left_among, usable_among}
 use Rattle.page_pool.specs.Queue.{is_waiting}
 
@@ -56,17 +56,6 @@ Has-into_filter f (x ∷ xs) q e (inr k) = go (f x) (Has-into_filter f xs q e k)
     go true k = inr k
     go false k = k
 
-Distinct-filter : (f : ℕ → Bool) (xs : List ℕ) → Distinct xs → Distinct (filter f xs)
-Distinct-filter f [] d = tt
-Distinct-filter f (x ∷ xs) d = go (f x) (Distinct-filter f xs d.1)
-  where
-    apart : Each (λ y. x ≢ y) (filter f xs)
-    apart = Each-from_Has (λ y. x ≢ y) (filter f xs) (λ y h. Each-at (λ z. x ≢ z) xs y d.0 (Has-filter f xs y h).1)
-
-    go : (b : Bool) → Distinct (filter f xs) → Distinct (cond b (x ∷ filter f xs) (filter f xs))
-    go true ih = (apart, ih)
-    go false ih = ih
-
 length-filter_of : (f : ℕ → Bool) (xs : List ℕ) → length (filter f xs) ≤ length xs
 length-filter_of f xs = omega (arith, length-filter_both f (λ x. not (f x)) (λ x. refl) xs)
 
@@ -74,10 +63,6 @@ length-filter_of f xs = omega (arith, length-filter_both f (λ x. not (f x)) (λ
 
 pub eqb_same : (x : ℕ) → eqb x x ≡ true
 eqb_same x = elim (eqb_tells x x) [ inl t ↦ t.0 | inr t ↦ absurd (t.1 refl) ]
-
-pub has_push : (x q : ℕ) (d : List ℕ) → has x (d ++ q ∷ []) ≡ (has x d || eqb q x)
-has_push x q [] = or_false (eqb q x)
-has_push x q (y ∷ d) = rw (has_push x q d) (sym (or_shift (eqb y x) (has x d) (eqb q x)))
 
 -- those that are waiting
 pub usable_waiting : (limit : ℕ) (xs d : List ℕ) → usable_among limit xs d ≡ filter (λ x. is_waiting limit (has x d) x) xs
@@ -138,7 +123,7 @@ usable_drawn limit xs d q rest once first =
     let other : ℕ → Bool = λ x. not (eqb q x) in
     let apart : Distinct (q ∷ rest) = subst Distinct first (usable_distinct limit xs d once) in
     usable_waiting limit xs (d ++ q ∷ [])
-    ∙ filter_same g (λ x. f x && other x) (λ x. ap (λ b. not b && is_usable limit x) (has_push x q d) ∙ but_one (has x d) (is_usable limit x) (eqb q x)) xs
+    ∙ filter_same g (λ x. f x && other x) (λ x. ap (λ b. not b && is_usable limit x) (has-push x q d) ∙ but_one (has x d) (is_usable limit x) (eqb q x)) xs
     ∙ sym (filter_twice other f xs)
     ∙ ap (filter other) (sym (usable_waiting limit xs d) ∙ first)
     ∙ (rw (eqb_same q) (filter_all other rest (Each-map rest (λ y n. ap not (ne_eqb q y n)) apart.0)))

@@ -2,14 +2,14 @@
 use Rattle.std.proofs.Common.{◌≡◌, ℕ, zero, suc, ◌+◌, ◌-◌, ◌<◌, ◌≤◌, ◌++◌, ◌||◌, List, [], ◌∷◌, take, drop, length, get_or, cond, Bool, true, false, refl, sym, ap, ◌∙◌, subst, arith, inl, inr, length-append, append_assoc, append-nil, replicate}
 use Rattle.std.specs.Prelude.{◌≢◌, ◌⊎◌, eqb, set}
 use Rattle.std.proofs.lemmas.Bool.{ne_eqb, cases_eq, cases_Bool}
-use Rattle.std.proofs.lemmas.List.{take-append-drop, take-take, take_more, take_more_set, take-set-le, drop_more, map-append, length-map, length-take-le, length-drop, length-set, length-replicate, get_or-replicate, get_or-take, get_or-drop, get_or-map, get_or-set_same, get_or-set_other, append_cancel_left}
+use Rattle.std.proofs.lemmas.List.{take-append-drop, take-take, take_more, take_more_set, take-set-le, drop_more, map-append, length-map, length-take-le, length-drop, length-set, length-replicate, get_or-replicate, get_or-take, get_or-drop, get_or-map, get_or-set_same, get_or-set_other, append_cancel_left, nil_from_length}
 use Rattle.kx_laws.proofs.Booleans.{or_true, or_false}
 use Rattle.kx_pages.specs.Lists.{Each, Has, has, Distinct, count}
-use Rattle.kx_pages.proofs.Lists.{Each-at, Each-append, Each-take, Each-from_has_not, Has-from_has}
+use Rattle.kx_pages.proofs.Lists.{Each-at, Each-append, Each-take, Each-from_has_not, Has-from_has, Has-get_or, has-push}
 use Rattle.kx_pages.proofs.Counting.{Distinct-push, count-from_Has, count-from_has_not}
 use Rattle.page_pool.specs.Pages.{left_among, usable_among}
 use Rattle.page_pool.specs.Queue.{pages_at, is_waiting, IsQueue}
-use Rattle.page_pool.proofs.Left.{eqb_same, has_push, usable_waiting, usable_more, usable_are, usable_drawn, left_length, usable_fits}
+use Rattle.page_pool.proofs.Left.{eqb_same, usable_waiting, usable_more, usable_are, usable_drawn, left_length, usable_fits}
 
 pub pages_at-append : (xs ps qs : List ℕ) → pages_at xs (ps ++ qs) ≡ pages_at xs ps ++ pages_at xs qs
 unfolding pages_at
@@ -34,15 +34,6 @@ length-pages_at xs ps = length-map ps (λ i. get_or xs i 0)
 get_or-pages_at : (xs ps : List ℕ) (i : ℕ) → i < length ps → get_or (pages_at xs ps) i 0 ≡ get_or xs (get_or ps i 0) 0
 unfolding pages_at
 get_or-pages_at xs ps i h = get_or-map (λ j. get_or xs j 0) ps i 0 0 h
-
-Has-get_or : (xs : List ℕ) (i : ℕ) → i < length xs → Has (get_or xs i 0) xs
-Has-get_or [] i h = absurd (omega (arith, h))
-Has-get_or (x ∷ xs) zero h = inl refl
-Has-get_or (x ∷ xs) (suc i) h = inr (Has-get_or xs i (omega (arith, h)))
-
-nil_of : (ys : List ℕ) → length ys ≡ 0 → ys ≡ []
-nil_of [] e = refl
-nil_of (y ∷ ys) e = absurd (omega (arith, e))
 
 -- the pages at places of a list are of the list
 pub pages_among : (xs ps : List ℕ) → Each (λ i. i < length xs) ps → Each (λ q. Has q xs) (pages_at xs ps)
@@ -161,7 +152,7 @@ module _ (xs queue : List ℕ) (flags : List Bool) (next stop limit : ℕ) where
     unusable_are = omega (arith, stop_length xs h, h.within, h.order, gone_length xs h, left_length xs gone once h.once (gone_among xs h))
 
     pub none_left : stop ≤ next → usable_among limit xs gone ≡ []
-    none_left full = nil_of (usable_among limit xs gone) (omega (arith, left_are, full))
+    none_left full = nil_from_length (usable_among limit xs gone) (omega (arith, left_are, full))
 
     pub parts_are : length gone + length (usable_among limit xs gone) ≡ stop
     parts_are = omega (arith, stop_length xs h, gone_length xs h)
@@ -222,7 +213,7 @@ module _ (xs queue : List ℕ) (flags : List Bool) (next stop limit : ℕ) where
       told_more i k = go (cases_eq i place)
         where
           pushed : has (get_or xs i 0) (pages_at xs (take (next + 1) queue)) ≡ (has (get_or xs i 0) gone || eqb first (get_or xs i 0))
-          pushed = ap (has (get_or xs i 0)) gone_more ∙ has_push (get_or xs i 0) first gone
+          pushed = ap (has (get_or xs i 0)) gone_more ∙ has-push (get_or xs i 0) first gone
 
           go : (i ≡ place) ⊎ (i ≡ place → ⊥) → get_or (set flags place true) i false ≡ has (get_or xs i 0) (pages_at xs (take (next + 1) queue))
           go (inl e) =

@@ -3,8 +3,6 @@ use Rattle.std.proofs.Common.{◌≡◌, ℕ, ◌+◌, ◌<◌, ◌≤◌, List,
 use Rattle.std.specs.Prelude.{IsSome, is_some, get_or, nat_eq, unwrap_or, set}
 use Rattle.std.specs.List.{list_any}
 use Rattle.std.specs.Ordering.{nat_cmp, is_eq}
-use Rattle.std.specs.declared.cmp.Ordering.{Ordering}
-use Rattle.std.specs.declared.cmp.Ordering.TheVariants.{Less, Equal, Greater}
 use Rattle.std.specs.Cmp.{nat_cmp_total}
 use Rattle.std.specs.BTreeMap as tree
 use Rattle.std.specs.FinMap as finite
@@ -18,6 +16,7 @@ use Rattle.page_pool.specs.Queue.{pages_at}
 use Rattle.page_pool.proofs.Left.{usable_undrawn}
 use Rattle.page_pool.proofs.Queueing.{queue_drawn, gone_more, gone_among, count_among}
 use Rattle.page_pool.proofs.Made.{marks_none, pool_made, count-any, some-fresh}
+use Rattle.kx_laws.proofs.Booleans.{Equal-from_is_eq}
 
 -- a draw
 pub drawn_pool : (xs queue : List ℕ) (flags : List Bool) (next stop limit : ℕ) (m : tree.BTreeMap ℕ Bool) → IsPool xs queue flags next stop limit m → next < stop
@@ -31,16 +30,11 @@ drawn_pool xs queue flags next stop limit m h less = record {
   filed = record { each = λ x f. omega (arith, h.filed.each x f, ap (count x) (gone_more xs queue flags next stop limit h.once h.queued less), count-append x (pages_at xs (take next queue)) (get_or xs (get_or queue next 0) 0 ∷ [])) };
 }
 
-equal : (r : Ordering) → is_eq r ≡ true → r ≡ Equal
-equal Less e = cc
-equal Equal e = refl
-equal Greater e = cc
-
 filed_more : (xs : List ℕ) (m n : tree.BTreeMap ℕ Bool) (p : ℕ) (b : Bool) → FiledAreAmong xs m → marks_of n ≡ finite.insert (marks_of m) p b → (b ≡ true → 1 ≤ count p xs) → FiledAreAmong xs n
 filed_more xs m n p b old new known = record { each = λ x f. go x _ refl (sym (ap (λ o. unwrap_or o false) (ap (λ t. finite.get t x) new ∙ get-insert nat_cmp_total (marks_of m) p b x)) ∙ f) }
   where
     go : (x : ℕ) (z : Bool) → is_eq (nat_cmp x p) ≡ z → unwrap_or (cond z (Some b) (finite.get (marks_of m) x)) false ≡ true → 1 ≤ count x xs
-    go x true e f = subst (λ y. 1 ≤ count y xs) (sym (nat_cmp-IsAntisymmetric x p (equal _ e))) (known f)
+    go x true e f = subst (λ y. 1 ≤ count y xs) (sym (nat_cmp-IsAntisymmetric x p (Equal-from_is_eq _ e))) (known f)
     go x false e f = old.each x f
 
 -- a mark

@@ -1,6 +1,5 @@
 -- A run that goes on where a shorter one stopped.
-use Rattle.std.proofs.Common.{◌≡◌, ℕ, zero, suc, ◌+◌, sym, ap, ◌∙◌, arith, Ok, Err, Result}
-use Rattle.std.specs.Prelude.{OnErr}
+use Rattle.std.proofs.Common.{◌≡◌, ℕ, zero, suc, ◌+◌, sym, ap, ◌∙◌, arith}
 use Rattle.relocate_machine.specs.declared.step.Step.{Step}
 use Rattle.relocate_machine.specs.declared.step.Step.TheVariants as steps
 use Rattle.relocate_machine.specs.declared.step.Outcome.{Outcome}
@@ -39,7 +38,3 @@ ends_after limit k r a s0 s split so_far p is =
 pub goes_after : (k : ℕ) (s0 s u : State) → run_from k 0 s0 ≡ (s, outcomes.Running k) → (u, steps.Went) ≡ step_of s → run_from (k + 1) 0 s0 ≡ (u, outcomes.Running (k + 1))
 unfolding run_from
 goes_after k s0 s u so_far is = ends_after (k + 1) k 0 0 s0 s (omega arith) so_far (u, steps.Went) is
-
-pub on_err : {T E : Type 0} (r : Result T E) (P : Type 0) → P → OnErr r P
-on_err (Ok x) P h = tt
-on_err (Err e) P h = h

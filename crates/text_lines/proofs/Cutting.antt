@@ -5,16 +5,13 @@ use Rattle.std.specs.Prelude.{◌==◌, not, nat_lt, if◌then◌else◌, unwrap
 use Rattle.std.specs.List.{before_first, after_first, position_or_len, list_all}
 use Rattle.std.specs.Str.Parse.{digits_value}
 use Rattle.std.proofs.Math.Seq.{take-append_seam, drop-append-add}
-use Rattle.std.proofs.lemmas.Bool.{and_parts, and_from, lt-ltb}
+use Rattle.std.proofs.lemmas.Bool.{and_parts, and_from, lt-ltb, ltb-true}
 use Rattle.std.proofs.lemmas.List.Sums.{split_at_first, passes_at_first}
 use Rattle.text_lines.specs.Lines.{cut, is_digit, number, number_of}
 
 -- no byte of these is `at`
 abbrev pub has_no : ℕ → List ℕ → Bool
 has_no at bytes = list_all (λ b. not (b == at)) bytes
-
-is_less : (a b : ℕ) → nat_lt a b ≡ true → a < b
-is_less a b h = grind arith
 
 is_same : (a b : ℕ) → (a == b) ≡ true → a ≡ b
 is_same a b h = grind arith
@@ -34,7 +31,7 @@ cut_parts at bytes front after h = go (nat_lt (position_or_len (λ b. b == at) b
         → ◌≡◌ {A = Option (List ℕ × List ℕ)} (if c then Some (before_first (λ b. b == at) bytes, after_first (λ b. b == at) bytes) else None) (Some (front, after)) → bytes ≡ front ++ at ∷ after
     go false t e = cc
     go true t e =
-        let below = is_less _ _ t in
+        let below = ltb-true _ _ t in
         let both = same_parts _ _ _ _ e in
         let here : get_or bytes (position_or_len (λ b. b == at) bytes) 0 ≡ at = is_same _ at (passes_at_first (λ b. b == at) bytes 0 below) in
         split_at_first (λ b. b == at) bytes 0 below

@@ -4,13 +4,14 @@ use Rattle.relocate_machine.specs.Machine.{State, start_at}
 use Rattle.relocate_machine.specs.Writes.{AreHeld, IsHeldFor, IsWritten, writes_of}
 use Rattle.relocate_machine.specs.Run.{run_from}
 use Rattle.relocate_machine.proofs.Held.{writes_of-word}
-use Rattle.relocate_machine.proofs.More.{ends_after, goes_after, on_err}
+use Rattle.relocate_machine.proofs.More.{ends_after, goes_after}
 use Rattle.relocate_machine.proofs.Pages.{holds_written}
 use Rattle.relocate_machine.proofs.ReadSteps.{goes-runs, if_some-more, runs_on}
 use Rattle.relocate_machine.proofs.Runs.{step_of-runs}
 use Rattle.relocate_machine.proofs.Same.{next_word-same, step_of-same, writes_of-same}
 use Rattle.relocate_machine.proofs.Stays.{run_from-stays, stays_as, stays_step, stays_then}
 use Rattle.relocate_machine.proofs.running.run.Goals as goal
+use Rattle.kx_laws.proofs.Results.{on_err}
 
 pub loop-k-init : goal.loop-k-init
 unfolding run_from

@@ -1,4 +1,4 @@
-use Rattle.std.proofs.Common.{◌≡◌, ◌≤◌, ◌+◌, length, []}
+use Rattle.std.proofs.Common.{◌≡◌, ◌≤◌, ◌+◌, length}
 use Rattle.text_lines.specs.Lines.{lines}
 use Rattle.memory_map.specs.Maps.{nothing}
 use Rattle.memory_map.specs.Text.{lines_onto}
