@@ -6,50 +6,18 @@
 //! and writes the memory file OUT of the pages that are not all zeros. SWAP, an address, makes it kept mode. What a word
 //! does and how a page is moved is as docs/DEFINITIONS.md says; the pages are in an ordered map, each in a box of its own.
 //! Nothing is tested that a sound memory file meets.
-use std::collections::BTreeMap;
+mod plain_memory;
+
+use plain_memory::{file, held, read, Page, Pages, PAGE, ZEROS};
 use std::{env, fs, process};
 
-const PAGE: usize = 4096;
-const SLOT: usize = 8 + PAGE;
-const HEAD: usize = 16;
 const ADDRESS_LIMIT: u64 = 1 << 46;
 
-type Page = [u8; PAGE];
-
-static ZEROS: Page = [0; PAGE];
-
 struct Memory {
-    pages: BTreeMap<u64, Box<Page>>,
+    pages: Pages,
 }
 
 impl Memory {
-    fn read(file: &[u8]) -> Memory {
-        let slots = file[HEAD..].chunks_exact(SLOT).map(|slot| slot.split_at(8));
-        let pages = slots.map(|(number, page)| {
-            let number = u64::from_le_bytes(number.try_into().unwrap());
-            (number, Box::new(page.try_into().unwrap()))
-        });
-        Memory {
-            pages: pages.collect(),
-        }
-    }
-
-    fn file(&self) -> Vec<u8> {
-        let stored: Vec<_> = self
-            .pages
-            .iter()
-            .filter(|(_, page)| page[..] != ZEROS[..])
-            .collect();
-        let mut file = Vec::with_capacity(HEAD + stored.len() * SLOT);
-        file.extend(b"KXMEM001");
-        file.extend((stored.len() as u64).to_le_bytes());
-        for (number, page) in stored {
-            file.extend(number.to_le_bytes());
-            file.extend(&page[..]);
-        }
-        file
-    }
-
     fn page(&self, number: u64) -> &Page {
         self.pages.get(&number).map_or(&ZEROS, |page| page)
     }
@@ -65,10 +33,7 @@ impl Memory {
 
     fn copy(&mut self, destination: u64, source: u64) {
         let page = *self.page(source);
-        **self
-            .pages
-            .entry(destination)
-            .or_insert_with(|| Box::new(ZEROS)) = page;
+        *held(&mut self.pages, destination) = page;
     }
 }
 
@@ -118,7 +83,8 @@ fn main() {
         process::exit(2);
     }
     let hexadecimal = |word: &String| u64::from_str_radix(word, 16).unwrap();
-    let mut memory = Memory::read(&fs::read(&words[0]).unwrap());
+    let pages = read(&fs::read(&words[0]).unwrap());
+    let mut memory = Memory { pages };
     let swap = words.get(4).map(|word| hexadecimal(word) / PAGE as u64);
     let outcome = run(
         &mut memory,
@@ -126,6 +92,6 @@ fn main() {
         words[3].parse().unwrap(),
         swap,
     );
-    fs::write(&words[1], memory.file()).unwrap();
+    fs::write(&words[1], file(&memory.pages)).unwrap();
     print!("{outcome}");
 }

@@ -6,17 +6,12 @@
 //! writes the memory file OUT. It knows what is measured, and no more: stores, and loads in plain mode of one segment that
 //! one caller opens, writes and installs, where no page of the pool is one of the segment's. The pages are in an ordered map,
 //! each in a box of its own. Nothing is tested that sound files meet.
-use std::collections::{BTreeMap, HashSet, VecDeque};
+mod plain_memory;
+
+use plain_memory::{file, held, read, Pages, PAGE};
+use std::collections::{HashSet, VecDeque};
 use std::fmt::Write;
 use std::{env, fs};
-
-const PAGE: usize = 4096;
-const SLOT: usize = 8 + PAGE;
-const HEAD: usize = 16;
-
-type Page = [u8; PAGE];
-
-static ZEROS: Page = [0; PAGE];
 
 struct Segment {
     first: u64,
@@ -32,7 +27,7 @@ struct Image {
 
 #[derive(Default)]
 struct Slots {
-    memory: BTreeMap<u64, Box<Page>>,
+    memory: Pages,
     pool: VecDeque<u64>,
     load: Option<Segment>,
     written: Option<Image>,
@@ -53,14 +48,17 @@ fn bytes_of(text: &str) -> Vec<u8> {
 
 impl Slots {
     fn put(&mut self, page: u64, bytes: &[u8]) {
-        let held = self.memory.entry(page).or_insert_with(|| Box::new(ZEROS));
+        let held = held(&mut self.memory, page);
         held[..bytes.len()].copy_from_slice(bytes);
         held[bytes.len()..].fill(0);
     }
 
     fn touches(&self, page: u64) -> bool {
         let images = [&self.written, &self.image];
-        images.into_iter().flatten().any(|it| it.set.contains(&page))
+        images
+            .into_iter()
+            .flatten()
+            .any(|it| it.set.contains(&page))
     }
 
     // The list has a word for the segment, one for each page, and the done word: up to 510 pages on one list page.
@@ -112,32 +110,11 @@ impl Slots {
     }
 }
 
-fn file_of(memory: &BTreeMap<u64, Box<Page>>) -> Vec<u8> {
-    let stored: Vec<_> = memory
-        .iter()
-        .filter(|(_, page)| page[..] != ZEROS[..])
-        .collect();
-    let mut file = Vec::with_capacity(HEAD + stored.len() * SLOT);
-    file.extend(b"KXMEM001");
-    file.extend((stored.len() as u64).to_le_bytes());
-    for (number, page) in stored {
-        file.extend(number.to_le_bytes());
-        file.extend(&page[..]);
-    }
-    file
-}
-
 fn main() {
     let words: Vec<String> = env::args().skip(1).collect();
-    let memory = fs::read(&words[0]).unwrap();
-    let slots = memory[HEAD..].chunks_exact(SLOT).map(|slot| slot.split_at(8));
-    let pages = slots.map(|(number, page)| {
-        let number = u64::from_le_bytes(number.try_into().unwrap());
-        (number, Box::new(page.try_into().unwrap()))
-    });
     let pool = fs::read_to_string(&words[1]).unwrap();
     let mut slots = Slots {
-        memory: pages.collect(),
+        memory: read(&fs::read(&words[0]).unwrap()),
         pool: pool.lines().map(hexadecimal).collect(),
         ..Slots::default()
     };
@@ -147,6 +124,6 @@ fn main() {
         slots.reply(line, &mut text);
         text.push('\n');
     }
-    fs::write(&words[2], file_of(&slots.memory)).unwrap();
+    fs::write(&words[2], file(&slots.memory)).unwrap();
     print!("{text}");
 }

@@ -49,7 +49,7 @@ pub trait Command {
 }
 
 // What each answer says, in one clause.
-fn answered<C: Command, S: Shelf, O: Sink>(
+fn take_make_deliver<C: Command, S: Shelf, O: Sink>(
     alloc: Global,
     command: C,
     shelf: &mut S,
@@ -83,5 +83,5 @@ pub fn run<C: Command, S: Shelf, O: Sink>(
     ensures completes { Completes S.Shelf O.Sink (command_of (C.takes command) C.makes) shelf.old
         out.old (call_answer result) shelf.new out.new }
 {
-    answered(alloc, command, shelf, out)
+    take_make_deliver(alloc, command, shelf, out)
 }

@@ -2,7 +2,7 @@ use Rattle.std.proofs.Common.{rules, ◌≡◌}
 use Rattle.file_commands.specs.Answers.{command_of}
 use Rattle.file_commands.specs.Calls.{call_answer, make_answer, take_answer}
 use Rattle.file_commands.proofs.Meeting.{meets_untaken, meets_unmade, meets_delivered}
-use Rattle.file_commands.proofs.command.answered.Goals as goal
+use Rattle.file_commands.proofs.command.take_make_deliver.Goals as goal
 
 pub returns-in_err-taken : goal.returns-in_err-taken
 returns-in_err-taken g c =
