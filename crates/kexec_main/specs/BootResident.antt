@@ -144,24 +144,21 @@ boots_resident x (Err (by why)) =
     × HasNoFile (after_runs None c) why)
 boots_resident x (Err (too_long name limit)) = ⊥
 
-module _ {S O : Type 0} (D : Shelf S) (E : Sink O) (held : Files) (s : S) (o : O) (s' : S)
-    (o' : O) where
-  -- After `boot-resident`: all that the words name was read, and the list of the kernel was made.
-  pub record HasBootedResident (b : BootResidentValue) : Type 0 where
-    pub inputs : ResidentInputs
-    pub read : reads (resident_files b) held ≡ Ok inputs
+module _ {S O : Type 0} (D : Shelf S) (E : Sink O) (s : S) (o : O) (s' : S) (o' : O) where
+  -- After `boot-resident`, by what was read: the list of the kernel was made.
+  pub record HasBootedResident (b : BootResidentValue) (i : ResidentInputs) : Type 0 where
     pub planned : Plan
     pub list : ResidentList
     -- the kernel has this plan, and by the pairs its segments have this list, in this memory
-    pub resident : IsResident inputs.load inputs.pairs planned list
+    pub resident : IsResident i.load i.pairs planned list
     pub checked : Checked
     pub of_list : checked.load ≡ load_with planned list
     -- the list is accepted for the segments
     pub accepted : Told checked.load checked.words checked.links checked.pairs
     -- it copies so many pages that have a resident page
-    pub copies : deviating (resident_of inputs.pairs) checked.pairs ≡ list.copied
+    pub copies : deviating (resident_of i.pairs) checked.pairs ≡ list.copied
     -- and no list that is accepted for the segments, in whatever memory, copies fewer
-    pub least : DeviatesAtLeast planned.segments inputs.pairs list.copied
+    pub least : DeviatesAtLeast planned.segments i.pairs list.copied
     -- the machine's run of it ends after as many steps as the walk has words
     pub ends : EndsAfter checked.load checked.words
     -- and leaves each page of the segments what it is to have, and every other page as it was
@@ -187,6 +184,6 @@ abbrev pub boot_resident_entry : BootResidentValue → ProgramEntry
 boot_resident_entry b = record {
   Inputs = ResidentInputs;
   command = command_of (resident_files b) boots_resident;
-  did = λ D E held s o s' o'. HasBootedResident D E held s o s' o' b;
+  did = λ D E x s o s' o'. HasBootedResident D E s o s' o' b x;
   can = CanBootResident;
 }

@@ -92,13 +92,10 @@ abbrev pub checks : TakenLoad → Result Made (Refusal Reason) → Type 0
 checks (Normal x) r = checks_list x r
 checks (Crash x) r = checks_in_place x r
 
-module _ {S O : Type 0} (D : Shelf S) (E : Sink O) (held : Files) (s : S) (o : O) (s' : S)
-    (o' : O) where
+module _ {S O : Type 0} (D : Shelf S) (E : Sink O) (s : S) (o : O) (s' : S) (o' : O) where
   -- After `check` of a normal load: the list of the record is accepted in the memory for its segments,
   -- and the text tells it.
-  pub record HasChecked (l : LoadNamesValue) : Type 0 where
-    pub files : LoadFiles
-    pub read : reads (load_files_of l) held ≡ Ok (Normal files)
+  pub record HasChecked (files : LoadFiles) : Type 0 where
     pub items : List Item
     pub accepted : IsAcceptedIn files items
     pub put : FilesPut (D.files s) [] (D.files s')
@@ -106,12 +103,15 @@ module _ {S O : Type 0} (D : Shelf S) (E : Sink O) (held : Files) (s : S) (o : O
         (accepted_line (length items) (length (links items)) (length (pairs items))) (E.said o')
 
   -- After `check` of a crash load: it lies in its place, and the text tells how many pages it has.
-  pub record HasCheckedCrash (l : LoadNamesValue) : Type 0 where
-    pub files : CrashFiles
-    pub read : reads (load_files_of l) held ≡ Ok (Crash files)
+  pub record HasCheckedCrash (files : CrashFiles) : Type 0 where
     pub accepted : IsInPlace files
     pub put : FilesPut (D.files s) [] (D.files s')
     pub said : Said (E.said o) (crash_line (length (pages files.segments))) (E.said o')
+
+  -- after `check`, by the load that was read
+  abbrev pub HasCheckedLoad : TakenLoad → Type 0
+  HasCheckedLoad (Normal files) = HasChecked files
+  HasCheckedLoad (Crash files) = HasCheckedCrash files
 
 -- the load that was taken is accepted in the memory
 abbrev pub IsAcceptedLoad : TakenLoad → Type 0
@@ -122,6 +122,6 @@ abbrev pub check_entry : LoadNamesValue → ProgramEntry
 check_entry l = record {
   Inputs = TakenLoad;
   command = command_of (load_files_of l) checks;
-  did = λ D E held s o s' o'. HasChecked D E held s o s' o' l ⊎ HasCheckedCrash D E held s o s' o' l;
+  did = λ D E x s o s' o'. HasCheckedLoad D E s o s' o' x;
   can = IsAcceptedLoad;
 }

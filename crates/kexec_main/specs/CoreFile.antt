@@ -52,13 +52,10 @@ cores x (Ok goods) =
 cores x (Err (by why)) = RefusesCore (at x.memory) x.address why
 cores x (Err (too_long name limit)) = ⊥
 
-module _ {S O : Type 0} (D : Shelf S) (E : Sink O) (held : Files) (s : S) (o : O) (s' : S)
-    (o' : O) where
-  -- After `core`: the memory was read, and has a core by the headers at the address. OUT is its file, every other file is
+module _ {S O : Type 0} (D : Shelf S) (E : Sink O) (s : S) (o : O) (s' : S) (o' : O) where
+  -- After `core`: the memory that was read has a core by the headers at the address. OUT is its file, every other file is
   -- as it was, and the text tells how large it is.
-  pub record HasWrittenCore (c : CoreValue) : Type 0 where
-    pub memory : Contents
-    pub read : reads (memory_file c.memory) held ≡ Ok memory
+  pub record HasWrittenCore (c : CoreValue) (memory : Contents) : Type 0 where
     pub made : CoreMade
     pub is_core : core_reading (at memory) c.address ≡ Ok made
     pub put : FilesPut (D.files s) ((c.out, made.bytes) ∷ []) (D.files s')
@@ -72,6 +69,6 @@ abbrev pub core_entry : CoreValue → ProgramEntry
 core_entry c = record {
   Inputs = CoreInputs;
   command = command_of (core_files c) cores;
-  did = λ D E held s o s' o'. HasWrittenCore D E held s o s' o' c;
+  did = λ D E x s o s' o'. HasWrittenCore D E s o s' o' c x.memory;
   can = CanWriteCore;
 }

@@ -4,7 +4,7 @@ use Rattle.kx_pages.specs.declared.image.Start.{Start}
 use Rattle.kx_pages.specs.declared.image.Wish.{Wish}
 use Rattle.kx_pages.specs.declared.image.Wish.TheVariants.{Plain, Kept}
 use Rattle.page_memory.specs.Contents.{at}
-use Rattle.file_commands.specs.Taking.{Refusal, Take, ok, too_long, by, ◌>>=◌, reads}
+use Rattle.file_commands.specs.Taking.{Refusal, Take, ok, too_long, by, ◌>>=◌}
 use Rattle.load_states.specs.States.{Checked, Load}
 use Rattle.load_states.specs.Ready.{Told}
 use Rattle.load_record.specs.File.{Record, record_file, record_reading}
@@ -17,7 +17,7 @@ use Rattle.kexec_main.specs.Loading.{IsLoaded, RefusesLoad}
 use Rattle.kexec_main.specs.Outputs.{Made, HasNoFile, IsFileOf}
 use Rattle.kexec_main.specs.Runs.{list_text}
 use Rattle.kexec_main.specs.Texts.{load_lines}
-use Rattle.kx_edge.specs.Edge.{Files, Said}
+use Rattle.kx_edge.specs.Edge.{Said}
 use Rattle.kx_edge.specs.declared.edge.Shelf.{Ghosts as Shelf}
 use Rattle.kx_edge.specs.declared.edge.Sink.{Ghosts as Sink}
 use Rattle.file_commands.specs.Answers.{FilesPut, command_of}
@@ -89,16 +89,13 @@ loads x (Err (by why)) =
     ⊎ ((p : Plan) × (c : Checked) × Loads x p c × HasNoFile (at c.load.memory) why)
 loads x (Err (too_long name limit)) = ⊥
 
-module _ {S O : Type 0} (D : Shelf S) (E : Sink O) (held : Files) (s : S) (o : O) (s' : S)
-    (o' : O) where
-  -- After `load`: the kernel was loaded. OUT is the file of the memory after the load. RECORD tells its list, start and
+module _ {S O : Type 0} (D : Shelf S) (E : Sink O) (s : S) (o : O) (s' : S) (o' : O) where
+  -- After `load`, by what was read: the kernel was loaded. OUT is the file of the memory after the load. RECORD tells its list, start and
   -- segments, and reads back as it was written. Every other file is as it was, and the text tells the list.
-  pub record HasLoaded (l : LoadValue) : Type 0 where
-    pub inputs : LoadCommand
-    pub read : reads (load_command_files l) held ≡ Ok inputs
+  pub record HasLoaded (l : LoadValue) (i : LoadInputs) : Type 0 where
     pub planned : Plan
     pub checked : Checked
-    pub load : NormalLoad (load_wish l) inputs.load planned checked
+    pub load : NormalLoad (load_wish l) i planned checked
     pub output : List ℕ
     pub is_memory : IsFileOf (at checked.load.memory) output
     pub read_back : IsReadBack (record_of_load checked.load planned)
@@ -111,6 +108,6 @@ abbrev pub load_entry : LoadValue → ProgramEntry
 load_entry l = record {
   Inputs = LoadCommand;
   command = command_of (load_command_files l) loads;
-  did = λ D E held s o s' o'. HasLoaded D E held s o s' o' l;
+  did = λ D E x s o s' o'. HasLoaded D E s o s' o' l x.load;
   can = λ x. CanLoad x.wish x.load (λ c. at c.load.memory);
 }

@@ -39,13 +39,10 @@ migrates x (Ok goods) =
     × (goods.outputs ≡ (x.out, record_file x.load_record) ∷ []) × IsReadBack x.load_record
 migrates x (Err other) = ⊥
 
-module _ {S O : Type 0} (D : Shelf S) (E : Sink O) (held : Files) (s : S) (o : O) (s' : S)
-    (o' : O) where
+module _ {S O : Type 0} (D : Shelf S) (E : Sink O) (s : S) (o : O) (s' : S) (o' : O) where
   -- After `migrate`: OUT is the file of the record that was read, as the second version spells it, and reads back as this
   -- record. Every other file is as it was, and the text tells how many segments the record has.
-  pub record HasMigrated (m : MigrateValue) : Type 0 where
-    pub load_record : Record
-    pub read : reads (load_record_file m.load_record) held ≡ Ok load_record
+  pub record HasMigrated (m : MigrateValue) (load_record : Record) : Type 0 where
     pub read_back : IsReadBack load_record
     pub put : FilesPut (D.files s) ((m.out, record_file load_record) ∷ []) (D.files s')
     pub said : Said (E.said o) (segments_line (length load_record.segments)) (E.said o')
@@ -54,6 +51,6 @@ abbrev pub migrate_entry : MigrateValue → ProgramEntry
 migrate_entry m = record {
   Inputs = MigrateInputs;
   command = command_of (migrate_files m) migrates;
-  did = λ D E held s o s' o'. HasMigrated D E held s o s' o' m;
+  did = λ D E x s o s' o'. HasMigrated D E s o s' o' m x.load_record;
   can = always;
 }

@@ -63,18 +63,15 @@ traces x (Ok goods) =
 traces x (Err (by why)) = HasNoFile (at (run_of x.memory x.head x.mode x.limit).0.memory) why
 traces x (Err (too_long name limit)) = ⊥
 
-module _ {S O : Type 0} (D : Shelf S) (E : Sink O) (held : Files) (s : S) (o : O) (s' : S)
-    (o' : O) where
-  -- After `trace`: OUT is the file of the memory after the steps of the machine, and the text tells how its run came out.
-  pub record HasTraced (t : TraceValue) : Type 0 where
-    pub inputs : TraceInputs
-    pub read : reads (trace_files t) held ≡ Ok inputs
+module _ {S O : Type 0} (D : Shelf S) (E : Sink O) (s : S) (o : O) (s' : S) (o' : O) where
+  -- After `trace`, by what was read: OUT is the file of the memory after the steps of the machine, and the text tells how its run came out.
+  pub record HasTraced (i : TraceInputs) : Type 0 where
     pub output : List ℕ
     pub is_memory : IsFileOf
-        (at (run_of inputs.memory inputs.head inputs.mode inputs.limit).0.memory) output
-    pub put : FilesPut (D.files s) ((inputs.out, output) ∷ []) (D.files s')
+        (at (run_of i.memory i.head i.mode i.limit).0.memory) output
+    pub put : FilesPut (D.files s) ((i.out, output) ∷ []) (D.files s')
     pub said : Said (E.said o)
-        (outcome_line (run_of inputs.memory inputs.head inputs.mode inputs.limit).1) (E.said o')
+        (outcome_line (run_of i.memory i.head i.mode i.limit).1) (E.said o')
 
 -- the memory after the steps has a file
 abbrev pub CanTrace : TraceInputs → Type 0
@@ -85,6 +82,6 @@ abbrev pub trace_entry : TraceValue → ProgramEntry
 trace_entry t = record {
   Inputs = TraceInputs;
   command = command_of (trace_files t) traces;
-  did = λ D E held s o s' o'. HasTraced D E held s o s' o' t;
+  did = λ D E x s o s' o'. HasTraced D E s o s' o' x;
   can = CanTrace;
 }
