@@ -1,14 +1,13 @@
 -- What `boot` takes and makes (this project's own).
-use Rattle.std.specs.Prelude.{◌≡◌, ℕ, List, Option, None, string_bytes, Result, Ok, Err, ◌⊎◌, [], ◌∷◌}
+use Rattle.std.specs.Prelude.{◌≡◌, ℕ, List, Option, None, Result, Ok, Err, ◌⊎◌, [], ◌∷◌}
 use Rattle.file_commands.specs.Taking.{Refusal, Take, ok, too_long, by, ◌>>=◌}
 use Rattle.load_states.specs.States.{Checked}
 use Rattle.load_states.specs.Ready.{Told}
 use Rattle.kexec_words.specs.declared.commands.Runs.{Runs}
 use Rattle.kexec_words.specs.Values.{BootValue}
 use Rattle.kexec_plan.specs.Requests.{Plan}
-use Rattle.kexec_main.specs.declared.boot.BootInputs.{BootInputs as Taken}
 use Rattle.kexec_main.specs.declared.status.Reason.{Reason}
-use Rattle.kexec_main.specs.Inputs.{LoadInputs, inputs_of, load_inputs}
+use Rattle.kexec_main.specs.Inputs.{LoadInputs, load_inputs}
 use Rattle.kexec_main.specs.Loading.{IsLoaded, RefusesLoad}
 use Rattle.kexec_main.specs.Outputs.{Made, HasNoFile, IsMemoryFile, IsFileOf}
 use Rattle.kexec_main.specs.Runs.{after_runs, run_text, wish_of, EndsAgain, IsOnce, Leaves, MachineLeaves}
@@ -32,9 +31,6 @@ abbrev pub boot_files : BootValue → Take Reason BootInputs
 boot_files b = do
   x ← load_inputs b.image b.inputs
   ok (record { load = x; runs = b.kept; out = b.out })
-
-abbrev pub boot_inputs : Taken → BootInputs
-boot_inputs b = record { load = inputs_of b.load; runs = b.runs; out = string_bytes b.out }
 
 -- the kernel is loaded by this plan, and so much is told of its accepted list
 abbrev pub Boots : BootInputs → Plan → Checked → Type 0

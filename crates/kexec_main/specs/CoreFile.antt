@@ -1,15 +1,14 @@
 -- What `core` takes and makes (this project's own).
-use Rattle.std.specs.Prelude.{◌≡◌, ℕ, List, [], ◌∷◌, ◌++◌, codes, decimal, length, None, string_bytes, Result, Ok, Err}
-use Rattle.kx_edge.specs.Edge.{Files, Said}
+use Rattle.std.specs.Prelude.{◌≡◌, ℕ, List, [], ◌∷◌, ◌++◌, codes, decimal, length, None, Result, Ok, Err}
+use Rattle.kx_edge.specs.Edge.{Said}
 use Rattle.kx_edge.specs.declared.edge.Shelf.{Ghosts as Shelf}
 use Rattle.kx_edge.specs.declared.edge.Sink.{Ghosts as Sink}
 use Rattle.kx_pages.specs.Bytes.{Mem}
 use Rattle.page_memory.specs.Contents.{Contents, at}
 use Rattle.vmcore_file.specs.File.{CoreValue as CoreMade, core_reading}
 use Rattle.file_commands.specs.Answers.{FilesPut, command_of}
-use Rattle.file_commands.specs.Taking.{Refusal, Take, ok, too_long, by, ◌>>=◌, reads}
+use Rattle.file_commands.specs.Taking.{Refusal, Take, ok, too_long, by, ◌>>=◌}
 use Rattle.kexec_words.specs.Values.{CoreValue}
-use Rattle.kexec_main.specs.declared.core_inputs.CoreInputs.{CoreInputs as Taken}
 use Rattle.kexec_main.specs.declared.status.Reason.{Reason}
 use Rattle.kexec_main.specs.declared.status.Reason.TheVariants.{Core}
 use Rattle.kexec_main.specs.Entry.{ProgramEntry}
@@ -34,9 +33,6 @@ abbrev pub core_files : CoreValue → Take Reason CoreInputs
 core_files c = do
   m ← memory_file c.memory
   ok (record { memory = m; address = c.address; out = c.out })
-
-abbrev pub core_inputs : Taken → CoreInputs
-core_inputs t = record { memory = t.memory; address = t.address; out = string_bytes t.out }
 
 -- the memory has no core by the headers at an address, for this reason
 abbrev pub RefusesCore : Mem → ℕ → Reason → Type 0

@@ -1,23 +1,21 @@
 -- What `drill` takes and makes (this project's own).
-use Rattle.std.specs.Prelude.{◌≡◌, ◌⊎◌, ℕ, List, [], ◌∷◌, Option, Some, None, map, string_bytes, Result, Ok, Err}
+use Rattle.std.specs.Prelude.{◌≡◌, ◌⊎◌, ℕ, List, [], ◌∷◌, Option, None, map, Result, Ok, Err}
 use Rattle.std.specs.List.{find}
-use Rattle.kx_edge.specs.Edge.{Files, Said}
+use Rattle.kx_edge.specs.Edge.{Said}
 use Rattle.kx_edge.specs.declared.edge.Shelf.{Ghosts as Shelf}
 use Rattle.kx_edge.specs.declared.edge.Sink.{Ghosts as Sink}
 use Rattle.kx_pages.specs.Bytes.{Mem}
 use Rattle.kx_pages.specs.Spans.{AreApart, Run, in_spans}
 use Rattle.page_memory.specs.Contents.{Contents, at}
-use Rattle.page_pool.specs.Pages.{usable_of}
 use Rattle.memory_map.specs.Maps.{MapValue, is_ram, reserved_area}
-use Rattle.image_slots.specs.Events.{EventValue, event_of}
+use Rattle.image_slots.specs.Events.{EventValue}
 use Rattle.image_slots.specs.Pages.{in_area}
 use Rattle.image_slots.specs.Sequences.{AreKept, after_events, fresh, replies_to}
 use Rattle.image_slots.specs.Soundness as slots
 use Rattle.image_slots.specs.States.{State}
 use Rattle.file_commands.specs.Answers.{FilesPut, command_of}
-use Rattle.file_commands.specs.Taking.{Refusal, Take, ok, too_long, by, ◌>>=◌, reads}
+use Rattle.file_commands.specs.Taking.{Refusal, Take, ok, too_long, by, ◌>>=◌}
 use Rattle.kexec_words.specs.Values.{DrillValue}
-use Rattle.kexec_main.specs.declared.drill_inputs.DrillInputs.{DrillInputs as Taken}
 use Rattle.kexec_main.specs.declared.status.Reason.{Reason}
 use Rattle.kexec_main.specs.declared.status.Reason.TheVariants.{Slots}
 use Rattle.kexec_main.specs.Entry.{ProgramEntry}
@@ -41,15 +39,6 @@ drill_files d = do
   ram ← map_file d.map
   events ← events_file d.events
   ok (record { memory = m; pool = pages; map = ram; events = events; out = d.out })
-
-abbrev pub drill_inputs : Taken → DrillInputs
-drill_inputs t = record {
-  memory = t.memory;
-  pool = usable_of t.pool;
-  map = t.map;
-  events = map event_of t.events.items;
-  out = string_bytes t.out;
-}
 
 -- the pages that are RAM by a memory map, as their longest runs in rising order
 pub record AreRam (m : MapValue) (ram : List Run) : Type 0 where

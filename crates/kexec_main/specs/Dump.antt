@@ -1,5 +1,5 @@
 -- What `dump` makes: a line for each word of the list, and one for each segment.
-use Rattle.std.specs.Prelude.{◌≡◌, ℕ, ◌+◌, ◌*◌, ◌/◌, List, [], ◌∷◌, ◌++◌, length, take, codes, decimal, Option, Some, None, option_map, Result, Ok, Err, ◌⊎◌}
+use Rattle.std.specs.Prelude.{◌≡◌, ℕ, ◌+◌, ◌*◌, ◌/◌, List, [], ◌∷◌, ◌++◌, length, take, codes, decimal, Option, Some, None, option_map, Result, Ok, Err}
 use Rattle.std.specs.List.{flat_map}
 use Rattle.kx_pages.specs.declared.item.Item.{Item}
 use Rattle.kx_pages.specs.declared.item.Item.TheVariants.{Link, Destination, Source, Done}
@@ -12,17 +12,16 @@ use Rattle.list_checker.specs.Reading.{IsWalk}
 use Rattle.list_checker.specs.Texts.{fault_text}
 use Rattle.sha2.specs.Sha256.{sha256}
 use Rattle.hex.specs.Hex.{encode_lower}
-use Rattle.file_commands.specs.Taking.{Refusal, reads}
-use Rattle.kexec_main.specs.declared.dump.DumpInputs.{DumpInputs}
+use Rattle.file_commands.specs.Taking.{Refusal}
 use Rattle.kexec_main.specs.declared.files.CrashFiles.{CrashFiles}
 use Rattle.kexec_main.specs.declared.files.LoadFiles.{LoadFiles}
 use Rattle.kexec_main.specs.declared.files.TakenLoad.{TakenLoad}
 use Rattle.kexec_main.specs.declared.files.TakenLoad.TheVariants.{Normal, Crash}
 use Rattle.kexec_main.specs.declared.status.Reason.{Reason}
-use Rattle.kexec_main.specs.Files.{load_by, load_files_of}
+use Rattle.kexec_main.specs.Files.{load_files_of}
 use Rattle.kexec_main.specs.Outputs.{Made}
 use Rattle.kexec_main.specs.Texts.{hexadecimal}
-use Rattle.kx_edge.specs.Edge.{Files, Said}
+use Rattle.kx_edge.specs.Edge.{Said}
 use Rattle.kx_edge.specs.declared.edge.Shelf.{Ghosts as Shelf}
 use Rattle.kx_edge.specs.declared.edge.Sink.{Ghosts as Sink}
 use Rattle.file_commands.specs.Answers.{FilesPut, command_of}
@@ -95,10 +94,6 @@ abbrev pub dumps_in_place : CrashFiles → Result Made (Refusal Reason) → Type
 dumps_in_place x (Ok goods) =
     goods ≡ lines_of (head_text x.head ++ flat_map segment_line x.segments)
 dumps_in_place x (Err other) = ⊥
-
--- the load that `dump` took
-abbrev pub dump_inputs : DumpInputs → TakenLoad
-dump_inputs d = load_by d.memory d.load_record
 
 -- by the record's kind
 abbrev pub dumps : TakenLoad → Result Made (Refusal Reason) → Type 0

@@ -1,5 +1,5 @@
 -- What `exec` takes and makes (this project's own).
-use Rattle.std.specs.Prelude.{◌≡◌, ℕ, Bool, true, false, List, Option, Some, None, string_bytes, Result, Ok, Err, ◌⊎◌, [], ◌∷◌}
+use Rattle.std.specs.Prelude.{◌≡◌, ℕ, Bool, true, false, List, Option, Some, None, Result, Ok, Err, ◌⊎◌, [], ◌∷◌}
 use Rattle.kx_pages.specs.declared.image.Mode.{Mode}
 use Rattle.kx_pages.specs.declared.image.Mode.TheVariants.{Plain, Kept}
 use Rattle.kx_pages.specs.declared.image.Start.{Start}
@@ -10,7 +10,6 @@ use Rattle.file_commands.specs.Taking.{Refusal, Take, ok, too_long, by, ◌>>=�
 use Rattle.kexec_words.specs.Values.{ExecValue}
 use Rattle.kexec_words.specs.declared.commands.Runs.{Runs}
 use Rattle.kexec_words.specs.declared.commands.Runs.TheVariants.{Once, Twice}
-use Rattle.kexec_main.specs.declared.exec.ExecInputs.{ExecInputs as Taken}
 use Rattle.kexec_main.specs.declared.files.LoadFiles.{LoadFiles}
 use Rattle.kexec_main.specs.declared.files.TakenLoad.{TakenLoad}
 use Rattle.kexec_main.specs.declared.files.TakenLoad.TheVariants as kinds
@@ -45,9 +44,6 @@ abbrev pub exec_files : ExecValue → Take Reason ExecInputs
 exec_files e = do
   load ← load_files e.memory e.load_record
   ok (exec_of e load)
-
-abbrev pub exec_inputs : Taken → ExecInputs
-exec_inputs e = record { load = e.load; twice = e.twice; out = string_bytes e.out }
 
 -- a second run is asked for, and there is no swap page to run the list again with
 abbrev pub lacks_swap_page : Bool → Mode → Bool

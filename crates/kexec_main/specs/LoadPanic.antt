@@ -1,5 +1,5 @@
 -- What `load-panic` takes and makes (this project's own).
-use Rattle.std.specs.Prelude.{◌≡◌, ℕ, List, [], ◌∷◌, length, true, None, Some, string_bytes, Result, Ok, Err, ◌⊎◌, false}
+use Rattle.std.specs.Prelude.{◌≡◌, ℕ, List, [], ◌∷◌, length, true, None, Some, Result, Ok, Err, ◌⊎◌, false}
 use Rattle.kx_pages.specs.declared.image.Mode.TheVariants.{Plain}
 use Rattle.page_memory.specs.Contents.{at}
 use Rattle.segments.specs.Values.{pages, want}
@@ -8,9 +8,8 @@ use Rattle.load_states.specs.States.{CrashLoad}
 use Rattle.load_record.specs.File.{Record, record_file}
 use Rattle.kexec_words.specs.Values.{LoadPanicValue}
 use Rattle.kexec_plan.specs.Requests.{Plan}
-use Rattle.kexec_main.specs.declared.load_panic.LoadPanicCommand.{LoadPanicCommand as Taken}
 use Rattle.kexec_main.specs.declared.status.Reason.{Reason}
-use Rattle.kexec_main.specs.CrashInputs.{CrashInputs, crash_inputs, crash_inputs_of}
+use Rattle.kexec_main.specs.CrashInputs.{CrashInputs, crash_inputs}
 use Rattle.kexec_main.specs.CrashLoading.{IsCrashLoaded}
 use Rattle.kexec_main.specs.Load.{IsReadBack}
 use Rattle.kexec_main.specs.Loading.{HasNoPlan}
@@ -38,13 +37,6 @@ abbrev pub load_panic_files : LoadPanicValue → Take Reason LoadPanicCommand
 load_panic_files l = do
   load ← crash_inputs l.inputs l.map
   ok (load_panic_of l load)
-
-abbrev pub load_panic_command : Taken → LoadPanicCommand
-load_panic_command l = record {
-  load = crash_inputs_of l.load;
-  out = string_bytes l.out;
-  load_record = string_bytes l.load_record;
-}
 
 -- the record of a crash load: plain, without a control page, its list the head alone
 abbrev pub record_of_crash : CrashLoad → Plan → Record

@@ -1,14 +1,13 @@
 -- What `migrate` takes and makes (this project's own).
-use Rattle.std.specs.Prelude.{◌≡◌, ℕ, List, [], ◌∷◌, ◌++◌, codes, decimal, length, None, string_bytes, Result, Ok, Err}
+use Rattle.std.specs.Prelude.{◌≡◌, ℕ, List, [], ◌∷◌, ◌++◌, codes, decimal, length, None, Result, Ok, Err}
 use Rattle.load_record.specs.File.{Record, record_file}
-use Rattle.file_commands.specs.Taking.{Refusal, Take, ok, ◌>>=◌, reads}
+use Rattle.file_commands.specs.Taking.{Refusal, Take, ok, ◌>>=◌}
 use Rattle.kexec_words.specs.Values.{MigrateValue}
-use Rattle.kexec_main.specs.declared.migrate_inputs.MigrateInputs.{MigrateInputs as Taken}
 use Rattle.kexec_main.specs.declared.status.Reason.{Reason}
 use Rattle.kexec_main.specs.Files.{load_record_file}
 use Rattle.kexec_main.specs.Load.{IsReadBack}
 use Rattle.kexec_main.specs.Outputs.{Made}
-use Rattle.kx_edge.specs.Edge.{Files, Said}
+use Rattle.kx_edge.specs.Edge.{Said}
 use Rattle.kx_edge.specs.declared.edge.Shelf.{Ghosts as Shelf}
 use Rattle.kx_edge.specs.declared.edge.Sink.{Ghosts as Sink}
 use Rattle.file_commands.specs.Answers.{FilesPut, command_of}
@@ -28,9 +27,6 @@ abbrev pub migrate_files : MigrateValue → Take Reason MigrateInputs
 migrate_files m = do
   r ← load_record_file m.load_record
   ok (record { load_record = r; out = m.out })
-
-abbrev pub migrate_inputs : Taken → MigrateInputs
-migrate_inputs t = record { load_record = t.load_record; out = string_bytes t.out }
 
 -- the file of the record, which reads back, and the line of its segments; nothing is refused
 abbrev pub migrates : MigrateInputs → Result Made (Refusal Reason) → Type 0

@@ -1,19 +1,18 @@
 -- What `trace` takes and makes (this project's own).
-use Rattle.std.specs.Prelude.{◌≡◌, ℕ, ◌/◌, List, ◌++◌, codes, decimal, Option, Some, None, string_bytes, Result, Ok, Err, [], ◌∷◌}
+use Rattle.std.specs.Prelude.{◌≡◌, ℕ, ◌/◌, List, ◌++◌, codes, decimal, Option, Some, None, Result, Ok, Err, [], ◌∷◌}
 use Rattle.kx_pages.specs.declared.image.Mode.{Mode}
 use Rattle.kx_pages.specs.declared.image.Mode.TheVariants.{Plain, Kept}
 use Rattle.page_memory.specs.Contents.{Contents, at}
 use Rattle.relocate_machine.specs.declared.step.Outcome.{Outcome}
 use Rattle.relocate_machine.specs.declared.step.Outcome.TheVariants as outcomes
 use Rattle.relocate_machine.specs.Run.{run_of}
-use Rattle.file_commands.specs.Taking.{Refusal, Take, ok, too_long, by, ◌>>=◌, reads}
+use Rattle.file_commands.specs.Taking.{Refusal, Take, ok, too_long, by, ◌>>=◌}
 use Rattle.kexec_words.specs.Values.{TraceValue}
-use Rattle.kexec_main.specs.declared.trace.TraceInputs.{TraceInputs as Taken}
 use Rattle.kexec_main.specs.declared.status.Reason.{Reason}
 use Rattle.kexec_main.specs.Files.{memory_file}
 use Rattle.kexec_main.specs.Outputs.{Made, HasNoFile, IsMemoryFile, IsFileOf, IsTooHeavy}
 use Rattle.kexec_main.specs.Texts.{hexadecimal}
-use Rattle.kx_edge.specs.Edge.{Files, Said}
+use Rattle.kx_edge.specs.Edge.{Said}
 use Rattle.kx_edge.specs.declared.edge.Shelf.{Ghosts as Shelf}
 use Rattle.kx_edge.specs.declared.edge.Sink.{Ghosts as Sink}
 use Rattle.file_commands.specs.Answers.{FilesPut, command_of}
@@ -43,16 +42,6 @@ abbrev pub trace_files : TraceValue → Take Reason TraceInputs
 trace_files t = do
   m ← memory_file t.memory
   ok (record { memory = m; head = t.head; mode = mode_by t.swap; limit = t.limit; out = t.out })
-
-abbrev pub trace_inputs : Taken → TraceInputs
-trace_inputs t =
-    record {
-      memory = t.memory;
-      head = t.head;
-      mode = t.mode;
-      limit = t.limit;
-      out = string_bytes t.out;
-    }
 
 -- the file of the memory after the steps and the outcome's line; or that memory has no file
 abbrev pub traces : TraceInputs → Result Made (Refusal Reason) → Type 0
