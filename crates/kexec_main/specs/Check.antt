@@ -1,6 +1,6 @@
 -- What `check` makes: what is told of an accepted load, or the first fault of another (this
 -- project's own).
-use Rattle.std.specs.Prelude.{◌≡◌, List, [], length, codes, ◌++◌, Option, Some, None, Result, Ok, Err, ◌⊎◌}
+use Rattle.std.specs.Prelude.{◌≡◌, List, [], length, codes, ◌++◌, Option, Some, None, Result, Ok, Err}
 use Rattle.kx_pages.specs.declared.item.Item.{Item}
 use Rattle.kx_pages.specs.Items.{decode}
 use Rattle.page_memory.specs.Contents.{at}
@@ -10,7 +10,7 @@ use Rattle.list_checker.specs.Walk.{IsAccepted, links, pairs}
 use Rattle.list_checker.specs.Checked.{IsFirstFault}
 use Rattle.list_checker.specs.Crash.{AcceptedCrash, crash_reason}
 use Rattle.list_checker.specs.Texts.{fault_text}
-use Rattle.file_commands.specs.Taking.{Refusal, reads}
+use Rattle.file_commands.specs.Taking.{Refusal}
 use Rattle.kexec_main.specs.declared.files.CrashFiles.{CrashFiles}
 use Rattle.kexec_main.specs.declared.files.LoadFiles.{LoadFiles}
 use Rattle.kexec_main.specs.declared.files.TakenLoad.{TakenLoad}
@@ -19,7 +19,7 @@ use Rattle.kexec_main.specs.declared.status.Reason.{Reason}
 use Rattle.kexec_main.specs.Outputs.{Made}
 use Rattle.kexec_main.specs.Texts.{accepted_line, crash_line}
 use Rattle.kx_pages.specs.Modes.{swap_page}
-use Rattle.kx_edge.specs.Edge.{Files, Said}
+use Rattle.kx_edge.specs.Edge.{Said}
 use Rattle.kx_edge.specs.declared.edge.Shelf.{Ghosts as Shelf}
 use Rattle.kx_edge.specs.declared.edge.Sink.{Ghosts as Sink}
 use Rattle.file_commands.specs.Answers.{FilesPut, command_of}

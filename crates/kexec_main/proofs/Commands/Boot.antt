@@ -21,10 +21,10 @@ use Rattle.kexec_main.proofs.Loads.{can_load, heavy, loaded_as, loads_not, norma
 use Rattle.kexec_main.proofs.Proving.{proves_itself}
 use Rattle.file_commands.proofs.Keeping.{Keeps, put_as, said_as}
 
--- what was taken has the words' own runs and names
 abbrev asked_with : BootValue → LoadInputs → BootInputs
 asked_with b i = record { load = i; runs = b.kept; out = b.out }
 
+-- what was taken has the words' own runs and names
 boot_asked : (b : BootValue) (held : Files) (x : BootInputs) → reads (boot_files b) held ≡ Ok x → (i : LoadInputs) × (x ≡ asked_with b i)
 boot_asked b held x read = let k = reads_cases (load_inputs b.image b.inputs) (λ i. ok (asked_with b i)) held x read in (k.0, sym (ok_same {F = Refusal Reason} _ x k.2))
 

@@ -1,6 +1,5 @@
 -- What is proved of `check`.
-use Rattle.std.proofs.Common.{◌≡◌, [], Option, Some, None, Ok, Err, refl, subst, inl, inr}
-use Rattle.std.specs.Prelude.{◌⊎◌}
+use Rattle.std.proofs.Common.{◌≡◌, [], Option, Some, None, Ok, Err, refl, subst}
 use Rattle.kx_edge.specs.Edge.{Files}
 use Rattle.kx_edge.specs.declared.edge.Shelf.{Ghosts as Shelf}
 use Rattle.kx_edge.specs.declared.edge.Sink.{Ghosts as Sink}

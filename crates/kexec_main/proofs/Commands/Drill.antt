@@ -1,5 +1,5 @@
 -- What is proved of `drill`.
-use Rattle.std.proofs.Common.{◌≡◌, ◌∙◌, ℕ, List, [], ◌∷◌, Option, Some, None, Ok, Err, ap, sym, subst, inl, inr}
+use Rattle.std.proofs.Common.{◌≡◌, ◌∙◌, ℕ, List, [], ◌∷◌, Option, None, Ok, Err, ap, sym, subst, inl, inr}
 use Rattle.std.proofs.lemmas.Option.{none-some}
 use Rattle.kx_laws.proofs.Options.{some_same}
 use Rattle.kx_laws.proofs.Results.{ok_same}

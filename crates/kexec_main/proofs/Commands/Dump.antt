@@ -1,6 +1,5 @@
 -- What is proved of `dump`.
-use Rattle.std.proofs.Common.{◌≡◌, [], None, Ok, Err, ap, inl, inr}
-use Rattle.std.specs.Prelude.{◌⊎◌}
+use Rattle.std.proofs.Common.{◌≡◌, [], None, Ok, Err, ap}
 use Rattle.kx_edge.specs.Edge.{Files}
 use Rattle.kx_edge.specs.declared.edge.Shelf.{Ghosts as Shelf}
 use Rattle.kx_edge.specs.declared.edge.Sink.{Ghosts as Sink}

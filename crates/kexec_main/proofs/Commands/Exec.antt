@@ -1,6 +1,5 @@
 -- What is proved of `exec`.
 use Rattle.std.proofs.Common.{◌≡◌, ◌∙◌, ℕ, Bool, List, [], ◌∷◌, true, false, Option, Some, None, Ok, Err, refl, sym, ap, subst, inl, inr, Result}
-use Rattle.std.specs.Prelude.{◌⊎◌}
 use Rattle.kx_laws.proofs.Results.{ok_same}
 use Rattle.kx_edge.specs.Edge.{Files}
 use Rattle.kx_edge.specs.declared.edge.Shelf.{Ghosts as Shelf}
