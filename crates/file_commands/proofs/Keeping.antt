@@ -1,19 +1,20 @@
 -- What is proved of a command that has an entry.
 use Rattle.std.proofs.Common.{◌≡◌, ◌∙◌, ℕ, List, Option, Some, None, Result, Ok, Err, ap, refl, sym, subst, inl, inr}
 use Rattle.std.specs.Prelude.{◌⊎◌}
+use Rattle.std.specs.FinMap.{empty}
 use Rattle.kx_laws.proofs.Results.{ok_same}
 use Rattle.kx_edge.specs.Edge.{Files, Rose, Said}
 use Rattle.kx_edge.specs.declared.edge.Shelf.{Ghosts as Shelf}
 use Rattle.kx_edge.specs.declared.edge.Sink.{Ghosts as Sink}
 use Rattle.file_commands.specs.Taking.{File, Refusal, Took, ok, reads}
 use Rattle.file_commands.specs.Answers.{Answer, Command, FilesPut, Goods, Meets, MeetsTold, PutUpTo, RefusesFor, Stands, done, memory, not_accepted, refused, unread, unsaid, unwritten}
-use Rattle.file_commands.specs.Entry.{Entry, EndsAlone, IsReady, IsRefused, NeedsNoFiles}
+use Rattle.file_commands.specs.Entry.{Entry, EndsAlone, IsDone, IsReady, IsRefused, NeedsNoFiles}
 use Rattle.file_commands.proofs.Meeting.{alone_told, fails_none, refuses, stands_told, took_none}
 
 -- the laws of a command
 pub record Keeps {F R : Type 0} (e : Entry F R) : Type 1 where
   -- what was done left what is promised
-  pub did : {S O : Type 0} (D : Shelf S) (E : Sink O) (held : Files) (s : S) (o : O) (s' : S) (o' : O) → MeetsTold D E e.command held s o done s' o' → e.did D E held s o s' o'
+  pub did : {S O : Type 0} (D : Shelf S) (E : Sink O) (held : Files) (s : S) (o : O) (s' : S) (o' : O) → (m : MeetsTold D E e.command held s o done s' o') → e.did D E m.0 s o s' o'
   -- what can be done stands
   pub stands : (x : e.Inputs) → e.can x → Stands e.command x
   -- and only that is made without a fault
@@ -53,8 +54,8 @@ module _ {S O F R : Type 0} (D : Shelf S) (E : Sink O) (e : Entry F R) (keeps : 
   was_done held a f m = subst (λ a. MeetsTold D E e.command held s o a s' o') f m
 
   -- what was done left what is promised
-  pub has_done : (held : Files) (a : Answer F R) → a ≡ done → MeetsTold D E e.command held s o a s' o' → e.did D E held s o s' o'
-  has_done held a f m = keeps.did D E held s o s' o' (was_done held a f m)
+  pub has_done : (held : Files) (a : Answer F R) → a ≡ done → MeetsTold D E e.command held s o a s' o' → IsDone D E e held s o s' o'
+  has_done held a f m = let k = was_done held a f m in (k.0, k.2, keeps.did D E held s o s' o' k)
 
   ready : (held : Files) → MeetsTold D E e.command held s o done s' o' → IsReady e held
   ready held (x, goods, read, m, fault, out) = (x, read, keeps.could x goods m fault)
@@ -85,7 +86,9 @@ module _ {S O F R : Type 0} (D : Shelf S) (E : Sink O) (e : Entry F R) (keeps : 
     the_value y mid h = ok_same {F = Refusal R} y x (took_none D e.command x none s (Ok y) mid h).0
 
     ends_alone : (a : Answer F R) → Meets D E e.command s o a s' o' → EndsAlone D E e x s o a s' o'
-    ends_alone done m = λ held. keeps.did D E held s o s' o' (alone_told D E e.command x none s o held s' o' m)
+    ends_alone done m =
+        let k = alone_told D E e.command x none s o empty s' o' m in
+        subst (λ y. e.did D E y s o s' o') (ok_same {F = Refusal R} k.0 x (sym k.2 ∙ ap (λ t. reads t empty) none)) (keeps.did D E empty s o s' o' k)
     ends_alone (not_accepted f) (y, goods, mid, h, m, d) = no_fault goods.fault f ((keeps.stands x can).whole goods (subst (λ y. e.command.makes y (Ok goods)) (the_value y mid h) m)) d.0
     ends_alone (unread name) (h, same) = fails_none D e.command x none s name s' h
     ends_alone (unwritten name) (y, goods, mid, h, m, d) = (goods, subst (λ y. e.command.makes y (Ok goods)) (the_value y mid h) m, subst (λ mid. PutUpTo D goods.outputs mid name s') (took_none D e.command x none s (Ok y) mid h).1 d.0)

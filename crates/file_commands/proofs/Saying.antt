@@ -6,7 +6,7 @@ use Rattle.kx_edge.specs.declared.edge.Shelf.{Ghosts as Shelf}
 use Rattle.kx_edge.specs.declared.edge.Sink.{Ghosts as Sink}
 use Rattle.file_commands.specs.Answers.{Answer, Command, Meets, MeetsTold, done, memory, refused, unread, unsaid, unwritten}
 use Rattle.file_commands.specs.Taking.{Refusal}
-use Rattle.file_commands.specs.Entry.{Entry, Holds, IsReady, IsRefused, NeedsNoFiles}
+use Rattle.file_commands.specs.Entry.{Entry, Holds, IsDone, IsReady, IsRefused, NeedsNoFiles}
 use Rattle.file_commands.proofs.Keeping.{Keeps, alone, complete, has_done, refused_for, was_ready}
 use Rattle.file_commands.proofs.Meeting as meeting
 
@@ -60,7 +60,7 @@ module _ {C W F R : Type 0} (entry_of : C → Entry F R) (reason : W → R) wher
 
     -- each command keeps its laws, so the one that is said does
     module _ (keeps : (c : C) → Keeps (entry_of c)) (c : C) (said : w ≡ Ok c) where
-      pub said_done : a ≡ done → Answers → IfSome (D.files s) (λ held. (entry_of c).did D E held s o s' o')
+      pub said_done : a ≡ done → Answers → IfSome (D.files s) (λ held. IsDone D E (entry_of c) held s o s' o')
       said_done f h = gives c said (λ held m. has_done D E (entry_of c) (keeps c) s o s' o' held a f m) h
 
       pub said_ready : a ≡ done → Answers → IfSome (D.files s) (λ held. IsReady (entry_of c) held)

@@ -1,5 +1,5 @@
 -- Commands with what is promised of them, and the one that words say. This project's own.
-use Rattle.std.specs.Prelude.{◌≡◌, ◌⊎◌, List, ℕ, Result, Ok, Err}
+use Rattle.std.specs.Prelude.{◌≡◌, ◌⊎◌, Result, Ok, Err}
 use Rattle.kx_edge.specs.Edge.{Files}
 use Rattle.kx_edge.specs.declared.edge.Shelf.{Ghosts as Shelf}
 use Rattle.kx_edge.specs.declared.edge.Sink.{Ghosts as Sink}
@@ -12,8 +12,8 @@ pub record Entry (F R : Type 0) : Type 1 where
   pub Inputs : Type 0
   -- what it takes, and what it makes of that
   pub command : Command Inputs F R
-  -- what stands after it was done over files that are told
-  pub did : {S O : Type 0} → Shelf S → Sink O → Files → S → O → S → O → Type 0
+  -- what stands after it was done, by what was read
+  pub did : {S O : Type 0} → Shelf S → Sink O → Inputs → S → O → S → O → Type 0
   -- nothing refuses what was read, and it has no fault
   pub can : Inputs → Type 0
 
@@ -32,10 +32,15 @@ IsRefused e held why =
     ⊎ ((x : e.Inputs) × (reads e.command.takes held ≡ Ok x) × e.command.makes x (Err why))
 
 module _ {S O F R : Type 0} (D : Shelf S) (E : Sink O) (e : Entry F R) where
+  -- A command was done over these files: they were read, and what is promised of what they are stands.
+  abbrev pub IsDone : Files → S → O → S → O → Type 0
+  IsDone held s o s' o' =
+      (x : e.Inputs) × (reads e.command.takes held ≡ Ok x) × e.did D E x s o s' o'
+
   -- A command that takes no file, and that nothing refuses, is done; or the put of an output that it makes, or the say of
   -- its text, failed; or memory is wanted.
   abbrev pub EndsAlone : e.Inputs → S → O → Answer F R → S → O → Type 0
-  EndsAlone x s o done s' o' = (held : Files) → e.did D E held s o s' o'
+  EndsAlone x s o done s' o' = e.did D E x s o s' o'
   EndsAlone x s o (unwritten name) s' o' =
       (goods : Goods F) × e.command.makes x (Ok goods) × PutUpTo D goods.outputs s name s'
   EndsAlone x s o unsaid s' o' = Unit {0}

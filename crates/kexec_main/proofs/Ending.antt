@@ -30,7 +30,8 @@ use Rattle.kexec_plan.specs.Requests.{Plan}
 use Rattle.kexec_plan.proofs.Bare.{planned_bare}
 use Rattle.kexec_main.specs.Inputs.{LoadInputs}
 use Rattle.kexec_main.specs.Loading.{IsLoaded}
-use Rattle.kexec_main.specs.Runs.{EndsAgain, HasMode, MachineLeaves, memory_after, wish_of}
+use Rattle.kexec_main.specs.Runs.{EndsAgain, MachineLeaves, memory_after, wish_of}
+use Rattle.kexec_main.specs.Ran.{HasMode}
 use Rattle.kexec_main.proofs.Leaving.{has_mode}
 use Rattle.kexec_main.proofs.Told.{one_memory}
 

@@ -5,7 +5,7 @@ use Rattle.kx_laws.proofs.Booleans.{and_parts}
 use Rattle.kx_pages.specs.Lists.{Each}
 use Rattle.image_slots.specs.declared.event.Event.{Event}
 use Rattle.image_slots.specs.Events.{EventValue, Open, Add, Write, Install, Cancel, Unload, Store, Exec, Panic, HasFewBytes, event_of}
-use Rattle.kexec_main.specs.EventFile.{are_short, is_short}
+use Rattle.kexec_main.specs.ShortStores.{are_short, is_short}
 
 short_one : (e : EventValue) → HasFewBytes e → is_short e ≡ true
 short_one (Open caller kind) h = refl

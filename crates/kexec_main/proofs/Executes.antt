@@ -10,7 +10,7 @@ use Rattle.file_commands.specs.Calls.{Makes, MakesOr, goods_of}
 use Rattle.kexec_main.specs.declared.files.LoadFiles.{LoadFiles}
 use Rattle.kexec_main.specs.declared.status.Reason.{Reason}
 use Rattle.kexec_main.specs.Exec.{RefusesRun, RunsList, executes_as, executes_list, is_not_kept, load_of, runs_asked, runs_of}
-use Rattle.kexec_main.specs.Runs.{HasMode}
+use Rattle.kexec_main.specs.Ran.{HasMode}
 
 -- the runs that are asked fit the mode
 pub runs_fit : (twice : Bool) (mode : Mode) → HasMode (runs_of twice mode) mode

@@ -15,9 +15,10 @@ use Rattle.kexec_plan.specs.Plan.{plan}
 use Rattle.kexec_plan.specs.Requests.{Plan}
 use Rattle.kexec_main.specs.declared.status.Reason.{Reason}
 use Rattle.kexec_main.specs.declared.status.Reason.TheVariants as reasons
-use Rattle.kexec_main.specs.BootResident.{HasNoList, IsKernel, RefusesResident, ran_resident, raw_inputs, resident_text}
+use Rattle.kexec_main.specs.BootResident.{HasNoList, RefusesResident, raw_inputs, resident_text}
+use Rattle.kexec_main.specs.Ran.{ran_resident, HasMode, HasRun}
+use Rattle.kexec_main.specs.Views.{IsKernel}
 use Rattle.kexec_main.specs.Inputs.{LoadInputs}
-use Rattle.kexec_main.specs.Runs.{HasMode, HasRun}
 use Rattle.kexec_main.specs.declared.boot_resident.ResidentKernel.{ResidentKernel}
 use Rattle.kexec_main.specs.declared.running.Ran.{Ran}
 

@@ -33,11 +33,13 @@ use Rattle.kexec_words.specs.Values.{BootValue, ExecValue, LoadValue}
 use Rattle.kexec_plan.specs.Requests.{Plan}
 use Rattle.kexec_plan.specs.Plan.{plan}
 use Rattle.kexec_plan.specs.declared.fault.PlanFault.{PlanFault}
+use Rattle.kexec_main.specs.declared.files.LoadFiles.{LoadFiles}
+use Rattle.kexec_main.specs.declared.files.TakenLoad.TheVariants.{Normal}
 use Rattle.kexec_main.specs.declared.status.Reason.{Reason}
-use Rattle.kexec_main.specs.Boot.{BootInputs, HasBooted}
-use Rattle.kexec_main.specs.Exec.{HasExecuted, files_text, runs_asked, runs_of}
+use Rattle.kexec_main.specs.Boot.{BootInputs, HasBooted, boot_files}
+use Rattle.kexec_main.specs.Exec.{HasExecuted, exec_files, exec_of, files_text, runs_asked, runs_of}
 use Rattle.kexec_main.specs.Inputs.{LoadInputs, load_inputs}
-use Rattle.kexec_main.specs.Load.{HasLoaded, LoadCommand, load_wish, record_of_load}
+use Rattle.kexec_main.specs.Load.{HasLoaded, LoadCommand, load_command_files, load_wish, record_of_load}
 use Rattle.kexec_main.specs.Loads.{IsLaid, NormalLoad}
 use Rattle.kexec_main.specs.Outputs.{IsFileOf}
 use Rattle.kexec_main.specs.Runs.{after_runs, list_text, run_text, wish_of}
@@ -102,32 +104,34 @@ same_text (Some Once) c d start table digest s image = λ i. (same_list c d star
 same_text (Some Twice) c d start table digest s image = λ i. (same_list c d start s image i ++ ran_line (s.words i)) ++ ran_line (s.words i)
 
 module _ {S O : Type 0} (D : Shelf S) (E : Sink O) (held after : Files) (s t u s' t' u' : S) (o p q o' p' q' : O) (b : BootValue) (l : LoadValue) (e : ExecValue)
-    (ask : AskTogether b l e) (boot : HasBooted D E held s o s' o' b) (boot_laid : IsLaid (wish_of b.kept) boot.inputs.load boot.planned boot.checked)
-    (load : HasLoaded D E held t p t' p' l) (load_laid : IsLaid (load_wish l) load.inputs.load load.planned load.checked) (exec : HasExecuted D E after u q u' q' e)
+    (ask : AskTogether b l e)
+    (x : BootInputs) (boot_read : reads (boot_files b) held ≡ Ok x) (boot : HasBooted D E s o s' o' b x.load) (boot_laid : IsLaid (wish_of b.kept) x.load boot.planned boot.checked)
+    (y : LoadCommand) (load_read : reads (load_command_files l) held ≡ Ok y) (load : HasLoaded D E t p t' p' l y.load) (load_laid : IsLaid (load_wish l) y.load load.planned load.checked)
+    (files : LoadFiles) (files_read : reads (exec_files e) after ≡ Ok (exec_of e (Normal files))) (exec : HasExecuted D E u q u' q' e files)
     (memory_put : file_at after l.out ≡ load.output) (record_put : file_at after l.load_record ≡ record_file (record_of_load load.checked.load load.planned)) where
   -- both loads are of the same inputs
-  same_inputs : load.inputs.load ≡ boot.inputs.load
+  same_inputs : y.load ≡ x.load
   same_inputs =
-      let i = reads_cases (load_inputs b.image b.inputs) (λ i. ok (record { load = i; runs = b.kept; out = b.out })) held boot.inputs boot.read in
-      let j = reads_cases (load_inputs l.image l.inputs) (λ i. ok (record { load = i; wish = load_wish l; out = l.out; load_record = l.load_record })) held load.inputs load.read in
+      let i = reads_cases (load_inputs b.image b.inputs) (λ i. ok (record { load = i; runs = b.kept; out = b.out })) held x boot_read in
+      let j = reads_cases (load_inputs l.image l.inputs) (λ i. ok (record { load = i; wish = load_wish l; out = l.out; load_record = l.load_record })) held y load_read in
       let read : reads (load_inputs l.image l.inputs) held ≡ reads (load_inputs b.image b.inputs) held =
       ap (λ image. reads (load_inputs image l.inputs) held) ask.image ∙ ap (λ i. reads (load_inputs b.image i) held) ask.inputs in
       let one : j.0 ≡ i.0 = ok_same {F = Refusal Reason} j.0 i.0 (sym j.1 ∙ read ∙ i.1) in
-      ap (λ (x : LoadCommand). x.load) (sym (ok_same {F = Refusal Reason} _ load.inputs j.2)) ∙ one ∙ ap (λ (x : BootInputs). x.load) (ok_same {F = Refusal Reason} _ boot.inputs i.2)
+      ap (λ (x : LoadCommand). x.load) (sym (ok_same {F = Refusal Reason} _ y j.2)) ∙ one ∙ ap (λ (x : BootInputs). x.load) (ok_same {F = Refusal Reason} _ x i.2)
 
   alike : (load.planned ≡ boot.planned) × IsSameLoad boot.checked.load load.checked.load
-  alike = loads_alike (wish_of b.kept) (load_wish l) boot.inputs.load load.inputs.load boot.planned load.planned boot.checked load.checked ask.wish same_inputs boot.load load.load boot_laid load_laid
+  alike = loads_alike (wish_of b.kept) (load_wish l) x.load y.load boot.planned load.planned boot.checked load.checked ask.wish same_inputs boot.load load.load boot_laid load_laid
 
   -- the record and the memory that `exec` read are those that `load` put
-  record_is : exec.files.load_record ≡ record_of_load load.checked.load load.planned
+  record_is : files.load_record ≡ record_of_load load.checked.load load.planned
   record_is =
-      let read : record_reading (file_at after e.load_record) ≡ Ok exec.files.load_record = record_found e.load_record after exec.files.load_record (exec_read e after exec.files exec.read).1 in
-      ok_same {F = RecFault} exec.files.load_record (record_of_load load.checked.load load.planned) (sym read ∙ ap record_reading (ap (file_at after) ask.load_record ∙ record_put) ∙ load.read_back)
+      let read : record_reading (file_at after e.load_record) ≡ Ok files.load_record = record_found e.load_record after files.load_record (exec_read e after files files_read).1 in
+      ok_same {F = RecFault} files.load_record (record_of_load load.checked.load load.planned) (sym read ∙ ap record_reading (ap (file_at after) ask.load_record ∙ record_put) ∙ load.read_back)
 
-  memory_is : Agree (at exec.files.memory) (at load.checked.load.memory)
+  memory_is : Agree (at files.memory) (at load.checked.load.memory)
   memory_is =
-      file_agrees (at load.checked.load.memory) load.output exec.files.memory load.is_memory
-      (subst (λ bytes. reading bytes ≡ Ok exec.files.memory) (ap (file_at after) ask.memory ∙ memory_put) (memory_found e.memory after exec.files.memory (exec_read e after exec.files exec.read).0))
+      file_agrees (at load.checked.load.memory) load.output files.memory load.is_memory
+      (subst (λ bytes. reading bytes ≡ Ok files.memory) (ap (file_at after) ask.memory ∙ memory_put) (memory_found e.memory after files.memory (exec_read e after files files_read).0))
 
   read_alike : IsSameLoad load.checked.load exec.checked.load
   read_alike = record {
@@ -142,10 +146,10 @@ module _ {S O : Type 0} (D : Shelf S) (E : Sink O) (held after : Files) (s t u s
   check : IsSameCheck boot.checked exec.checked
   check = tells_alike boot.checked boot.load.accepted exec.checked whole exec.accepted
 
-  runs : runs_asked e.twice exec.files ≡ b.kept
+  runs : runs_asked e.twice files ≡ b.kept
   runs =
       let laid = boot_laid in
-      same_runs b.kept (swap_of laid.loading) e.twice exec.files.load_record.image.mode
+      same_runs b.kept (swap_of laid.loading) e.twice files.load_record.image.mode
       ask.twice
       (ap (λ (s : Load). s.image.mode) (sym exec.of_files) ∙ ap (λ i. i.mode) whole.image ∙ ap (λ i. i.mode) laid.image)
 
@@ -154,15 +158,15 @@ module _ {S O : Type 0} (D : Shelf S) (E : Sink O) (held after : Files) (s t u s
       one_file (after_runs b.kept boot.checked) exec.output boot.output
       (subst (λ N. IsFileOf N exec.output) (ap (λ r. after_runs r exec.checked) runs ∙ same_after b.kept boot.checked exec.checked check) exec.is_memory) boot.is_memory
 
-  said_same : files_text e.twice exec.files exec.checked ≡ booted_text b.kept boot.checked boot.planned
+  said_same : files_text e.twice files exec.checked ≡ booted_text b.kept boot.checked boot.planned
   said_same =
-      ap (λ (r : Record). run_text (runs_asked e.twice exec.files) exec.checked r.start r.regions r.digest) record_is
+      ap (λ (r : Record). run_text (runs_asked e.twice files) exec.checked r.start r.regions r.digest) record_is
       ∙ ap (λ r. run_text r exec.checked load.planned.start load.planned.regions load.planned.digest) runs
       ∙ same_text b.kept boot.checked exec.checked load.planned.start load.planned.regions load.planned.digest check whole.image
       ∙ ap (λ (p : Plan). booted_text b.kept boot.checked p) alike.0
 
 pub load_then_exec : {S O : Type 0} (D : Shelf S) (E : Sink O) → LoadThenExecIsBoot D E
-load_then_exec D E held after s t u s' t' u' o p q o' p' q' b l e ask boot load exec memory_put record_put = (
-  same_output D E held after s t u s' t' u' o p q o' p' q' b l e ask boot.booted boot.laid load.loaded load.laid exec memory_put record_put,
-  said_same D E held after s t u s' t' u' o p q o' p' q' b l e ask boot.booted boot.laid load.loaded load.laid exec memory_put record_put,
+load_then_exec D E held after s t u s' t' u' o p q o' p' q' b l e ask boot load files read exec memory_put record_put = (
+  same_output D E held after s t u s' t' u' o p q o' p' q' b l e ask boot.inputs boot.read boot.booted boot.laid load.inputs load.read load.loaded load.laid files read exec memory_put record_put,
+  said_same D E held after s t u s' t' u' o p q o' p' q' b l e ask boot.inputs boot.read boot.booted boot.laid load.inputs load.read load.loaded load.laid files read exec memory_put record_put,
 )

@@ -1,18 +1,17 @@
 -- What `boot` takes and makes (this project's own).
-use Rattle.std.specs.Prelude.{◌≡◌, ℕ, List, Option, None, string_bytes, Result, Ok, Err, ◌⊎◌, [], ◌∷◌}
-use Rattle.file_commands.specs.Taking.{Refusal, Take, ok, too_long, by, ◌>>=◌, reads}
+use Rattle.std.specs.Prelude.{◌≡◌, ℕ, List, Option, None, Result, Ok, Err, ◌⊎◌, [], ◌∷◌}
+use Rattle.file_commands.specs.Taking.{Refusal, Take, ok, too_long, by, ◌>>=◌}
 use Rattle.load_states.specs.States.{Checked}
 use Rattle.load_states.specs.Ready.{Told}
 use Rattle.kexec_words.specs.declared.commands.Runs.{Runs}
 use Rattle.kexec_words.specs.Values.{BootValue}
 use Rattle.kexec_plan.specs.Requests.{Plan}
-use Rattle.kexec_main.specs.declared.boot.BootInputs.{BootInputs as Taken}
 use Rattle.kexec_main.specs.declared.status.Reason.{Reason}
-use Rattle.kexec_main.specs.Inputs.{LoadInputs, inputs_of, load_inputs}
+use Rattle.kexec_main.specs.Inputs.{LoadInputs, load_inputs}
 use Rattle.kexec_main.specs.Loading.{IsLoaded, RefusesLoad}
 use Rattle.kexec_main.specs.Outputs.{Made, HasNoFile, IsMemoryFile, IsFileOf}
 use Rattle.kexec_main.specs.Runs.{after_runs, run_text, wish_of, EndsAgain, IsOnce, Leaves, MachineLeaves}
-use Rattle.kx_edge.specs.Edge.{Files, Said}
+use Rattle.kx_edge.specs.Edge.{Said}
 use Rattle.kx_edge.specs.declared.edge.Shelf.{Ghosts as Shelf}
 use Rattle.kx_edge.specs.declared.edge.Sink.{Ghosts as Sink}
 use Rattle.file_commands.specs.Answers.{FilesPut, command_of}
@@ -33,9 +32,6 @@ boot_files b = do
   x ← load_inputs b.image b.inputs
   ok (record { load = x; runs = b.kept; out = b.out })
 
-abbrev pub boot_inputs : Taken → BootInputs
-boot_inputs b = record { load = inputs_of b.load; runs = b.runs; out = string_bytes b.out }
-
 -- the kernel is loaded by this plan, and so much is told of its accepted list
 abbrev pub Boots : BootInputs → Plan → Checked → Type 0
 Boots x p c = IsLoaded (wish_of x.runs) x.load p c.load × Told c.load c.words c.links c.pairs
@@ -52,17 +48,14 @@ boots x (Err (by why)) =
     ⊎ ((p : Plan) × (c : Checked) × Boots x p c × HasNoFile (after_runs x.runs c) why)
 boots x (Err (too_long name limit)) = ⊥
 
-module _ {S O : Type 0} (D : Shelf S) (E : Sink O) (held : Files) (s : S) (o : O) (s' : S)
-    (o' : O) where
-  -- After `boot`: all that the words name was read, and the kernel loaded. The machine's runs of its list left what they are
-  -- to leave, each after as many steps as the walk has words. OUT is the file of the memory after the last run, every other
-  -- file is as it was, and the text tells the list and each run.
-  pub record HasBooted (b : BootValue) : Type 0 where
-    pub inputs : BootInputs
-    pub read : reads (boot_files b) held ≡ Ok inputs
+module _ {S O : Type 0} (D : Shelf S) (E : Sink O) (s : S) (o : O) (s' : S) (o' : O) where
+  -- After `boot`, by what was read: the kernel was loaded. The machine's runs of its list left what they are to leave, each
+  -- after as many steps as the walk has words. OUT is the file of the memory after the last run, every other file is as it
+  -- was, and the text tells the list and each run.
+  pub record HasBooted (b : BootValue) (i : LoadInputs) : Type 0 where
     pub planned : Plan
     pub checked : Checked
-    pub load : NormalLoad (wish_of b.kept) inputs.load planned checked
+    pub load : NormalLoad (wish_of b.kept) i planned checked
     pub ends_again : EndsAgain b.kept checked
     pub runs : MachineLeaves b.kept checked
     pub leaves : Leaves b.kept checked (after_runs b.kept checked)
@@ -79,6 +72,6 @@ abbrev pub boot_entry : BootValue → ProgramEntry
 boot_entry b = record {
   Inputs = BootInputs;
   command = command_of (boot_files b) boots;
-  did = λ D E held s o s' o'. HasBooted D E held s o s' o' b;
+  did = λ D E x s o s' o'. HasBooted D E s o s' o' b x.load;
   can = λ x. CanLoad (wish_of x.runs) x.load (after_runs x.runs);
 }

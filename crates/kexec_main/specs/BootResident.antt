@@ -1,6 +1,6 @@
 -- What `boot-resident` takes and makes (this project's own).
-use Rattle.std.specs.Prelude.{◌≡◌, ◌⊎◌, ℕ, List, [], ◌∷◌, ◌++◌, None, codes, decimal, map, string_bytes, Result, Ok, Err}
-use Rattle.kx_edge.specs.Edge.{Files, Said}
+use Rattle.std.specs.Prelude.{◌≡◌, ◌⊎◌, ℕ, List, [], ◌∷◌, ◌++◌, None, codes, decimal, map, Result, Ok, Err}
+use Rattle.kx_edge.specs.Edge.{Said}
 use Rattle.kx_edge.specs.declared.edge.Shelf.{Ghosts as Shelf}
 use Rattle.kx_edge.specs.declared.edge.Sink.{Ghosts as Sink}
 use Rattle.kx_pages.specs.declared.image.ImageType.TheVariants.{Raw}
@@ -20,23 +20,20 @@ use Rattle.resident_planner.specs.Refusals.{IsFault, resident_of}
 use Rattle.resident_planner.specs.declared.plan.Made.{Made as ResidentList}
 use Rattle.file_commands.specs.Answers.{FilesPut, command_of}
 use Rattle.file_commands.specs.Files.{from_reader, whole_file}
-use Rattle.file_commands.specs.Taking.{Refusal, Take, ok, too_long, by, ◌>>=◌, reads}
+use Rattle.file_commands.specs.Taking.{Refusal, Take, ok, too_long, by, ◌>>=◌}
 use Rattle.kexec_words.specs.Values.{BootResidentValue, InputsValue}
 use Rattle.kexec_plan.specs.Requests.{Plan}
 use Rattle.kexec_plan.specs.Plan.{plan}
-use Rattle.kexec_main.specs.declared.boot_resident.ResidentInputs.{ResidentInputs as Taken}
-use Rattle.kexec_main.specs.declared.boot_resident.ResidentKernel.{ResidentKernel}
 use Rattle.kexec_main.specs.declared.status.Reason.{Reason}
 use Rattle.kexec_main.specs.declared.status.Reason.TheVariants as reasons
 use Rattle.kexec_main.specs.declared.status.InputFault.TheVariants as inputs
-use Rattle.kexec_main.specs.declared.running.Ran.{Ran}
 use Rattle.kexec_main.specs.Entry.{ProgramEntry}
 use Rattle.kexec_main.specs.Files.{text_limit}
-use Rattle.kexec_main.specs.Inputs.{LoadInputs, inputs_of, load_inputs}
+use Rattle.kexec_main.specs.Inputs.{LoadInputs, load_inputs}
 use Rattle.kexec_main.specs.Loading.{HasNoPlan}
 use Rattle.kexec_main.specs.Outputs.{Made, HasNoFile, IsFileOf, IsMemoryFile, IsTooHeavy}
 use Rattle.kexec_main.specs.Runs.{Leaves, MachineLeaves, after_runs, list_text}
-use Rattle.kexec_main.specs.Texts.{load_lines, ran_line}
+use Rattle.kexec_main.specs.Texts.{ran_line}
 
 -- how many pages have a resident page and another source
 abbrev pub copied_line : ℕ → List ℕ
@@ -45,11 +42,6 @@ copied_line copied = codes "copied " ++ (decimal copied ++ codes "\n")
 -- what is said of the list, of what it copies, and of its run
 abbrev pub resident_text : Checked → Start → ℕ → List ℕ
 resident_text c start copied = (list_text c start ++ copied_line copied) ++ ran_line c.words
-
--- the same by what ran
-abbrev pub ran_resident : Ran → Start → ℕ → List ℕ
-ran_resident r start copied =
-    (load_lines r.words r.links r.pairs r.image start ++ copied_line copied) ++ ran_line r.steps
 
 -- what `boot-resident` took: what the load of a raw kernel is made of, the pairs of destination and
 -- resident page, and the name of its output
@@ -85,13 +77,6 @@ resident_files b = do
   rs ← pairs_file b.pairs
   ok (record { load = x; pairs = map as_pair rs; out = b.out })
 
-abbrev pub resident_inputs : Taken → ResidentInputs
-resident_inputs b = record {
-  load = inputs_of b.load;
-  pairs = map as_pair b.pairs.items;
-  out = string_bytes b.out;
-}
-
 -- the load of a list that was made: no page is drawn for it any more
 abbrev pub load_with : Plan → ResidentList → Load
 load_with p m =
@@ -103,15 +88,6 @@ pub record IsResident (i : LoadInputs) (rs : List (ℕ × ℕ)) (p : Plan) (m : 
     : Type 0 where
   pub planned : plan i.request i.map ≡ Ok p
   pub made : IsMade (at i.memory) p.segments i.usable rs m
-
--- what was made: the plan has this start, and the list is that of this load
-pub record IsKernel (i : LoadInputs) (rs : List (ℕ × ℕ)) (k : ResidentKernel) : Type 0 where
-  pub p : Plan
-  pub m : ResidentList
-  pub resident : IsResident i rs p m
-  pub start : k.start ≡ p.start
-  pub load : k.loaded ≡ load_with p m
-  pub copied : k.copied ≡ m.copied
 
 -- the segments have no list by the pairs, for this reason
 abbrev pub HasNoList : Mem → List SegmentValue → List ℕ → List (ℕ × ℕ) → Reason → Type 0
@@ -144,24 +120,21 @@ boots_resident x (Err (by why)) =
     × HasNoFile (after_runs None c) why)
 boots_resident x (Err (too_long name limit)) = ⊥
 
-module _ {S O : Type 0} (D : Shelf S) (E : Sink O) (held : Files) (s : S) (o : O) (s' : S)
-    (o' : O) where
-  -- After `boot-resident`: all that the words name was read, and the list of the kernel was made.
-  pub record HasBootedResident (b : BootResidentValue) : Type 0 where
-    pub inputs : ResidentInputs
-    pub read : reads (resident_files b) held ≡ Ok inputs
+module _ {S O : Type 0} (D : Shelf S) (E : Sink O) (s : S) (o : O) (s' : S) (o' : O) where
+  -- After `boot-resident`, by what was read: the list of the kernel was made.
+  pub record HasBootedResident (b : BootResidentValue) (i : ResidentInputs) : Type 0 where
     pub planned : Plan
     pub list : ResidentList
     -- the kernel has this plan, and by the pairs its segments have this list, in this memory
-    pub resident : IsResident inputs.load inputs.pairs planned list
+    pub resident : IsResident i.load i.pairs planned list
     pub checked : Checked
     pub of_list : checked.load ≡ load_with planned list
     -- the list is accepted for the segments
     pub accepted : Told checked.load checked.words checked.links checked.pairs
     -- it copies so many pages that have a resident page
-    pub copies : deviating (resident_of inputs.pairs) checked.pairs ≡ list.copied
+    pub copies : deviating (resident_of i.pairs) checked.pairs ≡ list.copied
     -- and no list that is accepted for the segments, in whatever memory, copies fewer
-    pub least : DeviatesAtLeast planned.segments inputs.pairs list.copied
+    pub least : DeviatesAtLeast planned.segments i.pairs list.copied
     -- the machine's run of it ends after as many steps as the walk has words
     pub ends : EndsAfter checked.load checked.words
     -- and leaves each page of the segments what it is to have, and every other page as it was
@@ -187,6 +160,6 @@ abbrev pub boot_resident_entry : BootResidentValue → ProgramEntry
 boot_resident_entry b = record {
   Inputs = ResidentInputs;
   command = command_of (resident_files b) boots_resident;
-  did = λ D E held s o s' o'. HasBootedResident D E held s o s' o' b;
+  did = λ D E x s o s' o'. HasBootedResident D E s o s' o' b x;
   can = CanBootResident;
 }

@@ -4,16 +4,16 @@ use Rattle.kx_edge.specs.declared.edge.Shelf.{Ghosts as Shelf}
 use Rattle.kx_edge.specs.declared.edge.Sink.{Ghosts as Sink}
 use Rattle.list_checker.specs.declared.fault.ListFault.{ListFault}
 use Rattle.file_commands.specs.Answers.{Answer}
-use Rattle.file_commands.specs.Entry.{IsReady, IsRefused, NeedsNoFiles}
+use Rattle.file_commands.specs.Entry.{IsDone, IsReady, IsRefused, NeedsNoFiles}
 use Rattle.file_commands.specs.Taking.{Refusal}
 use Rattle.kexec_words.specs.Values.{CommandValue}
 use Rattle.kexec_main.specs.declared.status.Reason.{Reason}
 use Rattle.kexec_main.specs.Commands.{entry_of}
 
--- what stands after a command answered Done over files that are told
+-- After a command answered Done over files that are told: they were read, and what is promised of what they are stands.
 abbrev pub HasDone : {S O : Type 0} → Shelf S → Sink O → Files → S → O → S → O → CommandValue
     → Type 0
-HasDone D E held s o s' o' c = (entry_of c).did D E held s o s' o'
+HasDone D E held s o s' o' c = IsDone D E (entry_of c) held s o s' o'
 
 -- a command that takes no file ends so over every shelf
 abbrev pub EndsWithoutFiles : {S O : Type 0} → Shelf S → Sink O → CommandValue → S → O

@@ -1,6 +1,6 @@
 -- What `check` makes: what is told of an accepted load, or the first fault of another (this
 -- project's own).
-use Rattle.std.specs.Prelude.{◌≡◌, List, [], length, codes, ◌++◌, Option, Some, None, Result, Ok, Err, ◌⊎◌}
+use Rattle.std.specs.Prelude.{◌≡◌, List, [], length, codes, ◌++◌, Option, Some, None, Result, Ok, Err}
 use Rattle.kx_pages.specs.declared.item.Item.{Item}
 use Rattle.kx_pages.specs.Items.{decode}
 use Rattle.page_memory.specs.Contents.{at}
@@ -10,7 +10,7 @@ use Rattle.list_checker.specs.Walk.{IsAccepted, links, pairs}
 use Rattle.list_checker.specs.Checked.{IsFirstFault}
 use Rattle.list_checker.specs.Crash.{AcceptedCrash, crash_reason}
 use Rattle.list_checker.specs.Texts.{fault_text}
-use Rattle.file_commands.specs.Taking.{Refusal, reads}
+use Rattle.file_commands.specs.Taking.{Refusal}
 use Rattle.kexec_main.specs.declared.files.CrashFiles.{CrashFiles}
 use Rattle.kexec_main.specs.declared.files.LoadFiles.{LoadFiles}
 use Rattle.kexec_main.specs.declared.files.TakenLoad.{TakenLoad}
@@ -19,7 +19,7 @@ use Rattle.kexec_main.specs.declared.status.Reason.{Reason}
 use Rattle.kexec_main.specs.Outputs.{Made}
 use Rattle.kexec_main.specs.Texts.{accepted_line, crash_line}
 use Rattle.kx_pages.specs.Modes.{swap_page}
-use Rattle.kx_edge.specs.Edge.{Files, Said}
+use Rattle.kx_edge.specs.Edge.{Said}
 use Rattle.kx_edge.specs.declared.edge.Shelf.{Ghosts as Shelf}
 use Rattle.kx_edge.specs.declared.edge.Sink.{Ghosts as Sink}
 use Rattle.file_commands.specs.Answers.{FilesPut, command_of}
@@ -92,13 +92,10 @@ abbrev pub checks : TakenLoad → Result Made (Refusal Reason) → Type 0
 checks (Normal x) r = checks_list x r
 checks (Crash x) r = checks_in_place x r
 
-module _ {S O : Type 0} (D : Shelf S) (E : Sink O) (held : Files) (s : S) (o : O) (s' : S)
-    (o' : O) where
+module _ {S O : Type 0} (D : Shelf S) (E : Sink O) (s : S) (o : O) (s' : S) (o' : O) where
   -- After `check` of a normal load: the list of the record is accepted in the memory for its segments,
   -- and the text tells it.
-  pub record HasChecked (l : LoadNamesValue) : Type 0 where
-    pub files : LoadFiles
-    pub read : reads (load_files_of l) held ≡ Ok (Normal files)
+  pub record HasChecked (files : LoadFiles) : Type 0 where
     pub items : List Item
     pub accepted : IsAcceptedIn files items
     pub put : FilesPut (D.files s) [] (D.files s')
@@ -106,12 +103,15 @@ module _ {S O : Type 0} (D : Shelf S) (E : Sink O) (held : Files) (s : S) (o : O
         (accepted_line (length items) (length (links items)) (length (pairs items))) (E.said o')
 
   -- After `check` of a crash load: it lies in its place, and the text tells how many pages it has.
-  pub record HasCheckedCrash (l : LoadNamesValue) : Type 0 where
-    pub files : CrashFiles
-    pub read : reads (load_files_of l) held ≡ Ok (Crash files)
+  pub record HasCheckedCrash (files : CrashFiles) : Type 0 where
     pub accepted : IsInPlace files
     pub put : FilesPut (D.files s) [] (D.files s')
     pub said : Said (E.said o) (crash_line (length (pages files.segments))) (E.said o')
+
+  -- after `check`, by the load that was read
+  abbrev pub HasCheckedLoad : TakenLoad → Type 0
+  HasCheckedLoad (Normal files) = HasChecked files
+  HasCheckedLoad (Crash files) = HasCheckedCrash files
 
 -- the load that was taken is accepted in the memory
 abbrev pub IsAcceptedLoad : TakenLoad → Type 0
@@ -122,6 +122,6 @@ abbrev pub check_entry : LoadNamesValue → ProgramEntry
 check_entry l = record {
   Inputs = TakenLoad;
   command = command_of (load_files_of l) checks;
-  did = λ D E held s o s' o'. HasChecked D E held s o s' o' l ⊎ HasCheckedCrash D E held s o s' o' l;
+  did = λ D E x s o s' o'. HasCheckedLoad D E s o s' o' x;
   can = IsAcceptedLoad;
 }

@@ -1,15 +1,14 @@
 -- What `core` takes and makes (this project's own).
-use Rattle.std.specs.Prelude.{◌≡◌, ℕ, List, [], ◌∷◌, ◌++◌, codes, decimal, length, None, string_bytes, Result, Ok, Err}
-use Rattle.kx_edge.specs.Edge.{Files, Said}
+use Rattle.std.specs.Prelude.{◌≡◌, ℕ, List, [], ◌∷◌, ◌++◌, codes, decimal, length, None, Result, Ok, Err}
+use Rattle.kx_edge.specs.Edge.{Said}
 use Rattle.kx_edge.specs.declared.edge.Shelf.{Ghosts as Shelf}
 use Rattle.kx_edge.specs.declared.edge.Sink.{Ghosts as Sink}
 use Rattle.kx_pages.specs.Bytes.{Mem}
 use Rattle.page_memory.specs.Contents.{Contents, at}
 use Rattle.vmcore_file.specs.File.{CoreValue as CoreMade, core_reading}
 use Rattle.file_commands.specs.Answers.{FilesPut, command_of}
-use Rattle.file_commands.specs.Taking.{Refusal, Take, ok, too_long, by, ◌>>=◌, reads}
+use Rattle.file_commands.specs.Taking.{Refusal, Take, ok, too_long, by, ◌>>=◌}
 use Rattle.kexec_words.specs.Values.{CoreValue}
-use Rattle.kexec_main.specs.declared.core_inputs.CoreInputs.{CoreInputs as Taken}
 use Rattle.kexec_main.specs.declared.status.Reason.{Reason}
 use Rattle.kexec_main.specs.declared.status.Reason.TheVariants.{Core}
 use Rattle.kexec_main.specs.Entry.{ProgramEntry}
@@ -35,9 +34,6 @@ core_files c = do
   m ← memory_file c.memory
   ok (record { memory = m; address = c.address; out = c.out })
 
-abbrev pub core_inputs : Taken → CoreInputs
-core_inputs t = record { memory = t.memory; address = t.address; out = string_bytes t.out }
-
 -- the memory has no core by the headers at an address, for this reason
 abbrev pub RefusesCore : Mem → ℕ → Reason → Type 0
 RefusesCore M address (Core fault) = core_reading M address ≡ Err fault
@@ -52,13 +48,10 @@ cores x (Ok goods) =
 cores x (Err (by why)) = RefusesCore (at x.memory) x.address why
 cores x (Err (too_long name limit)) = ⊥
 
-module _ {S O : Type 0} (D : Shelf S) (E : Sink O) (held : Files) (s : S) (o : O) (s' : S)
-    (o' : O) where
-  -- After `core`: the memory was read, and has a core by the headers at the address. OUT is its file, every other file is
+module _ {S O : Type 0} (D : Shelf S) (E : Sink O) (s : S) (o : O) (s' : S) (o' : O) where
+  -- After `core`: the memory that was read has a core by the headers at the address. OUT is its file, every other file is
   -- as it was, and the text tells how large it is.
-  pub record HasWrittenCore (c : CoreValue) : Type 0 where
-    pub memory : Contents
-    pub read : reads (memory_file c.memory) held ≡ Ok memory
+  pub record HasWrittenCore (c : CoreValue) (memory : Contents) : Type 0 where
     pub made : CoreMade
     pub is_core : core_reading (at memory) c.address ≡ Ok made
     pub put : FilesPut (D.files s) ((c.out, made.bytes) ∷ []) (D.files s')
@@ -72,6 +65,6 @@ abbrev pub core_entry : CoreValue → ProgramEntry
 core_entry c = record {
   Inputs = CoreInputs;
   command = command_of (core_files c) cores;
-  did = λ D E held s o s' o'. HasWrittenCore D E held s o s' o' c;
+  did = λ D E x s o s' o'. HasWrittenCore D E s o s' o' c x.memory;
   can = CanWriteCore;
 }

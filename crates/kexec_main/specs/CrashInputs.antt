@@ -7,8 +7,7 @@ use Rattle.crash_headers.specs.declared.note.Note.{Note}
 use Rattle.file_commands.specs.Taking.{Take, ok, ◌>>=◌}
 use Rattle.kx_pages.specs.declared.image.ImageType.TheVariants.{Auto}
 use Rattle.kexec_words.specs.Values.{CrashInputsValue}
-use Rattle.kexec_plan.specs.Requests.{Asked, request_of}
-use Rattle.kexec_main.specs.declared.load_inputs.CrashInputs.{CrashInputs as Taken}
+use Rattle.kexec_plan.specs.Requests.{Asked}
 use Rattle.kexec_main.specs.declared.status.Reason.{Reason}
 use Rattle.kexec_main.specs.Files.{map_file, memory_file, some_notes}
 use Rattle.kexec_main.specs.Inputs.{KernelFiles, kernel_files, request_with}
@@ -32,7 +31,3 @@ crash_inputs i map = do
   notes ← some_notes i.notes
   files ← kernel_files i.kernel i.initrd i.purgatory []
   ok (record { memory = m; map = ram; request = crash_request i.command notes files })
-
--- the program's values, read plainly
-abbrev pub crash_inputs_of : Taken → CrashInputs
-crash_inputs_of t = record { memory = t.memory; map = t.map; request = request_of t.request }

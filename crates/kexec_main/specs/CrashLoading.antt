@@ -7,17 +7,7 @@ use Rattle.list_checker.specs.Crash.{AcceptedCrash}
 use Rattle.load_states.specs.States.{CrashLoad}
 use Rattle.kexec_plan.specs.Requests.{Plan}
 use Rattle.kexec_plan.specs.Plan.{plan}
-use Rattle.kexec_main.specs.declared.crash_loading.CrashKernel.{CrashKernel}
 use Rattle.kexec_main.specs.CrashInputs.{CrashInputs}
-
--- the plan of a crash load
-abbrev pub crash_plan_of : CrashKernel → Plan
-crash_plan_of k = record {
-  segments = k.loaded.segments;
-  start = k.start;
-  regions = k.regions;
-  digest = k.digest;
-}
 
 -- The request has this plan, and each page of its segments is put in its place: memory is as it was
 -- at every other page, the head is a done word, and the load is accepted.

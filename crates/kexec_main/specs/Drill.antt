@@ -1,23 +1,21 @@
 -- What `drill` takes and makes (this project's own).
-use Rattle.std.specs.Prelude.{◌≡◌, ◌⊎◌, ℕ, List, [], ◌∷◌, Option, Some, None, map, string_bytes, Result, Ok, Err}
+use Rattle.std.specs.Prelude.{◌≡◌, ◌⊎◌, ℕ, List, [], ◌∷◌, Option, None, map, Result, Ok, Err}
 use Rattle.std.specs.List.{find}
-use Rattle.kx_edge.specs.Edge.{Files, Said}
+use Rattle.kx_edge.specs.Edge.{Said}
 use Rattle.kx_edge.specs.declared.edge.Shelf.{Ghosts as Shelf}
 use Rattle.kx_edge.specs.declared.edge.Sink.{Ghosts as Sink}
 use Rattle.kx_pages.specs.Bytes.{Mem}
 use Rattle.kx_pages.specs.Spans.{AreApart, Run, in_spans}
 use Rattle.page_memory.specs.Contents.{Contents, at}
-use Rattle.page_pool.specs.Pages.{usable_of}
 use Rattle.memory_map.specs.Maps.{MapValue, is_ram, reserved_area}
-use Rattle.image_slots.specs.Events.{EventValue, event_of}
+use Rattle.image_slots.specs.Events.{EventValue}
 use Rattle.image_slots.specs.Pages.{in_area}
 use Rattle.image_slots.specs.Sequences.{AreKept, after_events, fresh, replies_to}
 use Rattle.image_slots.specs.Soundness as slots
 use Rattle.image_slots.specs.States.{State}
 use Rattle.file_commands.specs.Answers.{FilesPut, command_of}
-use Rattle.file_commands.specs.Taking.{Refusal, Take, ok, too_long, by, ◌>>=◌, reads}
+use Rattle.file_commands.specs.Taking.{Refusal, Take, ok, too_long, by, ◌>>=◌}
 use Rattle.kexec_words.specs.Values.{DrillValue}
-use Rattle.kexec_main.specs.declared.drill_inputs.DrillInputs.{DrillInputs as Taken}
 use Rattle.kexec_main.specs.declared.status.Reason.{Reason}
 use Rattle.kexec_main.specs.declared.status.Reason.TheVariants.{Slots}
 use Rattle.kexec_main.specs.Entry.{ProgramEntry}
@@ -41,15 +39,6 @@ drill_files d = do
   ram ← map_file d.map
   events ← events_file d.events
   ok (record { memory = m; pool = pages; map = ram; events = events; out = d.out })
-
-abbrev pub drill_inputs : Taken → DrillInputs
-drill_inputs t = record {
-  memory = t.memory;
-  pool = usable_of t.pool;
-  map = t.map;
-  events = map event_of t.events.items;
-  out = string_bytes t.out;
-}
 
 -- the pages that are RAM by a memory map, as their longest runs in rising order
 pub record AreRam (m : MapValue) (ram : List Run) : Type 0 where
@@ -91,25 +80,22 @@ drills x (Err (by why)) =
     ⊎ ((ram : List Run) × AreRam x.map ram × (meeting x ≡ None) × HasNoFile (memory_after x ram) why)
 drills x (Err (too_long name limit)) = ⊥
 
-module _ {S O : Type 0} (D : Shelf S) (E : Sink O) (held : Files) (s : S) (o : O) (s' : S)
-    (o' : O) where
-  -- After `drill`: the events of the file were applied one after another. OUT is the file of the memory after the last one,
+module _ {S O : Type 0} (D : Shelf S) (E : Sink O) (s : S) (o : O) (s' : S) (o' : O) where
+  -- After `drill`, by what was read: the events of the file were applied one after another. OUT is the file of the memory after the last one,
   -- every other file is as it was, and the text has the reply to each event.
-  pub record HasDrilled (d : DrillValue) : Type 0 where
-    pub inputs : DrillInputs
-    pub read : reads (drill_files d) held ≡ Ok inputs
+  pub record HasDrilled (d : DrillValue) (i : DrillInputs) : Type 0 where
     -- the pages that are RAM, and no page of the pool lies in the reserved area
     pub ram : List Run
-    pub are_ram : AreRam inputs.map ram
-    pub apart : meeting inputs ≡ None
+    pub are_ram : AreRam i.map ram
+    pub apart : meeting i ≡ None
     -- Until an image was run, after each event: what is installed or written is accepted in the memory as it is, and each
     -- page of the pool is left, or the load's, or the normal image's. Busy is answered exactly where another caller's load is
     -- under way.
-    pub kept : AreKept inputs.pool (start inputs ram) inputs.events
+    pub kept : AreKept i.pool (start i ram) i.events
     pub output : List ℕ
-    pub is_memory : IsFileOf (memory_after inputs ram) output
+    pub is_memory : IsFileOf (memory_after i ram) output
     pub put : FilesPut (D.files s) ((d.out, output) ∷ []) (D.files s')
-    pub said : Said (E.said o) (drill_text inputs ram) (E.said o')
+    pub said : Said (E.said o) (drill_text i ram) (E.said o')
 
 -- no page of the pool lies in the reserved area, and the memory after the events has a file
 pub record CanDrill (x : DrillInputs) : Type 0 where
@@ -122,6 +108,6 @@ abbrev pub drill_entry : DrillValue → ProgramEntry
 drill_entry d = record {
   Inputs = DrillInputs;
   command = command_of (drill_files d) drills;
-  did = λ D E held s o s' o'. HasDrilled D E held s o s' o' d;
+  did = λ D E x s o s' o'. HasDrilled D E s o s' o' d x;
   can = CanDrill;
 }

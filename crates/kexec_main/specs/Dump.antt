@@ -1,5 +1,5 @@
 -- What `dump` makes: a line for each word of the list, and one for each segment.
-use Rattle.std.specs.Prelude.{◌≡◌, ℕ, ◌+◌, ◌*◌, ◌/◌, List, [], ◌∷◌, ◌++◌, length, take, codes, decimal, Option, Some, None, option_map, Result, Ok, Err, ◌⊎◌}
+use Rattle.std.specs.Prelude.{◌≡◌, ℕ, ◌+◌, ◌*◌, ◌/◌, List, [], ◌∷◌, ◌++◌, length, take, codes, decimal, Option, Some, None, option_map, Result, Ok, Err}
 use Rattle.std.specs.List.{flat_map}
 use Rattle.kx_pages.specs.declared.item.Item.{Item}
 use Rattle.kx_pages.specs.declared.item.Item.TheVariants.{Link, Destination, Source, Done}
@@ -12,17 +12,16 @@ use Rattle.list_checker.specs.Reading.{IsWalk}
 use Rattle.list_checker.specs.Texts.{fault_text}
 use Rattle.sha2.specs.Sha256.{sha256}
 use Rattle.hex.specs.Hex.{encode_lower}
-use Rattle.file_commands.specs.Taking.{Refusal, reads}
-use Rattle.kexec_main.specs.declared.dump.DumpInputs.{DumpInputs}
+use Rattle.file_commands.specs.Taking.{Refusal}
 use Rattle.kexec_main.specs.declared.files.CrashFiles.{CrashFiles}
 use Rattle.kexec_main.specs.declared.files.LoadFiles.{LoadFiles}
 use Rattle.kexec_main.specs.declared.files.TakenLoad.{TakenLoad}
 use Rattle.kexec_main.specs.declared.files.TakenLoad.TheVariants.{Normal, Crash}
 use Rattle.kexec_main.specs.declared.status.Reason.{Reason}
-use Rattle.kexec_main.specs.Files.{load_by, load_files_of}
+use Rattle.kexec_main.specs.Files.{load_files_of}
 use Rattle.kexec_main.specs.Outputs.{Made}
 use Rattle.kexec_main.specs.Texts.{hexadecimal}
-use Rattle.kx_edge.specs.Edge.{Files, Said}
+use Rattle.kx_edge.specs.Edge.{Said}
 use Rattle.kx_edge.specs.declared.edge.Shelf.{Ghosts as Shelf}
 use Rattle.kx_edge.specs.declared.edge.Sink.{Ghosts as Sink}
 use Rattle.file_commands.specs.Answers.{FilesPut, command_of}
@@ -96,22 +95,15 @@ dumps_in_place x (Ok goods) =
     goods ≡ lines_of (head_text x.head ++ flat_map segment_line x.segments)
 dumps_in_place x (Err other) = ⊥
 
--- the load that `dump` took
-abbrev pub dump_inputs : DumpInputs → TakenLoad
-dump_inputs d = load_by d.memory d.load_record
-
 -- by the record's kind
 abbrev pub dumps : TakenLoad → Result Made (Refusal Reason) → Type 0
 dumps (Normal x) r = dumps_list x r
 dumps (Crash x) r = dumps_in_place x r
 
-module _ {S O : Type 0} (D : Shelf S) (E : Sink O) (held : Files) (s : S) (o : O) (s' : S)
-    (o' : O) where
+module _ {S O : Type 0} (D : Shelf S) (E : Sink O) (s : S) (o : O) (s' : S) (o' : O) where
   -- After `dump` of a normal load: the text tells each word of the record's list, up to the done word
   -- or the first that cannot be followed, and each segment.
-  pub record HasDumped (l : LoadNamesValue) : Type 0 where
-    pub files : LoadFiles
-    pub read : reads (load_files_of l) held ≡ Ok (Normal files)
+  pub record HasDumped (files : LoadFiles) : Type 0 where
     pub list : List ℕ
     pub fault : Option ListFault
     pub walk : IsWalk (at files.memory) files.load_record.image.head list fault
@@ -120,17 +112,20 @@ module _ {S O : Type 0} (D : Shelf S) (E : Sink O) (held : Files) (s : S) (o : O
         (walk_text list fault ++ flat_map segment_line files.load_record.segments) (E.said o')
 
   -- After `dump` of a crash load: the text tells its head and each segment.
-  pub record HasDumpedCrash (l : LoadNamesValue) : Type 0 where
-    pub files : CrashFiles
-    pub read : reads (load_files_of l) held ≡ Ok (Crash files)
+  pub record HasDumpedCrash (files : CrashFiles) : Type 0 where
     pub put : FilesPut (D.files s) [] (D.files s')
     pub said : Said (E.said o)
         (head_text files.head ++ flat_map segment_line files.segments) (E.said o')
+
+  -- after `dump`, by the load that was read
+  abbrev pub HasDumpedLoad : TakenLoad → Type 0
+  HasDumpedLoad (Normal files) = HasDumped files
+  HasDumpedLoad (Crash files) = HasDumpedCrash files
 
 abbrev pub dump_entry : LoadNamesValue → ProgramEntry
 dump_entry l = record {
   Inputs = TakenLoad;
   command = command_of (load_files_of l) dumps;
-  did = λ D E held s o s' o'. HasDumped D E held s o s' o' l ⊎ HasDumpedCrash D E held s o s' o' l;
+  did = λ D E x s o s' o'. HasDumpedLoad D E s o s' o' x;
   can = always;
 }

@@ -1,8 +1,6 @@
 -- The file of events, and what is known of what is read of it (this project's own).
-use Rattle.std.specs.Prelude.{ℕ, List, length, map, Bool, true, not, nat_lt}
-use Rattle.std.specs.List.{list_all}
-use Rattle.image_slots.specs.declared.event.Event.{Event}
-use Rattle.image_slots.specs.Events.{EventValue, Store, event_of}
+use Rattle.std.specs.Prelude.{ℕ, List}
+use Rattle.image_slots.specs.Events.{EventValue}
 use Rattle.image_slots.specs.Texts.{events_reading}
 use Rattle.file_commands.specs.Files.{from_reader, whole_file}
 use Rattle.file_commands.specs.Taking.{Take, ◌>>=◌}
@@ -16,12 +14,3 @@ abbrev pub events_file : List ℕ → Take Reason (List EventValue)
 events_file name = do
   bytes ← whole_file text_limit name
   from_reader (λ e. Input (inputs.Events e)) (events_reading bytes)
-
--- a page is stored from at most 4,096 bytes
-abbrev pub is_short : EventValue → Bool
-is_short (Store page bytes) = not (nat_lt 4096 (length bytes))
-is_short other = true
-
--- each store of these is
-abbrev pub are_short : List Event → Bool
-are_short events = list_all is_short (map event_of events)

@@ -1,16 +1,15 @@
 -- What `exec` takes and makes (this project's own).
-use Rattle.std.specs.Prelude.{◌≡◌, ℕ, Bool, true, false, List, Option, Some, None, string_bytes, Result, Ok, Err, ◌⊎◌, [], ◌∷◌}
+use Rattle.std.specs.Prelude.{◌≡◌, ℕ, Bool, true, false, List, Option, Some, None, Result, Ok, Err, ◌⊎◌, [], ◌∷◌}
 use Rattle.kx_pages.specs.declared.image.Mode.{Mode}
 use Rattle.kx_pages.specs.declared.image.Mode.TheVariants.{Plain, Kept}
 use Rattle.kx_pages.specs.declared.image.Start.{Start}
 use Rattle.list_checker.specs.declared.fault.ListFault.{ListFault}
 use Rattle.load_states.specs.States.{Load, no_pages, Checked}
 use Rattle.load_states.specs.Ready.{Told}
-use Rattle.file_commands.specs.Taking.{Refusal, Take, ok, too_long, by, ◌>>=◌, reads}
+use Rattle.file_commands.specs.Taking.{Refusal, Take, ok, too_long, by, ◌>>=◌}
 use Rattle.kexec_words.specs.Values.{ExecValue}
 use Rattle.kexec_words.specs.declared.commands.Runs.{Runs}
 use Rattle.kexec_words.specs.declared.commands.Runs.TheVariants.{Once, Twice}
-use Rattle.kexec_main.specs.declared.exec.ExecInputs.{ExecInputs as Taken}
 use Rattle.kexec_main.specs.declared.files.LoadFiles.{LoadFiles}
 use Rattle.kexec_main.specs.declared.files.TakenLoad.{TakenLoad}
 use Rattle.kexec_main.specs.declared.files.TakenLoad.TheVariants as kinds
@@ -21,7 +20,7 @@ use Rattle.kexec_main.specs.CrashExec.{executes_in_place, crash_text}
 use Rattle.kexec_main.specs.Files.{load_files}
 use Rattle.kexec_main.specs.Outputs.{Made, HasNoFile, IsMemoryFile, IsFileOf, IsTooHeavy}
 use Rattle.kexec_main.specs.Runs.{after_runs, checked_with, run_text, EndsAgain, Leaves, MachineLeaves}
-use Rattle.kx_edge.specs.Edge.{Files, Said}
+use Rattle.kx_edge.specs.Edge.{Said}
 use Rattle.kx_edge.specs.declared.edge.Shelf.{Ghosts as Shelf}
 use Rattle.kx_edge.specs.declared.edge.Sink.{Ghosts as Sink}
 use Rattle.kx_pages.specs.declared.item.Item.{Item}
@@ -45,9 +44,6 @@ abbrev pub exec_files : ExecValue → Take Reason ExecInputs
 exec_files e = do
   load ← load_files e.memory e.load_record
   ok (exec_of e load)
-
-abbrev pub exec_inputs : Taken → ExecInputs
-exec_inputs e = record { load = e.load; twice = e.twice; out = string_bytes e.out }
 
 -- a second run is asked for, and there is no swap page to run the list again with
 abbrev pub lacks_swap_page : Bool → Mode → Bool
@@ -128,15 +124,12 @@ abbrev pub files_text : Bool → LoadFiles → Checked → List ℕ
 files_text twice x c =
     let r = x.load_record in run_text (runs_asked twice x) c r.start r.regions r.digest
 
-module _ {S O : Type 0} (D : Shelf S) (E : Sink O) (held : Files) (s : S) (o : O) (s' : S)
-    (o' : O) where
+module _ {S O : Type 0} (D : Shelf S) (E : Sink O) (s : S) (o : O) (s' : S) (o' : O) where
   -- After `exec` of a normal load: the record's list is accepted in the memory for the record's
   -- segments. The machine's runs of it left what they are to leave, each after as many steps as the
   -- walk has words; OUT is the file of that memory, every other file is as it was, and the text tells
   -- the list and each run.
-  pub record HasExecuted (e : ExecValue) : Type 0 where
-    pub files : LoadFiles
-    pub read : reads (exec_files e) held ≡ Ok (exec_of e (kinds.Normal files))
+  pub record HasExecuted (e : ExecValue) (files : LoadFiles) : Type 0 where
     pub checked : Checked
     pub of_files : checked.load ≡ load_of files
     pub accepted : Told checked.load checked.words checked.links checked.pairs
@@ -152,15 +145,18 @@ module _ {S O : Type 0} (D : Shelf S) (E : Sink O) (held : Files) (s : S) (o : O
 
   -- After `exec` of a crash load: it lies in its place. OUT is the file of the memory as it was, every
   -- other file is as it was, and the text tells the load, and one run of one step.
-  pub record HasExecutedCrash (e : ExecValue) : Type 0 where
-    pub files : CrashFiles
-    pub read : reads (exec_files e) held ≡ Ok (exec_of e (kinds.Crash files))
+  pub record HasExecutedCrash (e : ExecValue) (files : CrashFiles) : Type 0 where
     pub once : e.twice ≡ false
     pub accepted : IsInPlace files
     pub output : List ℕ
     pub is_memory : IsFileOf (at files.memory) output
     pub put : FilesPut (D.files s) ((e.out, output) ∷ []) (D.files s')
     pub said : Said (E.said o) (crash_text files) (E.said o')
+
+  -- after `exec`, by the load that was read
+  abbrev pub HasExecutedLoad : ExecValue → TakenLoad → Type 0
+  HasExecutedLoad e (kinds.Normal files) = HasExecuted e files
+  HasExecutedLoad e (kinds.Crash files) = HasExecutedCrash e files
 
 -- the record's list is accepted in the memory, a record that is to run twice is in kept mode, and the
 -- memory after the runs has a file
@@ -186,6 +182,6 @@ abbrev pub exec_entry : ExecValue → ProgramEntry
 exec_entry e = record {
   Inputs = ExecInputs;
   command = command_of (exec_files e) executes;
-  did = λ D E held s o s' o'. HasExecuted D E held s o s' o' e ⊎ HasExecutedCrash D E held s o s' o' e;
+  did = λ D E x s o s' o'. HasExecutedLoad D E s o s' o' e x.load;
   can = λ x. CanExec x.load x.twice;
 }

@@ -1,19 +1,15 @@
 -- What `boot` and `load` take, in the order in which it is taken, and the request that the kernel's files make (this
 -- project's own).
-use Rattle.std.specs.Prelude.{ℕ, ◌-◌, List, [], length, map, Option, Some, None, option_map, false}
+use Rattle.std.specs.Prelude.{ℕ, ◌-◌, List, [], length, map, Option, Some, None, false}
 use Rattle.page_memory.specs.Contents.{Contents}
-use Rattle.page_pool.specs.Pages.{usable_of}
 use Rattle.memory_map.specs.Maps.{MapValue}
 use Rattle.file_commands.specs.Taking.{File, Take, ok, ◌>>=◌}
 use Rattle.file_commands.specs.Files.{all_files, optional_file, whole_file}
-use Rattle.file_commands.specs.Calls.{file_of}
 use Rattle.kx_pages.specs.declared.image.ImageType.{ImageType}
 use Rattle.kexec_words.specs.Values.{InputsValue}
 use Rattle.kexec_plan.specs.Modules.{AskedModule}
-use Rattle.kexec_plan.specs.Requests.{Asked, request_of}
-use Rattle.kexec_main.specs.declared.inputs.KernelFiles.{KernelFiles as TakenFiles}
+use Rattle.kexec_plan.specs.Requests.{Asked}
 use Rattle.kx_pages.specs.Limits.{kernel_limit}
-use Rattle.kexec_main.specs.declared.load_inputs.LoadInputs.{LoadInputs as Taken}
 use Rattle.kexec_main.specs.declared.status.Reason.{Reason}
 use Rattle.kexec_main.specs.Files.{map_file, memory_file, pool_file}
 
@@ -76,21 +72,3 @@ load_inputs image i = do
   ram ← optional_file map_file i.map
   files ← kernel_files i.kernel i.initrd i.purgatory i.modules
   ok (record { memory = m; usable = p; map = ram; request = request_with image i.command files })
-
--- the program's values, read plainly
-abbrev pub kernel_bytes : TakenFiles → KernelFiles
-kernel_bytes f = record {
-  kernel = f.kernel.items;
-  initrd = option_map (λ b. b.items) f.initrd;
-  purgatory = option_map (λ b. b.items) f.purgatory;
-  modules = map file_of f.modules.items;
-}
-
-abbrev pub inputs_of : Taken → LoadInputs
-inputs_of t =
-    record {
-      memory = t.memory;
-      usable = usable_of t.pool;
-      map = t.map;
-      request = request_of t.request;
-    }

@@ -29,3 +29,7 @@ pub mod Commands
 pub mod Call
 pub mod TooFew
 pub mod Together
+pub mod Views
+pub mod Ran
+pub mod ShortStores
+pub mod ExitStatuses

@@ -1,23 +1,20 @@
 -- What `load` takes and makes (this project's own).
-use Rattle.std.specs.Prelude.{◌≡◌, ℕ, List, [], ◌∷◌, length, false, cond, None, string_bytes, Result, Ok, Err, ◌⊎◌}
-use Rattle.kx_pages.specs.declared.image.Start.{Start}
+use Rattle.std.specs.Prelude.{◌≡◌, ℕ, List, [], ◌∷◌, false, cond, None, Result, Ok, Err, ◌⊎◌}
 use Rattle.kx_pages.specs.declared.image.Wish.{Wish}
 use Rattle.kx_pages.specs.declared.image.Wish.TheVariants.{Plain, Kept}
 use Rattle.page_memory.specs.Contents.{at}
-use Rattle.file_commands.specs.Taking.{Refusal, Take, ok, too_long, by, ◌>>=◌, reads}
+use Rattle.file_commands.specs.Taking.{Refusal, Take, ok, too_long, by, ◌>>=◌}
 use Rattle.load_states.specs.States.{Checked, Load}
 use Rattle.load_states.specs.Ready.{Told}
 use Rattle.load_record.specs.File.{Record, record_file, record_reading}
 use Rattle.kexec_words.specs.Values.{LoadValue}
 use Rattle.kexec_plan.specs.Requests.{Plan}
-use Rattle.kexec_main.specs.declared.load.LoadCommand.{LoadCommand as Taken}
 use Rattle.kexec_main.specs.declared.status.Reason.{Reason}
-use Rattle.kexec_main.specs.Inputs.{LoadInputs, inputs_of, load_inputs}
+use Rattle.kexec_main.specs.Inputs.{LoadInputs, load_inputs}
 use Rattle.kexec_main.specs.Loading.{IsLoaded, RefusesLoad}
 use Rattle.kexec_main.specs.Outputs.{Made, HasNoFile, IsFileOf}
 use Rattle.kexec_main.specs.Runs.{list_text}
-use Rattle.kexec_main.specs.Texts.{load_lines}
-use Rattle.kx_edge.specs.Edge.{Files, Said}
+use Rattle.kx_edge.specs.Edge.{Said}
 use Rattle.kx_edge.specs.declared.edge.Shelf.{Ghosts as Shelf}
 use Rattle.kx_edge.specs.declared.edge.Sink.{Ghosts as Sink}
 use Rattle.file_commands.specs.Answers.{FilesPut, command_of}
@@ -40,24 +37,9 @@ load_command_files l = do
   x ← load_inputs l.image l.inputs
   ok (record { load = x; wish = load_wish l; out = l.out; load_record = l.load_record })
 
-abbrev pub load_command : Taken → LoadCommand
-load_command l =
-    record {
-      load = inputs_of l.load;
-      wish = l.wish;
-      out = string_bytes l.out;
-      load_record = string_bytes l.load_record;
-    }
-
 -- the kernel is loaded by this plan, and so much is told of its accepted list
 abbrev pub Loads : LoadCommand → Plan → Checked → Type 0
 Loads x p c = IsLoaded x.wish x.load p c.load × Told c.load c.words c.links c.pairs
-
--- what is said of a load, by what is told of its accepted list
-abbrev pub IsToldText : Load → Start → List ℕ → Type 0
-IsToldText load start text =
-    (words : ℕ) × (links : ℕ) × (qs : List (ℕ × ℕ)) × Told load words links qs
-    × (text ≡ load_lines words links (length qs) load.image start)
 
 -- the record of a load
 abbrev pub record_of_load : Load → Plan → Record
@@ -89,16 +71,13 @@ loads x (Err (by why)) =
     ⊎ ((p : Plan) × (c : Checked) × Loads x p c × HasNoFile (at c.load.memory) why)
 loads x (Err (too_long name limit)) = ⊥
 
-module _ {S O : Type 0} (D : Shelf S) (E : Sink O) (held : Files) (s : S) (o : O) (s' : S)
-    (o' : O) where
-  -- After `load`: the kernel was loaded. OUT is the file of the memory after the load. RECORD tells its list, start and
+module _ {S O : Type 0} (D : Shelf S) (E : Sink O) (s : S) (o : O) (s' : S) (o' : O) where
+  -- After `load`, by what was read: the kernel was loaded. OUT is the file of the memory after the load. RECORD tells its list, start and
   -- segments, and reads back as it was written. Every other file is as it was, and the text tells the list.
-  pub record HasLoaded (l : LoadValue) : Type 0 where
-    pub inputs : LoadCommand
-    pub read : reads (load_command_files l) held ≡ Ok inputs
+  pub record HasLoaded (l : LoadValue) (i : LoadInputs) : Type 0 where
     pub planned : Plan
     pub checked : Checked
-    pub load : NormalLoad (load_wish l) inputs.load planned checked
+    pub load : NormalLoad (load_wish l) i planned checked
     pub output : List ℕ
     pub is_memory : IsFileOf (at checked.load.memory) output
     pub read_back : IsReadBack (record_of_load checked.load planned)
@@ -111,6 +90,6 @@ abbrev pub load_entry : LoadValue → ProgramEntry
 load_entry l = record {
   Inputs = LoadCommand;
   command = command_of (load_command_files l) loads;
-  did = λ D E held s o s' o'. HasLoaded D E held s o s' o' l;
+  did = λ D E x s o s' o'. HasLoaded D E s o s' o' l x.load;
   can = λ x. CanLoad x.wish x.load (λ c. at c.load.memory);
 }

@@ -1,22 +1,21 @@
 -- What `load-panic` takes and makes (this project's own).
-use Rattle.std.specs.Prelude.{◌≡◌, ℕ, List, [], ◌∷◌, length, true, None, Some, string_bytes, Result, Ok, Err, ◌⊎◌, false}
+use Rattle.std.specs.Prelude.{◌≡◌, ℕ, List, [], ◌∷◌, length, true, None, Some, Result, Ok, Err, ◌⊎◌, false}
 use Rattle.kx_pages.specs.declared.image.Mode.TheVariants.{Plain}
 use Rattle.page_memory.specs.Contents.{at}
 use Rattle.segments.specs.Values.{pages, want}
-use Rattle.file_commands.specs.Taking.{Refusal, Take, ok, too_long, by, ◌>>=◌, reads}
+use Rattle.file_commands.specs.Taking.{Refusal, Take, ok, too_long, by, ◌>>=◌}
 use Rattle.load_states.specs.States.{CrashLoad}
 use Rattle.load_record.specs.File.{Record, record_file}
 use Rattle.kexec_words.specs.Values.{LoadPanicValue}
 use Rattle.kexec_plan.specs.Requests.{Plan}
-use Rattle.kexec_main.specs.declared.load_panic.LoadPanicCommand.{LoadPanicCommand as Taken}
 use Rattle.kexec_main.specs.declared.status.Reason.{Reason}
-use Rattle.kexec_main.specs.CrashInputs.{CrashInputs, crash_inputs, crash_inputs_of}
+use Rattle.kexec_main.specs.CrashInputs.{CrashInputs, crash_inputs}
 use Rattle.kexec_main.specs.CrashLoading.{IsCrashLoaded}
 use Rattle.kexec_main.specs.Load.{IsReadBack}
 use Rattle.kexec_main.specs.Loading.{HasNoPlan}
 use Rattle.kexec_main.specs.Outputs.{Made, HasNoFile, IsFileOf, IsTooHeavy}
 use Rattle.kexec_main.specs.Texts.{crash_lines}
-use Rattle.kx_edge.specs.Edge.{Files, Said}
+use Rattle.kx_edge.specs.Edge.{Said}
 use Rattle.kx_edge.specs.declared.edge.Shelf.{Ghosts as Shelf}
 use Rattle.kx_edge.specs.declared.edge.Sink.{Ghosts as Sink}
 use Rattle.kx_pages.specs.Spans.{Run, in_span}
@@ -38,13 +37,6 @@ abbrev pub load_panic_files : LoadPanicValue → Take Reason LoadPanicCommand
 load_panic_files l = do
   load ← crash_inputs l.inputs l.map
   ok (load_panic_of l load)
-
-abbrev pub load_panic_command : Taken → LoadPanicCommand
-load_panic_command l = record {
-  load = crash_inputs_of l.load;
-  out = string_bytes l.out;
-  load_record = string_bytes l.load_record;
-}
 
 -- the record of a crash load: plain, without a control page, its list the head alone
 abbrev pub record_of_crash : CrashLoad → Plan → Record
@@ -94,17 +86,14 @@ pub record PanicLoad (i : CrashInputs) (p : Plan) (load : CrashLoad) : Type 0 wh
   pub head : load.head ≡ 4
   pub segments : load.segments ≡ p.segments
 
-module _ {S O : Type 0} (D : Shelf S) (E : Sink O) (held : Files) (s : S) (o : O) (s' : S)
-    (o' : O) where
-  -- After `load-panic`: the crash kernel was put in its place. OUT is the file of the memory after the
+module _ {S O : Type 0} (D : Shelf S) (E : Sink O) (s : S) (o : O) (s' : S) (o' : O) where
+  -- After `load-panic`, by what was read: the crash kernel was put in its place. OUT is the file of the memory after the
   -- load. RECORD tells its start and segments, and reads back as it was written. Every other file is as
   -- it was, and the text tells how many pages it has and how it starts.
-  pub record HasLoadedPanic (l : LoadPanicValue) : Type 0 where
-    pub inputs : CrashInputs
-    pub read : reads (load_panic_files l) held ≡ Ok (load_panic_of l inputs)
+  pub record HasLoadedPanic (l : LoadPanicValue) (i : CrashInputs) : Type 0 where
     pub planned : Plan
     pub loaded : CrashLoad
-    pub load : PanicLoad inputs planned loaded
+    pub load : PanicLoad i planned loaded
     pub output : List ℕ
     pub is_memory : IsFileOf (at loaded.memory) output
     pub read_back : IsReadBack (record_of_crash loaded planned)
@@ -123,6 +112,6 @@ abbrev pub load_panic_entry : LoadPanicValue → ProgramEntry
 load_panic_entry l = record {
   Inputs = LoadPanicCommand;
   command = command_of (load_panic_files l) loads_panic;
-  did = λ D E held s o s' o'. HasLoadedPanic D E held s o s' o' l;
+  did = λ D E x s o s' o'. HasLoadedPanic D E s o s' o' l x.load;
   can = λ x. CanLoadPanic x.load;
 }

@@ -8,7 +8,6 @@ use Rattle.load_states.specs.Fillings.{IsSealed}
 use Rattle.load_states.specs.States.{Load}
 use Rattle.kexec_plan.specs.Requests.{Asked, Plan}
 use Rattle.kexec_plan.specs.Plan.{plan}
-use Rattle.kexec_main.specs.declared.loading.LoadedKernel.{LoadedKernel}
 use Rattle.kexec_main.specs.declared.status.Reason.{Reason}
 use Rattle.kexec_main.specs.declared.status.Reason.TheVariants as reasons
 use Rattle.kexec_main.specs.Inputs.{LoadInputs}
@@ -23,11 +22,6 @@ abbrev pub IsTooFew : List ℕ → Wish → List SegmentValue → Reason → Typ
 IsTooFew usable wish ss (reasons.NoPages left n) =
     (left ≡ length usable) × (n ≡ need wish ss) × (left < n)
 IsTooFew usable wish ss other = ⊥
-
--- the plan of a load
-abbrev pub plan_of : LoadedKernel → Plan
-plan_of k =
-    record { segments = k.loaded.segments; start = k.start; regions = k.regions; digest = k.digest }
 
 -- The request has this plan, the usable pages suffice, and this is the load that the rules of taking pages and laying a
 -- list give.

@@ -1,5 +1,5 @@
 -- What is promised of the load of a kernel (this project's own).
-use Rattle.std.specs.Prelude.{◌≡◌, ℕ, ◌≤◌, ◌<◌, length, take, Ok}
+use Rattle.std.specs.Prelude.{◌≡◌, ℕ, ◌≤◌, length, take, Ok}
 use Rattle.kx_pages.specs.Bytes.{Mem}
 use Rattle.kx_pages.specs.Lists.{count}
 use Rattle.kx_pages.specs.declared.image.Wish.{Wish}
@@ -41,9 +41,3 @@ pub record CanLoad (wish : Wish) (i : LoadInputs) (leaves : Checked → Mem) : T
   pub enough : need wish p.segments ≤ length i.usable
   pub light : (c : Checked) (n : ℕ) → IsLoaded wish i p c.load
       → Told c.load c.words c.links c.pairs → IsTooHeavy (leaves c) n → ⊥
-
--- The request has a plan, whose load takes more pages than the pool has usable: so many, and so many.
-abbrev pub LacksPages : Wish → LoadInputs → (pool need : ℕ) → Type 0
-LacksPages wish i pool n =
-    (p : Plan) × (plan i.request i.map ≡ Ok p) × (pool ≡ length i.usable)
-    × (n ≡ need wish p.segments) × (pool < n)

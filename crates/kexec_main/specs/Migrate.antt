@@ -1,14 +1,13 @@
 -- What `migrate` takes and makes (this project's own).
-use Rattle.std.specs.Prelude.{◌≡◌, ℕ, List, [], ◌∷◌, ◌++◌, codes, decimal, length, None, string_bytes, Result, Ok, Err}
+use Rattle.std.specs.Prelude.{◌≡◌, ℕ, List, [], ◌∷◌, ◌++◌, codes, decimal, length, None, Result, Ok, Err}
 use Rattle.load_record.specs.File.{Record, record_file}
-use Rattle.file_commands.specs.Taking.{Refusal, Take, ok, ◌>>=◌, reads}
+use Rattle.file_commands.specs.Taking.{Refusal, Take, ok, ◌>>=◌}
 use Rattle.kexec_words.specs.Values.{MigrateValue}
-use Rattle.kexec_main.specs.declared.migrate_inputs.MigrateInputs.{MigrateInputs as Taken}
 use Rattle.kexec_main.specs.declared.status.Reason.{Reason}
 use Rattle.kexec_main.specs.Files.{load_record_file}
 use Rattle.kexec_main.specs.Load.{IsReadBack}
 use Rattle.kexec_main.specs.Outputs.{Made}
-use Rattle.kx_edge.specs.Edge.{Files, Said}
+use Rattle.kx_edge.specs.Edge.{Said}
 use Rattle.kx_edge.specs.declared.edge.Shelf.{Ghosts as Shelf}
 use Rattle.kx_edge.specs.declared.edge.Sink.{Ghosts as Sink}
 use Rattle.file_commands.specs.Answers.{FilesPut, command_of}
@@ -29,9 +28,6 @@ migrate_files m = do
   r ← load_record_file m.load_record
   ok (record { load_record = r; out = m.out })
 
-abbrev pub migrate_inputs : Taken → MigrateInputs
-migrate_inputs t = record { load_record = t.load_record; out = string_bytes t.out }
-
 -- the file of the record, which reads back, and the line of its segments; nothing is refused
 abbrev pub migrates : MigrateInputs → Result Made (Refusal Reason) → Type 0
 migrates x (Ok goods) =
@@ -39,13 +35,10 @@ migrates x (Ok goods) =
     × (goods.outputs ≡ (x.out, record_file x.load_record) ∷ []) × IsReadBack x.load_record
 migrates x (Err other) = ⊥
 
-module _ {S O : Type 0} (D : Shelf S) (E : Sink O) (held : Files) (s : S) (o : O) (s' : S)
-    (o' : O) where
+module _ {S O : Type 0} (D : Shelf S) (E : Sink O) (s : S) (o : O) (s' : S) (o' : O) where
   -- After `migrate`: OUT is the file of the record that was read, as the second version spells it, and reads back as this
   -- record. Every other file is as it was, and the text tells how many segments the record has.
-  pub record HasMigrated (m : MigrateValue) : Type 0 where
-    pub load_record : Record
-    pub read : reads (load_record_file m.load_record) held ≡ Ok load_record
+  pub record HasMigrated (m : MigrateValue) (load_record : Record) : Type 0 where
     pub read_back : IsReadBack load_record
     pub put : FilesPut (D.files s) ((m.out, record_file load_record) ∷ []) (D.files s')
     pub said : Said (E.said o) (segments_line (length load_record.segments)) (E.said o')
@@ -54,6 +47,6 @@ abbrev pub migrate_entry : MigrateValue → ProgramEntry
 migrate_entry m = record {
   Inputs = MigrateInputs;
   command = command_of (migrate_files m) migrates;
-  did = λ D E held s o s' o'. HasMigrated D E held s o s' o' m;
+  did = λ D E x s o s' o'. HasMigrated D E s o s' o' m x.load_record;
   can = always;
 }

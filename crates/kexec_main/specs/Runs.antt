@@ -1,8 +1,6 @@
 -- Running an accepted list: what memory it leaves, and how many steps it takes (this project's own).
 use Rattle.std.specs.Prelude.{◌≡◌, ◌≢◌, ℕ, List, ◌++◌, length, Option, Some, None}
 use Rattle.kx_pages.specs.declared.image.Start.{Start}
-use Rattle.kx_pages.specs.declared.image.Mode.{Mode}
-use Rattle.kx_pages.specs.declared.image.Mode.TheVariants as modes
 use Rattle.kx_pages.specs.declared.image.Wish.{Wish}
 use Rattle.kx_pages.specs.declared.image.Wish.TheVariants.{Plain, Kept}
 use Rattle.kexec_words.specs.declared.commands.Runs.{Runs}
@@ -12,24 +10,15 @@ use Rattle.page_memory.specs.Memory.{Agree}
 use Rattle.page_memory.specs.Contents.{Contents, at}
 use Rattle.segments.specs.Values.{overlay, want}
 use Rattle.load_states.specs.States.{Checked, Load, swap_of, with_memory}
-use Rattle.load_states.specs.Ready.{Told}
 use Rattle.load_states.specs.Runs.{EndsAfter}
 use Rattle.load_states.specs.Exchange.{exchange}
 use Rattle.relocate_machine.specs.Run.{run_of}
-use Rattle.kexec_main.specs.declared.running.Ran.{Ran}
 use Rattle.kexec_main.specs.Texts.{load_lines, purgatory_line, ran_line}
 
 -- what the runs ask of the load
 abbrev pub wish_of : Option Runs → Wish
 wish_of None = Plain
 wish_of (Some runs) = Kept
-
--- the mode of the list for these runs
-abbrev pub HasMode : Option Runs → Mode → Type 0
-HasMode None modes.Plain = Unit {0}
-HasMode None (modes.Kept swap) = ⊥
-HasMode (Some runs) modes.Plain = ⊥
-HasMode (Some runs) (modes.Kept swap) = Unit {0}
 
 -- a load, and what is told of its list
 abbrev pub checked_with : Load → ℕ → ℕ → List (ℕ × ℕ) → Checked
@@ -42,28 +31,6 @@ after_runs None c = overlay (at c.load.memory) (want c.load.segments)
 after_runs (Some Once) c = exchange (at c.load.memory) c.pairs (swap_of c.load)
 after_runs (Some Twice) c =
     exchange (exchange (at c.load.memory) c.pairs (swap_of c.load)) c.pairs (swap_of c.load)
-
--- the steps of the second run, where there is one
-abbrev pub second_steps : Option Runs → ℕ → Option ℕ
-second_steps None words = None
-second_steps (Some Once) words = None
-second_steps (Some Twice) words = Some words
-
--- The list was run: this memory is left, and each run ended after as many steps as the walk has words.
-pub record HasRun (runs : Option Runs) (c : Checked) (r : Ran) : Type 0 where
-  pub memory : Agree (at r.memory) (after_runs runs c)
-  pub image : r.image ≡ c.load.image
-  pub words : r.words ≡ c.words
-  pub links : r.links ≡ c.links
-  pub pairs : r.pairs ≡ length c.pairs
-  pub ends : r.steps ≡ c.words
-  pub ends_again : r.back ≡ second_steps runs c.words
-
--- a load was run: so much is told of its accepted list
-abbrev pub RunsLoaded : Option Runs → Load → Ran → Type 0
-RunsLoaded runs load r =
-    (words : ℕ) × (links : ℕ) × (qs : List (ℕ × ℕ)) × Told load words links qs
-    × HasRun runs (checked_with load words links qs) r
 
 -- each page of the segments has what it is to have
 abbrev pub Arrives : Checked → Mem → Type 0
@@ -118,13 +85,3 @@ run_text (Some Once) c start table digest =
     ++ purgatory_line (after_runs (Some Once) c) table digest
 run_text (Some Twice) c start table digest =
     (list_text c start ++ ran_line c.words) ++ ran_line c.words
-
--- the same by what ran: the line of the second run, or else that of the test
-abbrev pub last_line : Option ℕ → List ℕ → List ℕ → List ℕ
-last_line None text line = text ++ line
-last_line (Some steps) text line = text ++ ran_line steps
-
-abbrev pub ran_text : Ran → Start → (table digest : ℕ) → List ℕ
-ran_text r start table digest =
-    last_line r.back (load_lines r.words r.links r.pairs r.image start ++ ran_line r.steps)
-    (purgatory_line (at r.memory) table digest)

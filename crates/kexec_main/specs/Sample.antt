@@ -59,6 +59,6 @@ abbrev pub sample_entry : ℕ → ProgramEntry
 sample_entry number = record {
   Inputs = ℕ;
   command = command_of (sample_files number) samples;
-  did = λ D E held s o s' o'. HasSampled D E s o s' o' number;
+  did = λ D E x s o s' o'. HasSampled D E s o s' o' number;
   can = always;
 }

@@ -1,16 +1,18 @@
 -- `load` and then `exec` on its two files do what `boot` does (this project's own).
-use Rattle.std.specs.Prelude.{◌≡◌, ℕ, Bool, true, false, List, Option, Some, None}
+use Rattle.std.specs.Prelude.{◌≡◌, ℕ, Bool, true, false, List, Option, Some, None, Ok}
 use Rattle.kx_edge.specs.Edge.{Files}
 use Rattle.kx_edge.specs.declared.edge.Shelf.{Ghosts as Shelf}
 use Rattle.kx_edge.specs.declared.edge.Sink.{Ghosts as Sink}
 use Rattle.load_record.specs.File.{record_file}
 use Rattle.load_states.specs.States.{Checked}
-use Rattle.file_commands.specs.Taking.{file_at}
+use Rattle.file_commands.specs.Taking.{file_at, reads}
 use Rattle.kexec_words.specs.declared.commands.Runs.{Runs}
 use Rattle.kexec_words.specs.declared.commands.Runs.TheVariants.{Once, Twice}
 use Rattle.kexec_words.specs.Values.{BootValue, ExecValue, LoadValue}
 use Rattle.kexec_plan.specs.Requests.{Plan}
-use Rattle.kexec_main.specs.Exec.{HasExecuted, files_text}
+use Rattle.kexec_main.specs.declared.files.LoadFiles.{LoadFiles}
+use Rattle.kexec_main.specs.declared.files.TakenLoad.TheVariants.{Normal}
+use Rattle.kexec_main.specs.Exec.{HasExecuted, exec_files, exec_of, files_text}
 use Rattle.kexec_main.specs.Laid.{HasBootedLaid, HasLoadedLaid}
 use Rattle.kexec_main.specs.Load.{load_wish, record_of_load}
 use Rattle.kexec_main.specs.Runs.{run_text, wish_of}
@@ -41,10 +43,11 @@ LoadThenExecIsBoot {S} {O} D E =
     (held after : Files) (s t u s' t' u' : S) (o p q o' p' q' : O) (b : BootValue) (l : LoadValue)
     (e : ExecValue) → AskTogether b l e
     → (boot : HasBootedLaid D E held s o s' o' b) (load : HasLoadedLaid D E held t p t' p' l)
-    (exec : HasExecuted D E after u q u' q' e)
+    (files : LoadFiles) → reads (exec_files e) after ≡ Ok (exec_of e (Normal files))
+    → (exec : HasExecuted D E u q u' q' e files)
     → file_at after l.out ≡ load.loaded.output
     → file_at after l.load_record
     ≡ record_file (record_of_load load.loaded.checked.load load.loaded.planned)
     → (exec.output ≡ boot.booted.output)
-    × (files_text e.twice exec.files exec.checked
+    × (files_text e.twice files exec.checked
     ≡ booted_text b.kept boot.booted.checked boot.booted.planned)

@@ -1,15 +1,25 @@
 -- Loads for which the pool has too few pages (this project's own).
-use Rattle.std.specs.Prelude.{◌≡◌, ◌↔◌, ℕ, Ok}
+use Rattle.std.specs.Prelude.{◌≡◌, ℕ, ◌<◌, length, Ok, ◌↔◌}
+use Rattle.kx_pages.specs.declared.image.Wish.{Wish}
+use Rattle.segments.specs.Values.{need}
+use Rattle.kexec_plan.specs.Requests.{Plan}
+use Rattle.kexec_plan.specs.Plan.{plan}
+use Rattle.kexec_main.specs.Inputs.{LoadInputs}
 use Rattle.kx_edge.specs.Edge.{Files}
 use Rattle.file_commands.specs.Taking.{by, reads}
 use Rattle.kexec_words.specs.Values.{BootValue, CommandValue, LoadValue}
-use Rattle.kexec_words.specs.Values as words
 use Rattle.kexec_main.specs.declared.status.Reason.TheVariants.{NoPages}
 use Rattle.kexec_main.specs.Boot.{BootInputs, boot_files}
 use Rattle.kexec_main.specs.Call.{HasRefusal}
 use Rattle.kexec_main.specs.Load.{LoadCommand, load_command_files}
-use Rattle.kexec_main.specs.Loads.{LacksPages}
 use Rattle.kexec_main.specs.Runs.{wish_of}
+use Rattle.kexec_words.specs.Values as words
+
+-- The request has a plan, whose load takes more pages than the pool has usable: so many, and so many.
+abbrev pub LacksPages : Wish → LoadInputs → (pool need : ℕ) → Type 0
+LacksPages wish i pool n =
+    (p : Plan) × (plan i.request i.map ≡ Ok p) × (pool ≡ length i.usable)
+    × (n ≡ need wish p.segments) × (pool < n)
 
 -- a command is refused for pages, with both numbers
 abbrev pub IsRefusedForPages : CommandValue → Files → (pool need : ℕ) → Type 0

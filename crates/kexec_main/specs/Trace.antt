@@ -1,19 +1,18 @@
 -- What `trace` takes and makes (this project's own).
-use Rattle.std.specs.Prelude.{◌≡◌, ℕ, ◌/◌, List, ◌++◌, codes, decimal, Option, Some, None, string_bytes, Result, Ok, Err, [], ◌∷◌}
+use Rattle.std.specs.Prelude.{◌≡◌, ℕ, ◌/◌, List, ◌++◌, codes, decimal, Option, Some, None, Result, Ok, Err, [], ◌∷◌}
 use Rattle.kx_pages.specs.declared.image.Mode.{Mode}
 use Rattle.kx_pages.specs.declared.image.Mode.TheVariants.{Plain, Kept}
 use Rattle.page_memory.specs.Contents.{Contents, at}
 use Rattle.relocate_machine.specs.declared.step.Outcome.{Outcome}
 use Rattle.relocate_machine.specs.declared.step.Outcome.TheVariants as outcomes
 use Rattle.relocate_machine.specs.Run.{run_of}
-use Rattle.file_commands.specs.Taking.{Refusal, Take, ok, too_long, by, ◌>>=◌, reads}
+use Rattle.file_commands.specs.Taking.{Refusal, Take, ok, too_long, by, ◌>>=◌}
 use Rattle.kexec_words.specs.Values.{TraceValue}
-use Rattle.kexec_main.specs.declared.trace.TraceInputs.{TraceInputs as Taken}
 use Rattle.kexec_main.specs.declared.status.Reason.{Reason}
 use Rattle.kexec_main.specs.Files.{memory_file}
 use Rattle.kexec_main.specs.Outputs.{Made, HasNoFile, IsMemoryFile, IsFileOf, IsTooHeavy}
 use Rattle.kexec_main.specs.Texts.{hexadecimal}
-use Rattle.kx_edge.specs.Edge.{Files, Said}
+use Rattle.kx_edge.specs.Edge.{Said}
 use Rattle.kx_edge.specs.declared.edge.Shelf.{Ghosts as Shelf}
 use Rattle.kx_edge.specs.declared.edge.Sink.{Ghosts as Sink}
 use Rattle.file_commands.specs.Answers.{FilesPut, command_of}
@@ -44,16 +43,6 @@ trace_files t = do
   m ← memory_file t.memory
   ok (record { memory = m; head = t.head; mode = mode_by t.swap; limit = t.limit; out = t.out })
 
-abbrev pub trace_inputs : Taken → TraceInputs
-trace_inputs t =
-    record {
-      memory = t.memory;
-      head = t.head;
-      mode = t.mode;
-      limit = t.limit;
-      out = string_bytes t.out;
-    }
-
 -- the file of the memory after the steps and the outcome's line; or that memory has no file
 abbrev pub traces : TraceInputs → Result Made (Refusal Reason) → Type 0
 traces x (Ok goods) =
@@ -63,18 +52,15 @@ traces x (Ok goods) =
 traces x (Err (by why)) = HasNoFile (at (run_of x.memory x.head x.mode x.limit).0.memory) why
 traces x (Err (too_long name limit)) = ⊥
 
-module _ {S O : Type 0} (D : Shelf S) (E : Sink O) (held : Files) (s : S) (o : O) (s' : S)
-    (o' : O) where
-  -- After `trace`: OUT is the file of the memory after the steps of the machine, and the text tells how its run came out.
-  pub record HasTraced (t : TraceValue) : Type 0 where
-    pub inputs : TraceInputs
-    pub read : reads (trace_files t) held ≡ Ok inputs
+module _ {S O : Type 0} (D : Shelf S) (E : Sink O) (s : S) (o : O) (s' : S) (o' : O) where
+  -- After `trace`, by what was read: OUT is the file of the memory after the steps of the machine, and the text tells how its run came out.
+  pub record HasTraced (i : TraceInputs) : Type 0 where
     pub output : List ℕ
     pub is_memory : IsFileOf
-        (at (run_of inputs.memory inputs.head inputs.mode inputs.limit).0.memory) output
-    pub put : FilesPut (D.files s) ((inputs.out, output) ∷ []) (D.files s')
+        (at (run_of i.memory i.head i.mode i.limit).0.memory) output
+    pub put : FilesPut (D.files s) ((i.out, output) ∷ []) (D.files s')
     pub said : Said (E.said o)
-        (outcome_line (run_of inputs.memory inputs.head inputs.mode inputs.limit).1) (E.said o')
+        (outcome_line (run_of i.memory i.head i.mode i.limit).1) (E.said o')
 
 -- the memory after the steps has a file
 abbrev pub CanTrace : TraceInputs → Type 0
@@ -85,6 +71,6 @@ abbrev pub trace_entry : TraceValue → ProgramEntry
 trace_entry t = record {
   Inputs = TraceInputs;
   command = command_of (trace_files t) traces;
-  did = λ D E held s o s' o'. HasTraced D E held s o s' o' t;
+  did = λ D E x s o s' o'. HasTraced D E s o s' o' x;
   can = CanTrace;
 }

@@ -8,8 +8,9 @@ ghost use Rattle.list_checker.specs.Checked.{as_pair};
 ghost use Rattle.resident_planner.specs.Made.{IsMade};
 ghost use Rattle.file_commands.specs.Calls.{Makes, MakesOr, Takes};
 ghost use Rattle.kexec_words.specs.Values.{boot_resident_value};
-ghost use Rattle.kexec_main.specs.Inputs.{inputs_of};
-ghost use Rattle.kexec_main.specs.BootResident.{HasNoList, IsKernel, RefusesResident, ResidentInputs as Inputs, boots_resident, copied_line, pairs_file, ran_resident, resident_files, resident_inputs};
+ghost use Rattle.kexec_main.specs.Views.{inputs_of, IsKernel, resident_inputs};
+ghost use Rattle.kexec_main.specs.BootResident.{HasNoList, RefusesResident, ResidentInputs as Inputs, boots_resident, copied_line, pairs_file, resident_files};
+ghost use Rattle.kexec_main.specs.Ran.{ran_resident};
 
 use crate::files::{TEXT_LIMIT, refused_by};
 use crate::inputs::take_inputs;

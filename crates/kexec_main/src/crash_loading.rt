@@ -2,8 +2,8 @@
 
 ghost use Rattle.std.specs.Prelude.{Some};
 ghost use Rattle.file_commands.specs.Calls.{MakesOr};
-ghost use Rattle.kexec_main.specs.CrashInputs.{crash_inputs_of};
-ghost use Rattle.kexec_main.specs.CrashLoading.{IsCrashLoaded, crash_plan_of};
+ghost use Rattle.kexec_main.specs.Views.{crash_inputs_of, crash_plan_of};
+ghost use Rattle.kexec_main.specs.CrashLoading.{IsCrashLoaded};
 ghost use Rattle.kexec_main.specs.Loading.{HasNoPlan};
 
 use crate::load_inputs::CrashInputs;

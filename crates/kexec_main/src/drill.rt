@@ -13,7 +13,8 @@ ghost use Rattle.image_slots.specs.Sequences.{fresh};
 ghost use Rattle.image_slots.specs.States.{state_of};
 ghost use Rattle.file_commands.specs.Calls.{Makes, MakesOr, Takes};
 ghost use Rattle.kexec_words.specs.Values.{drill_value};
-ghost use Rattle.kexec_main.specs.Drill.{AreRam, DrillInputs as Inputs, Meets, drill_files, drill_inputs, drills};
+ghost use Rattle.kexec_main.specs.Drill.{AreRam, DrillInputs as Inputs, Meets, drill_files, drills};
+ghost use Rattle.kexec_main.specs.Views.{drill_inputs};
 ghost use Rattle.kexec_main.specs.EventFile.{events_file};
 
 use crate::drill_inputs::DrillInputs;

@@ -5,8 +5,9 @@ ghost use Rattle.load_states.specs.Answers.{IsAcceptedAs};
 ghost use Rattle.load_states.specs.States.{Load as LoadOf};
 ghost use Rattle.file_commands.specs.Calls.{Makes, MakesOr, Takes, goods_of};
 ghost use Rattle.kexec_words.specs.Values.{exec_value};
-ghost use Rattle.kexec_main.specs.Exec.{ExecInputs as Inputs, RunsList, RefusesRun, exec_files, exec_inputs, executes, executes_list, lacks_swap_page, runs_of};
-ghost use Rattle.kexec_main.specs.Runs.{HasMode};
+ghost use Rattle.kexec_main.specs.Exec.{ExecInputs as Inputs, RunsList, RefusesRun, exec_files, executes, executes_list, lacks_swap_page, runs_of};
+ghost use Rattle.kexec_main.specs.Views.{exec_inputs};
+ghost use Rattle.kexec_main.specs.Ran.{HasMode};
 
 use crate::check::unaccepted_goods;
 use crate::crash_exec::exec_in_place;

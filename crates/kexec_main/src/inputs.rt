@@ -6,8 +6,9 @@ ghost use Rattle.file_commands.specs.Calls.{Takes, file_of};
 ghost use Rattle.kexec_words.specs.Limits.{HasParts};
 ghost use Rattle.kexec_words.specs.Values.{crash_inputs_value, inputs_value};
 ghost use Rattle.kexec_plan.specs.Requests.{request_of};
-ghost use Rattle.kexec_main.specs.Inputs.{KernelFiles as KernelBytes, inputs_of, kernel_bytes, kernel_files, left_after, load_inputs, module_of, request_with};
-ghost use Rattle.kexec_main.specs.CrashInputs.{crash_inputs, crash_inputs_of, crash_request};
+ghost use Rattle.kexec_main.specs.Inputs.{KernelFiles as KernelBytes, kernel_files, left_after, load_inputs, module_of, request_with};
+ghost use Rattle.kexec_main.specs.Views.{inputs_of, kernel_bytes, crash_inputs_of};
+ghost use Rattle.kexec_main.specs.CrashInputs.{crash_inputs, crash_request};
 
 use crate::files::{take_map, take_map_file, take_memory, take_notes, take_pool};
 use crate::load_inputs::{CrashInputs, LoadInputs};

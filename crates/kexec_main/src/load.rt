@@ -11,8 +11,9 @@ ghost use Rattle.load_record.specs.File.{record_file};
 ghost use Rattle.file_commands.specs.Calls.{Makes, Takes, file_of};
 ghost use Rattle.kexec_words.specs.Limits.{HasParts};
 ghost use Rattle.kexec_words.specs.Values.{inputs_value, load_value};
-ghost use Rattle.kexec_main.specs.Load.{IsReadBack, IsToldText, LoadCommand as Inputs, load_command, load_command_files, loads, record_of_load};
-ghost use Rattle.kexec_main.specs.Loading.{plan_of};
+ghost use Rattle.kexec_main.specs.Load.{IsReadBack, LoadCommand as Inputs, load_command_files, loads, record_of_load};
+ghost use Rattle.kexec_main.specs.Ran.{IsToldText};
+ghost use Rattle.kexec_main.specs.Views.{load_command, plan_of};
 
 use crate::inputs::take_inputs;
 use crate::load_inputs::LoadInputs;

@@ -9,8 +9,8 @@ ghost use Rattle.load_states.specs.Fillings.{IsSealed};
 ghost use Rattle.file_commands.specs.Calls.{MakesOr};
 ghost use Rattle.kexec_plan.specs.Plan.{plan};
 ghost use Rattle.kexec_plan.specs.Requests.{IsMapped, lent, planned_of, request_of};
-ghost use Rattle.kexec_main.specs.Inputs.{inputs_of};
-ghost use Rattle.kexec_main.specs.Loading.{HasNoPlan, IsLoaded, IsTooFew, RefusesLoad, plan_of};
+ghost use Rattle.kexec_main.specs.Views.{inputs_of, plan_of};
+ghost use Rattle.kexec_main.specs.Loading.{HasNoPlan, IsLoaded, IsTooFew, RefusesLoad};
 
 use crate::load_inputs::LoadInputs;
 use crate::status::Reason;

@@ -3,7 +3,8 @@
 ghost use Rattle.std.specs.Prelude.{◌≡◌, IfOk, string_bytes};
 ghost use Rattle.file_commands.specs.Calls.{Makes, Takes};
 ghost use Rattle.kexec_words.specs.Values.{migrate_value};
-ghost use Rattle.kexec_main.specs.Migrate.{MigrateInputs as Inputs, migrate_files, migrate_inputs, migrates, segments_line};
+ghost use Rattle.kexec_main.specs.Migrate.{MigrateInputs as Inputs, migrate_files, migrates, segments_line};
+ghost use Rattle.kexec_main.specs.Views.{migrate_inputs};
 
 use crate::files::take_digested_record;
 use crate::migrate_inputs::MigrateInputs;

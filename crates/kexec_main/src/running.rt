@@ -11,7 +11,7 @@ ghost use Rattle.list_checker.specs.Checked.{as_pair};
 ghost use Rattle.load_states.specs.Answers.{IsAcceptedAs};
 ghost use Rattle.load_states.specs.Exchange.{exchange};
 ghost use Rattle.load_states.specs.States.{Load, swap_of};
-ghost use Rattle.kexec_main.specs.Runs.{HasMode, HasRun, RunsLoaded};
+ghost use Rattle.kexec_main.specs.Ran.{HasMode, HasRun, RunsLoaded};
 
 use kexec_words::Runs;
 use kx_pages::{Image, Start};

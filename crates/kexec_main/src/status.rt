@@ -4,7 +4,8 @@ ghost use Rattle.std.specs.Prelude.{◌≡◌};
 ghost use Rattle.file_commands.specs.Answers.{refused};
 ghost use Rattle.file_commands.specs.Taking.{by};
 ghost use Rattle.file_commands.specs.Calls.{answer_of as stop_answer};
-ghost use Rattle.kexec_main.specs.Statuses.{answer_of, code_of};
+ghost use Rattle.kexec_main.specs.Statuses.{answer_of};
+ghost use Rattle.kexec_main.specs.ExitStatuses.{code_of};
 
 use crash_headers::NoteFault;
 use file_commands::Stop;

@@ -5,3 +5,9 @@ pub mod Runs
 pub mod Maps
 pub mod Records
 pub mod Cores
+pub mod Executables
+pub mod BzImages
+pub mod Multiboots
+pub mod Objects
+pub mod Regions
+pub mod Events

@@ -5,7 +5,7 @@ use Rattle.kx_edge.specs.Edge.{Files}
 use Rattle.kx_edge.specs.declared.edge.Shelf.{Ghosts as Shelf}
 use Rattle.kx_edge.specs.declared.edge.Sink.{Ghosts as Sink}
 use Rattle.file_commands.specs.Taking.{Refusal, by, too_long, ok, reads}
-use Rattle.file_commands.specs.Answers.{MeetsTold, RefusesFor, Stands, done}
+use Rattle.file_commands.specs.Answers.{GoesOut, MeetsTold, RefusesFor, Stands, done}
 use Rattle.file_commands.proofs.Steps.{reads_cases}
 use Rattle.kexec_main.specs.declared.status.Reason.{Reason}
 use Rattle.kexec_main.specs.Outputs.{Made}
@@ -21,38 +21,45 @@ use Rattle.kexec_main.proofs.Loads.{can_load, heavy, loaded_as, loads_not, norma
 use Rattle.kexec_main.proofs.Proving.{proves_itself}
 use Rattle.file_commands.proofs.Keeping.{Keeps, put_as, said_as}
 
+abbrev asked_with : BootValue → LoadInputs → BootInputs
+asked_with b i = record { load = i; runs = b.kept; out = b.out }
+
 -- what was taken has the words' own runs and names
-boot_asked : (b : BootValue) (held : Files) (x : BootInputs) → reads (boot_files b) held ≡ Ok x → (i : LoadInputs) × (x ≡ record { load = i; runs = b.kept; out = b.out })
-boot_asked b held x read = let k = reads_cases (load_inputs b.image b.inputs) (λ i. ok (record { load = i; runs = b.kept; out = b.out })) held x read in (k.0, sym (ok_same {F = Refusal Reason} _ x k.2))
+boot_asked : (b : BootValue) (held : Files) (x : BootInputs) → reads (boot_files b) held ≡ Ok x → (i : LoadInputs) × (x ≡ asked_with b i)
+boot_asked b held x read = let k = reads_cases (load_inputs b.image b.inputs) (λ i. ok (asked_with b i)) held x read in (k.0, sym (ok_same {F = Refusal Reason} _ x k.2))
 
 module _ {S O : Type 0} (D : Shelf S) (E : Sink O) (held : Files) (s : S) (o : O) (s' : S) (o' : O) where
-  booted : (b : BootValue) → MeetsTold D E (boot_entry b).command held s o done s' o' → HasBooted D E held s o s' o' b
+  booted_by : (b : BootValue) (i : LoadInputs) (goods : Made) → boots (asked_with b i) (Ok goods) → GoesOut D E goods s o s' o' → HasBooted D E s o s' o' b i
+  booted_by b i goods n out = record {
+    planned = n.0;
+    checked = n.1;
+    load = normal _ i n.0 n.1 n.2.0 n.2.1;
+    ends_again = again_of b.kept i n.0 n.1 n.2.0 n.2.1;
+    runs = machine_of b.kept i n.0 n.1 n.2.0 n.2.1;
+    leaves = leaves_of b.kept i n.0 n.1 n.2.0 n.2.1;
+    proves_itself = proves_itself b.kept i n.0 n.1 n.2.0 n.2.1;
+    output = n.5.0;
+    is_memory = n.5.2;
+    put = put_as D E s o s' o' goods.outputs ((b.out, n.5.0) ∷ []) n.5.1 out.put;
+    said = said_as D E s o s' o' goods.text _ n.3 out.said;
+  }
+
+  booted : (b : BootValue) → (m : MeetsTold D E (boot_entry b).command held s o done s' o') → HasBooted D E s o s' o' b m.0.load
   booted b (x, goods, read, m, fault, out) =
       let k = boot_asked b held x read in
-      let y : BootInputs = record { load = k.0; runs = b.kept; out = b.out } in
-      let n = subst (λ x. boots x (Ok goods)) k.1 m in
-      record {
-        inputs = y;
-        read = subst (λ x. reads (boot_files b) held ≡ Ok x) k.1 read;
-        planned = n.0;
-        checked = n.1;
-        load = normal _ y.load n.0 n.1 n.2.0 n.2.1;
-        ends_again = again_of b.kept y.load n.0 n.1 n.2.0 n.2.1;
-        runs = machine_of b.kept y.load n.0 n.1 n.2.0 n.2.1;
-        leaves = leaves_of b.kept y.load n.0 n.1 n.2.0 n.2.1;
-        proves_itself = proves_itself b.kept y.load n.0 n.1 n.2.0 n.2.1;
-        output = n.5.0;
-        is_memory = n.5.2;
-        put = put_as D E s o s' o' goods.outputs ((b.out, n.5.0) ∷ []) n.5.1 out.put;
-        said = said_as D E s o s' o' goods.text _ n.3 out.said;
-      }
+      subst (λ i. HasBooted D E s o s' o' b i) (sym (ap (λ (x : BootInputs). x.load) k.1)) (booted_by b k.0 goods (subst (λ x. boots x (Ok goods)) k.1 m) out)
 
   pub booted_laid : (b : BootValue) → MeetsTold D E (boot_entry b).command held s o done s' o' → HasBootedLaid D E held s o s' o' b
-  unfolding booted boot_asked
-  booted_laid b (x, goods, read, m, fault, out) = record {
-    booted = booted b (x, goods, read, m, fault, out);
-    laid = (subst (λ x. boots x (Ok goods)) (boot_asked b held x read).1 m).2.0.laid;
-  }
+  unfolding booted_by
+  booted_laid b (x, goods, read, m, fault, out) =
+      let k = boot_asked b held x read in
+      let n = subst (λ x. boots x (Ok goods)) k.1 m in
+      record {
+        inputs = asked_with b k.0;
+        read = subst (λ x. reads (boot_files b) held ≡ Ok x) k.1 read;
+        booted = booted_by b k.0 goods n out;
+        laid = n.2.0.laid;
+      }
 
 boot_stands : (b : BootValue) (x : BootInputs) → CanLoad (wish_of x.runs) x.load (after_runs x.runs) → Stands (boot_entry b).command x
 boot_stands b x can = record { unrefused = none; whole = λ goods m. m.4 }

@@ -106,13 +106,11 @@ copies_of x p m c (h, load, told) =
     ap (deviating (resident_of x.pairs)) (sym alike.pairs ∙ h.made.pairs_are) ∙ h.made.deviate
 
 module _ {S O : Type 0} (D : Shelf S) (E : Sink O) (held : Files) (s : S) (o : O) (s' : S) (o' : O) where
-  booted : (b : BootResidentValue) → MeetsTold D E (boot_resident_entry b).command held s o done s' o' → HasBootedResident D E held s o s' o' b
+  booted : (b : BootResidentValue) → (m : MeetsTold D E (boot_resident_entry b).command held s o done s' o') → HasBootedResident D E s o s' o' b m.0
   booted b (x, goods, read, (p, m, c, l, text, whole, (bytes, outputs, file)), fault, out) =
       let bare = bare_of x p m c l in
       let mode = mode_of x p m c l in
       record {
-        inputs = x;
-        read = read;
         planned = p;
         list = m;
         resident = l.0;

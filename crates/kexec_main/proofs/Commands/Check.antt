@@ -1,6 +1,5 @@
 -- What is proved of `check`.
-use Rattle.std.proofs.Common.{◌≡◌, [], Option, Some, None, Ok, Err, refl, subst, inl, inr}
-use Rattle.std.specs.Prelude.{◌⊎◌}
+use Rattle.std.proofs.Common.{◌≡◌, [], Option, Some, None, Ok, Err, refl, subst}
 use Rattle.kx_edge.specs.Edge.{Files}
 use Rattle.kx_edge.specs.declared.edge.Shelf.{Ghosts as Shelf}
 use Rattle.kx_edge.specs.declared.edge.Sink.{Ghosts as Sink}
@@ -14,17 +13,17 @@ use Rattle.kexec_main.specs.declared.files.LoadFiles.{LoadFiles}
 use Rattle.kexec_main.specs.declared.status.Reason.{Reason}
 use Rattle.kexec_main.specs.Outputs.{Made}
 use Rattle.kexec_words.specs.Values.{LoadNamesValue}
-use Rattle.kexec_main.specs.Check.{HasChecked, HasCheckedCrash, IsAcceptedLoad, check_entry, checks, checks_list_as, checks_place_as}
+use Rattle.kexec_main.specs.Check.{HasCheckedLoad, IsAcceptedLoad, check_entry, checks, checks_list_as, checks_place_as}
 use Rattle.file_commands.proofs.Keeping.{Keeps, put_as, said_as}
 
 module _ {S O : Type 0} (D : Shelf S) (E : Sink O) (held : Files) (s : S) (o : O) (s' : S) (o' : O) where
-  checked : (l : LoadNamesValue) → MeetsTold D E (check_entry l).command held s o done s' o' → HasChecked D E held s o s' o' l ⊎ HasCheckedCrash D E held s o s' o' l
+  checked : (l : LoadNamesValue) → (m : MeetsTold D E (check_entry l).command held s o done s' o') → HasCheckedLoad D E s o s' o' m.0
   checked l (Normal x, goods, read, m, fault, out) =
       let n = subst (λ f. checks_list_as x goods f) fault m in
-      inl (record { files = x; read = read; items = n.items; accepted = n.accepted; put = put_as D E s o s' o' goods.outputs [] n.outputs out.put; said = said_as D E s o s' o' goods.text _ n.text out.said })
+      record { items = n.items; accepted = n.accepted; put = put_as D E s o s' o' goods.outputs [] n.outputs out.put; said = said_as D E s o s' o' goods.text _ n.text out.said }
   checked l (Crash x, goods, read, m, fault, out) =
       let n = subst (λ f. checks_place_as x goods f) fault m in
-      inr (record { files = x; read = read; accepted = n.accepted; put = put_as D E s o s' o' goods.outputs [] n.outputs out.put; said = said_as D E s o s' o' goods.text _ n.text out.said })
+      record { accepted = n.accepted; put = put_as D E s o s' o' goods.outputs [] n.outputs out.put; said = said_as D E s o s' o' goods.text _ n.text out.said }
 
 -- what is accepted has no fault
 list_whole : (x : LoadFiles) (goods : Made) (f : Option ListFault) → IsAcceptedLoad (Normal x) → checks_list_as x goods f → goods.fault ≡ f → goods.fault ≡ None

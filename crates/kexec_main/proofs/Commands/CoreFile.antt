@@ -18,22 +18,20 @@ use Rattle.kexec_main.specs.Files.{memory_file}
 use Rattle.file_commands.proofs.Keeping.{Keeps, put_as, said_as}
 
 core_asked : (c : CoreValue) (held : Files) (x : CoreInputs) → reads (core_files c) held ≡ Ok x
-    → (m : Contents) × (reads (memory_file c.memory) held ≡ Ok m) × (x ≡ record { memory = m; address = c.address; out = c.out })
-core_asked c held x read = let k = reads_cases (memory_file c.memory) (λ m. ok (record { memory = m; address = c.address; out = c.out })) held x read in (k.0, k.1, sym (ok_same {F = Refusal Reason} _ x k.2))
+    → (m : Contents) × (x ≡ record { memory = m; address = c.address; out = c.out })
+core_asked c held x read = let k = reads_cases (memory_file c.memory) (λ m. ok (record { memory = m; address = c.address; out = c.out })) held x read in (k.0, sym (ok_same {F = Refusal Reason} _ x k.2))
 
 module _ {S O : Type 0} (D : Shelf S) (E : Sink O) (held : Files) (s : S) (o : O) (s' : S) (o' : O) where
-  core_written : (c : CoreValue) → MeetsTold D E (core_entry c).command held s o done s' o' → HasWrittenCore D E held s o s' o' c
+  core_written : (c : CoreValue) → (m : MeetsTold D E (core_entry c).command held s o done s' o') → HasWrittenCore D E s o s' o' c m.0.memory
   core_written c (x, goods, read, m, fault, out) =
       let k = core_asked c held x read in
-      let n = subst (λ x. cores x (Ok goods)) k.2 m in
-      record {
-        memory = k.0;
-        read = k.1;
+      let n = subst (λ x. cores x (Ok goods)) k.1 m in
+      subst (λ memory. HasWrittenCore D E s o s' o' c memory) (sym (ap (λ (x : CoreInputs). x.memory) k.1)) (record {
         made = n.0;
         is_core = n.1;
         put = put_as D E s o s' o' goods.outputs ((c.out, n.0.bytes) ∷ []) n.4 out.put;
         said = said_as D E s o s' o' goods.text _ n.2 out.said;
-      }
+      })
 
 -- memory by the headers at an address is a core, or has one fault
 no_fault : (v : CoreMade) (f : CoreFault) → ◌≡◌ {A = Result CoreMade CoreFault} (Ok v) (Err f) → ⊥

@@ -1,5 +1,5 @@
 -- What is proved of `drill`.
-use Rattle.std.proofs.Common.{◌≡◌, ◌∙◌, ℕ, List, [], ◌∷◌, Option, Some, None, Ok, Err, ap, sym, subst, inl, inr}
+use Rattle.std.proofs.Common.{◌≡◌, ◌∙◌, ℕ, List, [], ◌∷◌, Option, None, Ok, Err, ap, sym, subst, inl, inr}
 use Rattle.std.proofs.lemmas.Option.{none-some}
 use Rattle.kx_laws.proofs.Options.{some_same}
 use Rattle.kx_laws.proofs.Results.{ok_same}
@@ -32,10 +32,8 @@ drill_asked d held x read =
     ap (λ (x : DrillInputs). x.out) (sym (ok_same {F = Refusal Reason} _ x e.2))
 
 module _ {S O : Type 0} (D : Shelf S) (E : Sink O) (held : Files) (s : S) (o : O) (s' : S) (o' : O) where
-  drilled : (d : DrillValue) → MeetsTold D E (drill_entry d).command held s o done s' o' → HasDrilled D E held s o s' o' d
+  drilled : (d : DrillValue) → (m : MeetsTold D E (drill_entry d).command held s o done s' o') → HasDrilled D E s o s' o' d m.0
   drilled d (x, goods, read, n, fault, out) = record {
-    inputs = x;
-    read = read;
     ram = n.0;
     are_ram = n.1;
     apart = n.2;

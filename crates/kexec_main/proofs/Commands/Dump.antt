@@ -1,6 +1,5 @@
 -- What is proved of `dump`.
-use Rattle.std.proofs.Common.{◌≡◌, [], None, Ok, Err, ap, inl, inr}
-use Rattle.std.specs.Prelude.{◌⊎◌}
+use Rattle.std.proofs.Common.{◌≡◌, [], None, Ok, Err, ap}
 use Rattle.kx_edge.specs.Edge.{Files}
 use Rattle.kx_edge.specs.declared.edge.Shelf.{Ghosts as Shelf}
 use Rattle.kx_edge.specs.declared.edge.Sink.{Ghosts as Sink}
@@ -11,15 +10,15 @@ use Rattle.kexec_main.specs.declared.files.TakenLoad.TheVariants.{Normal, Crash}
 use Rattle.kexec_main.specs.declared.status.Reason.{Reason}
 use Rattle.kexec_main.specs.Outputs.{Made}
 use Rattle.kexec_words.specs.Values.{LoadNamesValue}
-use Rattle.kexec_main.specs.Dump.{HasDumped, HasDumpedCrash, dump_entry, dumps}
+use Rattle.kexec_main.specs.Dump.{HasDumpedLoad, dump_entry, dumps}
 use Rattle.file_commands.proofs.Keeping.{Keeps, put_as, said_as}
 
 module _ {S O : Type 0} (D : Shelf S) (E : Sink O) (held : Files) (s : S) (o : O) (s' : S) (o' : O) where
-  dumped : (l : LoadNamesValue) → MeetsTold D E (dump_entry l).command held s o done s' o' → HasDumped D E held s o s' o' l ⊎ HasDumpedCrash D E held s o s' o' l
+  dumped : (l : LoadNamesValue) → (m : MeetsTold D E (dump_entry l).command held s o done s' o') → HasDumpedLoad D E s o s' o' m.0
   dumped l (Normal x, goods, read, m, fault, out) =
-      inl (record { files = x; read = read; list = m.0; fault = m.1; walk = m.2; put = put_as D E s o s' o' goods.outputs [] (ap (λ (g : Made). g.outputs) m.3) out.put; said = said_as D E s o s' o' goods.text _ (ap (λ (g : Made). g.text) m.3) out.said })
+      record { list = m.0; fault = m.1; walk = m.2; put = put_as D E s o s' o' goods.outputs [] (ap (λ (g : Made). g.outputs) m.3) out.put; said = said_as D E s o s' o' goods.text _ (ap (λ (g : Made). g.text) m.3) out.said }
   dumped l (Crash x, goods, read, m, fault, out) =
-      inr (record { files = x; read = read; put = put_as D E s o s' o' goods.outputs [] (ap (λ (g : Made). g.outputs) m) out.put; said = said_as D E s o s' o' goods.text _ (ap (λ (g : Made). g.text) m) out.said })
+      record { put = put_as D E s o s' o' goods.outputs [] (ap (λ (g : Made). g.outputs) m) out.put; said = said_as D E s o s' o' goods.text _ (ap (λ (g : Made). g.text) m) out.said }
 
 dump_not : (x : TakenLoad) (a : Refusal Reason) → dumps x (Err a) → ⊥
 dump_not (Normal x) a m = m

@@ -1,6 +1,5 @@
 -- What is proved of `exec`.
 use Rattle.std.proofs.Common.{◌≡◌, ◌∙◌, ℕ, Bool, List, [], ◌∷◌, true, false, Option, Some, None, Ok, Err, refl, sym, ap, subst, inl, inr, Result}
-use Rattle.std.specs.Prelude.{◌⊎◌}
 use Rattle.kx_laws.proofs.Results.{ok_same}
 use Rattle.kx_edge.specs.Edge.{Files}
 use Rattle.kx_edge.specs.declared.edge.Shelf.{Ghosts as Shelf}
@@ -23,7 +22,7 @@ use Rattle.load_states.proofs.Ready.{list_ends}
 use Rattle.load_states.specs.Runs.{IsSameLoad}
 use Rattle.kexec_main.specs.Check.{IsAcceptedLoad, IsInPlace}
 use Rattle.kexec_main.specs.CrashExec.{executes_place_as}
-use Rattle.kexec_main.specs.Exec.{CanExec, CanRun, CanRunInPlace, ExecInputs, HasExecuted, HasExecutedCrash, RefusesFiles, exec_entry, exec_files, exec_of, executes_as, executes_by, is_not_kept, load_of, runs_asked}
+use Rattle.kexec_main.specs.Exec.{CanExec, CanRun, CanRunInPlace, ExecInputs, HasExecutedLoad, RefusesFiles, exec_entry, exec_files, exec_of, executes_as, executes_by, is_not_kept, load_of, runs_asked}
 use Rattle.kexec_main.specs.Files.{load_files}
 use Rattle.kexec_main.specs.Runs.{after_runs, checked_with}
 use Rattle.kexec_main.proofs.Ending.{ends_again, machine_leaves}
@@ -38,16 +37,14 @@ exec_asked e held x read = let k = reads_cases (load_files e.memory e.load_recor
 
 module _ {S O : Type 0} (D : Shelf S) (E : Sink O) (held : Files) (s : S) (o : O) (s' : S) (o' : O) where
   executed_by : (e : ExecValue) (load : TakenLoad) (goods : Made) → reads (exec_files e) held ≡ Ok (exec_of e load) → executes_by load e.twice e.out (Ok goods) → goods.fault ≡ None → GoesOut D E goods s o s' o'
-      → HasExecuted D E held s o s' o' e ⊎ HasExecutedCrash D E held s o s' o' e
+      → HasExecutedLoad D E s o s' o' e load
   executed_by e (Normal x) goods read m fault out =
       let n = subst (λ f. executes_as x e.twice e.out goods f) fault m.1 in
       let r = n in
       let c = checked_with (load_of x) r.0 r.1 r.2 in
       let mode = x.load_record.image.mode in
       let bare = exec_bare e held x read in
-      inl (record {
-        files = x;
-        read = read;
+      record {
         checked = c;
         of_files = λ i. load_of x;
         accepted = r.3;
@@ -59,25 +56,24 @@ module _ {S O : Type 0} (D : Shelf S) (E : Sink O) (held : Files) (s : S) (o : O
         is_memory = r.6.2;
         put = put_as D E s o s' o' goods.outputs ((e.out, r.6.0) ∷ []) r.6.1 out.put;
         said = said_as D E s o s' o' goods.text _ r.4 out.said;
-      })
+      }
   executed_by e (Crash x) goods read m fault out =
       let n = subst (λ f. executes_place_as x e.out goods f) fault m.1 in
       let run = n.1 in
-      inr (record {
-        files = x;
-        read = read;
+      record {
         once = m.0;
         accepted = n.0;
         output = run.output.0;
         is_memory = run.output.2;
         put = put_as D E s o s' o' goods.outputs ((e.out, run.output.0) ∷ []) run.output.1 out.put;
         said = said_as D E s o s' o' goods.text _ run.text out.said;
-      })
+      }
 
-  executed : (e : ExecValue) → MeetsTold D E (exec_entry e).command held s o done s' o' → HasExecuted D E held s o s' o' e ⊎ HasExecutedCrash D E held s o s' o' e
+  executed : (e : ExecValue) → (m : MeetsTold D E (exec_entry e).command held s o done s' o') → HasExecutedLoad D E s o s' o' e m.0.load
   executed e (x, goods, read, m, fault, out) =
       let k = exec_asked e held x read in
-      executed_by e k.0 goods (subst (λ x. reads (exec_files e) held ≡ Ok x) k.1 read) (subst (λ (x : ExecInputs). executes_by x.load x.twice x.out (Ok goods)) k.1 m) fault out
+      subst (λ load. HasExecutedLoad D E s o s' o' e load) (sym (ap (λ (x : ExecInputs). x.load) k.1))
+      (executed_by e k.0 goods (subst (λ x. reads (exec_files e) held ≡ Ok x) k.1 read) (subst (λ (x : ExecInputs). executes_by x.load x.twice x.out (Ok goods)) k.1 m) fault out)
 
 not_both : (b : Bool) → b ≡ false → b ≡ true → ⊥
 not_both b f t = let k = sym f ∙ t in cc

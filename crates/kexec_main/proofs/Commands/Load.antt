@@ -7,7 +7,7 @@ use Rattle.kx_edge.specs.declared.edge.Sink.{Ghosts as Sink}
 use Rattle.page_memory.specs.Contents.{at}
 use Rattle.load_record.specs.File.{record_file}
 use Rattle.file_commands.specs.Taking.{Refusal, by, too_long, ok, reads}
-use Rattle.file_commands.specs.Answers.{MeetsTold, RefusesFor, Stands, done}
+use Rattle.file_commands.specs.Answers.{GoesOut, MeetsTold, RefusesFor, Stands, done}
 use Rattle.file_commands.proofs.Steps.{reads_cases}
 use Rattle.kexec_main.specs.declared.status.Reason.{Reason}
 use Rattle.kexec_main.specs.Outputs.{Made}
@@ -20,34 +20,42 @@ use Rattle.kexec_main.proofs.Loads.{can_load, heavy, loaded_as, loads_not, norma
 use Rattle.kexec_main.proofs.Told.{one_memory}
 use Rattle.file_commands.proofs.Keeping.{Keeps, put_as, said_as}
 
-load_asked : (l : LoadValue) (held : Files) (x : LoadCommand) → reads (load_command_files l) held ≡ Ok x → (i : LoadInputs) × (x ≡ record { load = i; wish = load_wish l; out = l.out; load_record = l.load_record })
-load_asked l held x read = let k = reads_cases (load_inputs l.image l.inputs) (λ i. ok (record { load = i; wish = load_wish l; out = l.out; load_record = l.load_record })) held x read in (k.0, sym (ok_same {F = Refusal Reason} _ x k.2))
+abbrev asked_with : LoadValue → LoadInputs → LoadCommand
+asked_with l i = record { load = i; wish = load_wish l; out = l.out; load_record = l.load_record }
+
+-- what was taken has the words' own wish and names
+load_asked : (l : LoadValue) (held : Files) (x : LoadCommand) → reads (load_command_files l) held ≡ Ok x → (i : LoadInputs) × (x ≡ asked_with l i)
+load_asked l held x read = let k = reads_cases (load_inputs l.image l.inputs) (λ i. ok (asked_with l i)) held x read in (k.0, sym (ok_same {F = Refusal Reason} _ x k.2))
 
 module _ {S O : Type 0} (D : Shelf S) (E : Sink O) (held : Files) (s : S) (o : O) (s' : S) (o' : O) where
-  loaded : (l : LoadValue) → MeetsTold D E (load_entry l).command held s o done s' o' → HasLoaded D E held s o s' o' l
+  loaded_by : (l : LoadValue) (i : LoadInputs) (goods : Made) → loads (asked_with l i) (Ok goods) → GoesOut D E goods s o s' o' → HasLoaded D E s o s' o' l i
+  loaded_by l i goods n out = record {
+    planned = n.0;
+    checked = n.1;
+    load = normal _ i n.0 n.1 n.2.0 n.2.1;
+    output = n.5;
+    is_memory = n.6;
+    read_back = n.8;
+    put = put_as D E s o s' o' goods.outputs ((l.out, n.5) ∷ (l.load_record, record_file (record_of_load n.1.load n.0)) ∷ []) n.7 out.put;
+    said = said_as D E s o s' o' goods.text _ n.3 out.said;
+  }
+
+  loaded : (l : LoadValue) → (m : MeetsTold D E (load_entry l).command held s o done s' o') → HasLoaded D E s o s' o' l m.0.load
   loaded l (x, goods, read, m, fault, out) =
       let k = load_asked l held x read in
-      let y : LoadCommand = record { load = k.0; wish = load_wish l; out = l.out; load_record = l.load_record } in
-      let n = subst (λ x. loads x (Ok goods)) k.1 m in
-      record {
-        inputs = y;
-        read = subst (λ x. reads (load_command_files l) held ≡ Ok x) k.1 read;
-        planned = n.0;
-        checked = n.1;
-        load = normal _ y.load n.0 n.1 n.2.0 n.2.1;
-        output = n.5;
-        is_memory = n.6;
-        read_back = n.8;
-        put = put_as D E s o s' o' goods.outputs ((l.out, n.5) ∷ (l.load_record, record_file (record_of_load n.1.load n.0)) ∷ []) n.7 out.put;
-        said = said_as D E s o s' o' goods.text _ n.3 out.said;
-      }
+      subst (λ i. HasLoaded D E s o s' o' l i) (sym (ap (λ (x : LoadCommand). x.load) k.1)) (loaded_by l k.0 goods (subst (λ x. loads x (Ok goods)) k.1 m) out)
 
   pub loaded_laid : (l : LoadValue) → MeetsTold D E (load_entry l).command held s o done s' o' → HasLoadedLaid D E held s o s' o' l
-  unfolding loaded load_asked
-  loaded_laid l (x, goods, read, m, fault, out) = record {
-    loaded = loaded l (x, goods, read, m, fault, out);
-    laid = (subst (λ x. loads x (Ok goods)) (load_asked l held x read).1 m).2.0.laid;
-  }
+  unfolding loaded_by
+  loaded_laid l (x, goods, read, m, fault, out) =
+      let k = load_asked l held x read in
+      let n = subst (λ x. loads x (Ok goods)) k.1 m in
+      record {
+        inputs = asked_with l k.0;
+        read = subst (λ x. reads (load_command_files l) held ≡ Ok x) k.1 read;
+        loaded = loaded_by l k.0 goods n out;
+        laid = n.2.0.laid;
+      }
 
 load_stands : (l : LoadValue) (x : LoadCommand) → CanLoad x.wish x.load (λ c. at c.load.memory) → Stands (load_entry l).command x
 load_stands l x can = record { unrefused = none; whole = λ goods m. m.4 }

@@ -57,13 +57,11 @@ panic_asked l held x read =
     (k.0, sym (ok_same {F = Refusal Reason} _ x k.2), crash_asked l.inputs l.map held k.0 k.1)
 
 module _ {S O : Type 0} (D : Shelf S) (E : Sink O) (held : Files) (s : S) (o : O) (s' : S) (o' : O) where
-  loaded_panic : (l : LoadPanicValue) → MeetsTold D E (load_panic_entry l).command held s o done s' o' → HasLoadedPanic D E held s o s' o' l
+  loaded_panic : (l : LoadPanicValue) → (m : MeetsTold D E (load_panic_entry l).command held s o done s' o') → HasLoadedPanic D E s o s' o' l m.0.load
   loaded_panic l (x, goods, read, m, fault, out) =
       let k = panic_asked l held x read in
       let n = subst (λ x. loads_panic x (Ok goods)) k.1 m in
-      record {
-        inputs = k.0;
-        read = subst (λ x. reads (load_panic_files l) held ≡ Ok x) k.1 read;
+      subst (λ i. HasLoadedPanic D E s o s' o' l i) (sym (ap (λ (x : LoadPanicCommand). x.load) k.1)) (record {
         planned = n.0;
         loaded = n.1;
         load = panic k.0 n.0 n.1 k.2 n.2;
@@ -72,7 +70,7 @@ module _ {S O : Type 0} (D : Shelf S) (E : Sink O) (held : Files) (s : S) (o : O
         read_back = n.8;
         put = put_as D E s o s' o' goods.outputs ((l.out, n.5) ∷ (l.load_record, record_file (record_of_crash n.1 n.0)) ∷ []) n.7 out.put;
         said = said_as D E s o s' o' goods.text _ n.3 out.said;
-      }
+      })
 
 -- nothing refuses a crash load that can be made
 panic_not : (i : CrashInputs) (why : Reason) → CanLoadPanic i → HasNoPlan i.request (Some i.map) why → ⊥

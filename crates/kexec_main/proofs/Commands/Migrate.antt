@@ -15,21 +15,19 @@ use Rattle.kexec_main.specs.Migrate.{HasMigrated, MigrateInputs, migrate_entry, 
 use Rattle.file_commands.proofs.Keeping.{Keeps, put_as, said_as}
 
 migrate_asked : (v : MigrateValue) (held : Files) (x : MigrateInputs) → reads (migrate_files v) held ≡ Ok x
-    → (r : Record) × (reads (load_record_file v.load_record) held ≡ Ok r) × (x ≡ record { load_record = r; out = v.out })
-migrate_asked v held x read = let k = reads_cases (load_record_file v.load_record) (λ r. ok (record { load_record = r; out = v.out })) held x read in (k.0, k.1, sym (ok_same {F = Refusal Reason} _ x k.2))
+    → (r : Record) × (x ≡ record { load_record = r; out = v.out })
+migrate_asked v held x read = let k = reads_cases (load_record_file v.load_record) (λ r. ok (record { load_record = r; out = v.out })) held x read in (k.0, sym (ok_same {F = Refusal Reason} _ x k.2))
 
 module _ {S O : Type 0} (D : Shelf S) (E : Sink O) (held : Files) (s : S) (o : O) (s' : S) (o' : O) where
-  migrated : (v : MigrateValue) → MeetsTold D E (migrate_entry v).command held s o done s' o' → HasMigrated D E held s o s' o' v
+  migrated : (v : MigrateValue) → (m : MeetsTold D E (migrate_entry v).command held s o done s' o') → HasMigrated D E s o s' o' v m.0.load_record
   migrated v (x, goods, read, m, fault, out) =
       let k = migrate_asked v held x read in
-      let n = subst (λ x. migrates x (Ok goods)) k.2 m in
-      record {
-        load_record = k.0;
-        read = k.1;
+      let n = subst (λ x. migrates x (Ok goods)) k.1 m in
+      subst (λ r. HasMigrated D E s o s' o' v r) (sym (ap (λ (x : MigrateInputs). x.load_record) k.1)) (record {
         read_back = n.3;
         put = put_as D E s o s' o' goods.outputs ((v.out, record_file k.0) ∷ []) n.2 out.put;
         said = said_as D E s o s' o' goods.text _ n.0 out.said;
-      }
+      })
 
 migrate_stands : (v : MigrateValue) (x : MigrateInputs) → Stands (migrate_entry v).command x
 migrate_stands v x = record { unrefused = λ a m. m; whole = λ goods m. m.1 }

@@ -17,7 +17,8 @@ use Rattle.sample_load.specs.Samples.{sample_segments, start_of}
 use Rattle.sample_load.proofs.Rising.{IsBare-sample}
 use Rattle.kexec_main.specs.declared.running.Ran.{Ran}
 use Rattle.kexec_main.specs.declared.status.Reason.{Reason}
-use Rattle.kexec_main.specs.Runs.{HasRun, after_runs, list_text, ran_text}
+use Rattle.kexec_main.specs.Runs.{after_runs, list_text}
+use Rattle.kexec_main.specs.Ran.{HasRun, ran_text}
 use Rattle.kexec_main.specs.Sample.{HasSampled, IsSample, sample_entry, sample_text, samples}
 use Rattle.kexec_main.specs.Texts.{memory_line, ran_line}
 use Rattle.kexec_main.proofs.Ending.{machine_leaves}

@@ -14,9 +14,9 @@ use Rattle.page_memory.specs.Contents.{at}
 use Rattle.relocate_machine.specs.Run.{run_of}
 
 module _ {S O : Type 0} (D : Shelf S) (E : Sink O) (held : Files) (s : S) (o : O) (s' : S) (o' : O) where
-  traced : (t : TraceValue) → MeetsTold D E (trace_entry t).command held s o done s' o' → HasTraced D E held s o s' o' t
+  traced : (t : TraceValue) → (m : MeetsTold D E (trace_entry t).command held s o done s' o') → HasTraced D E s o s' o' m.0
   traced t (x, goods, read, m, fault, out) =
-      record { inputs = x; read = read; output = m.2.0; is_memory = m.2.2; put = put_as D E s o s' o' goods.outputs ((x.out, m.2.0) ∷ []) m.2.1 out.put; said = said_as D E s o s' o' goods.text _ m.0 out.said }
+      record { output = m.2.0; is_memory = m.2.2; put = put_as D E s o s' o' goods.outputs ((x.out, m.2.0) ∷ []) m.2.1 out.put; said = said_as D E s o s' o' goods.text _ m.0 out.said }
 
 trace_stands : (t : TraceValue) (x : TraceInputs) → ((why : Reason) → traces x (Err (by why)) → ⊥) → Stands (trace_entry t).command x
 trace_stands t x light = record { unrefused = none; whole = λ goods m. m.1 }

@@ -3,8 +3,9 @@ use Rattle.page_memory.specs.Contents.{at}
 use Rattle.file_commands.specs.Taking.{by}
 use Rattle.file_commands.specs.Calls.{goods_of}
 use Rattle.file_commands.proofs.Made.{handed_on_as}
-use Rattle.kexec_main.specs.Boot.{boot_inputs, boots}
-use Rattle.kexec_main.specs.Loading.{RefusesLoad, plan_of}
+use Rattle.kexec_main.specs.Boot.{boots}
+use Rattle.kexec_main.specs.Views.{boot_inputs, plan_of}
+use Rattle.kexec_main.specs.Loading.{RefusesLoad}
 use Rattle.kexec_main.specs.Outputs.{HasNoFile}
 use Rattle.kexec_main.specs.Runs.{after_runs, checked_with, wish_of}
 use Rattle.kexec_main.proofs.Outputs.{no_file_as, output_as}

@@ -5,8 +5,9 @@ use Rattle.file_commands.specs.Calls.{TakesNot}
 use Rattle.file_commands.specs.Taking.{Took}
 use Rattle.file_commands.proofs.Steps.{start, next, stopped, finished}
 use Rattle.kexec_words.specs.Values.{InputsValue, boot_resident_value}
-use Rattle.kexec_main.specs.BootResident.{resident_files, resident_inputs}
-use Rattle.kexec_main.specs.Inputs.{inputs_of, load_inputs}
+use Rattle.kexec_main.specs.BootResident.{resident_files}
+use Rattle.kexec_main.specs.Views.{resident_inputs, inputs_of}
+use Rattle.kexec_main.specs.Inputs.{load_inputs}
 use Rattle.kexec_main.proofs.Resident.{no_modules}
 use Rattle.kexec_main.proofs.boot_resident.take_resident.Goals as goal
 

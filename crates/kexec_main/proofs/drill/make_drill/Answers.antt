@@ -8,7 +8,8 @@ use Rattle.image_slots.specs.States.{State, state_of}
 use Rattle.file_commands.specs.Taking.{by}
 use Rattle.file_commands.specs.Calls.{goods_of}
 use Rattle.file_commands.proofs.Made.{handed_on_as}
-use Rattle.kexec_main.specs.Drill.{Meets, drill_inputs, drills, meeting, start}
+use Rattle.kexec_main.specs.Drill.{Meets, drills, meeting, start}
+use Rattle.kexec_main.specs.Views.{drill_inputs}
 use Rattle.kexec_main.specs.Outputs.{HasNoFile}
 use Rattle.kexec_main.specs.Replies.{reply_lines}
 use Rattle.kexec_main.proofs.Outputs.{file_as, no_file_as}

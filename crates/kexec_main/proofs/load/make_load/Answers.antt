@@ -4,8 +4,9 @@ use Rattle.page_memory.specs.Contents.{at}
 use Rattle.file_commands.specs.Taking.{File, by}
 use Rattle.file_commands.specs.Calls.{file_of, goods_of}
 use Rattle.file_commands.proofs.Made.{handed_on_as}
-use Rattle.kexec_main.specs.Load.{load_command, loads}
-use Rattle.kexec_main.specs.Loading.{RefusesLoad, plan_of}
+use Rattle.kexec_main.specs.Load.{loads}
+use Rattle.kexec_main.specs.Views.{load_command, plan_of}
+use Rattle.kexec_main.specs.Loading.{RefusesLoad}
 use Rattle.kexec_main.specs.Outputs.{HasNoFile}
 use Rattle.kexec_main.specs.Runs.{checked_with}
 use Rattle.kexec_main.proofs.Outputs.{file_as, no_file_as}

@@ -4,8 +4,8 @@ use Rattle.page_memory.specs.Contents.{at}
 use Rattle.file_commands.specs.Taking.{File, by}
 use Rattle.file_commands.specs.Calls.{file_of, goods_of}
 use Rattle.file_commands.proofs.Made.{handed_on_as}
-use Rattle.kexec_main.specs.CrashLoading.{crash_plan_of}
-use Rattle.kexec_main.specs.LoadPanic.{load_panic_command, loads_panic}
+use Rattle.kexec_main.specs.Views.{crash_plan_of, load_panic_command}
+use Rattle.kexec_main.specs.LoadPanic.{loads_panic}
 use Rattle.kexec_main.specs.Loading.{HasNoPlan}
 use Rattle.kexec_main.specs.Outputs.{HasNoFile}
 use Rattle.kexec_main.proofs.Outputs.{file_as, no_file_as}

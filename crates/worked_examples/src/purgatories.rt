@@ -1,0 +1,56 @@
+//! Linking a purgatory, and testing the regions that it tells of.
+
+ghost use Rattle.std.specs.Prelude.{◌≡◌, ◌++◌, ◌^◌, ◌∷◌, [], true, false, Some, None, Ok, Err, codes, map, pos, negsuc, replicate};
+ghost use Rattle.byteorder.specs.Endian.{little_bytes};
+ghost use Rattle.purgatory_link.specs.Formulas.{fits, form_of, formula, modulo};
+ghost use Rattle.purgatory_link.specs.Layout.{linked_size, starts};
+ghost use Rattle.purgatory_link.specs.Link.{linking};
+ghost use Rattle.purgatory_link.specs.declared.form.Form.TheVariants as forms;
+ghost use Rattle.purgatory_link.specs.declared.fault.LinkFault.TheVariants as faults;
+ghost use Rattle.worked_examples.specs.Objects.{file_with, object_with};
+
+/// What relocations compute (x86-64 psABI, "Relocation Types"): R_X86_64_64, R_X86_64_PC32, R_X86_64_PLT32, R_X86_64_32
+/// and R_X86_64_32S.
+pub fn formulas_of_relocations()
+    ensures types { map form_of (0 ∷ 1 ∷ 2 ∷ 4 ∷ 10 ∷ 11 ∷ 3 ∷ [])
+        ≡ Some forms.Empty ∷ Some forms.Whole ∷ Some forms.Relative ∷ Some forms.Relative
+        ∷ Some forms.Unsigned ∷ Some forms.Signed ∷ None ∷ [] }
+    ensures whole { formula forms.Whole 0x1000 (negsuc 3) 0x2000 ≡ pos 0xffc }
+    ensures relative { formula forms.Relative 0x1000 (negsuc 3) 0x1010 ≡ negsuc 19 }
+    ensures relative_bytes { modulo (2 ^ 32) (negsuc 19) ≡ 0xffff_ffec }
+    ensures unsigned { map (fits forms.Unsigned)
+        (pos 0xffff_ffff ∷ pos 0x1_0000_0000 ∷ negsuc 0 ∷ [])
+        ≡ true ∷ false ∷ false ∷ [] }
+    ensures signed { map (fits forms.Signed)
+        (pos 0x7fff_ffff ∷ pos 0x8000_0000 ∷ negsuc 0x7fff_ffff ∷ negsuc 0x8000_0000 ∷ [])
+        ≡ true ∷ false ∷ true ∷ false ∷ [] }
+{}
+
+/// An object is laid section by section, each at a multiple of its alignment, and filled with zeros up to a page.
+pub fn linked_object()
+    ensures places { starts 0 (object_with 0).sections ≡ None ∷ Some 0 ∷ Some 16 ∷ None ∷ [] }
+    ensures size { linked_size (object_with 0).sections ≡ Ok 4096 }
+    ensures absolute { linking 0x7f_f000 (object_with 0xffff_ffff) (file_with 10 1)
+        ≡ Ok (record {
+          base = 0x7f_f000;
+          bytes = replicate 8 0x90 ++ (replicate 4 0xff ++ (replicate 4 0x90 ++ replicate 4080 0));
+          names = record { name = codes "start"; address = 0x7f_f004; size = 12 } ∷ [];
+        }) }
+    ensures relative { linking 0x7f_f000 (object_with 0) (file_with 2 2)
+        ≡ Ok (record {
+          base = 0x7f_f000;
+          bytes = replicate 8 0x90
+              ++ (little_bytes 4 0xffff_fffc ++ (replicate 4 0x90 ++ replicate 4080 0));
+          names = record { name = codes "start"; address = 0x7f_f004; size = 12 } ∷ [];
+        }) }
+{}
+
+/// The first refusals of linking: a value that does not fit its field, an unknown type, and a symbol that is not there.
+pub fn refused_links()
+    ensures too_large { linking 0x7f_f000 (object_with 0x1_0000_0000) (file_with 10 1)
+        ≡ Err (faults.DoesNotFit 0x7f_f008) }
+    ensures unknown { linking 0x7f_f000 (object_with 0) (file_with 3 1)
+        ≡ Err (faults.UnknownReloc 3) }
+    ensures undefined { linking 0x7f_f000 (object_with 0) (file_with 10 7)
+        ≡ Err (faults.Undefined 7) }
+{}

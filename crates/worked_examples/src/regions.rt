@@ -1,0 +1,27 @@
+//! The test of a purgatory's regions.
+
+ghost use Rattle.std.specs.Prelude.{◌≡◌, ◌++◌, length, replicate};
+ghost use Rattle.byteorder.specs.Endian.{little_bytes};
+ghost use Rattle.purgatory_link.specs.Regions.{region_table};
+ghost use Rattle.purgatory_link.specs.RegionTest.{test};
+ghost use Rattle.purgatory_link.specs.declared.region_test.RegionTest.TheVariants as answers;
+ghost use Rattle.worked_examples.specs.Kernels.{three_bytes};
+ghost use Rattle.worked_examples.specs.Records.{three_bytes_digest};
+ghost use Rattle.worked_examples.specs.Regions.{with_digest};
+
+/// The bytes of the regions have the digest, or another one; a table that passes the limit of memory is not read.
+pub fn test_of_a_region()
+    ensures same { test (with_digest three_bytes_digest) 0x3000 0x3100 ≡ answers.Same }
+    ensures differs { test (with_digest (replicate 32 0)) 0x3000 0x3100
+        ≡ answers.Differs three_bytes_digest (replicate 32 0) }
+    ensures wild_table { test (with_digest three_bytes_digest) 0x3fff_ffff_fff8 0x3100
+        ≡ answers.Wild 16 }
+    ensures wild_region { test (λ p. replicate 4096 0xff) 0x3000 0x3100 ≡ answers.Wild 0 }
+{}
+
+/// A row of the table is the address of a segment and how much memory it takes; zeros follow.
+pub fn table_of_regions()
+    ensures bytes { region_table three_bytes
+        ≡ little_bytes 8 0x2000 ++ (little_bytes 8 0x1000 ++ replicate 240 0) }
+    ensures length { length (region_table three_bytes) ≡ 256 }
+{}
