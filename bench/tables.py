@@ -11,17 +11,24 @@ TOP = os.path.dirname(os.path.dirname(os.path.realpath(__file__)))
 sys.path.append(f"{TOP}/scripts")
 import kexec_files
 
-KEXEC = f"{TOP}/kexec"
 MIB = 1 << 20
 RUNS = 5
 # what ./kexec asks the C library for
 HUGE_PAGES = ["env", "GLIBC_TUNABLES=glibc.malloc.hugetlb=1"]
+# KEXEC names a program that is built already
+PROGRAM = [*HUGE_PAGES, kexec_files.KEXEC]
 # what is touched before the runs of a command: more than a command and its outputs take
 TOUCHED = 2 << 30
 
 
+class Clock:
+    """What is measured as the time: wall time, or on a machine that has other work the processor's, user and system."""
+
+    is_processor = False
+
+
 def one_run(words, folder):
-    """Runs the words once: wall time in seconds, the part of it in the program itself, and peak resident memory in bytes."""
+    """Runs the words once: time in seconds, the part of it in the program itself, and peak resident memory in bytes."""
     with open(f"{folder}/said", "wb") as said:
         start = time.perf_counter()
         child = subprocess.Popen(words, cwd=folder, stdin=subprocess.DEVNULL, stdout=said, stderr=subprocess.STDOUT)
@@ -31,12 +38,17 @@ def one_run(words, folder):
     if child.returncode:
         with open(f"{folder}/said", encoding="utf-8", errors="replace") as said:
             sys.exit(f"bench: '{' '.join(words)}' ended with status {child.returncode}: {said.read(2000)}")
+    if Clock.is_processor:
+        took = used.ru_utime + used.ru_stime
     return took, used.ru_utime, used.ru_maxrss * 1024
 
 
 def touch_memory():
     """Touches memory and gives it back, in a process of its own, whose memory is not counted as that of what is measured.
-    The host of a virtual machine may have taken back what was free, and whoever touches it first would pay for that."""
+    The host of a virtual machine may have taken back what was free, and whoever touches it first would pay for that. On a
+    machine that has other work little is free, and this would disturb the others."""
+    if Clock.is_processor:
+        return
     touch = f"import mmap\nmemory = mmap.mmap(-1, {TOUCHED})\nfor at in range(0, {TOUCHED}, 4096): memory[at] = 1"
     subprocess.run([sys.executable, "-c", touch], check=True)
 
@@ -118,7 +130,7 @@ class Table:
     def bytes_of(self, held):
         return held if isinstance(held, int) else os.path.getsize(f"{self.folder}/{held}")
 
-    def add(self, what, words, inputs, outputs, moments, digested=(), before=None, bare=None, program=(KEXEC,)):
+    def add(self, what, words, inputs, outputs, moments, digested=(), before=None, bare=None, program=PROGRAM):
         """Measures a command. Each moment is a list of what is held together: files, of which each byte of a memory, a kernel
         or a record stands once, and twice only where a file is made beside what it is made of; and as a number the bytes
         that stand in no file. `bare` has what bare_time takes."""
@@ -161,7 +173,7 @@ class Traces:
     def add(self, what, memory, head, limit, count, swap=None):
         """Measures a run of `limit` steps over a memory file, in which there are so many of what is told of."""
         words = [memory, "out", head]
-        took, each = self.measure([KEXEC, "trace", *(["--swap", swap] if swap else []), *words], limit, [], count)
+        took, each = self.measure([*PROGRAM, "trace", *(["--swap", swap] if swap else []), *words], limit, [], count)
         plain_cells, plain_each = "|", None
         if self.plain:
             plain, plain_each = self.measure([*HUGE_PAGES, self.plain, *words], limit, [swap] if swap else [], count)
@@ -186,7 +198,7 @@ class Drills:
     def add(self, what, count):
         """Measures the events of a file, in which there are so many of what is told of."""
         files = ["memory", "pool", "out", "events"]
-        took = best([KEXEC, "drill", "--map", "map", *files], self.folder, ["out"])[0]
+        took = best([*PROGRAM, "drill", "--map", "map", *files], self.folder, ["out"])[0]
         plain_cells, plain_each = "|", ""
         if self.plain:
             plain = best([*HUGE_PAGES, self.plain, *files], self.folder, ["out"])[0]
