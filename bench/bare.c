@@ -1,12 +1,14 @@
-/* What the measured boot and exec have to do with their bytes, and nothing else: what a loader can hope for.
+/* What the measured boot, exec and core have to do with their bytes, and nothing else: what a loader can hope for.
 
        bare boot|exec OUT SIZE PAGES HEAD FILE..
+       bare core OUT SIZE PAGES HEAD MEMORY
 
    Reads each FILE into a buffer of its own, the first with room for SIZE bytes, laid out as a memory file. The last FILE has
    HEAD bytes and then the PAGES pages of the new kernel. boot copies these to the last frames that SIZE has room for,
    compares, and moves these frames to the first ones. exec compares the pages with the last frames that were read; in the
    measured exec each is its own source already, and nothing moves. The first SIZE bytes of the first buffer are written to
-   OUT. There is no list, no table and no test of a rule. */
+   OUT. core copies the last PAGES frames of MEMORY behind HEAD bytes of a buffer of SIZE bytes, which is written to OUT.
+   There is no list, no table and no test of a rule. */
 #include <fcntl.h>
 #include <stdio.h>
 #include <stdlib.h>
@@ -63,13 +65,29 @@ static void write_file(const char *name, const char *at, size_t size) {
     close(file);
 }
 
+static int write_core(const char *out, size_t size, size_t pages, size_t head, struct bytes memory) {
+    size_t frames = memory.count / SLOT;
+    char *core = malloc(room_for(size));
+    if (!core || frames < pages || size < head + pages * PAGE) {
+        fputs("bare: too few bytes for so many pages\n", stderr);
+        return 1;
+    }
+    memset(core, 0, head);
+    for (size_t i = 0; i < pages; i++)
+        memcpy(core + head + i * PAGE, memory.at + HEAD + (frames - pages + i) * SLOT, PAGE);
+    write_file(out, core, size);
+    return 0;
+}
+
 int main(int count, char **words) {
     if (count < 7) {
-        fputs("usage: bare boot|exec OUT SIZE PAGES HEAD FILE..\n", stderr);
+        fputs("usage: bare boot|exec|core OUT SIZE PAGES HEAD FILE..\n", stderr);
         return 2;
     }
     int loads = !strcmp(words[1], "boot");
     size_t size = strtoull(words[3], 0, 10), pages = strtoull(words[4], 0, 10), head = strtoull(words[5], 0, 10);
+    if (!strcmp(words[1], "core"))
+        return write_core(words[2], size, pages, head, read_file(words[6], 0));
     struct bytes memory = read_file(words[6], size), last = memory;
     for (int k = 7; k < count; k++)
         last = read_file(words[k], 0);
