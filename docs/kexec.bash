@@ -1,4 +1,4 @@
-# Completion of kexec's commands for bash: source it. Made by scripts/completion of the help texts.
+# Completion of kexec's commands for bash: source it. Made by scripts/completion of the table of arguments.
 
 # What stands behind the option $2 of the command $1.
 _kernelyet_value() {

@@ -5,8 +5,8 @@ ghost use Rattle.kexec_main.specs.ExitStatuses.{code_of};
 
 use crate::report::Report;
 use kexec_main::Status;
-use kexec_usage::{asks_for_help, read_answer};
-use kexec_words::help_of;
+use kexec_usage::{asks_for_help, asks_for_version, meant_of, read_answer};
+use kexec_words::{Help, Usage, help_of, usage_of};
 use std::alloc::Global;
 use std::fmt::{self, Display, Formatter, Write};
 use std::io;
@@ -14,25 +14,25 @@ use std::io;
 /// The exit status where the system does not give the words; no status of a command has it.
 const NO_WORDS: u8 = 65;
 
+/// The name, the version, the logic that proved the program, and where help is.
+const VERSION: &str = "\
+Kernelyet 1.0, a kexec over memory files
+proved by rattle-kit-13f, logic dac8208d650f15bf
+kexec --help lists the commands, and kexec COMMAND --help tells what one takes.";
+
 /// What is said on standard error.
 #[derive(Drop)]
 pub(crate) enum Notice<'a> {
     /// The system did not give the words.
     NoWords,
+    /// The version that was asked for.
+    Version,
     /// The help that was asked for.
-    Help {
-        text: &'static str,
-    },
-    /// Why words were refused, and of their help the front; then how to get the rest of it.
-    Usage {
-        report: Report<'a>,
-        front: &'static str,
-        rest: &'static str,
-    },
+    Help { help: Help },
+    /// The usage line of the command that is meant, and behind it why the words were refused.
+    Usage { usage: Usage, report: Report<'a> },
     /// Why a command was refused otherwise.
-    Refusal {
-        report: Report<'a>,
-    },
+    Refusal { report: Report<'a> },
 }
 
 impl Display for Notice<'_> {
@@ -41,28 +41,12 @@ impl Display for Notice<'_> {
             Notice::NoWords => f.write_str(
                 "kexec: no words: an argument is no text in UTF-8, or there is not enough memory for the arguments",
             ),
-            Notice::Help { text } => f.write_str(text),
-            Notice::Usage {
-                report,
-                front,
-                rest,
-            } => write!(f, "{report}\n{front}{rest}"),
+            Notice::Version => f.write_str(VERSION),
+            Notice::Help { help } => write!(f, "{help}"),
+            Notice::Usage { usage, report } => write!(f, "{usage}\n{report}"),
             Notice::Refusal { report } => write!(f, "{report}"),
         }
     }
-}
-
-// The help behind a sentence about words: whole where no word follows the first, and else its first line.
-fn help_behind(words: &[String]) -> (&'static str, &'static str) {
-    let help = help_of(words);
-    if words.len() < 2 {
-        return (help, "");
-    }
-    let front = help.lines().next().unwrap_or("");
-    (
-        front,
-        "\nThe argument --help behind the command tells what it takes.",
-    )
 }
 
 /// What is known of a refusal beside its status.
@@ -84,8 +68,11 @@ fn notice_of<'a>(
     let is_usage = matches!(status, Status::Usage { .. });
     if is_usage && asks_for_help(words) {
         return Notice::Help {
-            text: help_of(words),
+            help: help_of(words),
         };
+    }
+    if is_usage && asks_for_version(words) {
+        return Notice::Version;
     }
     let report = Report {
         status,
@@ -97,11 +84,9 @@ fn notice_of<'a>(
     if !is_usage {
         return Notice::Refusal { report };
     }
-    let (front, rest) = help_behind(words);
     Notice::Usage {
+        usage: usage_of(meant_of(words)),
         report,
-        front,
-        rest,
     }
 }
 

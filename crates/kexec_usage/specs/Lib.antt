@@ -1,1 +1,4 @@
 pub mod Words
+pub mod Reading
+pub mod Files
+pub mod OldWords

@@ -1,12 +1,13 @@
-//! The words of a command, each with the name that it has in the command's help.
+//! The words of a command, each with the name that it has in the table.
 
-ghost use Rattle.std.specs.Prelude.{◌≡◌, option_map};
-ghost use Rattle.kexec_usage.specs.Words.{text_in};
+ghost use Rattle.std.specs.Prelude.{◌≡◌, IfOk, map, option_map, string_bytes, is_some};
+ghost use Rattle.kexec_words.specs.Table.{argument_value, argument_values};
+ghost use Rattle.kexec_usage.specs.Reading.{reading_value, mistake_value, answer_value, is_option, split_value, value_step, word_step, flag_step, valued_step, known_step, option_step, awaited_step, free_step, step, want, begun, reading_of, rest_of, answer_of, IsRead};
+ghost use Rattle.kexec_usage.specs.Words.{given_value, text_in};
 
-use crate::help::{Form, MODULES, needed, option_in, words_in};
+use crate::lookup::{is_repeated, next_word, option_in};
 use crate::mistake::Mistake;
-use crate::old_words::option_for;
-use kexec_words::help_of;
+use kexec_words::{Argument, Form, Kind, arguments_of};
 use std::alloc::{AllocError, Global};
 
 /// A word that is given: the text of a positional word, or of an option's value.
@@ -16,18 +17,19 @@ pub struct Given<'a> {
     pub name: &'a str,
     /// What is given; empty for an option without a value.
     pub text: &'a str,
+    /// What it is.
+    pub kind: Kind,
 }
 
 // What was read so far of the words after a command.
 #[derive(Drop)]
 struct Reading<'a> {
-    help: &'static str,
-    names: Vec<&'static str>,
+    arguments: &'static [Argument],
+    // those of which the positional words are still to come
+    left: &'static [Argument],
     given: Vec<Given<'a>>,
-    // positional words so far
-    count: usize,
-    // the option whose value comes next, and the name of the value
-    awaited: Option<(&'a str, &'static str)>,
+    // the option whose value comes next
+    awaited: Option<&'static Argument>,
     // every further word is a positional word
     is_behind_hyphens: bool,
 }
@@ -42,109 +44,202 @@ pub struct Answer<'a> {
 }
 
 // Whether a word is read as an option: `-` alone is a positional word.
-fn is_option(word: &str) -> bool {
-    word.starts_with('-') && word != "-"
+fn is_option(word: &str) -> bool
+    ensures { result ≡ is_option word.now }
+{
+    if word == "-" {
+        return false;
+    }
+    word.starts_with('-')
 }
 
-fn has_name(given: &[Given<'_>], name: &str) -> bool {
-    given.iter().any(|one| one.name == name)
-}
-
-// The name of the positional word at this place: the last one's may be given several times.
-fn name_at(names: &[&'static str], place: usize) -> Option<&'static str> {
-    match names.get(place) {
-        Some(name) => Some(*name),
-        None => names.last().copied().filter(|name| *name == MODULES),
+// The option of a word and the value behind an equals sign.
+fn split_value(word: &str) -> (&str, Option<&str>)
+    ensures { (result.0.now, option_map (λ s. s.now) result.1) ≡ split_value word.now }
+{
+    match word.split_once('=') {
+        Some((option, text)) => (option, Some(text)),
+        None => (word, None),
     }
 }
 
 impl<'a> Reading<'a> {
-    fn push(&mut self, name: &'a str, text: &'a str) -> Result<Option<Mistake<'a>>, AllocError> {
-        self.given.push(Given { name, text })?;
+    fn push(
+        &mut self,
+        argument: &'static Argument,
+        text: &'a str,
+    ) -> Result<Option<Mistake<'a>>, AllocError>
+        ensures { IfOk result (λ m. (reading_value self.new, option_map mistake_value m)
+            ≡ value_step (reading_value self.old) (argument_value argument.now) text.now) }
+    {
+        self.given.push(Given {
+            name: argument.name,
+            text,
+            kind: argument.kind,
+        })?;
         Ok(None)
     }
 
-    fn read_positional(&mut self, word: &'a str) -> Result<Option<Mistake<'a>>, AllocError> {
-        match name_at(&self.names, self.count) {
-            Some(name) => {
-                self.count = self.count.saturating_add(1);
-                self.push(name, word)
+    fn read_positional(&mut self, word: &'a str) -> Result<Option<Mistake<'a>>, AllocError>
+        ensures { IfOk result (λ m. (reading_value self.new, option_map mistake_value m)
+            ≡ word_step (reading_value self.old) word.now) }
+    {
+        match next_word(self.left) {
+            Some((argument, left)) => {
+                self.left = left;
+                self.push(argument, word)
             }
             None => Ok(Some(Mistake::Surplus { word })),
         }
     }
 
-    fn read_option(
+    // Whether an option is given already.
+    fn has(&self, option: &str) -> bool
+        ensures { result ≡ is_some (text_in (reading_value self.now).given option.now) }
+    {
+        text_of(&self.given, option).is_some()
+    }
+
+    fn read_flag(
         &mut self,
-        option: &'a str,
+        argument: &'static Argument,
         value: Option<&'a str>,
-    ) -> Result<Option<Mistake<'a>>, AllocError> {
-        if has_name(&self.given, option) {
-            return Ok(Some(Mistake::Again { option }));
+    ) -> Result<Option<Mistake<'a>>, AllocError>
+        ensures { IfOk result (λ m. (reading_value self.new, option_map mistake_value m)
+            ≡ flag_step (reading_value self.old) (argument_value argument.now)
+            (option_map (λ s. s.now) value.entry)) }
+    {
+        match value {
+            Some(_) => Ok(Some(Mistake::HasValue { argument })),
+            None => self.push(argument, ""),
         }
-        match (option_in(self.help, option), value) {
-            (None, _) => {
-                let other = option_for(option).filter(|other| option_in(
-                    self.help, other,
-                ).is_some());
-                Ok(Some(Mistake::Unknown { option, other }))
-            }
-            (Some(Form::Flag), Some(_)) => Ok(Some(Mistake::HasValue { option })),
-            (Some(Form::Flag), None) => self.push(option, ""),
-            (Some(Form::Value { .. }), Some(text)) => self.push(option, text),
-            (Some(Form::Value { name }), None) => {
-                self.awaited = Some((option, name));
+    }
+
+    fn read_valued(
+        &mut self,
+        argument: &'static Argument,
+        value: Option<&'a str>,
+    ) -> Result<Option<Mistake<'a>>, AllocError>
+        ensures { IfOk result (λ m. (reading_value self.new, option_map mistake_value m)
+            ≡ valued_step (reading_value self.old) (argument_value argument.now)
+            (option_map (λ s. s.now) value.entry)) }
+    {
+        match value {
+            Some(text) => self.push(argument, text),
+            None => {
+                self.awaited = Some(argument);
                 Ok(None)
             }
         }
     }
 
-    fn read_word(&mut self, word: &'a str) -> Result<Option<Mistake<'a>>, AllocError> {
-        if let Some((option, value)) = self.awaited.take() {
-            if is_option(word) {
-                return Ok(Some(Mistake::NoValue { option, value }));
-            }
-            return self.push(option, word);
+    fn read_known(
+        &mut self,
+        argument: &'static Argument,
+        value: Option<&'a str>,
+    ) -> Result<Option<Mistake<'a>>, AllocError>
+        ensures { IfOk result (λ m. (reading_value self.new, option_map mistake_value m)
+            ≡ known_step (reading_value self.old) (argument_value argument.now)
+            (option_map (λ s. s.now) value.entry)) }
+    {
+        if self.has(argument.name) {
+            return Ok(Some(Mistake::Again { argument }));
         }
-        if self.is_behind_hyphens || !is_option(word) {
-            return self.read_positional(word);
+        match argument.form {
+            Form::Flag => self.read_flag(argument, value),
+            _ => self.read_valued(argument, value),
         }
+    }
+
+    fn read_option(&mut self, word: &'a str) -> Result<Option<Mistake<'a>>, AllocError>
+        ensures { IfOk result (λ m. (reading_value self.new, option_map mistake_value m)
+            ≡ option_step (reading_value self.old) word.now) }
+    {
+        let (option, value) = split_value(word);
+        match option_in(self.arguments, option) {
+            Some(argument) => self.read_known(argument, value),
+            None => Ok(Some(Mistake::Unknown { option })),
+        }
+    }
+
+    // A word behind an option that has to have a value.
+    fn read_value(
+        &mut self,
+        argument: &'static Argument,
+        word: &'a str,
+    ) -> Result<Option<Mistake<'a>>, AllocError>
+        ensures { IfOk result (λ m. (reading_value self.new, option_map mistake_value m)
+            ≡ awaited_step (reading_value self.old) (argument_value argument.now) word.now) }
+    {
+        if is_option(word) {
+            return Ok(Some(Mistake::NoValue {
+                argument,
+                next: Some(word),
+            }));
+        }
+        self.awaited = None;
+        self.push(argument, word)
+    }
+
+    // A word that is no value of an option, before two hyphens.
+    fn read_free(&mut self, word: &'a str) -> Result<Option<Mistake<'a>>, AllocError>
+        ensures { IfOk result (λ m. (reading_value self.new, option_map mistake_value m)
+            ≡ free_step (reading_value self.old) word.now) }
+    {
         if word == "--" {
             self.is_behind_hyphens = true;
             return Ok(None);
         }
-        match word.split_once('=') {
-            Some((option, text)) => self.read_option(option, Some(text)),
-            None => self.read_option(word, None),
+        if is_option(word) {
+            return self.read_option(word);
         }
+        self.read_positional(word)
+    }
+
+    fn read_word(&mut self, word: &'a str) -> Result<Option<Mistake<'a>>, AllocError>
+        ensures { IfOk result (λ m. (reading_value self.new, option_map mistake_value m)
+            ≡ step (reading_value self.old) word.now) }
+    {
+        if let Some(argument) = self.awaited {
+            return self.read_value(argument, word);
+        }
+        if self.is_behind_hyphens {
+            return self.read_positional(word);
+        }
+        self.read_free(word)
     }
 
     // What is wrong at the end of the words.
-    fn want(&self) -> Option<Mistake<'a>> {
-        if let Some((option, value)) = self.awaited {
-            return Some(Mistake::NoValue { option, value });
+    fn want(&self) -> Option<Mistake<'a>>
+        ensures { option_map mistake_value result ≡ want (reading_value self.now) }
+    {
+        if let Some(argument) = self.awaited {
+            return Some(Mistake::NoValue {
+                argument,
+                next: None,
+            });
         }
-        if self.count < needed(&self.names) {
-            return self
-                .names
-                .get(self.count)
-                .map(|name| Mistake::Missing { name: *name });
+        let (argument, _) = next_word(self.left)?;
+        if is_repeated(argument.form) {
+            return None;
         }
-        None
+        Some(Mistake::Missing { argument })
     }
 }
 
-// Reads the words behind a command by its help.
+// Reads the words behind a command that takes these arguments.
 fn read_given<'a>(
     alloc: Global,
-    help: &'static str,
+    arguments: &'static [Argument],
     words: &'a [String],
-) -> Result<Answer<'a>, AllocError> {
+) -> Result<Answer<'a>, AllocError>
+    ensures { IfOk result (λ a. answer_value a
+        ≡ reading_of (begun (argument_values arguments.now)) (map string_bytes words.now)) }
+{
     let mut reading = Reading {
-        help,
-        names: words_in(alloc, help)?,
+        arguments,
+        left: arguments,
         given: Vec::new(alloc),
-        count: 0,
         awaited: None,
         is_behind_hyphens: false,
     };
@@ -164,24 +259,33 @@ fn read_given<'a>(
     })
 }
 
-/// The words behind the first one, which names the command, as its help tells them; none where memory is wanted.
-pub fn read_answer<'a>(alloc: Global, words: &'a [String]) -> Answer<'a> {
-    let rest = match words.split_first() {
+// The words behind the first one.
+fn rest_of(words: &[String]) -> &[String]
+    ensures { map string_bytes result.now ≡ rest_of (map string_bytes words.now) }
+{
+    match words.split_first() {
         Some((_, rest)) => rest,
         None => words,
-    };
-    match read_given(alloc, help_of(words), rest) {
+    }
+}
+
+/// The words behind the first one, which names the command, as its table tells them, up to the first mistake; where memory
+/// is wanting, that is the mistake.
+pub fn read_answer<'a>(alloc: Global, words: &'a [String]) -> Answer<'a>
+    ensures { IsRead (answer_of (map string_bytes words.now)) result }
+{
+    match read_given(alloc, arguments_of(words), rest_of(words)) {
         Ok(answer) => answer,
         Err(_) => Answer {
             given: Vec::new(alloc),
-            mistake: None,
+            mistake: Some(Mistake::Memory),
         },
     }
 }
 
 /// The text that is given under this name of the help; the first, where there are several.
 pub fn text_of<'a>(given: &[Given<'a>], name: &str) -> Option<&'a str>
-    ensures { option_map (λ text. text.now) result ≡ text_in given.now name.now }
+    ensures { option_map (λ text. text.now) result ≡ text_in (map given_value given.now) name.now }
 {
     for one in given {
         if one.name == name {

@@ -1,19 +1,22 @@
-//! The words behind a command, each with the name that the command's help gives it, and the sentence about words that are
-//! refused.
+//! The words behind a command, each with the name that the table gives it, and the sentence about words that are refused.
 //!
 //! kexec_words decides whether words are taken, and says of a refusal no more than its reason. For people a sentence has to
-//! name the word that stood there, and what has to stand there: so the words are read once more, by the table that the help
-//! is, up to the first that the command does not take.
+//! name the word that stood there, and what has to stand there: so the words are read once more, by the same table, up to
+//! the first that the command does not take.
 #![tactic(auto)]
 
+mod asking;
+mod files;
 mod given;
-mod help;
+mod lookup;
 mod mistake;
 mod old_words;
 mod refusal;
 #[cfg(test)]
 mod tests;
 
+pub use asking::{asks_for_help, asks_for_version};
+pub use files::file_with;
 pub use given::{Answer, Given, read_answer, text_of};
 pub use mistake::Mistake;
-pub use refusal::{Refusal, asks_for_help};
+pub use refusal::{Refusal, meant_of};

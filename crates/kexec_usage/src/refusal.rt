@@ -1,40 +1,18 @@
 //! The sentence about words that are refused.
 
 ghost use Rattle.std.specs.Prelude.{◌≡◌, map, string_bytes};
-ghost use Rattle.kexec_usage.specs.Words.{has_help, is_help};
+ghost use Rattle.kexec_usage.specs.OldWords.{meant_of};
 
+use crate::files::shared;
 use crate::given::{Answer, Given, text_of};
-use crate::help::{MODULES, is_file, is_written};
-use crate::old_words::command_for;
-use kexec_words::{UsageWhy, Which, help_of};
+use crate::lookup::option_in;
+use crate::mistake::Mistake;
+use crate::old_words::{command_for, has_no_counterpart, option_for};
+use kexec_words::{Argument, UsageWhy, Which, arguments_of};
 use std::fmt::{self, Display, Formatter, Write};
 
-// The name of another file with this text.
-fn other_with<'a>(
-    help: &'static str,
-    given: &[Given<'a>],
-    name: &str,
-    text: &str,
-) -> Option<&'a str> {
-    for one in given {
-        if one.name != name && is_file(help, one.name) && one.text == text {
-            return Some(one.name);
-        }
-    }
-    None
-}
-
-// The first file that is written and has the name of another one, and that one.
-fn shared<'a>(help: &'static str, given: &[Given<'a>]) -> Option<(Given<'a>, &'a str)> {
-    for file in given {
-        if is_written(help, file.name) {
-            if let Some(other) = other_with(help, given, file.name, file.text) {
-                return Some((*file, other));
-            }
-        }
-    }
-    None
-}
+// The sign is no part of a number.
+const UNSIGNED: &str = "a number has to be without a sign";
 
 fn write_command<W: Write>(
     why: &UsageWhy,
@@ -44,6 +22,12 @@ fn write_command<W: Write>(
     let Some(word) = first else {
         return write!(f, "{why}");
     };
+    if has_no_counterpart(word) {
+        return write!(
+            f,
+            "{word} is an option of kexec(8), which is another program: it has no counterpart here"
+        );
+    }
     match command_for(word) {
         Some(command) => write!(
             f,
@@ -53,33 +37,114 @@ fn write_command<W: Write>(
     }
 }
 
-// Whether such a number is hexadecimal.
-fn is_hexadecimal(which: Which) -> bool {
-    matches!(
-        which,
-        Which::At | Which::Entry | Which::Below | Which::Swap | Which::Head | Which::Address
-    )
+// Whether a word is a sign and a digit behind it, at least.
+fn is_signed(word: &str) -> bool {
+    let bytes = word.as_bytes();
+    let Some((first, rest)) = bytes.split_first() else {
+        return false;
+    };
+    matches!(first, b'-' | b'+') && rest.first().is_some_and(|byte| byte.is_ascii_digit())
+}
+
+// The option of this command that does what the unknown one does for kexec(8).
+fn counterpart_of(arguments: &'static [Argument], option: &str) -> Option<&'static str> {
+    let other = option_for(option)?;
+    let argument = option_in(arguments, other)?;
+    Some(argument.name)
+}
+
+fn write_unknown<W: Write>(
+    arguments: &'static [Argument],
+    option: &str,
+    f: &mut Formatter<W>,
+) -> fmt::Result {
+    if let Some(other) = counterpart_of(arguments, option) {
+        return write!(
+            f,
+            "{option} is no option of this command; {other} stands for it"
+        );
+    }
+    if has_no_counterpart(option) {
+        return write!(
+            f,
+            "{option} is no option of this command; that of kexec(8) has no counterpart here"
+        );
+    }
+    write!(f, "{option:?} is no option of this command")?;
+    if is_signed(option) {
+        write!(f, "; {UNSIGNED}")?;
+    }
+    Ok(())
+}
+
+fn write_no_value<W: Write>(
+    argument: &Argument,
+    next: Option<&str>,
+    f: &mut Formatter<W>,
+) -> fmt::Result {
+    let name = argument.name;
+    match next {
+        Some(word) if argument.kind.is_number() && is_signed(word) => {
+            write!(f, "{name}: {word:?} is given, and {UNSIGNED}")
+        }
+        _ => {
+            let value = argument.value;
+            write!(f, "{name} has to have a value: {name} {value}")
+        }
+    }
+}
+
+fn write_mistake<W: Write>(
+    mistake: &Mistake<'_>,
+    arguments: &'static [Argument],
+    f: &mut Formatter<W>,
+) -> fmt::Result {
+    match mistake {
+        Mistake::Memory => f.write_str("there is not enough memory to say which argument is wrong"),
+        Mistake::Unknown { option } => write_unknown(arguments, option, f),
+        Mistake::Again { argument } => {
+            let name = argument.name;
+            write!(f, "{name} is given twice, and has to be given once")
+        }
+        Mistake::NoValue { argument, next } => write_no_value(argument, *next, f),
+        Mistake::HasValue { argument } => {
+            let name = argument.name;
+            write!(f, "{name} takes no value, and has to stand alone")
+        }
+        Mistake::Surplus { word } => write!(f, "{word:?} is an argument too many"),
+        Mistake::Missing { argument } => {
+            let name = argument.name;
+            write!(f, "{name} is missing")
+        }
+    }
+}
+
+// Whether the argument of this name is a hexadecimal number.
+fn is_hexadecimal(given: &[Given<'_>], name: &str) -> bool {
+    given
+        .iter()
+        .any(|one| one.name == name && one.kind.is_hexadecimal())
 }
 
 fn write_number<W: Write>(
     why: &UsageWhy,
     which: Which,
-    text: &str,
+    given: &[Given<'_>],
     f: &mut Formatter<W>,
 ) -> fmt::Result {
+    let text = text_of(given, which.name()).unwrap_or("");
     write!(f, "{why}: {text:?} is given")?;
-    if is_hexadecimal(which) && (text.starts_with("0x") || text.starts_with("0X")) {
+    if is_hexadecimal(given, which.name()) && (text.starts_with("0x") || text.starts_with("0X")) {
         f.write_str("; leave out 0x")?;
+    }
+    if is_signed(text) {
+        write!(f, "; {UNSIGNED}")?;
     }
     Ok(())
 }
 
-fn write_same_name<W: Write>(
-    help: &'static str,
-    given: &[Given<'_>],
-    f: &mut Formatter<W>,
-) -> fmt::Result {
-    let Some((file, other)) = shared(help, given) else {
+fn write_same_name<W: Write>(given: &[Given<'_>], f: &mut Formatter<W>) -> fmt::Result {
+    let Some((file, other)) = shared(given) else {
         return write!(f, "{}", UsageWhy::SameName);
     };
     let name = file.name;
@@ -88,6 +153,12 @@ fn write_same_name<W: Write>(
         f,
         "{name} and {other} are both {text:?}: a file that is written has to have a name of its own"
     )
+}
+
+// The words that may be given several times.
+fn write_modules<W: Write>(given: &[Given<'_>], f: &mut Formatter<W>) -> fmt::Result {
+    let count = given.iter().filter(|one| one.name == "MODULES").count();
+    write!(f, "{count} modules are given, and a kernel gets at most 12")
 }
 
 /// Why words are refused, as a sentence that names the word which stood there.
@@ -101,16 +172,6 @@ pub struct Refusal<'a> {
     pub answer: &'a Answer<'a>,
 }
 
-impl Refusal<'_> {
-    fn count_of_modules(&self) -> usize {
-        self.answer
-            .given
-            .iter()
-            .filter(|one| one.name == MODULES)
-            .count()
-    }
-}
-
 impl Display for Refusal<'_> {
     fn fmt<W: Write>(&self, f: &mut Formatter<W>) -> fmt::Result {
         let why = self.why;
@@ -121,18 +182,12 @@ impl Display for Refusal<'_> {
                 write_command(why, first, f)
             }
             UsageWhy::Parse => match &self.answer.mistake {
-                Some(mistake) => write!(f, "{mistake}"),
+                Some(mistake) => write_mistake(mistake, arguments_of(self.words), f),
                 None => write!(f, "{why}"),
             },
-            UsageWhy::Number { which } => {
-                let text = text_of(given, which.name()).unwrap_or("");
-                write_number(why, *which, text, f)
-            }
-            UsageWhy::SameName => write_same_name(help_of(self.words), given, f),
-            UsageWhy::TooManyModules => {
-                let count = self.count_of_modules();
-                write!(f, "{count} modules are given, and a kernel gets at most 12")
-            }
+            UsageWhy::Number { which } => write_number(why, *which, given, f),
+            UsageWhy::SameName => write_same_name(given, f),
+            UsageWhy::TooManyModules => write_modules(given, f),
             UsageWhy::NeedsMap => {
                 write!(
                     f,
@@ -144,26 +199,16 @@ impl Display for Refusal<'_> {
     }
 }
 
-// Whether the word asks for help.
-fn is_help(word: &str) -> bool
-    ensures { result ≡ is_help word.now }
+/// The command whose usage line stands before the sentence: the one of the first word, or the one that does what this
+/// option does for kexec(8); empty where there is no word.
+pub fn meant_of(words: &[String]) -> &str
+    ensures { result.now ≡ meant_of (map string_bytes words.now) }
 {
-    word == "--help" || word == "-h"
-}
-
-/// Whether the words ask for help, by `--help` or `-h` before an argument `--`; they are refused as words that the command
-/// does not take.
-pub fn asks_for_help(words: &[String]) -> bool
-    ensures { result ≡ has_help (map string_bytes words.now) }
-{
-    for word in words {
-        let word = word.as_str();
-        if word == "--" {
-            return false;
-        }
-        if is_help(word) {
-            return true;
-        }
+    let Some((first, _)) = words.split_first() else {
+        return "";
+    };
+    match command_for(first) {
+        Some(command) => command,
+        None => first,
     }
-    false
 }

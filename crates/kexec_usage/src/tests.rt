@@ -1,6 +1,6 @@
 //! What no clause says: the sentences, on words as people write them.
 
-use crate::{Answer, Refusal, asks_for_help, read_answer};
+use crate::{Answer, Refusal, asks_for_help, asks_for_version, file_with, meant_of, read_answer};
 use kexec_words::{UsageWhy, WordsFault, read};
 use std::alloc::Global;
 use std::test::Fail;
@@ -92,6 +92,22 @@ fn names_the_word_that_is_refused(rt: HostRuntime) -> Result<(), Fail> {
             "--at is not a hexadecimal number of 1 to 16 digits: \"0X2000\" is given; leave out 0x",
         ),
         (
+            "boot --type raw --at=-1 m p o k",
+            "--at is not a hexadecimal number of 1 to 16 digits: \"-1\" is given; a number has to be without a sign",
+        ),
+        (
+            "boot --type raw --at -1 m p o k",
+            "--at: \"-1\" is given, and a number has to be without a sign",
+        ),
+        (
+            "trace m o 4 -1",
+            "\"-1\" is no option of this command; a number has to be without a sign",
+        ),
+        (
+            "boot --reuse-cmdline m p o k",
+            "--reuse-cmdline is no option of this command; that of kexec(8) has no counterpart here",
+        ),
+        (
             "sample 0x10",
             "NUMBER is not a decimal number of 1 to 18 digits: \"0x10\" is given",
         ),
@@ -109,6 +125,10 @@ fn tells_what_has_to_be_given(rt: HostRuntime) -> Result<(), Fail> {
         (
             "-p k",
             "-p is an option of kexec(8), which is another program: the command here is load-panic",
+        ),
+        (
+            "--unload",
+            "--unload is an option of kexec(8), which is another program: it has no counterpart here",
         ),
         (
             "reboot",
@@ -162,6 +182,44 @@ fn help_is_asked_for_by_two_options(rt: HostRuntime) -> Result<(), Fail> {
         ("boot help", false),
     ] {
         assert!(rt; asks_for_help(&split(alloc, line)?) == want, "{line}");
+    }
+    Ok(())
+}
+
+#[test]
+fn first_words_ask_for_the_version_or_mean_a_command(rt: HostRuntime) -> Result<(), Fail> {
+    let alloc = rt.alloc();
+    for (line, (is_version, meant)) in [
+        ("--version", (true, "--version")),
+        ("-V m", (true, "-V")),
+        ("boot -V", (false, "boot")),
+        ("-l k", (false, "load")),
+        ("--exec", (false, "exec")),
+        ("--load-panic k", (false, "load-panic")),
+        ("-u", (false, "-u")),
+    ] {
+        let words = split(alloc, line)?;
+        assert!(rt; asks_for_version(&words) == is_version, "{line}");
+        assert!(rt; meant_of(&words) == meant, "{line}");
+    }
+    Ok(())
+}
+
+#[test]
+fn a_file_has_the_name_of_its_argument(rt: HostRuntime) -> Result<(), Fail> {
+    let alloc = rt.alloc();
+    let words = split(alloc, "load --kept 1 --at 2 --command q --map f m p o r k")?;
+    let answer = read_answer(alloc, &words);
+    for (text, want) in [
+        ("1", Some("MEMORY")),
+        ("f", Some("--map")),
+        ("o", Some("RECORD")),
+        ("r", Some("KERNEL")),
+        ("k", Some("MODULES")),
+        ("2", None),
+        ("q", None),
+    ] {
+        assert!(rt; file_with(&answer.given, text) == want, "{text}");
     }
     Ok(())
 }

@@ -1,3 +1,4 @@
+pub mod Table
 pub mod Apps
 pub mod Found
 pub mod Numbers

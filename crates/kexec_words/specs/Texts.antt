@@ -1,10 +1,11 @@
--- How options and words are named in texts, and which help belongs to which words (this project's own).
+-- How options and words are named in texts, and what the table says of which words (this project's own).
 use Rattle.std.specs.Prelude.{ℕ, List, [], ◌∷◌, codes, Option, Some, None}
 use Rattle.kexec_words.specs.declared.faults.Which.{Which}
 use Rattle.kexec_words.specs.declared.faults.Which.TheVariants as which
 use Rattle.kexec_words.specs.declared.naming.Name.{Name}
 use Rattle.kexec_words.specs.declared.naming.Name.TheVariants as name
-use Rattle.kexec_words.specs.declared.help.TheConstants as help
+use Rattle.kexec_words.specs.Table.{ArgumentValue}
+use Rattle.kexec_words.specs.Apps.{boot_arguments, load_arguments, load_panic_arguments, loaded_arguments, exec_arguments, trace_arguments, migrate_arguments, sample_arguments, boot_resident_arguments, drill_arguments, core_arguments}
 use Rattle.kexec_words.specs.Meaning.{name_of}
 
 -- the option or the word, as users write it
@@ -20,21 +21,25 @@ which_text which.Limit = codes "LIMIT"
 which_text which.Number = codes "NUMBER"
 which_text which.Address = codes "ADDRESS"
 
--- the help of a command, or of all commands where none is named
-abbrev pub help_text : Option Name → List ℕ
-help_text None = help.COMMANDS.now
-help_text (Some name.Boot) = help.BOOT.now
-help_text (Some name.Load) = help.LOAD.now
-help_text (Some name.LoadPanic) = help.LOAD_PANIC.now
-help_text (Some name.Check) = help.CHECK.now
-help_text (Some name.Dump) = help.DUMP.now
-help_text (Some name.Exec) = help.EXEC.now
-help_text (Some name.Trace) = help.TRACE.now
-help_text (Some name.Migrate) = help.MIGRATE.now
-help_text (Some name.Sample) = help.SAMPLE.now
-help_text (Some name.BootResident) = help.BOOT_RESIDENT.now
-help_text (Some name.Drill) = help.DRILL.now
-help_text (Some name.Core) = help.CORE.now
+-- the arguments of a command, in their order
+abbrev pub arguments_by : Name → List ArgumentValue
+arguments_by name.Boot = boot_arguments
+arguments_by name.Load = load_arguments
+arguments_by name.LoadPanic = load_panic_arguments
+arguments_by name.Check = loaded_arguments
+arguments_by name.Dump = loaded_arguments
+arguments_by name.Exec = exec_arguments
+arguments_by name.Trace = trace_arguments
+arguments_by name.Migrate = migrate_arguments
+arguments_by name.Sample = sample_arguments
+arguments_by name.BootResident = boot_resident_arguments
+arguments_by name.Drill = drill_arguments
+arguments_by name.Core = core_arguments
+
+-- none where no command is named
+abbrev pub arguments_of : Option Name → List ArgumentValue
+arguments_of None = []
+arguments_of (Some name) = arguments_by name
 
 -- the command that the first word names
 abbrev pub first_name : List (List ℕ) → Option Name

@@ -73,6 +73,6 @@ pub(crate) fn read_boot_resident(
     ensures { Answers boot_resident_value
         (answer_by boot_resident_app boot_resident_in (map string_bytes words.now)) result }
 {
-    let matches = matches_for(alloc, "boot-resident", &BOOT_RESIDENT, words)?;
+    let matches = matches_for(alloc, "boot-resident", BOOT_RESIDENT, words)?;
     boot_resident_found(alloc, &matches)
 }

@@ -60,6 +60,6 @@ pub(crate) fn read_drill(alloc: Global, words: &[String]) -> Result<Drill, Words
     ensures { Answers drill_value
         (answer_by drill_app drill_in (map string_bytes words.now)) result }
 {
-    let matches = matches_for(alloc, "drill", &DRILL, words)?;
+    let matches = matches_for(alloc, "drill", DRILL, words)?;
     drill_found(alloc, &matches)
 }

@@ -5,6 +5,7 @@ ghost use Rattle.kexec_words.specs.declared.faults.WordsFault.TheVariants.{Memor
 ghost use Rattle.kexec_words.specs.declared.faults.UsageWhy.TheVariants.{Number};
 ghost use Rattle.kexec_words.specs.Texts.{which_text};
 
+use crate::options::{RUNS_WORDS, TYPE_WORDS};
 use std::alloc::AllocError;
 use std::fmt::{self, Display, Formatter, Write};
 use thiserror::Error;
@@ -93,8 +94,8 @@ impl Which {
     // The form that is wanted.
     fn form(self) -> &'static str {
         match self {
-            Which::Type => "raw, elf, bzimage or multiboot",
-            Which::Kept => "1 or 2",
+            Which::Type => TYPE_WORDS,
+            Which::Kept => RUNS_WORDS,
             Which::At | Which::Entry | Which::Head => "a hexadecimal number of 1 to 16 digits",
             Which::Below =>
                 "a limit of addresses: 1 to 16 hexadecimal digits, a multiple of 0x1000 up to 0x400000000000",

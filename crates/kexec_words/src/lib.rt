@@ -7,11 +7,16 @@ mod commands;
 mod drill;
 mod faults;
 mod help;
+mod layout;
 mod naming;
 mod numbers;
+mod options;
 mod parsing;
 mod planned;
+mod positional;
 mod reading;
+mod table;
+mod texts;
 mod unplanned;
 
 pub use commands::{
@@ -19,8 +24,9 @@ pub use commands::{
     LoadPanic, Migrate, Runs, Trace,
 };
 pub use faults::{UsageWhy, Which, WordsFault};
-pub use help::help_of;
+pub use help::{Help, Usage, arguments_of, help_of, usage_of};
 pub use reading::read;
+pub use table::{Argument, Form, Kind};
 
 #[cfg(test)]
 mod tests;

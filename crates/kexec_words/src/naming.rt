@@ -22,6 +22,22 @@ pub(crate) enum Name {
     Core,
 }
 
+// All commands, in the order in which they are listed.
+pub(crate) const NAMES: [Name; 12] = [
+    Name::Boot,
+    Name::Load,
+    Name::LoadPanic,
+    Name::Check,
+    Name::Dump,
+    Name::Exec,
+    Name::Trace,
+    Name::Migrate,
+    Name::Sample,
+    Name::BootResident,
+    Name::Drill,
+    Name::Core,
+];
+
 pub(crate) fn name_of(word: &str) -> Option<Name>
     ensures { result ≡ name_of word.now }
 {

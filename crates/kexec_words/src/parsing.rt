@@ -2,24 +2,25 @@
 
 ghost use Rattle.std.specs.Prelude.{◌≡◌, IfOk, map, option_map, string_bytes, true, false};
 ghost use Rattle.clap.specs.Words.{app_of, rule_of, rows_of, found_of, is_simple_and_free, first_of};
-ghost use Rattle.kexec_words.specs.Apps.{rule_by, rules_of, app_with};
+ghost use Rattle.kexec_words.specs.Apps.{rule_by, app_taking};
+ghost use Rattle.kexec_words.specs.Table.{argument_value, argument_values};
 ghost use Rattle.kexec_words.specs.Found.{Parses, text_in, texts_in, word_of, flag_of, words_of};
 
-use crate::arguments::{Argument, Form};
+use crate::table::{Argument, Form};
 use crate::{UsageWhy, WordsFault};
 use clap::error::ErrorKind;
 use clap::{Arg, ArgAction, ArgMatches, Command};
 use std::alloc::{AllocError, Global};
 
 fn arg_of<'a>(alloc: Global, argument: Argument) -> Arg<'a>
-    ensures rule { rule_of result ≡ rule_by argument }
+    ensures rule { rule_of result ≡ rule_by (argument_value argument) }
     ensures own { result.global ≡ false }
 {
     let arg = Arg::new(alloc, argument.id);
     match argument.form {
         Form::Word => arg.required(true).action(ArgAction::Set),
         Form::Words => arg.action(ArgAction::Append),
-        Form::Value => arg.long(argument.id).action(ArgAction::Set),
+        Form::Value | Form::Needed => arg.long(argument.id).action(ArgAction::Set),
         Form::Flag => arg.long(argument.id).action(ArgAction::SetTrue),
     }
 }
@@ -30,7 +31,8 @@ fn command_with<'a>(
     name: &'a str,
     arguments: &[Argument],
 ) -> Result<Command<'a>, AllocError>
-    ensures { IfOk result (λ c. app_of c ≡ app_with name.entry.now (rules_of arguments.now)) }
+    ensures { IfOk result (λ c. app_of c
+        ≡ app_taking name.entry.now (argument_values arguments.now)) }
 {
     let mut command = Command::new(alloc, name).no_binary_name(true);
     for argument in arguments {
@@ -45,8 +47,9 @@ pub(crate) fn matches_for<'a>(
     arguments: &[Argument],
     words: &'a [String],
 ) -> Result<ArgMatches<'a>, WordsFault>
-    requires simple { is_simple_and_free (app_with name.now (rules_of arguments.now)) ≡ true }
-    ensures { Parses (app_with name.entry.now (rules_of arguments.now))
+    requires simple { is_simple_and_free
+        (app_taking name.now (argument_values arguments.now)) ≡ true }
+    ensures { Parses (app_taking name.entry.now (argument_values arguments.now))
         (map string_bytes words.entry.now) result }
 {
     let command = command_with(alloc, name, arguments)?;

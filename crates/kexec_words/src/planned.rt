@@ -123,7 +123,7 @@ fn boot_found(alloc: Global, matches: &ArgMatches<'_>) -> Result<Boot, WordsFaul
 pub(crate) fn read_boot(alloc: Global, words: &[String]) -> Result<Boot, WordsFault>
     ensures { Answers boot_value (answer_by boot_app boot_in (map string_bytes words.now)) result }
 {
-    let matches = matches_for(alloc, "boot", &BOOT, words)?;
+    let matches = matches_for(alloc, "boot", BOOT, words)?;
     boot_found(alloc, &matches)
 }
 
@@ -162,6 +162,6 @@ fn load_found(alloc: Global, matches: &ArgMatches<'_>) -> Result<Load, WordsFaul
 pub(crate) fn read_load(alloc: Global, words: &[String]) -> Result<Load, WordsFault>
     ensures { Answers load_value (answer_by load_app load_in (map string_bytes words.now)) result }
 {
-    let matches = matches_for(alloc, "load", &LOAD, words)?;
+    let matches = matches_for(alloc, "load", LOAD, words)?;
     load_found(alloc, &matches)
 }

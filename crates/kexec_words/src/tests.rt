@@ -1,6 +1,6 @@
 //! What no clause says: the meaning of the table, on words as people write them.
 
-use crate::{Command, Runs, UsageWhy, Which, WordsFault, help_of, read};
+use crate::{Command, Runs, UsageWhy, Which, WordsFault, help_of, read, usage_of};
 use kx_pages::{ImageType, Page};
 use std::alloc::Global;
 use std::test::Fail;
@@ -192,22 +192,58 @@ fn says_what_is_wrong_and_what_is_wanted(rt: HostRuntime) -> Result<(), Fail> {
     let why = UsageWhy::Number { which: Which::At };
     let text = format!(in alloc; "{}", WordsFault::Usage { why })?;
     assert!(rt; text.as_str() == "--at is not a hexadecimal number of 1 to 16 digits");
-    for (line, usage) in [
-        ("restart", "Usage: kexec COMMAND "),
-        ("boot m", "Usage: kexec boot "),
-        ("load", "Usage: kexec load ["),
-        ("load-panic", "Usage: kexec load-panic "),
-        ("check", "Usage: kexec check "),
-        ("dump --help", "Usage: kexec dump "),
-        ("exec", "Usage: kexec exec "),
-        ("trace m", "Usage: kexec trace "),
-        ("migrate r", "Usage: kexec migrate "),
-        ("sample x", "Usage: kexec sample "),
-        ("boot-resident", "Usage: kexec boot-resident "),
-        ("drill m", "Usage: kexec drill "),
-        ("core m", "Usage: kexec core "),
+    Ok(())
+}
+
+// The synopses of the manual page.
+#[test]
+fn usage_names_the_arguments_in_their_order(rt: HostRuntime) -> Result<(), Fail> {
+    for (name, want) in [
+        ("restart", "Usage: kexec COMMAND [OPTIONS] ARGUMENTS.."),
+        (
+            "load",
+            "Usage: kexec load [OPTIONS] MEMORY POOL OUT RECORD KERNEL [MODULES]..",
+        ),
+        (
+            "load-panic",
+            "Usage: kexec load-panic --map FILE [OPTIONS] MEMORY OUT RECORD KERNEL",
+        ),
+        ("dump", "Usage: kexec dump MEMORY RECORD"),
+        ("exec", "Usage: kexec exec [--twice] MEMORY RECORD OUT"),
+        (
+            "trace",
+            "Usage: kexec trace [--swap ADDRESS] MEMORY OUT HEAD LIMIT",
+        ),
+        (
+            "boot-resident",
+            "Usage: kexec boot-resident --at ADDRESS MEMORY POOL OUT KERNEL PAIRS",
+        ),
     ] {
-        assert!(rt; help_of(&split(alloc, line)?).starts_with(usage), "{line}");
+        let said = usage_of(name).to_string(rt.alloc())?;
+        assert!(rt; said.as_str() == want, "{said}");
     }
+    Ok(())
+}
+
+#[test]
+fn help_says_what_each_argument_is(rt: HostRuntime) -> Result<(), Fail> {
+    let words = split(rt.alloc(), "exec")?;
+    let said = help_of(&words).to_string(rt.alloc())?;
+    let want = "\
+Usage: kexec exec [--twice] MEMORY RECORD OUT
+
+Checks the list of a load record in a memory, runs it, and writes the memory
+after the last run.
+
+Arguments:
+  MEMORY  memory file to read: the memory after the load
+  RECORD  load record to read: the load as load or load-panic wrote it
+  OUT     memory file to write: the memory after the last run; none of the files
+          that are read
+
+Options:
+  --twice  run the list a second time, back into the old kernel, which needs a
+           load with context preserved; default: one run";
+    assert!(rt; said.as_str() == want, "{said}");
     Ok(())
 }

@@ -72,7 +72,7 @@ pub(crate) fn read_load_panic(alloc: Global, words: &[String]) -> Result<LoadPan
     ensures { Answers load_panic_value
         (answer_by load_panic_app load_panic_in (map string_bytes words.now)) result }
 {
-    let matches = matches_for(alloc, "load-panic", &LOAD_PANIC, words)?;
+    let matches = matches_for(alloc, "load-panic", LOAD_PANIC, words)?;
     load_panic_found(alloc, &matches)
 }
 
@@ -97,7 +97,7 @@ pub(crate) fn read_check(alloc: Global, words: &[String]) -> Result<LoadNames, W
     ensures { Answers load_names_value
         (answer_by check_app load_names_in (map string_bytes words.now)) result }
 {
-    let matches = matches_for(alloc, "check", &LOADED, words)?;
+    let matches = matches_for(alloc, "check", LOADED, words)?;
     loaded_found(alloc, &matches)
 }
 
@@ -106,7 +106,7 @@ pub(crate) fn read_dump(alloc: Global, words: &[String]) -> Result<LoadNames, Wo
     ensures { Answers load_names_value
         (answer_by dump_app load_names_in (map string_bytes words.now)) result }
 {
-    let matches = matches_for(alloc, "dump", &LOADED, words)?;
+    let matches = matches_for(alloc, "dump", LOADED, words)?;
     loaded_found(alloc, &matches)
 }
 
@@ -143,7 +143,7 @@ fn exec_found(alloc: Global, matches: &ArgMatches<'_>) -> Result<Exec, WordsFaul
 pub(crate) fn read_exec(alloc: Global, words: &[String]) -> Result<Exec, WordsFault>
     ensures { Answers exec_value (answer_by exec_app exec_in (map string_bytes words.now)) result }
 {
-    let matches = matches_for(alloc, "exec", &EXEC, words)?;
+    let matches = matches_for(alloc, "exec", EXEC, words)?;
     exec_found(alloc, &matches)
 }
 
@@ -189,7 +189,7 @@ pub(crate) fn read_trace(alloc: Global, words: &[String]) -> Result<Trace, Words
     ensures { Answers trace_value
         (answer_by trace_app trace_in (map string_bytes words.now)) result }
 {
-    let matches = matches_for(alloc, "trace", &TRACE, words)?;
+    let matches = matches_for(alloc, "trace", TRACE, words)?;
     trace_found(alloc, &matches)
 }
 
@@ -225,7 +225,7 @@ pub(crate) fn read_migrate(alloc: Global, words: &[String]) -> Result<Migrate, W
     ensures { Answers migrate_value
         (answer_by migrate_app migrate_in (map string_bytes words.now)) result }
 {
-    let matches = matches_for(alloc, "migrate", &MIGRATE, words)?;
+    let matches = matches_for(alloc, "migrate", MIGRATE, words)?;
     migrate_found(alloc, &matches)
 }
 
@@ -246,7 +246,7 @@ pub(crate) fn read_sample(alloc: Global, words: &[String]) -> Result<u64, WordsF
     ensures { Answers number_value
         (answer_by sample_app sample_in (map string_bytes words.now)) result }
 {
-    let matches = matches_for(alloc, "sample", &SAMPLE, words)?;
+    let matches = matches_for(alloc, "sample", SAMPLE, words)?;
     sample_found(&matches)
 }
 
@@ -285,6 +285,6 @@ fn core_found(alloc: Global, matches: &ArgMatches<'_>) -> Result<Core, WordsFaul
 pub(crate) fn read_core(alloc: Global, words: &[String]) -> Result<Core, WordsFault>
     ensures { Answers core_value (answer_by core_app core_in (map string_bytes words.now)) result }
 {
-    let matches = matches_for(alloc, "core", &CORE, words)?;
+    let matches = matches_for(alloc, "core", CORE, words)?;
     core_found(alloc, &matches)
 }

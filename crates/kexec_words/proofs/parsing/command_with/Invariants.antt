@@ -1,7 +1,8 @@
 use Rattle.std.proofs.Common.{◌≡◌, take}
 use Rattle.clap.specs.Words.{app_of}
-use Rattle.kexec_words.specs.Apps.{rules_of, app_with}
+use Rattle.kexec_words.specs.Apps.{app_taking}
+use Rattle.kexec_words.specs.Table.{argument_values}
 use Rattle.kexec_words.proofs.parsing.command_with.Given as goal
 
 abbrev pub invariant-loop-argument : goal.invariant-loop-argument
-invariant-loop-argument l = app_of l.command ≡ app_with l.name (rules_of (take l.argument-index l.arguments))
+invariant-loop-argument l = app_of l.command ≡ app_taking l.name (argument_values (take l.argument-index l.arguments))

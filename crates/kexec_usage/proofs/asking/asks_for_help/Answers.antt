@@ -1,6 +1,6 @@
 use Rattle.std.proofs.Common.{string_bytes, ap, ◌∙◌}
 use Rattle.kexec_usage.proofs.Words.{help_ends, help_asked, help_on, help_none}
-use Rattle.kexec_usage.proofs.refusal.asks_for_help.Goals as goal
+use Rattle.kexec_usage.proofs.asking.asks_for_help.Goals as goal
 
 pub returns-then-eq : goal.returns-then-eq
 returns-then-eq c = help_ends string_bytes c.args.words.now c.loop-word.word-index _ _ _ c.loop-word-test.true (c.as_str-word.ensures.value ∙ ap string_bytes c.word-item.is) c.eq.ensures c.if-eq.true c.loop-word.invariant

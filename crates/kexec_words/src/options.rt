@@ -1,0 +1,159 @@
+//! The table: the options of the commands.
+
+use crate::table::{Argument, Form, Kind};
+
+/// The words that `--type` takes, as a sentence lists them.
+pub(crate) const TYPE_WORDS: &str = "raw, elf, bzimage or multiboot";
+
+/// The words that `--kept` of `boot` takes.
+pub(crate) const RUNS_WORDS: &str = "1 or 2";
+
+pub(crate) const RUNS: Argument = Argument {
+    id: "kept",
+    name: "--kept",
+    value: "RUNS",
+    form: Form::Value,
+    kind: Kind::Choice,
+    what: RUNS_WORDS,
+    text: "preserve context and run the list so many times: into the new kernel, and for 2 back again; default: one run in plain mode",
+};
+
+pub(crate) const KEPT: Argument = Argument {
+    id: "kept",
+    name: "--kept",
+    value: "",
+    form: Form::Flag,
+    kind: Kind::Presence,
+    what: "",
+    text: "preserve context, so that the list can be run a second time, back into the old kernel; default: plain mode",
+};
+
+pub(crate) const BELOW: Argument = Argument {
+    id: "below",
+    name: "--below",
+    value: "ADDRESS",
+    form: Form::Value,
+    kind: Kind::Address,
+    what: "",
+    text: "take only pages of the pool that lie below this address, a multiple of 0x1000 up to 0x400000000000; default: each page may be taken",
+};
+
+pub(crate) const MAP: Argument = Argument {
+    id: "map",
+    name: "--map",
+    value: "FILE",
+    form: Form::Value,
+    kind: Kind::Input,
+    what: "file",
+    text: "the memory map, as /proc/iomem prints it; needed for each type but raw, and for --purgatory",
+};
+
+pub(crate) const NEEDED_MAP: Argument = Argument {
+    id: "map",
+    name: "--map",
+    value: "FILE",
+    form: Form::Needed,
+    kind: Kind::Input,
+    what: "file",
+    text: "the memory map, as /proc/iomem prints it; always needed",
+};
+
+pub(crate) const TYPE: Argument = Argument {
+    id: "type",
+    name: "--type",
+    value: "TYPE",
+    form: Form::Value,
+    kind: Kind::Choice,
+    what: TYPE_WORDS,
+    text: "the type of the kernel; default: what the file's own header tells",
+};
+
+pub(crate) const AT: Argument = Argument {
+    id: "at",
+    name: "--at",
+    value: "ADDRESS",
+    form: Form::Value,
+    kind: Kind::Address,
+    what: "",
+    text: "the address of a raw kernel; needed for it, and without effect for the other types",
+};
+
+pub(crate) const NEEDED_AT: Argument = Argument {
+    id: "at",
+    name: "--at",
+    value: "ADDRESS",
+    form: Form::Needed,
+    kind: Kind::Address,
+    what: "",
+    text: "the address of the kernel, where it is entered: a hexadecimal number of 1 to 16 digits, without 0x; always needed",
+};
+
+pub(crate) const ENTRY: Argument = Argument {
+    id: "entry",
+    name: "--entry",
+    value: "ADDRESS",
+    form: Form::Value,
+    kind: Kind::Address,
+    what: "",
+    text: "the address where a raw kernel is entered; default: that of --at; without effect for the other types",
+};
+
+pub(crate) const COMMAND: Argument = Argument {
+    id: "command",
+    name: "--command",
+    value: "TEXT",
+    form: Form::Value,
+    kind: Kind::Text,
+    what: "",
+    text: "the kernel's command line; default: none",
+};
+
+pub(crate) const INITRD: Argument = Argument {
+    id: "initrd",
+    name: "--initrd",
+    value: "FILE",
+    form: Form::Value,
+    kind: Kind::Input,
+    what: "file",
+    text: "the initial RAM disk; default: none",
+};
+
+pub(crate) const PURGATORY: Argument = Argument {
+    id: "purgatory",
+    name: "--purgatory",
+    value: "FILE",
+    form: Form::Value,
+    kind: Kind::Input,
+    what: "file",
+    text: "the purgatory, an ELF64 object for x86-64 that runs before the kernel; default: none",
+};
+
+pub(crate) const NOTES: Argument = Argument {
+    id: "notes",
+    name: "--notes",
+    value: "FILE",
+    form: Form::Value,
+    kind: Kind::Input,
+    what: "file",
+    text: "the ELF notes for the crash headers, on each line an address and a size in bytes, both hexadecimal; default: none",
+};
+
+pub(crate) const TWICE: Argument = Argument {
+    id: "twice",
+    name: "--twice",
+    value: "",
+    form: Form::Flag,
+    kind: Kind::Presence,
+    what: "",
+    text: "run the list a second time, back into the old kernel, which needs a load with context preserved; default: one run",
+};
+
+pub(crate) const SWAP: Argument = Argument {
+    id: "swap",
+    name: "--swap",
+    value: "ADDRESS",
+    form: Form::Value,
+    kind: Kind::Address,
+    what: "",
+    text: "the address of the swap page, for moves with context preserved: a hexadecimal number of 1 to 16 digits, without 0x, that is a multiple of 0x1000 below 0x400000000000; default: plain mode",
+};

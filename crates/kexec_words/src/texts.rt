@@ -1,0 +1,124 @@
+//! The table: what is said of each command, and of its files.
+
+use crate::table::CommandText;
+
+const OPTION_NOTE: &str =
+    "An option is given at most once, as --map FILE or --map=FILE, anywhere before an argument --, behind which nothing is an option.";
+
+const ADDRESS_NOTE: &str = "ADDRESS is a hexadecimal number of 1 to 16 digits, without 0x.";
+
+const CRASH_NOTE: &str =
+    "The crash kernel is told where its headers lie, and gets no memory below 1 MiB. Users add memmap=0x9e000@0x1000 to its command, and memmap=4K$0xADDRESS with the address of the headers.";
+
+/// What the program does.
+pub(crate) const PROGRAM: &str =
+    "Loads a new kernel into a memory that a file holds, as kexec_load(2) and the kernel's kexec core do, checks the list of page copies, and runs it.";
+
+/// The length of the longest name of a command, and of a kind of file.
+pub(crate) const LONGEST_NAME: usize = BOOT_RESIDENT.name.len();
+
+pub(crate) const LONGEST_FILE: usize = FILES[0].0.len();
+
+/// The kinds of files, each with what it holds.
+pub(crate) const FILES: [(&str, &str); 4] = [
+    (
+        "memory file",
+        "KXMEM001, the number of pages, and each page that is not all zero",
+    ),
+    (
+        "pool file",
+        "free pages, on each line a hexadecimal page number or first-last",
+    ),
+    (
+        "load record",
+        "KXREC002 or KXREC001, the head word, the start values and the segments",
+    ),
+    (
+        "memory map",
+        "the text of /proc/iomem, which Linux gives whole to root alone",
+    ),
+];
+
+pub(crate) const BOOT: CommandText = CommandText {
+    name: "boot",
+    brief: "load a kernel and run it",
+    about: "Loads a kernel, checks the list of page copies, runs it, and writes the memory after the last run.",
+    notes: &[ADDRESS_NOTE, OPTION_NOTE],
+};
+
+pub(crate) const LOAD: CommandText = CommandText {
+    name: "load",
+    brief: "load a kernel and write its load record",
+    about: "Loads a kernel, checks the list of page copies, and writes the memory after the load and the load record, which check, dump and exec read.",
+    notes: &[ADDRESS_NOTE, OPTION_NOTE],
+};
+
+pub(crate) const LOAD_PANIC: CommandText = CommandText {
+    name: "load-panic",
+    brief: "load a crash kernel and write its load record",
+    about: "Loads a crash kernel, a bzImage, into the area that the memory map names Crash kernel, and writes the memory after the load and the load record, which check, dump and exec read.",
+    notes: &[CRASH_NOTE, OPTION_NOTE],
+};
+
+pub(crate) const CHECK: CommandText = CommandText {
+    name: "check",
+    brief: "say whether the list of a load record is accepted",
+    about: "Says whether the list of a load record is accepted in a memory, or the first word with a fault. It writes no file.",
+    notes: &[],
+};
+
+pub(crate) const DUMP: CommandText = CommandText {
+    name: "dump",
+    brief: "print the words and the segments of a load record",
+    about: "Prints the words of a load record's list and its segments, with the SHA-256 of each. It writes no file.",
+    notes: &[],
+};
+
+pub(crate) const EXEC: CommandText = CommandText {
+    name: "exec",
+    brief: "check the list of a load record and run it",
+    about: "Checks the list of a load record in a memory, runs it, and writes the memory after the last run.",
+    notes: &[],
+};
+
+pub(crate) const TRACE: CommandText = CommandText {
+    name: "trace",
+    brief: "run a list for some steps, whether it is accepted or not",
+    about: "Runs a list from its head word on, whether it is accepted or not, says how it ended, and writes the memory after the steps.",
+    notes: &[],
+};
+
+pub(crate) const MIGRATE: CommandText = CommandText {
+    name: "migrate",
+    brief: "write a load record anew, as version 2",
+    about: "Reads a load record of version 1 or 2, and writes it as version 2, which has the SHA-256 of each segment.",
+    notes: &[],
+};
+
+pub(crate) const SAMPLE: CommandText = CommandText {
+    name: "sample",
+    brief: "load and run what is made from a number",
+    about: "Makes a memory, a pool and segments from a number, loads and runs them, and prints the SHA-256 of the memory after the run. It reads and writes no file.",
+    notes: &[],
+};
+
+pub(crate) const BOOT_RESIDENT: CommandText = CommandText {
+    name: "boot-resident",
+    brief: "load a raw kernel of which pages stand in memory already, and run it",
+    about: "Loads a raw kernel of which pages stand in memory already, so that these are not copied before the run, runs it, and writes the memory after the run.",
+    notes: &[],
+};
+
+pub(crate) const DRILL: CommandText = CommandText {
+    name: "drill",
+    brief: "apply events of several callers one after another",
+    about: "Applies events of several callers one after another to one memory and one pool, says the reply to each, and writes the memory after the last event.",
+    notes: &[],
+};
+
+pub(crate) const CORE: CommandText = CommandText {
+    name: "core",
+    brief: "write the core file of a memory, by its crash headers",
+    about: "Writes the memory of a machine that stopped as one ELF core file, by the crash headers that stand in that memory: the notes of all processors, and a load for each range of memory.",
+    notes: &[],
+};
