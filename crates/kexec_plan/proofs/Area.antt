@@ -5,7 +5,7 @@ use Rattle.std.specs.Option.{option_or}
 use Rattle.std.specs.List.{position, position_or_len}
 use Rattle.std.proofs.lemmas.Bool.Decides.{nat_tests}
 use Rattle.std.proofs.lemmas.Option.{none-some}
-use Rattle.kx_laws.specs.Results.{unless}
+use Rattle.kx_laws.specs.Results.{◌>>=◌, unless}
 use Rattle.kx_laws.proofs.Results.{bind_ok, ok_same}
 use Rattle.kx_pages.specs.Lists.{Each}
 use Rattle.kx_pages.specs.Spans.{Run, in_span}
@@ -22,16 +22,15 @@ use Rattle.kexec_plan.specs.declared.fault.PlanFault.TheVariants as faults
 use Rattle.kexec_plan.specs.declared.format.Format.{Format}
 use Rattle.kexec_plan.specs.declared.format.Format.TheVariants as formats
 use Rattle.kexec_plan.specs.declared.places.Site.{Site}
-use Rattle.kexec_plan.specs.Modules.{LinuxAsked}
 use Rattle.kexec_plan.specs.Requests.{Asked, Plan}
 use Rattle.kexec_plan.specs.Formats.{format_of, ground_for, reserved_ground, unused_part}
 use Rattle.kexec_plan.specs.Ground.{Ground, Machine, Reserved}
 use Rattle.kexec_plan.specs.Parts.{segment_at}
 use Rattle.kexec_plan.specs.Rules.{first_refusal, ram_runs, tested, unless_refused}
 use Rattle.kexec_plan.specs.Purgatory.{Linkage, PurgatoryValue, linked_at}
-use Rattle.kexec_plan.specs.Finish.{armed_plan, armed_segment, finished, linked_plan, plain_plan}
+use Rattle.kexec_plan.specs.Finish.{armed_plan, armed_segment, finished, plain_plan}
 use Rattle.kexec_plan.proofs.Ways.{linux_plan_ends}
-use Rattle.kexec_plan.specs.Plan.{linux_of, linux_plan, plan, plan_as}
+use Rattle.kexec_plan.specs.Plan.{linux_plan, plan, plan_as}
 
 -- each segment lies in the area
 abbrev pub AreInside : Run → List SegmentValue → Type 0
@@ -108,20 +107,20 @@ armed_inside map area ss start l s p e =
     let last = Each-right stays ss (segment_at s l.bytes ∷ []) t in
     subst (λ (p : Plan). AreInside area p.segments) (ok_same {F = PlanFault} _ p a.2) (Each-append stays ss (armed_segment l start ss s ∷ []) front (last.0, tt))
 
-linked_inside : (map : MapValue) (area : Run) (ss : List SegmentValue) (start : Start) (v : PurgatoryValue) (s : Site) (p : Plan) → linked_plan (Reserved map area) ss start v s ≡ Ok p → AreInside area p.segments
-unfolding linked_plan
+linked_inside : (map : MapValue) (area : Run) (ss : List SegmentValue) (start : Start) (v : PurgatoryValue) (s : Site) (p : Plan) → (linked_at v s >>= λ l. armed_plan (Reserved map area) ss start l s) ≡ Ok p → AreInside area p.segments
 linked_inside map area ss start v s p e =
     let a = bind_ok (linked_at v s) (λ l. armed_plan (Reserved map area) ss start l s) p e in
     armed_inside map area ss start a.0 s p a.2
 
 finished_inside : (map : MapValue) (area : Run) (ss : List SegmentValue) (start : Start) (v : Option PurgatoryValue) (s : Option Site) (p : Plan) → finished (Reserved map area) ss start v s ≡ Ok p → AreInside area p.segments
+unfolding finished
 finished_inside map area ss start (Some v) (Some s) p e = linked_inside map area ss start v s p e
 finished_inside map area ss start (Some v) None p e = plain_inside map area ss start p e
 finished_inside map area ss start None s p e = plain_inside map area ss start p e
 
 -- ---- the plan of a bzImage ends so
-linux_inside : (r : LinuxAsked) (file : Option (List ℕ)) (map : MapValue) (area : Run) (p : Plan) → linux_plan r file (Reserved map area) ≡ Ok p → AreInside area p.segments
-linux_inside r file map area = linux_plan_ends (Reserved map area) (λ p. AreInside area p.segments) (finished_inside map area) r file
+linux_inside : (r : Asked) (map : MapValue) (area : Run) (p : Plan) → linux_plan r (Reserved map area) ≡ Ok p → AreInside area p.segments
+linux_inside r map area = linux_plan_ends (Reserved map area) (λ p. AreInside area p.segments) (finished_inside map area) r
 
 -- ---- a crash kernel is a bzImage, and has an area
 has_area : (map : MapValue) (area : Option Run) (g : Ground) → reserved_ground map area ≡ Ok g → (a : Run) × (area ≡ Some a) × (g ≡ Reserved map a)
@@ -136,7 +135,7 @@ crash_form r map formats.Bzimage g crash e = (refl, sym (ap (λ b. cond (not b) 
 
 -- the map of a crash load that has a plan has an area, and each segment lies in it
 pub in_area : (r : Asked) (map : MapValue) (p : Plan) → r.crash ≡ true → plan r (Some map) ≡ Ok p → (area : Run) × (reserved_area map ≡ Some area) × AreInside area p.segments
-unfolding plan
+unfolding plan plan_as
 in_area r map p crash e =
     let m = Some map in
     let f = bind_ok (format_of r) _ p e in
@@ -145,4 +144,4 @@ in_area r map p crash e =
     let form = crash_form r map f.0 g.0 crash g.1 in
     let area = has_area map (reserved_area map) g.0 form.1 in
     let as_linux = subst (λ g. plan_as r g formats.Bzimage ≡ Ok p) area.2 (subst (λ format. plan_as r g.0 format ≡ Ok p) form.0 u.2) in
-    (area.0, area.1, linux_inside (linux_of r) r.purgatory map area.0 p as_linux)
+    (area.0, area.1, linux_inside r map area.0 p as_linux)

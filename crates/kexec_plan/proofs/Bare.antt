@@ -1,13 +1,14 @@
 -- The segments of a plan break no rule.
 use Rattle.std.proofs.Common.{◌≡◌, ℕ, ◌-◌, ◌++◌, List, [], ◌∷◌, length, Option, Some, None, Ok, refl, subst, ◌∙◌, arith}
+use Rattle.kx_laws.specs.Results.{◌>>=◌}
 use Rattle.kx_laws.proofs.Results.{bind_ok, ok_same}
 use Rattle.kx_fields.specs.Fields.{with_bytes}
 use Rattle.kx_pages.specs.declared.image.Start.{Start}
 use Rattle.segments.specs.Values.{SegmentValue}
 use Rattle.segments.specs.Rules.{IsBare}
 use Rattle.segments.specs.declared.fault.SegFault.{SegFault}
-use Rattle.segments.specs.declared.fault.Kind.{Kind}
-use Rattle.kexec_plan.specs.Ground.{Ground, map_of, kind_in}
+use Rattle.segments.specs.declared.fault.Kind.TheVariants.{Normal, Crash}
+use Rattle.kexec_plan.specs.Ground.{Ground, Unknown, Machine, Reserved}
 use Rattle.segments.proofs.Laws.{AreSegments-from_IsBare, IsBare-from_refusal}
 use Rattle.memory_map.specs.Maps.{MapValue}
 use Rattle.purgatory_link.specs.Regions.{digest, others, region_table}
@@ -19,7 +20,7 @@ use Rattle.kexec_plan.specs.Parts.{segment_at, start_at}
 use Rattle.kexec_plan.specs.Rules.{first_refusal, unless_refused, tested}
 use Rattle.kexec_plan.specs.Purgatory.{HasSymbols, Linkage, PurgatoryValue, armed, linked_at}
 use Rattle.kexec_plan.specs.Plan.{plan}
-use Rattle.kexec_plan.specs.Finish.{plain_plan, armed_segment, armed_plan, linked_plan, finished}
+use Rattle.kexec_plan.specs.Finish.{plain_plan, armed_segment, armed_plan, finished}
 use Rattle.kexec_plan.proofs.Linkages.{IsLinkage, linkage_is}
 use Rattle.kexec_plan.proofs.Puts.{bare_set, get_last, length-put, length-with_registers, set_last, with_registers}
 use Rattle.kexec_plan.proofs.Ways.{plan_ends}
@@ -29,14 +30,15 @@ not_refused : (ss segments : List SegmentValue) (o : Option SegFault) → unless
 not_refused ss segments None h = refl
 not_refused ss segments (Some fault) h = cc
 
-bare_by : (m : Option MapValue) (kind : Kind) (ss : List SegmentValue) → first_refusal m kind ss ≡ None → IsBare ss
+bare_by : (g : Ground) (ss : List SegmentValue) → first_refusal g ss ≡ None → IsBare ss
 unfolding first_refusal
-bare_by None kind ss h = h
-bare_by (Some map) kind ss h = IsBare-from_refusal _ kind ss h
+bare_by Unknown ss h = h
+bare_by (Machine map) ss h = IsBare-from_refusal _ Normal ss h
+bare_by (Reserved map area) ss h = IsBare-from_refusal _ (Crash area) ss h
 
 pub tested_bare : (g : Ground) (ss segments : List SegmentValue) → tested g ss ≡ Ok segments → IsBare ss
 unfolding tested
-tested_bare g ss segments h = bare_by (map_of g) (kind_in g) ss (not_refused ss segments (first_refusal (map_of g) (kind_in g) ss) h)
+tested_bare g ss segments h = bare_by g ss (not_refused ss segments (first_refusal g ss) h)
 
 tested_same : (ss segments : List SegmentValue) (o : Option SegFault) → unless_refused ss o ≡ Ok segments → ss ≡ segments
 tested_same ss segments None h = ok_same ss segments h
@@ -44,7 +46,7 @@ tested_same ss segments (Some fault) h = cc
 
 tested_are : (g : Ground) (ss segments : List SegmentValue) → tested g ss ≡ Ok segments → ss ≡ segments
 unfolding tested
-tested_are g ss segments h = tested_same ss segments (first_refusal (map_of g) (kind_in g) ss) h
+tested_are g ss segments h = tested_same ss segments (first_refusal g ss) h
 
 -- ---- the two ends of plans
 abbrev pub armed_as : List SegmentValue → Start → Linkage → Site → Plan
@@ -83,8 +85,7 @@ armed_plan_bare g ss start l s p is h =
     subst (λ (p : Plan). IsBare p.segments) (ok_same (armed_as ss start l s) p a.2)
     (armed_bare l start ss s is.symbols (tested_bare g (ss ++ segment_at s l.bytes ∷ []) a.0 a.1))
 
-linked_plan_bare : (g : Ground) (ss : List SegmentValue) (start : Start) (o : PurgatoryValue) (s : Site) (p : Plan) → linked_plan g ss start o s ≡ Ok p → IsBare p.segments
-unfolding linked_plan
+linked_plan_bare : (g : Ground) (ss : List SegmentValue) (start : Start) (o : PurgatoryValue) (s : Site) (p : Plan) → (linked_at o s >>= λ l. armed_plan g ss start l s) ≡ Ok p → IsBare p.segments
 linked_plan_bare g ss start o s p h =
     let a = bind_ok (linked_at o s) (λ l. armed_plan g ss start l s) p h in
     armed_plan_bare g ss start a.0 s p (linkage_is o s a.0 a.1) a.2
@@ -97,6 +98,7 @@ plain_plan_bare g ss start p h =
     (subst IsBare (tested_are g ss a.0 a.1) (tested_bare g ss a.0 a.1))
 
 finished_bare : (g : Ground) (ss : List SegmentValue) (start : Start) (o : Option PurgatoryValue) (s : Option Site) (p : Plan) → finished g ss start o s ≡ Ok p → IsBare p.segments
+unfolding finished
 finished_bare g ss start (Some o) (Some s) p h = linked_plan_bare g ss start o s p h
 finished_bare g ss start (Some o) None p h = plain_plan_bare g ss start p h
 finished_bare g ss start None s p h = plain_plan_bare g ss start p h

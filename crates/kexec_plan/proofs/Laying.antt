@@ -1,5 +1,5 @@
 -- Modules that are placed one after another.
-use Rattle.std.proofs.Common.{◌≡◌, ℕ, Bool, List, [], ◌∷◌, Result, Ok, Err, refl, ap, IsErrAnd}
+use Rattle.std.proofs.Common.{◌≡◌, ℕ, Bool, List, [], ◌∷◌, Ok, Err, refl}
 use Rattle.kexec_plan.specs.declared.fault.PlanFault.{PlanFault}
 use Rattle.kexec_plan.specs.Modules.{AskedModule}
 use Rattle.kexec_plan.specs.Multiboot.{Laid, module_onto, modules_onto}
@@ -15,8 +15,3 @@ onto_fails ram l m ms e h = rw h refl
 pub onto_end : (ram : ℕ → Bool) (l : Laid) → modules_onto ram l [] ≡ Ok l
 unfolding modules_onto
 onto_end ram l = refl
-
--- what a `?` hands on
-pub handed_on : {A F : Type 0} (r : Result A F) (e : F) → IsErrAnd r (λ x. x ≡ e) → r ≡ Err e
-handed_on (Ok x) e h = elim h [ ]
-handed_on (Err x) e h = ap Err h

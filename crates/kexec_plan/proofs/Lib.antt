@@ -1,6 +1,6 @@
 pub mod Ram
 pub mod Holes
-pub mod Steps
+pub mod Handing
 pub mod Last
 pub mod Armed
 pub mod Laying

@@ -1,5 +1,6 @@
 -- A planned load passes the test of its own purgatory.
 use Rattle.std.proofs.Common.{◌≡◌, ℕ, ◌++◌, List, [], ◌∷◌, Option, Some, None, Ok, subst, ⊎_elim, arith}
+use Rattle.kx_laws.specs.Results.{◌>>=◌}
 use Rattle.kx_laws.proofs.Results.{bind_ok, ok_same}
 use Rattle.kx_pages.specs.declared.image.Start.{Start}
 use Rattle.segments.specs.Values.{SegmentValue}
@@ -14,7 +15,7 @@ use Rattle.kexec_plan.specs.Parts.{segment_at}
 use Rattle.kexec_plan.specs.Rules.{tested}
 use Rattle.kexec_plan.specs.Purgatory.{PurgatoryValue, Linkage, linked_at}
 use Rattle.kexec_plan.specs.Plan.{plan}
-use Rattle.kexec_plan.specs.Finish.{plain_plan, armed_plan, linked_plan, finished, HasTableApart}
+use Rattle.kexec_plan.specs.Finish.{plain_plan, armed_plan, finished, HasTableApart}
 use Rattle.kexec_plan.proofs.Bare.{armed_as, plain_as, tested_bare}
 use Rattle.kexec_plan.proofs.Linkages.{IsLinkage, linkage_is}
 use Rattle.kexec_plan.proofs.Puts.{armed_passes}
@@ -30,8 +31,7 @@ armed_plan_passes g ss start l s p M is h =
     subst (Passes M) (ok_same (armed_as ss start l s) p a.2)
     (λ apart wanted. armed_passes l start ss s M is.base is.symbols (tested_bare g (ss ++ segment_at s l.bytes ∷ []) a.0 a.1) apart wanted)
 
-linked_plan_passes : (g : Ground) (ss : List SegmentValue) (start : Start) (o : PurgatoryValue) (s : Site) (p : Plan) (M : ℕ → List ℕ) → linked_plan g ss start o s ≡ Ok p → Passes M p
-unfolding linked_plan
+linked_plan_passes : (g : Ground) (ss : List SegmentValue) (start : Start) (o : PurgatoryValue) (s : Site) (p : Plan) (M : ℕ → List ℕ) → (linked_at o s >>= λ l. armed_plan g ss start l s) ≡ Ok p → Passes M p
 linked_plan_passes g ss start o s p M h =
     let a = bind_ok (linked_at o s) (λ l. armed_plan g ss start l s) p h in
     armed_plan_passes g ss start a.0 s p M (linkage_is o s a.0 a.1) a.2
@@ -45,6 +45,7 @@ plain_plan_passes g ss start p M h =
     (λ apart wanted. absurd (⊎_elim (λ l. omega (arith, l)) (λ l. omega (arith, l)) apart))
 
 finished_passes : (M : ℕ → List ℕ) (g : Ground) (ss : List SegmentValue) (start : Start) (o : Option PurgatoryValue) (s : Option Site) (p : Plan) → finished g ss start o s ≡ Ok p → Passes M p
+unfolding finished
 finished_passes M g ss start (Some o) (Some s) p h = linked_plan_passes g ss start o s p M h
 finished_passes M g ss start (Some o) None p h = plain_plan_passes g ss start p M h
 finished_passes M g ss start None s p h = plain_plan_passes g ss start p M h

@@ -5,7 +5,7 @@ use Rattle.kx_laws.specs.Results.{◌>>=◌, unless}
 use Rattle.kx_laws.proofs.Results.{bind_ok}
 use Rattle.kx_pages.specs.declared.image.Start.{Start}
 use Rattle.segments.specs.Values.{SegmentValue}
-use Rattle.kexec_plan.specs.Ground.{Ground, ram, rows, most, headers, headers_size}
+use Rattle.kexec_plan.specs.Ground.{Ground, ram, rows, most, headers}
 use Rattle.memory_map.specs.Maps.{MapValue}
 use Rattle.bzimage.specs.Kernel.{kernel_reading}
 use Rattle.kexec_plan.specs.declared.fault.PlanFault.{PlanFault}
@@ -14,18 +14,17 @@ use Rattle.kexec_plan.specs.declared.fault.PlanFault.TheVariants as faults
 use Rattle.kexec_plan.specs.declared.format.Format.{Format}
 use Rattle.kexec_plan.specs.declared.format.Format.TheVariants.{Raw, Elf, Bzimage, Multiboot}
 use Rattle.kexec_plan.specs.Requests.{Asked, Plan}
-use Rattle.kexec_plan.specs.Modules.{LinuxAsked, MultibootAsked}
 use Rattle.kexec_plan.specs.Formats.{ground_for, unused_part, format_of}
-use Rattle.kexec_plan.specs.Parts.{raw_segment, start_at}
-use Rattle.kexec_plan.specs.Places.{placed_some, taken_by}
+use Rattle.kexec_plan.specs.Parts.{start_at}
+use Rattle.kexec_plan.specs.Places.{placed, placed_some, taken_by, taking}
 use Rattle.kexec_plan.specs.Faults.{told_by, of_bzimage}
 use Rattle.kexec_plan.specs.Purgatory.{PurgatoryValue, some_purgatory, purgatory_rule}
-use Rattle.kexec_plan.specs.Linux.{linux_start, command_of, linux_parts, linux_sites, back_sites}
+use Rattle.kexec_plan.specs.Linux.{linux_of, linux_start, command_of, linux_parts, linux_places}
 use Rattle.kexec_plan.specs.Multiboot.{multiboot_parts, multiboot_start, modules_onto}
-use Rattle.kexec_plan.specs.Plan.{fixed_plan, elf_plan, linux_plan, multiboot_plan, linux_of, multiboot_of, plan_as, plan}
+use Rattle.kexec_plan.specs.Plan.{fixed_plan, linux_plan, multiboot_plan, plan_as, plan}
 use Rattle.kexec_plan.specs.Finish.{finished}
-use Rattle.kexec_plan.specs.Kernels.{elf_kernel, multiboot_kernel}
-use Rattle.kexec_plan.specs.Table.{headers_rule, information_rule}
+use Rattle.kexec_plan.specs.Kernels.{Kernel, raw_kernel, elf_kernel, multiboot_kernel}
+use Rattle.kexec_plan.specs.Table.{information_rule}
 
 -- what holds of each plan that is finished on this g
 module _ (g : Ground) (P : Plan → Type 0)
@@ -38,41 +37,39 @@ module _ (g : Ground) (P : Plan → Type 0)
   next_ends (Ok x) f h = h x
   next_ends (Err e) f h = λ p i. cc
 
-  fixed_plan_ends : (ss : List SegmentValue) (start : Start) (file : Option (List ℕ)) → Ends (fixed_plan ss start file g)
+  fixed_plan_ends : (k : Kernel) (file : Option (List ℕ)) → Ends (fixed_plan k file g)
   unfolding fixed_plan
-  fixed_plan_ends ss start file =
+  fixed_plan_ends k file =
       next_ends (some_purgatory file) _
-      (λ o. next_ends (placed_some (ram g) (taken_by ss) (option_map (purgatory_rule (most g false)) o)) _
-      (λ site. end ss start o site))
+      (λ o. next_ends (placed_some (ram g) (taken_by k.list) (option_map (purgatory_rule (most g false)) o)) _
+      (λ site. end k.list (start_at k.entry) o site))
 
-  elf_plan_ends : (kernel : List ℕ) (file : Option (List ℕ)) → Ends (elf_plan kernel file g)
-  unfolding elf_plan
-  elf_plan_ends kernel file = next_ends (elf_kernel kernel) _ (λ k. fixed_plan_ends k.list (start_at k.entry) file)
-
-  pub linux_plan_ends : (r : LinuxAsked) (file : Option (List ℕ)) → Ends (linux_plan r file g)
+  pub linux_plan_ends : (r : Asked) → Ends (linux_plan r g)
   unfolding linux_plan
-  linux_plan_ends r file =
+  linux_plan_ends r =
       next_ends (told_by of_bzimage (kernel_reading r.kernel)) _
-      (λ k. next_ends (some_purgatory file) _
-      (λ o. next_ends (linux_sites (ram g) k (rows g) r (option_map (headers_rule k) (headers_size g r.notes)) (option_map (purgatory_rule (most g k.above4g)) o)) _
+      (λ k. next_ends (some_purgatory r.purgatory) _
+      (λ o. next_ends (linux_places g k (linux_of r) o) _
       (λ s. next_ends (headers g r.notes) _
-      (λ h. next_ends (linux_parts k r h (rows g) s) _
-      (λ parts. end parts (linux_start s) o s.later.back.purgatory)))))
+      (λ h. next_ends (linux_parts k (linux_of r) h (rows g) s) _
+      (λ parts. end parts (linux_start s) o s.purgatory)))))
 
-  multiboot_plan_ends : (r : MultibootAsked) (file : Option (List ℕ)) → Ends (multiboot_plan r file g)
+  multiboot_plan_ends : (r : Asked) → Ends (multiboot_plan r g)
   unfolding multiboot_plan
-  multiboot_plan_ends r file =
+  multiboot_plan_ends r =
       next_ends (multiboot_kernel r.kernel) _
-      (λ k. next_ends (some_purgatory file) _
+      (λ k. next_ends (some_purgatory r.purgatory) _
       (λ o. next_ends (modules_onto (ram g) (record { taken = taken_by k.list; list = k.list; slots = [] }) r.modules) _
-      (λ l. next_ends (back_sites (ram g) l.taken (information_rule (rows g) (command_of r.command) l.slots) (option_map (purgatory_rule (most g false)) o)) _
-      (λ s. end (multiboot_parts l s.parameters (rows g) (command_of r.command)) (multiboot_start k.entry s.parameters) o s.purgatory))))
+      (λ l. next_ends (placed (ram g) l.taken (information_rule (rows g) (command_of r.command) l.slots)) _
+      (λ i. next_ends (placed_some (ram g) (taking l.taken i) (option_map (purgatory_rule (most g false)) o)) _
+      (λ s. end (multiboot_parts l i (rows g) (command_of r.command)) (multiboot_start k.entry i) o s)))))
 
   as_ends : (r : Asked) (format : Format) → Ends (plan_as r g format)
-  as_ends r (Raw at entry) = fixed_plan_ends (raw_segment at r.kernel ∷ []) (start_at entry) r.purgatory
-  as_ends r Elf = elf_plan_ends r.kernel r.purgatory
-  as_ends r Bzimage = linux_plan_ends (linux_of r) r.purgatory
-  as_ends r Multiboot = multiboot_plan_ends (multiboot_of r) r.purgatory
+  unfolding plan_as
+  as_ends r (Raw at entry) = fixed_plan_ends (raw_kernel at entry r.kernel) r.purgatory
+  as_ends r Elf = next_ends (elf_kernel r.kernel) _ (λ k. fixed_plan_ends k r.purgatory)
+  as_ends r Bzimage = linux_plan_ends r
+  as_ends r Multiboot = multiboot_plan_ends r
 
 -- every plan is one that was finished
 pub plan_ends : (P : Plan → Type 0)

@@ -52,17 +52,12 @@ armed_plan g ss start l s = do
     digest = l.symbols.digest;
   })
 
-unfoldable pub linked_plan : Ground → List SegmentValue → Start
-    → PurgatoryValue → Site
-    → Result Plan PlanFault
-linked_plan g ss start p s = do
+-- the plan of these segments, and of the purgatory at its place
+unfoldable pub finished : Ground → List SegmentValue → Start → Option PurgatoryValue
+    → Option Site → Result Plan PlanFault
+finished g ss start (Some p) (Some s) = do
   l ← linked_at p s
   armed_plan g ss start l s
-
--- the plan of these segments, and of the purgatory at its place
-abbrev pub finished : Ground → List SegmentValue → Start → Option PurgatoryValue
-    → Option Site → Result Plan PlanFault
-finished g ss start (Some p) (Some s) = linked_plan g ss start p s
 finished g ss start (Some p) None = plain_plan g ss start
 finished g ss start None s = plain_plan g ss start
 

@@ -1,17 +1,14 @@
 -- What is known of the memory that a kernel is loaded into (this project's own).
-use Rattle.std.specs.Prelude.{ℕ, ◌-◌, ◌^◌, Bool, false, List, [], length, min, Option, Some, None, if◌then◌else◌, Result, Ok}
+use Rattle.std.specs.Prelude.{ℕ, ◌-◌, ◌^◌, Bool, false, List, [], length, min, Option, Some, None, if◌then◌else◌, Result, Ok, Err}
 use Rattle.kx_pages.specs.Spans.{Run, in_span}
 use Rattle.memory_map.specs.declared.row.Row.{Row}
 use Rattle.memory_map.specs.Maps.{MapValue, is_ram, crash_rows, core_ranges}
-use Rattle.segments.specs.declared.fault.Kind.{Kind}
-use Rattle.segments.specs.declared.fault.Kind.TheVariants.{Normal, Crash}
 use Rattle.crash_headers.specs.declared.note.Note.{Note}
 use Rattle.crash_headers.specs.Headers.{length_for, headers_or_fault}
 use Rattle.kexec_plan.specs.declared.fault.PlanFault.{PlanFault}
 use Rattle.kexec_plan.specs.declared.ground.Known.{Known}
 use Rattle.kexec_plan.specs.declared.ground.Known.TheVariants as known
 use Rattle.kexec_plan.specs.Faults.{told_by, of_crash}
-use Rattle.kexec_plan.specs.Linux.{made_headers}
 
 -- nothing is known of memory; a machine's memory map; the area of this map that is reserved for a crash kernel
 pub data Ground : Type 0 where
@@ -56,20 +53,13 @@ headers_size (Machine map) notes = None
 headers_size (Reserved map area) notes =
     Some (min (2 ^ 64 - 1) (length_for (length notes) (core_ranges map)))
 
+abbrev pub made_headers : Result (List ℕ) PlanFault → Result (Option (List ℕ)) PlanFault
+made_headers (Ok bytes) = Ok (Some bytes)
+made_headers (Err e) = Err e
+
 -- the crash headers, where they are needed
 abbrev pub headers : Ground → List Note → Result (Option (List ℕ)) PlanFault
 headers Unknown notes = Ok None
 headers (Machine map) notes = Ok None
 headers (Reserved map area) notes =
     made_headers (told_by of_crash (headers_or_fault notes (core_ranges map)))
-
--- map and kind apart
-abbrev pub map_of : Ground → Option MapValue
-map_of Unknown = None
-map_of (Machine map) = Some map
-map_of (Reserved map area) = Some map
-
-abbrev pub kind_in : Ground → Kind
-kind_in Unknown = Normal
-kind_in (Machine map) = Normal
-kind_in (Reserved map area) = Crash area

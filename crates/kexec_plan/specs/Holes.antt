@@ -1,8 +1,10 @@
--- The hole of a search as a value: the least or the greatest address that fits (this project's own).
+-- The hole of a search as a value, so that a plan can go on with it. It is the hole of hole_search, the least or the
+-- greatest address that fits (IsHole): the law places_are_holes says so of every rule (this project's own).
 use Rattle.std.specs.Prelude.{ℕ, zero, suc, ◌+◌, ◌-◌, ◌/◌, ◌%◌, ◌==◌, ◌&&◌, not, Bool, nat_le, if◌then◌else◌, Option, Some, None}
 use Rattle.std.specs.List.{list_all, range_with_len}
 use Rattle.hole_search.specs.declared.search.End.{End}
 use Rattle.hole_search.specs.declared.search.End.TheVariants.{Least, Greatest}
+use Rattle.hole_search.specs.Holes.{IsHole}
 use Rattle.kexec_plan.specs.declared.places.PlaceRule.{PlaceRule}
 use Rattle.kexec_plan.specs.Parts.{part_size}
 
@@ -40,3 +42,9 @@ hole_from Greatest f n = greatest f n
 
 unfoldable pub hole : (ℕ → Bool) → (ℕ → Bool) → PlaceRule → Option ℕ
 hole ram taken r = hole_from r.end (fits ram taken r) (r.most + 1)
+
+-- what is found is the hole of this rule
+abbrev pub IsHoleBy : (ℕ → Bool) → (ℕ → Bool) → PlaceRule → Option ℕ → Type 0
+IsHoleBy ram taken r found =
+    IsHole r.end ram taken
+    (record { size = part_size r.length; align = r.align; min = r.min; max = r.most }) found

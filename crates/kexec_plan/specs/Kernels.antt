@@ -1,5 +1,5 @@
--- Kernels whose files say where they lie (this project's own).
-use Rattle.std.specs.Prelude.{ℕ, List, Some, None, if◌then◌else◌, Result, Ok}
+-- Kernels whose place is given: raw bytes, and executables whose files say where they lie (this project's own).
+use Rattle.std.specs.Prelude.{ℕ, List, [], ◌∷◌, length, Some, None, if◌then◌else◌, Result, Ok}
 use Rattle.kx_laws.specs.Results.{◌>>=◌, unless}
 use Rattle.segments.specs.Values.{SegmentValue}
 use Rattle.elf_image.specs.declared.fault.ElfFault.TheVariants as elf
@@ -10,11 +10,19 @@ use Rattle.kexec_plan.specs.declared.fault.PlanFault.TheVariants as faults
 use Rattle.multiboot_image.specs.Header.{header_found}
 use Rattle.multiboot_image.specs.Parts as multiboot
 use Rattle.kexec_plan.specs.Faults.{told_by, of_elf, of_multiboot}
+use Rattle.kexec_plan.specs.Parts.{whole_pages}
 
 -- the segments, and the address that the kernel is entered at
 pub record Kernel : Type 0 where
   pub list : List SegmentValue
   pub entry : ℕ
+
+-- a raw kernel: its bytes at the address, and whole pages of memory
+abbrev pub raw_kernel : ℕ → ℕ → List ℕ → Kernel
+raw_kernel at entry bytes = record {
+  list = record { bytes = bytes; mem = at; memsz = whole_pages (length bytes) } ∷ [];
+  entry = entry;
+}
 
 -- an ELF executable, which has to be ELF64
 unfoldable pub elf_kernel : List ℕ → Result Kernel PlanFault

@@ -9,47 +9,28 @@ use Rattle.bzimage.specs.Kernel.{Kernel}
 use Rattle.boot_params.specs.Params.{params}
 use Rattle.kexec_plan.specs.declared.fault.PlanFault.{PlanFault}
 use Rattle.kexec_plan.specs.declared.places.Site.{Site}
-use Rattle.kexec_plan.specs.declared.places.PlaceRule.{PlaceRule}
-use Rattle.kexec_plan.specs.declared.linux_sites.FrontSites.{FrontSites}
-use Rattle.kexec_plan.specs.declared.linux_sites.BackSites.{BackSites}
-use Rattle.kexec_plan.specs.Modules.{LinuxAsked}
+use Rattle.crash_headers.specs.declared.note.Note.{Note}
+use Rattle.kexec_plan.specs.Requests.{Asked}
 use Rattle.kexec_plan.specs.Parts.{segment_at}
 use Rattle.kexec_plan.specs.Faults.{told_by, of_params}
-use Rattle.kexec_plan.specs.Places.{placed, placed_some, nothing, taking, taking_some}
-use Rattle.kexec_plan.specs.Table.{kernel_rule, initrd_rule, parameters_rule}
+use Rattle.kexec_plan.specs.Ground.{Ground, ram, rows, most, headers_size}
+use Rattle.kexec_plan.specs.Places.{placed, placed_some, nothing, pages_of}
+use Rattle.kexec_plan.specs.Purgatory.{PurgatoryValue, purgatory_rule}
+use Rattle.kexec_plan.specs.Table.{kernel_rule, initrd_rule, headers_rule, parameters_rule}
+
+-- what of a request is a bzImage's
+pub record LinuxAsked : Type 0 where
+  pub kernel : List ℕ
+  pub initrd : Option (List ℕ)
+  pub command : Option (List ℕ)
+  pub notes : List Note
+
+abbrev pub linux_of : Asked → LinuxAsked
+linux_of r = record { kernel = r.kernel; initrd = r.initrd; command = r.command; notes = r.notes }
 
 -- without a command the empty one is used
 abbrev pub command_of : Option (List ℕ) → List ℕ
 command_of command = unwrap_or command []
-
--- where crash headers, boot parameters and purgatory lie, and the command that tells of it; and where all parts lie
-pub record LaterPlaces : Type 0 where
-  pub headers : Option Site
-  pub command : List ℕ
-  pub back : BackSites
-
-pub record LinuxPlaces : Type 0 where
-  pub front : FrontSites
-  pub later : LaterPlaces
-
--- where the kernel lies, then the initrd, apart from what is taken
-unfoldable pub front_sites : (ℕ → Bool) → (ℕ → Bool) → Kernel → LinuxAsked
-    → Result FrontSites PlanFault
-front_sites ram taken k r = do
-  kernel ← placed ram taken (kernel_rule k (length r.kernel))
-  initrd ← placed_some ram (taking taken kernel) (option_map (initrd_rule k) r.initrd)
-  Ok (record { kernel = kernel; initrd = initrd })
-
-abbrev pub with_front : (ℕ → Bool) → FrontSites → ℕ → Bool
-with_front taken s = taking_some (taking taken s.kernel) s.initrd
-
--- where the boot parameters lie, then the purgatory
-unfoldable pub back_sites : (ℕ → Bool) → (ℕ → Bool) → PlaceRule → Option PlaceRule
-    → Result BackSites PlanFault
-back_sites ram taken rule purgatory_rule = do
-  parameters ← placed ram taken rule
-  purgatory ← placed_some ram (taking taken parameters) purgatory_rule
-  Ok (record { parameters = parameters; purgatory = purgatory })
 
 -- a command before another word: a space behind it, where it is not empty
 abbrev pub separated : List ℕ → List ℕ
@@ -65,28 +46,41 @@ abbrev pub told_command : List ℕ → Option Site → List ℕ
 told_command command None = command
 told_command command (Some s) = separated command ++ headers_word s.at
 
--- where the crash headers lie, then the boot parameters and the purgatory, and the command that tells it
-unfoldable pub later_sites : (ℕ → Bool) → (ℕ → Bool) → Kernel → List Row → List ℕ
-    → Option PlaceRule → Option PlaceRule → Result LaterPlaces PlanFault
-later_sites ram taken k rows command headers_rule purgatory_rule = do
-  headers ← placed_some ram taken headers_rule
-  back ← back_sites ram (taking_some taken headers)
-      (parameters_rule k rows (told_command command headers)) purgatory_rule
-  Ok (record { headers = headers; command = told_command command headers; back = back })
+-- where the parts of a bzImage lie, and the command that tells a crash kernel of its headers
+pub record LinuxPlaces : Type 0 where
+  pub kernel : Site
+  pub initrd : Option Site
+  pub headers : Option Site
+  pub command : List ℕ
+  pub parameters : Site
+  pub purgatory : Option Site
 
--- where the parts lie, with these rows of the memory map
-unfoldable pub linux_sites : (ℕ → Bool) → Kernel → List Row → LinuxAsked → Option PlaceRule
-    → Option PlaceRule → Result LinuxPlaces PlanFault
-linux_sites ram k rows r headers_rule purgatory_rule = do
-  front ← front_sites ram nothing k r
-  later ← later_sites ram (with_front nothing front) k rows (command_of r.command) headers_rule
-      purgatory_rule
-  Ok (record { front = front; later = later })
+-- the kernel is placed, the initrd, the crash headers, the boot parameters, which hold the command, and the purgatory
+unfoldable pub linux_places : Ground → Kernel → LinuxAsked → Option PurgatoryValue
+    → Result LinuxPlaces PlanFault
+linux_places g k r p = do
+  kernel ← placed (ram g) nothing (kernel_rule k (length r.kernel))
+  initrd ← placed_some (ram g) (pages_of (Some kernel ∷ [])) (option_map (initrd_rule k) r.initrd)
+  headers ← placed_some (ram g) (pages_of (initrd ∷ Some kernel ∷ []))
+      (option_map (headers_rule k) (headers_size g r.notes))
+  parameters ← placed (ram g) (pages_of (headers ∷ initrd ∷ Some kernel ∷ []))
+      (parameters_rule k (rows g) (told_command (command_of r.command) headers))
+  purgatory ← placed_some (ram g)
+      (pages_of (Some parameters ∷ headers ∷ initrd ∷ Some kernel ∷ []))
+      (option_map (purgatory_rule (most g k.above4g)) p)
+  Ok (record {
+    kernel = kernel;
+    initrd = initrd;
+    headers = headers;
+    command = told_command (command_of r.command) headers;
+    parameters = parameters;
+    purgatory = purgatory;
+  })
 
 -- kernel and boot parameters lie below the limit of addresses
 pub record AreLow (s : LinuxPlaces) : Type 0 where
-  pub kernel : s.front.kernel.at < 2 ^ 46
-  pub parameters : s.later.back.parameters.at + 4096 < 2 ^ 46
+  pub kernel : s.kernel.at < 2 ^ 46
+  pub parameters : s.parameters.at + 4096 < 2 ^ 46
 
 -- the segment of a part that may be left out
 abbrev pub segment_if : Option Site → Option (List ℕ) → List SegmentValue
@@ -100,28 +94,22 @@ initrd_told (Some s) (Some bytes) = Some (s.at, length bytes)
 initrd_told (Some s) None = None
 initrd_told None bytes = None
 
--- the crash headers, in a crash load
-abbrev pub made_headers : Result (List ℕ) PlanFault → Result (Option (List ℕ)) PlanFault
-made_headers (Ok bytes) = Ok (Some bytes)
-made_headers (Err e) = Err e
-
 -- the segments of these parts at their places: the kernel's protected-mode part, the initrd, the crash headers, the
 -- boot parameters
 abbrev pub linux_list : LinuxPlaces → List ℕ → Option (List ℕ) → Option (List ℕ) → List ℕ
     → List SegmentValue
 linux_list s kernel initrd headers parameters =
-    segment_at s.front.kernel kernel ∷ segment_if s.front.initrd initrd
-    ++ segment_if s.later.headers headers ++ segment_at s.later.back.parameters parameters ∷ []
+    segment_at s.kernel kernel ∷ segment_if s.initrd initrd
+    ++ segment_if s.headers headers ++ segment_at s.parameters parameters ∷ []
 
 unfoldable pub linux_parts : Kernel → LinuxAsked → Option (List ℕ) → List Row → LinuxPlaces
     → Result (List SegmentValue) PlanFault
 linux_parts k r headers rows s = do
   parameters ← told_by of_params
-      (params k rows s.later.command s.later.back.parameters.at
-      (initrd_told s.front.initrd r.initrd))
+      (params k rows s.command s.parameters.at (initrd_told s.initrd r.initrd))
   Ok (linux_list s (drop k.start r.kernel) r.initrd headers parameters)
 
 -- the start at the 64-bit entry
 abbrev pub linux_start : LinuxPlaces → Start
 linux_start s =
-    record { entry = s.front.kernel.at + 0x200; rax = 0; rbx = 0; rsi = s.later.back.parameters.at }
+    record { entry = s.kernel.at + 0x200; rax = 0; rbx = 0; rsi = s.parameters.at }

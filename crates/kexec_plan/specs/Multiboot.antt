@@ -11,7 +11,7 @@ use Rattle.multiboot_image.specs.Info.{info}
 use Rattle.multiboot_image.specs.Modules.{PlacedModule}
 use Rattle.kexec_plan.specs.declared.fault.PlanFault.{PlanFault}
 use Rattle.kexec_plan.specs.declared.places.Site.{Site}
-use Rattle.kexec_plan.specs.declared.modules.Laying.{Laying}
+use Rattle.kexec_plan.specs.declared.multiboot_plan.Laying.{Laying}
 use Rattle.kexec_plan.specs.Modules.{AskedModule}
 use Rattle.kexec_plan.specs.Parts.{segment_at}
 use Rattle.kexec_plan.specs.Places.{placed, taking}

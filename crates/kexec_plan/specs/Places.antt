@@ -1,5 +1,5 @@
 -- Where the parts of a plan are placed (this project's own).
-use Rattle.std.specs.Prelude.{◌≡◌, ℕ, ◌+◌, ◌*◌, ◌/◌, ◌%◌, ◌^◌, ◌≤◌, ◌||◌, Bool, false, ◌&&◌, max, min, nat_lt, nat_le, if◌then◌else◌, List, Option, Some, None, Result, Ok, Err}
+use Rattle.std.specs.Prelude.{◌≡◌, ℕ, ◌+◌, ◌*◌, ◌/◌, ◌%◌, ◌^◌, ◌≤◌, ◌||◌, Bool, false, ◌&&◌, max, min, nat_lt, nat_le, if◌then◌else◌, List, [], ◌∷◌, Option, Some, None, Result, Ok, Err}
 use Rattle.std.specs.List.{list_any}
 use Rattle.kx_laws.specs.Results.{◌>>=◌}
 use Rattle.segments.specs.Values.{SegmentValue, stop}
@@ -53,6 +53,11 @@ placed_some ram taken (Some r) = do
 unfoldable pub taking_some : (ℕ → Bool) → Option Site → ℕ → Bool
 taking_some taken None = taken
 taking_some taken (Some s) = taking taken s
+
+-- the pages of these places
+abbrev pub pages_of : List (Option Site) → ℕ → Bool
+pages_of [] = nothing
+pages_of (s ∷ ss) = taking_some (pages_of ss) s
 
 -- what is so of each place that is found by a rule
 pub record IsPlacedBy (r : PlaceRule) (s : Site) : Type 0 where

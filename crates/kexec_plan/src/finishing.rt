@@ -8,40 +8,19 @@ ghost use Rattle.kexec_plan.specs.Parts.{segment_at};
 ghost use Rattle.kexec_plan.specs.Rules.{tested};
 ghost use Rattle.kexec_plan.specs.Purgatory.{IsLinkable, HasSymbols};
 ghost use Rattle.kexec_plan.specs.Finish.{OfSegment, armed_of, plain_plan, armed_segment};
-ghost use Rattle.kexec_plan.specs.Finish.{armed_plan, linked_plan, finished};
+ghost use Rattle.kexec_plan.specs.Finish.{armed_plan, finished};
 
 use crate::fault::PlanFault;
-use crate::ground::Ground;
-use crate::parts::{segment_at, start_at};
-use crate::places::Site;
+use crate::fixed_kernels::start_at;
+use crate::ground::{Ground, tested};
+use crate::places::{Site, segment_at};
 use crate::purgatory::{Linkage, Purgatory, arm};
 use crate::request::Planned;
-use crate::rules::tested;
 use crate::symbols::Symbols;
 use kx_pages::Start;
 use purgatory_link::{digest_of, regions_of};
 use segments::{Segment, Segments};
 use std::alloc::{AllocError, Global};
-
-// The plan of these segments, without a purgatory.
-#[tactic(auto, unfolding(crate::specs::Finish::plain_plan))]
-fn plain_plan(
-    alloc: Global,
-    ground: &Ground<'_>,
-    list: Vec<Segment>,
-    start: Start,
-) -> Result<Planned, PlanFault>
-    ensures { Gives PlanFault.Memory planned_of result
-        (plain_plan ground.now list.items start) }
-{
-    let segments = tested(alloc, ground, list)?;
-    Ok(Planned {
-        segments,
-        start,
-        regions: 0,
-        digest: 0,
-    })
-}
 
 // The bytes of the purgatory, segment number `purgatory`, with what it is to find.
 fn armed_bytes(
@@ -128,25 +107,8 @@ fn armed_plan(
     })
 }
 
-// The plan of these segments and of a purgatory behind them.
-#[tactic(auto, unfolding(crate::specs::Finish::linked_plan))]
-fn linked_plan(
-    alloc: Global,
-    ground: &Ground<'_>,
-    list: Vec<Segment>,
-    start: Start,
-    purgatory: Purgatory,
-    site: Site,
-) -> Result<Planned, PlanFault>
-    requires { IsLinkable (Some purgatory) (Some site) }
-    ensures { Gives PlanFault.Memory planned_of result
-        (linked_plan ground.now list.items start purgatory site) }
-{
-    let linkage = purgatory.link_at(alloc, site)?;
-    armed_plan(alloc, ground, list, start, linkage, site)
-}
-
-/// The plan of these segments, and of the purgatory at its place.
+/// The plan of these segments, and of the purgatory at its place behind them.
+#[tactic(auto, unfolding(crate::specs::Finish::finished, crate::specs::Finish::plain_plan))]
 pub(crate) fn finished(
     alloc: Global,
     ground: &Ground<'_>,
@@ -161,8 +123,14 @@ pub(crate) fn finished(
 {
     match (purgatory, site) {
         (Some(purgatory), Some(site)) => {
-            linked_plan(alloc, ground, list, start, purgatory, site)
+            let linkage = purgatory.link_at(alloc, site)?;
+            armed_plan(alloc, ground, list, start, linkage, site)
         }
-        _ => plain_plan(alloc, ground, list, start),
+        _ => Ok(Planned {
+            segments: tested(alloc, ground, list)?,
+            start,
+            regions: 0,
+            digest: 0,
+        }),
     }
 }

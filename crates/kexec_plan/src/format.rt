@@ -1,9 +1,8 @@
 //! The form of the kernel's file, and what a kernel of this form takes.
 
 ghost use Rattle.std.specs.Prelude.{◌≡◌};
-ghost use Rattle.multiboot_image.specs.Header.{header_found};
 ghost use Rattle.kexec_plan.specs.Requests.{request_of};
-ghost use Rattle.kexec_plan.specs.Formats.{has_header, shown_format, format_of, unused_part};
+ghost use Rattle.kexec_plan.specs.Formats.{shown_format, format_of, unused_part};
 
 use crate::fault::{Part, PlanFault};
 use crate::request::Request;
@@ -27,13 +26,6 @@ pub(crate) enum Format {
     Multiboot,
 }
 
-// Whether the file has a Multiboot header, also one that asks for what is not served.
-fn has_header(file: &[u8]) -> bool
-    ensures { result ≡ has_header (header_found file.now) }
-{
-    !matches!(find_header(file), Err(MbFault::NoHeader))
-}
-
 // The form that the file shows.
 #[tactic(auto, unfolding(crate::specs::Formats::shown_format))]
 fn shown_format(file: &[u8]) -> Result<Format, PlanFault>
@@ -41,7 +33,8 @@ fn shown_format(file: &[u8]) -> Result<Format, PlanFault>
 {
     if is_bzimage(file) {
         Ok(Format::Bzimage)
-    } else if has_header(file) {
+    } else if !matches!(find_header(file), Err(MbFault::NoHeader)) {
+        // also with a header that asks for what is not served
         Ok(Format::Multiboot)
     } else if file.starts_with(ELF_MAGIC) {
         Ok(Format::Elf)

@@ -3,8 +3,11 @@
 ghost use Rattle.std.specs.Prelude.{◌≡◌, ◌<◌, ◌-◌, ◌^◌, option_map, IfOk};
 ghost use Rattle.kx_laws.specs.Results.{Gives};
 ghost use Rattle.kx_pages.specs.Spans.{in_spans};
+ghost use Rattle.segments.specs.Rules.{Answers, refusal};
+ghost use Rattle.kexec_plan.specs.Ground.{ram, rows, most, headers, headers_size, Reserved};
+ghost use Rattle.kexec_plan.specs.Formats.{open_ground};
 ghost use Rattle.kexec_plan.specs.Requests.{lent};
-ghost use Rattle.kexec_plan.specs.Ground.{ram, rows, most, headers, headers_size, map_of, kind_in, Unknown, Machine, Reserved};
+ghost use Rattle.kexec_plan.specs.Rules.{first_refusal, ram_runs, tested};
 ghost use Rattle.kexec_plan.specs.Table.{headers_rule};
 
 use crate::fault::PlanFault;
@@ -14,7 +17,7 @@ use bzimage::BzImage;
 use crash_headers::{Note, length, make};
 use kx_pages::{ADDRESS_LIMIT, PAGE_SIZE, PageSet, Span};
 use memory_map::{Map, Row};
-use segments::Kind;
+use segments::{Kind, SegFault, Segment, Segments};
 use std::alloc::{AllocError, Global};
 use std::marker::Model;
 
@@ -49,22 +52,16 @@ impl<'a> Model for Ground<'a> {
 }
 
 impl<'a> Ground<'a> {
-    /// Nothing is known of memory.
-    pub(crate) fn unknown(alloc: Global) -> Ground<'a>
-        ensures { result ≡ Unknown }
+    /// The memory of a machine, or without a map nothing.
+    pub(crate) fn open(alloc: Global, map: Option<&'a Map>) -> Ground<'a>
+        ensures { result ≡ open_ground (lent map.entry) }
     {
+        let known = match map {
+            Some(map) => Known::Machine { map },
+            None => Known::Unknown,
+        };
         Ground {
-            known: Known::Unknown,
-            reserved: PageSet::new(alloc),
-        }
-    }
-
-    /// The memory of a machine.
-    pub(crate) fn machine(alloc: Global, map: &'a Map) -> Ground<'a>
-        ensures { result ≡ Machine map.now }
-    {
-        Ground {
-            known: Known::Machine { map },
+            known,
             reserved: PageSet::new(alloc),
         }
     }
@@ -147,24 +144,43 @@ impl<'a> Ground<'a> {
         }
     }
 
-    /// The memory map, if there is one.
-    pub(crate) fn map(&self) -> Option<&'a Map>
-        ensures { lent result ≡ map_of self.now }
+    /// The segments of this list, or their first refusal.
+    #[tactic(auto, unfolding(crate::specs::Rules::first_refusal))]
+    fn test(&self, alloc: Global, list: Vec<Segment>) -> Result<Segments, SegFault>
+        ensures { Answers list.items (first_refusal self.now list.items) result }
     {
         match self.known {
-            Known::Unknown => None,
-            Known::Machine { map } => Some(map),
-            Known::Reserved { map, .. } => Some(map),
+            Known::Unknown => Segments::bare(alloc, list),
+            Known::Machine { map } => test_over(alloc, map, Kind::Normal, list),
+            Known::Reserved { map, area } => test_over(alloc, map, Kind::Crash { area }, list),
         }
     }
+}
 
-    /// The kind of load.
-    pub(crate) fn kind(&self) -> Kind
-        ensures { result ≡ kind_in self.now }
-    {
-        match self.known {
-            Known::Reserved { area, .. } => Kind::Crash { area },
-            _ => Kind::Normal,
-        }
+// Tests the segments over the map's RAM.
+fn test_over(alloc: Global, map: &Map, kind: Kind, list: Vec<Segment>) -> Result<Segments, SegFault>
+    ensures { Answers list.items (refusal (ram_runs map.now) kind list.items) result }
+{
+    let ram = map.ram();
+    // for its clause: what every value of the type keeps
+    let _spans = ram.spans();
+    Segments::new(alloc, list, ram, kind)
+}
+
+/// The segments of the list, or that they are refused.
+#[tactic(auto, unfolding(crate::specs::Rules::tested))]
+pub(crate) fn tested(
+    alloc: Global,
+    ground: &Ground<'_>,
+    list: Vec<Segment>,
+) -> Result<Segments, PlanFault>
+    ensures same { IfOk result (λ s. s ≡ list.items) }
+    ensures exact { Gives PlanFault.Memory (λ s. s) result
+        (tested ground.now list.items) }
+{
+    match ground.test(alloc, list) {
+        Ok(segments) => Ok(segments),
+        Err(SegFault::Memory) => Err(PlanFault::Memory),
+        Err(fault) => Err(PlanFault::Segments { fault }),
     }
 }

@@ -5,20 +5,17 @@
 //! first refusal in this order is the answer. Places, ends and order are this project's own.
 #![tactic(auto)]
 
+mod command;
 mod fault;
 mod finishing;
-mod fixed_plan;
+mod fixed_kernels;
 mod format;
 mod ground;
 #[cfg(test)]
 mod kernel_tests;
-mod kernels;
-mod linux;
+mod linux_places;
 mod linux_plan;
-mod linux_sites;
-mod modules;
 mod multiboot_plan;
-mod parts;
 mod places;
 mod planning;
 mod promise;
@@ -26,7 +23,6 @@ mod purgatory;
 #[cfg(test)]
 mod refusal_tests;
 mod request;
-mod rules;
 mod symbols;
 mod table;
 #[cfg(test)]
@@ -36,5 +32,5 @@ mod tests;
 
 pub use fault::{Part, PlanFault};
 pub use planning::plan;
-pub use promise::planned_regions_are_same;
+pub use promise::{places_are_holes, planned_regions_are_same};
 pub use request::{Module, Planned, Request};

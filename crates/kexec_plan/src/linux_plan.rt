@@ -1,51 +1,127 @@
-//! The plan of a bzImage.
+//! The plan of a bzImage with its initrd and its command.
 
-ghost use Rattle.std.specs.Prelude.{◌≡◌, length, option_map};
+ghost use Rattle.std.specs.Prelude.{◌≡◌, ◌≤◌, [], ◌∷◌, ◌++◌, length, drop, ◌+◌, option_map, IfOk, OnOk};
 ghost use Rattle.kx_laws.specs.Results.{Gives};
 ghost use Rattle.bzimage.specs.Kernel.{IsSound};
-ghost use Rattle.kexec_plan.specs.Requests.{planned_of};
+ghost use Rattle.kexec_plan.specs.Requests.{planned_of, request_of};
+ghost use Rattle.kexec_plan.specs.Parts.{segment_at};
 ghost use Rattle.kexec_plan.specs.Purgatory.{IsLinkable};
-ghost use Rattle.kexec_plan.specs.Linux.{AreLow};
+ghost use Rattle.kexec_plan.specs.Linux.{linux_list, linux_parts, segment_if};
+ghost use Rattle.kexec_plan.specs.Linux.{linux_of, initrd_told, AreLow};
 ghost use Rattle.kexec_plan.specs.Plan.{linux_plan};
 
 use crate::fault::PlanFault;
 use crate::finishing::finished;
 use crate::ground::Ground;
-use crate::linux::{LinuxRequest, linux_parts, linux_start};
-use crate::linux_sites::{LinuxSites, linux_sites};
-use crate::purgatory::{Purgatory, some_purgatory, some_purgatory_rule};
-use crate::request::Planned;
+use crate::linux_places::{LinuxPlaces, linux_places};
+use crate::places::{Site, segment_at};
+use crate::purgatory::some_purgatory;
+use crate::request::{Planned, Request};
+use boot_params::make;
 use bzimage::BzImage;
-use std::alloc::Global;
+use kx_pages::Start;
+use memory_map::Row;
+use segments::Segment;
+use std::alloc::{AllocError, Global};
 
-/// The plan of a bzImage, with the purgatory of this file.
+/// The 64-bit entry lies so many bytes behind the kernel's start.
+const ENTRY: u64 = 0x200;
+
+// Puts the segment of a part that may be left out behind the others.
+fn push_some(
+    list: &mut Vec<Segment>,
+    site: Option<Site>,
+    bytes: Option<Vec<u8>>,
+) -> Result<(), AllocError>
+    ensures { OnOk result
+        (list.new.items ≡ list.old.items ++ segment_if site (option_map (λ v. v.items) bytes)) }
+{
+    if let (Some(site), Some(bytes)) = (site, bytes) {
+        list.push(segment_at(site, bytes))?;
+    }
+    Ok(())
+}
+
+// Address and length of the initrd.
+fn initrd_told(site: Option<Site>, initrd: &Option<Vec<u8>>) -> Option<(u64, u64)>
+    ensures { result ≡ initrd_told site (option_map (λ v. v.items) initrd.now) }
+{
+    match (site, initrd) {
+        (Some(site), Some(initrd)) => Some((site.at, initrd.len() as u64)),
+        _ => None,
+    }
+}
+
+// The segments of kernel, initrd, crash headers and boot parameters.
+fn segments_of(
+    alloc: Global,
+    places: &LinuxPlaces,
+    kernel: Vec<u8>,
+    initrd: Option<Vec<u8>>,
+    headers: Option<Vec<u8>>,
+    parameters: Vec<u8>,
+) -> Result<Vec<Segment>, AllocError>
+    ensures { IfOk result
+        (λ v. v.items ≡ linux_list places.now kernel.items (option_map (λ b. b.items) initrd)
+        (option_map (λ b. b.items) headers) parameters.items) }
+{
+    let mut list = Vec::new(alloc);
+    list.push(segment_at(places.kernel, kernel))?;
+    push_some(&mut list, places.initrd, initrd)?;
+    push_some(&mut list, places.headers, headers)?;
+    list.push(segment_at(places.parameters, parameters))?;
+    Ok(list)
+}
+
+// The segments of a bzImage at these places. The bytes of kernel and initrd are moved.
+#[tactic(auto, unfolding(crate::specs::Linux::linux_parts))]
+fn linux_parts(
+    alloc: Global,
+    image: &BzImage,
+    request: Request,
+    headers: Option<Vec<u8>>,
+    rows: &[Row],
+    places: &LinuxPlaces,
+) -> Result<Vec<Segment>, PlanFault>
+    requires sound { IsSound (length request.kernel.items) image.now }
+    requires low { AreLow places.now }
+    ensures { Gives PlanFault.Memory (λ v. v.items) result
+        (linux_parts image.now (linux_of (request_of request)) (option_map (λ v. v.items) headers)
+        rows.now places.now) }
+{
+    let Request {
+        mut kernel,
+        initrd,
+        ..
+    } = request;
+    let told = initrd_told(places.initrd, &initrd);
+    let at = places.parameters.at;
+    let parameters = make(alloc, image, rows, &places.command, at, told)?;
+    kernel.drain(..image.start);
+    let list = segments_of(alloc, places, kernel, initrd, headers, parameters)?;
+    Ok(list)
+}
+
+/// The plan of a bzImage.
 #[tactic(auto, unfolding(crate::specs::Plan::linux_plan))]
 pub(crate) fn linux_plan(
     alloc: Global,
-    request: LinuxRequest,
-    file: Option<Vec<u8>>,
+    mut request: Request,
     ground: &Ground<'_>,
 ) -> Result<Planned, PlanFault>
     ensures { Gives PlanFault.Memory planned_of result
-        (linux_plan request (option_map (λ v. v.items) file)
-        ground.now) }
+        (linux_plan (request_of request) ground.now) }
 {
     let image = bzimage::read(alloc, &request.kernel)?;
-    let purgatory = some_purgatory(alloc, file)?;
-    let rows = ground.rows();
-    let headers_rule = ground.headers_rule(&image, &request.notes);
-    let purgatory_rule = some_purgatory_rule(&purgatory, ground.most(image.above4g));
-    let sites = linux_sites(
-        alloc,
-        ground.ram(),
-        &image,
-        rows,
-        &request,
-        headers_rule,
-        purgatory_rule,
-    )?;
+    let purgatory = some_purgatory(alloc, request.purgatory.take())?;
+    let places = linux_places(alloc, ground, &image, &request, &purgatory)?;
     let headers = ground.headers(alloc, &request.notes)?;
-    let list = linux_parts(alloc, &image, request, headers, rows, &sites)?;
-    let site = sites.later.back.purgatory;
-    finished(alloc, ground, list, linux_start(&sites), purgatory, site)
+    let list = linux_parts(alloc, &image, request, headers, ground.rows(), &places)?;
+    let start = Start {
+        entry: places.kernel.at + ENTRY,
+        rax: 0,
+        rbx: 0,
+        rsi: places.parameters.at,
+    };
+    finished(alloc, ground, list, start, purgatory, places.purgatory)
 }

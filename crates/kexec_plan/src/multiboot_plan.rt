@@ -1,130 +1,142 @@
-//! The plan of a Multiboot kernel.
+//! The plan of a Multiboot kernel with its modules.
 
-ghost use Rattle.std.specs.Prelude.{◌≡◌, ◌++◌, ◌∷◌, [], option_map, IfOk};
+ghost use Rattle.std.specs.Prelude.{◌≡◌, ◌++◌, ◌∷◌, [], length, option_map, IfOk, OnOk};
 ghost use Rattle.kx_laws.specs.Results.{Gives};
-ghost use Rattle.kexec_plan.specs.Requests.{planned_of};
+ghost use Rattle.kx_pages.specs.Spans.{in_spans};
 ghost use Rattle.multiboot_image.specs.Info.{info};
+ghost use Rattle.kexec_plan.specs.Requests.{planned_of, request_of};
 ghost use Rattle.kexec_plan.specs.Parts.{segment_at};
 ghost use Rattle.kexec_plan.specs.Places.{IsPlacedBy};
 ghost use Rattle.kexec_plan.specs.Table.{information_rule};
-ghost use Rattle.kexec_plan.specs.Multiboot.{multiboot_start, EndLow};
+ghost use Rattle.kexec_plan.specs.Multiboot.{laid_of, slot_at, with_module, module_onto};
+ghost use Rattle.kexec_plan.specs.Multiboot.{modules_onto, EndLow};
 ghost use Rattle.kexec_plan.specs.Plan.{multiboot_plan};
 
+use crate::command::command_of;
 use crate::fault::PlanFault;
 use crate::finishing::finished;
+use crate::fixed_kernels::{Kernel, read_multiboot};
 use crate::ground::Ground;
-use crate::kernels::{Kernel, read_multiboot};
-use crate::linux_sites::{back_sites, command_of};
-use crate::modules::{Laying, place_modules};
-use crate::parts::segment_at;
-use crate::places::{Site, taken_by};
+use crate::places::{Site, place, place_some, segment_at, taken_by};
 use crate::purgatory::{some_purgatory, some_purgatory_rule};
-use crate::request::{Module, Planned};
-use crate::table::information_rule;
-use kx_pages::Start;
+use crate::request::{Module, Planned, Request};
+use crate::table::{information_rule, module_rule};
+use kx_pages::{PageSet, Start};
 use memory_map::Row;
 use multiboot_image::{Placed, info_bytes};
 use segments::Segment;
 use std::alloc::{AllocError, Global};
-use std::marker::Model;
 
 /// What eax holds at the start of a Multiboot kernel (Multiboot Specification 0.6.96, section 3.2).
 const MAGIC: u64 = 0x2bad_b002;
 
-/// A Multiboot kernel, its command and its modules.
+/// What is laid so far.
 #[derive(Drop)]
-pub(crate) struct MultibootRequest {
-    /// The kernel's file.
-    pub(crate) kernel: Vec<u8>,
-    /// The command, if there is one.
-    pub(crate) command: Option<Vec<u8>>,
-    /// The modules, in order.
-    pub(crate) modules: Vec<Module>,
+struct Laying {
+    /// The pages that are taken.
+    taken: PageSet,
+    /// The segments.
+    list: Vec<Segment>,
+    /// The modules, as the kernel is told of them.
+    slots: Vec<Placed>,
 }
 
-impl Model for MultibootRequest {
-    ghost use Rattle.std.specs.Prelude.{option_map};
-    ghost use Rattle.kexec_plan.specs.Modules.{MultibootAsked};
+// Puts a module behind the others: its segment, and what the kernel is told of it. Its bytes are moved.
+fn push_module(
+    list: &mut Vec<Segment>,
+    slots: &mut Vec<Placed>,
+    asked: Module,
+    site: Site,
+) -> Result<(), AllocError>
+    ensures list { OnOk result
+        (list.new.items ≡ list.old.items ++ segment_at site asked.bytes ∷ []) }
+    ensures slots { OnOk result (slots.new.items ≡ slots.old.items ++ slot_at site asked ∷ []) }
+{
+    let Module { bytes, text } = asked;
+    slots.push(Placed {
+        start: site.at,
+        length: bytes.len() as u64,
+        text,
+    })?;
+    list.push(segment_at(site, bytes))?;
+    Ok(())
+}
 
-    ghost Value = { MultibootAsked };
+// Places a module and puts it behind the others.
+#[tactic(auto, unfolding(crate::specs::Multiboot::module_onto))]
+fn place_module(ram: &PageSet, laying: &mut Laying, asked: Module) -> Result<(), PlanFault>
+    ensures exact { Gives PlanFault.Memory (λ _. laid_of laying.new) result
+        (module_onto (in_spans ram.now) (laid_of laying.old) asked) }
+    ensures low { OnOk result (EndLow laying.old.slots.items → EndLow laying.new.slots.items) }
+{
+    let site = place(ram, &mut laying.taken, module_rule(&asked))?;
+    push_module(&mut laying.list, &mut laying.slots, asked, site)?;
+    Ok(())
+}
 
-    ghost view = { λ r. record {
-      kernel = r.kernel.items;
-      command = option_map (λ v. v.items) r.command;
-      modules = r.modules.items;
-    } };
+// Places these modules, one after another.
+fn place_modules(ram: &PageSet, laying: &mut Laying, modules: Vec<Module>) -> Result<(), PlanFault>
+    ensures exact { Gives PlanFault.Memory (λ _. laid_of laying.new) result
+        (modules_onto (in_spans ram.now) (laid_of laying.old) modules.items) }
+    ensures low { OnOk result (EndLow laying.old.slots.items → EndLow laying.new.slots.items) }
+{
+    for asked in modules {
+        place_module(ram, laying, asked)?;
+    }
+    Ok(())
 }
 
 // Puts the information behind the segments.
 #[tactic(auto, using(crate::proofs::Reach::in_reach))]
 fn push_information(
     alloc: Global,
-    list: &mut Vec<Segment>,
-    slots: &[Placed],
+    laying: &mut Laying,
     rows: &[Row],
     command: &[u8],
     site: Site,
 ) -> Result<(), AllocError>
-    requires low { EndLow slots.now }
-    requires place { IsPlacedBy (information_rule rows.now command.now slots.now) site }
+    requires low { EndLow laying.old.slots.items }
+    requires place { IsPlacedBy (information_rule rows.now command.now laying.old.slots.items)
+        site }
     ensures { IfOk result
-        (λ _. list.new.items ≡ list.old.items
-        ++ segment_at site (info site.at rows.now command.now slots.now) ∷ []) }
+        (λ _. laying.new.list.items ≡ laying.old.list.items
+        ++ segment_at site (info site.at rows.now command.now laying.old.slots.items) ∷ []) }
 {
-    let bytes = info_bytes(alloc, site.at, rows, command, slots)?;
-    list.push(segment_at(site, bytes))?;
+    let bytes = info_bytes(alloc, site.at, rows, command, &laying.slots)?;
+    laying.list.push(segment_at(site, bytes))?;
     Ok(())
 }
 
-// The start of the kernel, whose information is at this place.
-fn multiboot_start(entry: u64, information: Site) -> Start
-    ensures { result ≡ multiboot_start entry information }
+/// The plan of a Multiboot kernel.
+#[tactic(auto, unfolding(crate::specs::Plan::multiboot_plan))]
+pub(crate) fn multiboot_plan(
+    alloc: Global,
+    request: Request,
+    ground: &Ground<'_>,
+) -> Result<Planned, PlanFault>
+    ensures { Gives PlanFault.Memory planned_of result
+        (multiboot_plan (request_of request) ground.now) }
 {
-    Start {
+    let Kernel { list, entry } = read_multiboot(alloc, &request.kernel)?;
+    let purgatory = some_purgatory(alloc, request.purgatory)?;
+    let mut laying = Laying {
+        taken: taken_by(alloc, &list)?,
+        list,
+        slots: Vec::new(alloc),
+    };
+    place_modules(ground.ram(), &mut laying, request.modules)?;
+    let rows = ground.rows();
+    let command = command_of(&request.command);
+    let rule = information_rule(rows, command, &laying.slots);
+    let information = place(ground.ram(), &mut laying.taken, rule)?;
+    let purgatory_rule = some_purgatory_rule(&purgatory, ground.most(false));
+    let site = place_some(ground.ram(), &mut laying.taken, purgatory_rule)?;
+    push_information(alloc, &mut laying, rows, command, information)?;
+    let start = Start {
         entry,
         rax: MAGIC,
         rbx: information.at,
         rsi: 0,
-    }
-}
-
-/// The plan of a Multiboot kernel, with the purgatory of this file.
-#[tactic(auto, unfolding(crate::specs::Plan::multiboot_plan))]
-pub(crate) fn multiboot_plan(
-    alloc: Global,
-    request: MultibootRequest,
-    file: Option<Vec<u8>>,
-    ground: &Ground<'_>,
-) -> Result<Planned, PlanFault>
-    ensures { Gives PlanFault.Memory planned_of result
-        (multiboot_plan request (option_map (λ v. v.items) file)
-        ground.now) }
-{
-    let Kernel { list, entry } = read_multiboot(alloc, &request.kernel)?;
-    let purgatory = some_purgatory(alloc, file)?;
-    let MultibootRequest {
-        command,
-        modules,
-        ..
-    } = request;
-    let taken = taken_by(alloc, &list)?;
-    let mut laying = Laying {
-        taken,
-        list,
-        slots: Vec::new(alloc),
     };
-    place_modules(ground.ram(), &mut laying, modules)?;
-    let Laying {
-        mut taken,
-        mut list,
-        slots,
-    } = laying;
-    let rows = ground.rows();
-    let command = command_of(&command);
-    let rule = information_rule(rows, command, &slots);
-    let purgatory_rule = some_purgatory_rule(&purgatory, ground.most(false));
-    let sites = back_sites(ground.ram(), &mut taken, rule, purgatory_rule)?;
-    push_information(alloc, &mut list, &slots, rows, command, sites.parameters)?;
-    let start = multiboot_start(entry, sites.parameters);
-    finished(alloc, ground, list, start, purgatory, sites.purgatory)
+    finished(alloc, ground, laying.list, start, purgatory, site)
 }

@@ -3,8 +3,8 @@
 ghost use Rattle.std.specs.Prelude.{◌≡◌, ◌+◌, ◌*◌, ◌<◌, ◌≤◌, ◌^◌, ℕ, max, None, IfOk, IfSome, OnOk};
 ghost use Rattle.kx_laws.specs.Results.{Gives};
 ghost use Rattle.kx_pages.specs.Spans.{in_span, in_spans};
-ghost use Rattle.kexec_plan.specs.Parts.{part_size};
-ghost use Rattle.kexec_plan.specs.Places.{is_met, taken_by, nothing, placed, placed_some, taking, taking_some, pages_at, IsPlacedBy, IsPlacedIf};
+ghost use Rattle.kexec_plan.specs.Parts.{part_size, segment_at};
+ghost use Rattle.kexec_plan.specs.Places.{is_met, taken_by, placed, placed_some, taking, taking_some, pages_at, IsPlacedBy, IsPlacedIf};
 
 use crate::fault::{Part, PlanFault};
 use hole_search::{End, find};
@@ -19,6 +19,17 @@ pub(crate) struct Site {
     pub(crate) at: u64,
     /// How many bytes of memory it takes.
     pub(crate) size: u64,
+}
+
+/// The segment of a part at its place.
+pub(crate) fn segment_at(site: Site, bytes: Vec<u8>) -> Segment
+    ensures { result ≡ segment_at site bytes.items }
+{
+    Segment {
+        bytes,
+        mem: site.at,
+        memsz: site.size,
+    }
 }
 
 /// The rule of a part's place: a row of the table of places.
@@ -45,13 +56,6 @@ pub(crate) fn part_size(length: u64) -> u64
 {
     let pages = (length + (PAGE_SIZE - 1)) / PAGE_SIZE;
     PAGE_SIZE.max(PAGE_SIZE * pages)
-}
-
-/// No page.
-pub(crate) fn no_pages(alloc: Global) -> PageSet
-    ensures { in_spans result ≡ nothing }
-{
-    PageSet::new(alloc)
 }
 
 // The pages that a segment meets, below the limit.

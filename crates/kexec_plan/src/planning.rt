@@ -3,33 +3,18 @@
 ghost use Rattle.std.specs.Prelude.{◌≡◌};
 ghost use Rattle.kx_laws.specs.Results.{Gives};
 ghost use Rattle.kexec_plan.specs.Requests.{request_of, planned_of, lent, IsMapped};
-ghost use Rattle.kexec_plan.specs.Formats.{crash_ground, ground_for};
+ghost use Rattle.kexec_plan.specs.Formats.{ground_for};
 ghost use Rattle.kexec_plan.specs.Plan.{plan_as, plan};
 
 use crate::fault::PlanFault;
-use crate::fixed_plan::{elf_plan, fixed_plan};
+use crate::fixed_kernels::{fixed_plan, raw_kernel, read_elf};
 use crate::format::{Format, format_of, unused_part};
 use crate::ground::Ground;
-use crate::linux::LinuxRequest;
 use crate::linux_plan::linux_plan;
-use crate::multiboot_plan::{MultibootRequest, multiboot_plan};
-use crate::parts::{raw_list, start_at};
+use crate::multiboot_plan::multiboot_plan;
 use crate::request::{Planned, Request};
 use memory_map::Map;
 use std::alloc::Global;
-
-// The reserved area of the map, for a crash load.
-fn crash_ground<'a>(alloc: Global, map: Option<&'a Map>) -> Result<Ground<'a>, PlanFault>
-    ensures { Gives PlanFault.Memory (λ g. g) result (crash_ground (lent map.entry)) }
-{
-    let Some(map) = map else {
-        return Err(PlanFault::NoReserved);
-    };
-    match map.reserved_area() {
-        Some(area) => Ok(Ground::reserved(alloc, map, area)?),
-        None => Err(PlanFault::NoReserved),
-    }
-}
 
 // What is known of the memory that the kernel is loaded into.
 fn ground_for<'a>(
@@ -42,18 +27,20 @@ fn ground_for<'a>(
         (ground_for (request_of request.now) (lent map.entry) format) }
 {
     if !request.crash {
-        return match map {
-            Some(map) => Ok(Ground::machine(alloc, map)),
-            None => Ok(Ground::unknown(alloc)),
-        };
+        return Ok(Ground::open(alloc, map));
     }
     if !matches!(format, Format::Bzimage) {
         return Err(PlanFault::CrashNeedsBzimage);
     }
-    crash_ground(alloc, map)
+    let Some(map) = map else {
+        return Err(PlanFault::NoReserved);
+    };
+    let area = map.reserved_area().ok_or(PlanFault::NoReserved)?;
+    Ok(Ground::reserved(alloc, map, area)?)
 }
 
 // The plan of a kernel of this form.
+#[tactic(auto, unfolding(crate::specs::Plan::plan_as))]
 fn plan_as(
     alloc: Global,
     request: Request,
@@ -63,38 +50,17 @@ fn plan_as(
     ensures { Gives PlanFault.Memory planned_of result
         (plan_as (request_of request) ground.now format) }
 {
-    let Request {
-        kernel,
-        initrd,
-        command,
-        modules,
-        purgatory,
-        notes,
-        ..
-    } = request;
     match format {
         Format::Raw { at, entry } => {
-            let list = raw_list(alloc, at, kernel)?;
-            fixed_plan(alloc, list, start_at(entry), purgatory, ground)
+            let kernel = raw_kernel(alloc, at, entry, request.kernel)?;
+            fixed_plan(alloc, kernel, request.purgatory, ground)
         }
-        Format::Elf => elf_plan(alloc, kernel, purgatory, ground),
-        Format::Bzimage => {
-            let linux = LinuxRequest {
-                kernel,
-                initrd,
-                command,
-                notes,
-            };
-            linux_plan(alloc, linux, purgatory, ground)
+        Format::Elf => {
+            let kernel = read_elf(alloc, request.kernel)?;
+            fixed_plan(alloc, kernel, request.purgatory, ground)
         }
-        Format::Multiboot => {
-            let multiboot = MultibootRequest {
-                kernel,
-                command,
-                modules,
-            };
-            multiboot_plan(alloc, multiboot, purgatory, ground)
-        }
+        Format::Bzimage => linux_plan(alloc, request, ground),
+        Format::Multiboot => multiboot_plan(alloc, request, ground),
     }
 }
 
@@ -110,9 +76,8 @@ pub fn plan(alloc: Global, request: Request, map: Option<&Map>) -> Result<Planne
 {
     let format = format_of(&request)?;
     let ground = ground_for(alloc, &request, map, format)?;
-    match unused_part(&request, format) {
-        Some(part) => return Err(PlanFault::Unused { part }),
-        None => {}
+    if let Some(part) = unused_part(&request, format) {
+        return Err(PlanFault::Unused { part });
     }
     plan_as(alloc, request, &ground, format)
 }

@@ -81,10 +81,8 @@ pub(crate) fn some_purgatory(
 pub(crate) fn some_purgatory_rule(purgatory: &Option<Purgatory>, most: u64) -> Option<PlaceRule>
     ensures { result ≡ option_map (purgatory_rule most) purgatory.now }
 {
-    match purgatory {
-        Some(purgatory) => Some(highest(Part::Purgatory, purgatory.size, most)),
-        None => None,
-    }
+    let purgatory = purgatory.as_ref()?;
+    Some(highest(Part::Purgatory, purgatory.size, most))
 }
 
 impl Purgatory {

@@ -36,9 +36,8 @@ fn symbol_place(linked: &Linked, name: &[u8], size: u64) -> Result<u64, LinkFaul
     ensures from { IfOk result (λ a. linked.now.base ≤ a) }
     ensures to { IfOk result (λ a. a + size ≤ linked.now.base + length linked.now.bytes) }
 {
-    let (address, found) = match linked.symbol(name) {
-        Some(symbol) => symbol,
-        None => return Err(LinkFault::NoSymbol),
+    let Some((address, found)) = linked.symbol(name) else {
+        return Err(LinkFault::NoSymbol);
     };
     if size != found {
         return Err(LinkFault::WrongSize { found });
@@ -67,27 +66,16 @@ impl Symbols {
         ensures exact { result ≡ symbols_of linked.now }
         ensures inside { IfOk result (HasSymbols linked.now.base (length linked.now.bytes)) }
     {
-        let regs = match symbol_place(linked, REGISTERS, 136) {
-            Ok(address) => address,
-            Err(fault) => return Err(fault),
-        };
-        let regions = match symbol_place(linked, REGIONS, 256) {
-            Ok(address) => address,
-            Err(fault) => return Err(fault),
-        };
-        let digest = match symbol_place(linked, DIGEST, 32) {
-            Ok(address) => address,
-            Err(fault) => return Err(fault),
-        };
-        match symbol_address(linked, START) {
-            Ok(start) => Ok(Symbols {
-                regs,
-                regions,
-                digest,
-                start,
-            }),
-            Err(fault) => Err(fault),
-        }
+        let regs = symbol_place(linked, REGISTERS, 136)?;
+        let regions = symbol_place(linked, REGIONS, 256)?;
+        let digest = symbol_place(linked, DIGEST, 32)?;
+        let start = symbol_address(linked, START)?;
+        Ok(Symbols {
+            regs,
+            regions,
+            digest,
+            start,
+        })
     }
 }
 

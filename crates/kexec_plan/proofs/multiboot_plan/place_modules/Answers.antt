@@ -1,8 +1,9 @@
 use Rattle.std.proofs.Common.{rules, ◌≡◌, ◌∙◌, ◌∷◌, [], sym, inl, inr, ⊎_elim}
 use Rattle.std.proofs.lemmas.List.{nil_from_length}
 use Rattle.std.specs.Vec.Iter.{into_iter_items}
-use Rattle.kexec_plan.proofs.Laying.{onto_next, onto_fails, onto_end, handed_on}
-use Rattle.kexec_plan.proofs.modules.place_modules.Goals as goal
+use Rattle.kexec_plan.proofs.Handing.{handed_on}
+use Rattle.kexec_plan.proofs.Laying.{onto_next, onto_fails, onto_end}
+use Rattle.kexec_plan.proofs.multiboot_plan.place_modules.Goals as goal
 
 pub loop-asked-preserved : goal.loop-asked-preserved
 loop-asked-preserved c =

@@ -1,0 +1,55 @@
+//! The command of a kernel, and what it tells a crash kernel.
+
+ghost use Rattle.std.specs.Prelude.{◌≡◌, ◌<◌, ◌^◌, length, option_map, string_bytes, IfOk};
+ghost use Rattle.kexec_plan.specs.Linux.{command_of, separated, headers_word, told_command};
+
+use crate::places::Site;
+use std::alloc::{AllocError, Global};
+
+/// The command, or without one the empty command.
+pub(crate) fn command_of(command: &Option<Vec<u8>>) -> &[u8]
+    ensures value { result.now ≡ command_of (option_map (λ v. v.items) command.now) }
+    ensures short { length result.now < 2 ^ 63 }
+{
+    match command {
+        Some(command) => command,
+        None => &[],
+    }
+}
+
+// The word that tells a crash kernel where its headers lie.
+fn headers_word(alloc: Global, at: u64) -> Result<String, AllocError>
+    ensures { IfOk result (λ s. string_bytes s ≡ headers_word at) }
+{
+    format!(in alloc; "elfcorehdr={}K", at / 1024)
+}
+
+// The command, and behind it a space where it is not empty.
+fn separated(alloc: Global, command: &[u8]) -> Result<Vec<u8>, AllocError>
+    ensures { IfOk result (λ v. v.items ≡ separated command.now) }
+{
+    let mut separated = Vec::from_slice(alloc, command)?;
+    if !command.is_empty() {
+        separated.push(b' ')?;
+    }
+    Ok(separated)
+}
+
+/// The command, which tells where the crash headers lie.
+pub(crate) fn told_command(
+    alloc: Global,
+    command: &[u8],
+    headers: Option<Site>,
+) -> Result<Vec<u8>, AllocError>
+    ensures { IfOk result (λ v. v.items ≡ told_command command.now headers) }
+{
+    match headers {
+        Some(site) => {
+            let word = headers_word(alloc, site.at)?;
+            let mut told = separated(alloc, command)?;
+            told.extend_from_slice(word.as_bytes())?;
+            Ok(told)
+        }
+        None => Vec::from_slice(alloc, command),
+    }
+}
