@@ -7,22 +7,6 @@ use kexec_plan::PlanFault;
 use kexec_usage::Given;
 use resident_planner::ResidentFault;
 
-// The words and options of all commands that give a file.
-const FILE_WORDS: [&str; 12] = [
-    "MEMORY",
-    "POOL",
-    "OUT",
-    "RECORD",
-    "KERNEL",
-    "MODULES",
-    "PAIRS",
-    "EVENTS",
-    "--map",
-    "--initrd",
-    "--purgatory",
-    "--notes",
-];
-
 // The word or option of the file that its reader refused.
 fn input_word(fault: &InputFault) -> &'static str {
     match fault {
@@ -76,13 +60,4 @@ pub(crate) fn file_of<'a>(status: &Status, given: &[Given<'a>]) -> Option<Given<
         _ => return None,
     };
     given.iter().copied().find(|one| one.name == word)
-}
-
-/// The name in the help of the word that gives this file; the first, where several do.
-pub(crate) fn word_of<'a>(name: &str, given: &[Given<'a>]) -> Option<&'a str> {
-    given
-        .iter()
-        .copied()
-        .find(|one| one.text == name && FILE_WORDS.contains(&one.name))
-        .map(|one| one.name)
 }

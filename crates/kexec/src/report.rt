@@ -1,10 +1,10 @@
 //! The sentence about a command that was refused.
 
-use crate::files::{file_of, word_of};
+use crate::files::file_of;
 use crate::plans::write_plan;
 use crate::remedies::{budget_remedy, remedy_of};
 use kexec_main::Status;
-use kexec_usage::{Answer, Refusal, text_of};
+use kexec_usage::{Answer, Refusal, file_with, text_of};
 use std::fmt::{self, Display, Formatter, Write};
 use std::io::{self, ErrorKind};
 
@@ -51,7 +51,7 @@ impl Report<'_> {
         let given = &self.answer.given;
         match self.status {
             Status::Unread { name } | Status::Unwritten { name } | Status::TooLong { name, .. } => {
-                match word_of(name, given) {
+                match file_with(given, name) {
                     Some(word) => write!(f, "{word} "),
                     None => Ok(()),
                 }
@@ -66,7 +66,7 @@ impl Report<'_> {
     // What helps, where the sentence does not say so yet.
     fn remedy(&self) -> Option<&'static str> {
         match self.status {
-            Status::TooLong { name, .. } => budget_remedy(word_of(name, &self.answer.given)?),
+            Status::TooLong { name, .. } => budget_remedy(file_with(&self.answer.given, name)?),
             status => remedy_of(status, self.is_crash()),
         }
     }
