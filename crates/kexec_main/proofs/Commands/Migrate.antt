@@ -1,5 +1,5 @@
 -- What is proved of `migrate`.
-use Rattle.std.proofs.Common.{◌≡◌, [], ◌∷◌, Ok, sym, subst}
+use Rattle.std.proofs.Common.{◌≡◌, [], ◌∷◌, Ok, ap, sym, subst}
 use Rattle.kx_laws.proofs.Results.{ok_same}
 use Rattle.kx_edge.specs.Edge.{Files}
 use Rattle.kx_edge.specs.declared.edge.Shelf.{Ghosts as Shelf}
