@@ -2,7 +2,8 @@
 use Rattle.std.specs.Prelude.{refl}
 use Rattle.kx_fields.specs.Fields.{field}
 use Rattle.kx_pages.specs.Bytes.{page_of}
-use Rattle.purgatory_link.specs.RegionTest.{bytes_in, first_wild, regions, regions_in, test, test_table}
+use Rattle.page_memory.specs.Addresses.{bytes_in}
+use Rattle.purgatory_link.specs.RegionTest.{first_wild, regions, regions_in, test, test_table}
 use Rattle.sha2.specs.Sha256.{compress, digest_bytes, first_words, hash_after, rounds, schedule, sha256}
 use Rattle.worked_examples.proofs.regions.test_of_a_region.Goals as goal
 
