@@ -40,30 +40,6 @@ const RECORD: Pieces = &[
     Bytes(b"c"),
 ];
 
-// After one run page 3 has its new bytes, and its old ones have gone to the source page. The swap page has the bytes of the
-// last source.
-const ONCE: Pieces = &[
-    Bytes(b"KXMEM001"),
-    Numbers(&[5]),
-    Numbers(&[2]),
-    Repeated(b'b', 4096),
-    Page(3, b"c"),
-    Page(0x11, b"c"),
-    List(0x12, &[0x2001, 0x2008, 0x13008, 4]),
-    Page(0x13, OLD),
-];
-
-// After a run that copies, as without a swap page: the old page 3 is gone.
-const COPIED: Pieces = &[
-    Bytes(b"KXMEM001"),
-    Numbers(&[4]),
-    Numbers(&[2]),
-    Repeated(b'b', 4096),
-    Page(3, b"c"),
-    List(0x12, &[0x2001, 0x2008, 0x13008, 4]),
-    Page(0x13, b"c"),
-];
-
 // After two runs page 3 is back, and the swap page 0x11 has its bytes too.
 const BACK: Pieces = &[
     Bytes(b"KXMEM001"),
@@ -95,31 +71,7 @@ const LOAD: Step = Step {
     outputs: [Some(LOADED), Some(RECORD), None],
 };
 
-const EXEC_ONCE: Step = Step {
-    line: "exec o r x",
-    code: 0,
-    status: "Done",
-    said: "accepted words 5 links 1 pairs 2\nhead 12002 control 10000 swap 11000\nstart entry 2000 rax 0 rbx 0 rsi 0\nran 5\n",
-    outputs: [Some(LOADED), Some(RECORD), Some(ONCE)],
-};
-
-const TRACE_SWAP: Step = Step {
-    line: "trace --swap 11000 o x 12002 9",
-    code: 0,
-    status: "Done",
-    said: "done 5\n",
-    outputs: [Some(LOADED), Some(RECORD), Some(ONCE)],
-};
-
-const TRACE: Step = Step {
-    line: "trace o x 12002 9",
-    code: 0,
-    status: "Done",
-    said: "done 5\n",
-    outputs: [Some(LOADED), Some(RECORD), Some(COPIED)],
-};
-
-const EXEC_TWICE: Step = Step {
+const EXEC: Step = Step {
     line: "exec --twice o r x",
     code: 0,
     status: "Done",
@@ -127,17 +79,8 @@ const EXEC_TWICE: Step = Step {
     outputs: [Some(LOADED), Some(RECORD), Some(BACK)],
 };
 
-// Each of these begins with the files alone.
-const SCENES: [&[Step]; 3] = [
-    &[BOOT],
-    &[LOAD, EXEC_TWICE],
-    &[LOAD, EXEC_ONCE, TRACE_SWAP, TRACE],
-];
-
 #[test]
-fn loads_with_context_preserved_run_there_and_back(rt: HostRuntime) -> Result<(), Fail> {
-    for steps in SCENES {
-        play(&rt, rt.alloc(), FILES, steps)?;
-    }
-    Ok(())
+fn a_second_run_brings_the_old_memory_back(rt: HostRuntime) -> Result<(), Fail> {
+    play(&rt, rt.alloc(), FILES, &[BOOT])?;
+    play(&rt, rt.alloc(), FILES, &[LOAD, EXEC])
 }
