@@ -9,7 +9,7 @@ use Rattle.bzimage.proofs.Powers.{power_of_two}
 use Rattle.bzimage.specs.declared.fault.BzFault.{BzFault}
 use Rattle.bzimage.specs.declared.setup_header.SetupHeader.{SetupHeader}
 use Rattle.kx_laws.specs.Results.{◌>>=◌, unless}
-use Rattle.bzimage.specs.Kernel.{Kernel, has_bit, header_end, is_header_end, kernel_start, is_alignment, is_cut, header_fault, header_tested, header_bytes, kernel_of, kernel_reading, HasSmallNumbers, IsTested, IsSound}
+use Rattle.bzimage.specs.Kernel.{Kernel, has_bit, header_end, is_header_end, kernel_start, is_alignment, is_cut, header_fault, tested_header, header_bytes, kernel_of, kernel_reading, HasSmallNumbers, IsTested, IsSound}
 
 peel : (b : Bool) (x : BzFault) (rest : Option BzFault) → unless (cond b (Some x) rest) ≡ Ok tt → (b ≡ false) × (unless rest ≡ Ok tt)
 peel true x rest h = cc
@@ -44,11 +44,11 @@ tested n h e =
       start = leb-false n (kernel_start h) j.1;
     }
 
-pub fails : (file : List ℕ) (e : BzFault) → header_tested file ≡ Err e → kernel_reading file ≡ Err e
+pub fails : (file : List ℕ) (e : BzFault) → tested_header file ≡ Err e → kernel_reading file ≡ Err e
 unfolding kernel_reading
 fails file e h = ap (λ r. r >>= λ s. Ok (kernel_of s (header_bytes s file))) h
 
-pub reads : (file header : List ℕ) (h : SetupHeader) (k : Kernel) → header_tested file ≡ Ok h → header ≡ header_bytes h file → k ≡ kernel_of h header → kernel_reading file ≡ Ok k
+pub reads : (file header : List ℕ) (h : SetupHeader) (k : Kernel) → tested_header file ≡ Ok h → header ≡ header_bytes h file → k ≡ kernel_of h header → kernel_reading file ≡ Ok k
 unfolding kernel_reading
 reads file header h k is bytes e =
     ap (λ r. r >>= λ s. Ok (kernel_of s (header_bytes s file))) is ∙ ap Ok (ap (kernel_of h) (sym bytes) ∙ sym e)

@@ -48,8 +48,8 @@ abbrev pub is_cut : ℕ → SetupHeader → Bool
 is_cut n h = nat_lt n (header_end h) || nat_le n (kernel_start h)
 
 -- the setup header of a file with the signature, which has 0x264 bytes or more
-unfoldable pub header_read : List ℕ → Result SetupHeader BzFault
-header_read file =
+unfoldable pub read_header : List ℕ → Result SetupHeader BzFault
+read_header file =
     if not (is_bzimage file) then Err faults.NotKernel
     else if nat_lt (length file) 0x264 then Err faults.NotKernel
     else Ok (read setup_header (take 0x264 file))
@@ -68,9 +68,9 @@ header_fault n h =
     else None
 
 -- the setup header, tested
-unfoldable pub header_tested : List ℕ → Result SetupHeader BzFault
-header_tested file = do
-  h ← header_read file
+unfoldable pub tested_header : List ℕ → Result SetupHeader BzFault
+tested_header file = do
+  h ← read_header file
   _ ← unless (header_fault (length file) h)
   Ok h
 
@@ -103,7 +103,7 @@ kernel_of h header = record {
 -- what a file reads as, or its first fault
 unfoldable pub kernel_reading : List ℕ → Result Kernel BzFault
 kernel_reading file = do
-  h ← header_tested file
+  h ← tested_header file
   Ok (kernel_of h (header_bytes h file))
 
 -- these numbers have 32 bits in the file

@@ -60,7 +60,7 @@ pub fn read(alloc: Global, bytes: &[u8]) -> Result<BzImage, BzFault>
     // The header, the alignment and the numbers keep to their limits, and the protected-mode part starts in the file.
     ensures sound { IfOk result (IsSound (length bytes.now)) }
 {
-    let setup = match SetupHeader::read_tested(bytes) {
+    let setup = match SetupHeader::tested_header(bytes) {
         Ok(setup) => setup,
         Err(fault) => return Err(fault),
     };

@@ -4,7 +4,7 @@ ghost use Rattle.std.specs.Prelude.{◌≡◌, length, IfOk};
 ghost use Rattle.kx_fields.specs.Formats.{read};
 ghost use Rattle.bzimage.specs.SetupHeader.{setup_header};
 ghost use Rattle.kx_laws.specs.Results.{unless};
-ghost use Rattle.bzimage.specs.Kernel.{is_header_end, is_alignment, is_cut, header_end, kernel_start, header_read, header_fault, header_tested, kernel_of, HasSmallNumbers, IsTested};
+ghost use Rattle.bzimage.specs.Kernel.{is_header_end, is_alignment, is_cut, header_end, kernel_start, read_header, header_fault, tested_header, kernel_of, HasSmallNumbers, IsTested};
 
 use crate::fault::BzFault;
 use crate::image::BzImage;
@@ -68,9 +68,9 @@ impl SetupHeader {
     }
 
     // The setup header that a file has.
-    #[tactic(auto, unfolding(crate::specs::Kernel::header_read))]
+    #[tactic(auto, unfolding(crate::specs::Kernel::read_header))]
     fn read(file: &[u8]) -> Result<SetupHeader, BzFault>
-        ensures { result ≡ header_read file.now }
+        ensures { result ≡ read_header file.now }
     {
         if !is_bzimage(file) {
             return Err(BzFault::NotKernel);
@@ -135,9 +135,9 @@ impl SetupHeader {
     }
 
     /// The setup header that a file has, tested.
-    #[tactic(auto, unfolding(crate::specs::Kernel::header_tested))]
-    pub(crate) fn read_tested(file: &[u8]) -> Result<SetupHeader, BzFault>
-        ensures value { result ≡ header_tested file.now }
+    #[tactic(auto, unfolding(crate::specs::Kernel::tested_header))]
+    pub(crate) fn tested_header(file: &[u8]) -> Result<SetupHeader, BzFault>
+        ensures value { result ≡ tested_header file.now }
         ensures tested { IfOk result (IsTested (length file.now)) }
     {
         match SetupHeader::read(file) {

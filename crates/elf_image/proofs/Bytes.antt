@@ -12,7 +12,7 @@ use Rattle.segments.specs.Values.{SegmentValue}
 use Rattle.elf_image.specs.declared.load.Load.{Load}
 use Rattle.elf_image.specs.Loads.{load_stop}
 use Rattle.elf_image.specs.Image.{is_file_of, is_file, byte_at, up_to_last, bytes_of, segment_of, segments_of}
-use Rattle.elf_image.specs.Joined.{IsLoad, AreLoads, Rise, grown, joined_to, joined}
+use Rattle.elf_image.specs.Joined.{IsLoad, AreLoads, Rise, grown, joined_to, join}
 use Rattle.elf_image.proofs.Pages.{first_number, end_number, between, run_to, run_all, Ends, ends_at, follows, all_runs, le_true, le_false}
 
 -- ---- up to the last
@@ -288,8 +288,8 @@ joined_is file pre bytes f e s (l ∷ ls) some h r g d is =
           ∙ ap (map (segment_of file (pre ++ l ∷ ls))) (sym (cond-false _ _ _ (le_false F e t)))
     ]
 
-pub all_is : (file : List ℕ) (ls : List Load) → Rise 0 ls → AreLoads (length file) ls → joined file ls ≡ map (segment_of file ls) (run_all ls)
-unfolding joined run_all
+pub all_is : (file : List ℕ) (ls : List Load) → Rise 0 ls → AreLoads (length file) ls → join file ls ≡ map (segment_of file ls) (run_all ls)
+unfolding join run_all
 all_is file [] r g = refl
 all_is file (l ∷ ls) r g =
     let F = first_number l in
@@ -301,5 +301,5 @@ all_is file (l ∷ ls) r g =
     joined_is file (l ∷ []) (grown file l [] (4096 * F)) F E (load_stop l) ls more (ends_at l) r.1 g.1 (record { stop = omega arith }, tt)
     (grows file [] l [] (4096 * F) 0 (4096 * (E - F)) 0 g.0 tt (omega arith) (omega arith) (omega arith) (omega (arith, ends, more)) (omega arith) (none_yet file [] (4096 * F)))
 
-pub all_segments : (file : List ℕ) (ls : List Load) → Rise 0 ls → AreLoads (length file) ls → joined file ls ≡ segments_of file ls
+pub all_segments : (file : List ℕ) (ls : List Load) → Rise 0 ls → AreLoads (length file) ls → join file ls ≡ segments_of file ls
 all_segments file ls r g = all_is file ls r g ∙ ap (map (segment_of file ls)) (all_runs (length file) ls r g)

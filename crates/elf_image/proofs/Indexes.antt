@@ -15,25 +15,25 @@ use Rattle.elf_image.specs.declared.reloc.RelocSection.{RelocSection}
 use Rattle.elf_image.specs.declared.fault.ElfFault.{ElfFault}
 use Rattle.elf_image.specs.declared.fault.ElfFault.TheVariants as faults
 use Rattle.kx_laws.specs.Results.{◌>>=◌, unless}
-use Rattle.elf_image.specs.Gathered.{gathered, one, each}
+use Rattle.elf_image.specs.Gathered.{gather, one, each}
 use Rattle.elf_image.specs.Sym.{Sym}
 use Rattle.elf_image.specs.Numbers.{sht_symtab}
 use Rattle.elf_image.specs.Table.{Table}
 use Rattle.elf_image.specs.Section.{section_of, place_of, first_of, is_of, read_in, IsInside, IsTable}
-use Rattle.elf_image.specs.Symbol.{symbol_entry, name_in, is_index, symbol_of, symbol_in, entries_in, strings_of, symbols_in, second_refused, symbols_at, symbols_read}
-use Rattle.elf_image.specs.Reloc.{AreInside, rela_fault, symbols_tested, reloc_section, relocs_in, relocs_at, relocs_read}
+use Rattle.elf_image.specs.Symbol.{symbol_entry, name_in, is_index, symbol_of, symbol_in, entries_in, strings_of, symbols_in, refuse_second, symbols_at, read_symbols}
+use Rattle.elf_image.specs.Reloc.{AreInside, rela_fault, test_symbols, reloc_section, relocs_in, relocs_at, read_relocs}
 use Rattle.elf_image.specs.Object.{Relocatable, IsDefined, IsRelocSection, IsObject}
 use Rattle.elf_image.proofs.Walk.{peel}
 use Rattle.elf_image.proofs.Strays.{all_symbols}
 use Rattle.kx_laws.proofs.Results.{bind_ok, ok_same}
 
 -- ---- what was gathered was given by the steps
-gathered_all : {A B : Type 0} (P : B → Type 0) (f : A → Result (List B) ElfFault) (xs : List A) (ys : List B) → ((x : A) (zs : List B) → f x ≡ Ok zs → All P zs) → gathered f xs ≡ Ok ys → All P ys
-unfolding gathered
+gathered_all : {A B : Type 0} (P : B → Type 0) (f : A → Result (List B) ElfFault) (xs : List A) (ys : List B) → ((x : A) (zs : List B) → f x ≡ Ok zs → All P zs) → gather f xs ≡ Ok ys → All P ys
+unfolding gather
 gathered_all P f [] ys holds h = subst (All P) (ok_same [] ys h) (All-nil P)
 gathered_all P f (x ∷ xs) ys holds h =
-    let a = bind_ok (f x) (λ ys. gathered f xs >>= λ more. Ok (ys ++ more)) ys h in
-    let b = bind_ok (gathered f xs) (λ more. Ok (a.0 ++ more)) ys a.2 in
+    let a = bind_ok (f x) (λ ys. gather f xs >>= λ more. Ok (ys ++ more)) ys h in
+    let b = bind_ok (gather f xs) (λ more. Ok (a.0 ++ more)) ys a.2 in
     subst (All P) (ok_same (a.0 ++ b.0) ys b.2) (All-append P a.0 b.0 (holds x a.0 a.1) (gathered_all P f xs b.0 holds b.1))
 
 each_all : {A B : Type 0} (P : B → Type 0) (f : A → Result B ElfFault) (xs : List A) (ys : List B) → ((x : A) (y : B) → f x ≡ Ok y → P y) → each f xs ≡ Ok ys → All P ys
@@ -77,13 +77,13 @@ table_defined file t place h ss e =
 at_defined : (file : List ℕ) (t : Table) (o : Option ℕ) (ss : List Sym) → symbols_at file t o ≡ Ok ss → All (IsDefined (length t.headers)) ss
 at_defined file t None ss e = subst (All (IsDefined (length t.headers))) (ok_same [] ss e) (All-nil (IsDefined (length t.headers)))
 at_defined file t (Some i) ss e =
-    let a = bind_ok (read_in (symbols_in file t (place_of t i)) (slice_get t.headers i)) (λ symbols. second_refused t i >>= λ _. Ok symbols) ss e in
-    let b = bind_ok (second_refused t i) (λ _. Ok a.0) ss a.2 in
+    let a = bind_ok (read_in (symbols_in file t (place_of t i)) (slice_get t.headers i)) (λ symbols. refuse_second t i >>= λ _. Ok symbols) ss e in
+    let b = bind_ok (refuse_second t i) (λ _. Ok a.0) ss a.2 in
     subst (All (IsDefined (length t.headers))) (ok_same a.0 ss b.2)
     (read_all (IsDefined (length t.headers)) (symbols_in file t (place_of t i)) (slice_get t.headers i) a.0 (λ h is. table_defined file t (place_of t i) h a.0 is) a.1)
 
-pub symbols_defined : (file : List ℕ) (t : Table) (ss : List Sym) → symbols_read file t ≡ Ok ss → All (IsDefined (length t.headers)) ss
-unfolding symbols_read
+pub symbols_defined : (file : List ℕ) (t : Table) (ss : List Sym) → read_symbols file t ≡ Ok ss → All (IsDefined (length t.headers)) ss
+unfolding read_symbols
 symbols_defined file t ss e = at_defined file t (first_of sht_symtab 0 t.headers) ss e
 
 -- ---- relocations
@@ -105,11 +105,11 @@ entries_inside file i h kind inside =
     let within : h.offset + h.size ≤ length file = inside.inside (λ e. absurd (omega (arith, e, kind))) (λ e. absurd (omega (arith, e, kind))) in omega (arith, within)
 
 of_kind : (file : List ℕ) (t : Table) (symbols i : ℕ) (h : SectionHeader) → h.kind ≡ 4 → IsInside file (section_of h) → (rs : List RelocSection)
-    → (unless (rela_fault t (place_of t i) h) >>= λ _. symbols_tested file symbols (reloc_section i h) >>= λ _. Ok (reloc_section i h ∷ [])) ≡ Ok rs
+    → (unless (rela_fault t (place_of t i) h) >>= λ _. test_symbols file symbols (reloc_section i h) >>= λ _. Ok (reloc_section i h ∷ [])) ≡ Ok rs
     → All (IsRelocSection file (length t.headers) symbols) rs
 of_kind file t symbols i h kind inside rs e =
-    let a = bind_ok (unless (rela_fault t (place_of t i) h)) (λ _. symbols_tested file symbols (reloc_section i h) >>= λ _. Ok (reloc_section i h ∷ [])) rs e in
-    let b = bind_ok (symbols_tested file symbols (reloc_section i h)) (λ _. Ok (reloc_section i h ∷ [])) rs a.2 in
+    let a = bind_ok (unless (rela_fault t (place_of t i) h)) (λ _. test_symbols file symbols (reloc_section i h) >>= λ _. Ok (reloc_section i h ∷ [])) rs e in
+    let b = bind_ok (test_symbols file symbols (reloc_section i h)) (λ _. Ok (reloc_section i h ∷ [])) rs a.2 in
     let P = IsRelocSection file (length t.headers) symbols in
     let is : P (reloc_section i h) = record {
       target = target_below t (place_of t i) h a.1;
@@ -122,12 +122,12 @@ section_is : (file : List ℕ) (t : Table) (symbols i : ℕ) (h : SectionHeader)
 unfolding relocs_in
 section_is file t symbols i h rs inside e = by (h.kind == 4) refl e
   where
-    by : (b : Bool) → (h.kind == 4) ≡ b → cond b (unless (rela_fault t (place_of t i) h) >>= λ _. symbols_tested file symbols (reloc_section i h) >>= λ _. Ok (reloc_section i h ∷ [])) (Ok []) ≡ Ok rs → All (IsRelocSection file (length t.headers) symbols) rs
+    by : (b : Bool) → (h.kind == 4) ≡ b → cond b (unless (rela_fault t (place_of t i) h) >>= λ _. test_symbols file symbols (reloc_section i h) >>= λ _. Ok (reloc_section i h ∷ [])) (Ok []) ≡ Ok rs → All (IsRelocSection file (length t.headers) symbols) rs
     by false k e = subst (All (IsRelocSection file (length t.headers) symbols)) (ok_same [] rs e) (All-nil (IsRelocSection file (length t.headers) symbols))
     by true k e = of_kind file t symbols i h (grind (arith, nat_tests)) inside rs e
 
-pub relocs_are : (file : List ℕ) (t : Table) (symbols : ℕ) (rs : List RelocSection) → IsTable file t → relocs_read file t symbols ≡ Ok rs → All (IsRelocSection file (length t.headers) symbols) rs
-unfolding relocs_read
+pub relocs_are : (file : List ℕ) (t : Table) (symbols : ℕ) (rs : List RelocSection) → IsTable file t → read_relocs file t symbols ≡ Ok rs → All (IsRelocSection file (length t.headers) symbols) rs
+unfolding read_relocs
 relocs_are file t symbols rs table e =
     let P = IsRelocSection file (length t.headers) symbols in
     gathered_all P (relocs_at file t symbols) (range_with_len 0 (length t.headers)) rs (λ i zs is. at i (slice_get t.headers i) refl zs is) e
@@ -140,7 +140,7 @@ relocs_are file t symbols rs table e =
     at i (Some h) there zs is = section_is file t symbols i h zs (inside_at i h there) is
 
 -- ---- the object
-pub object_is : (file : List ℕ) (t : Table) (o : Relocatable) → IsTable file t → o.sections ≡ map section_of t.headers → symbols_read file t ≡ Ok o.symbols → relocs_read file t (length o.symbols) ≡ Ok o.reloc_sections → IsObject o file
+pub object_is : (file : List ℕ) (t : Table) (o : Relocatable) → IsTable file t → o.sections ≡ map section_of t.headers → read_symbols file t ≡ Ok o.symbols → read_relocs file t (length o.symbols) ≡ Ok o.reloc_sections → IsObject o file
 object_is file t o table sections symbols relocs =
     let long : length t.headers ≡ length o.sections = sym (ap length sections ∙ length-map t.headers section_of) in
     record {

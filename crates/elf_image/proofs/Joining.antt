@@ -11,7 +11,7 @@ use Rattle.kx_pages.specs.Spans.{Run, in_span, in_spans}
 use Rattle.segments.specs.Values.{SegmentValue}
 use Rattle.elf_image.specs.declared.load.Load.{Load}
 use Rattle.elf_image.specs.Image.{load_meets_page, is_met}
-use Rattle.elf_image.specs.Joined.{first_of, end_of, grown, part, joined_to, joined}
+use Rattle.elf_image.specs.Joined.{first_of, end_of, grown, part, joined_to, join}
 
 -- what stands where no load does
 abbrev pub no_load : Load
@@ -54,13 +54,13 @@ lies_apart file bytes more mem stop mem2 stop2 l ls list new t n b m s =
     ∙ ap (λ x. joined_to file (grown file l [] (first_of l)) (first_of l) x ls) s)
     ∙ ap (λ x. list ++ x) (sym (cond-false _ _ _ t))
 
-pub joined-none : (file : List ℕ) (ls : List Load) → length ls ≡ 0 → [] ≡ joined file ls
-unfolding joined
+pub joined-none : (file : List ℕ) (ls : List Load) → length ls ≡ 0 → [] ≡ join file ls
+unfolding join
 joined-none file [] e = refl
 joined-none file (l ∷ ls) e = absurd (omega (arith, e))
 
-pub join_first : (file bytes : List ℕ) (mem stop : ℕ) (l : Load) (ls : List Load) (list : List SegmentValue) → 0 < length ls → l ≡ get_or ls 0 no_load → list ≡ [] → bytes ≡ grown file l [] (first_of l) → mem ≡ first_of l → stop ≡ end_of l → list ++ joined_to file bytes mem stop (drop 1 ls) ≡ joined file ls
-unfolding joined
+pub join_first : (file bytes : List ℕ) (mem stop : ℕ) (l : Load) (ls : List Load) (list : List SegmentValue) → 0 < length ls → l ≡ get_or ls 0 no_load → list ≡ [] → bytes ≡ grown file l [] (first_of l) → mem ≡ first_of l → stop ≡ end_of l → list ++ joined_to file bytes mem stop (drop 1 ls) ≡ join file ls
+unfolding join
 join_first file bytes mem stop l [] list some is none b m s = absurd (omega (arith, some))
 join_first file bytes mem stop l (x ∷ xs) list some is none b m s =
     ap (λ y. y ++ joined_to file bytes mem stop xs) none

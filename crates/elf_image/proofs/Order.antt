@@ -12,7 +12,7 @@ use Rattle.segments.specs.Values.{SegmentValue}
 use Rattle.elf_image.specs.declared.load.Load.{Load}
 use Rattle.elf_image.specs.Loads.{load_stop}
 use Rattle.elf_image.specs.Image.{load_meets_page, is_met, is_file_of, is_file, byte_at, bytes_of, segment_of, segments_of, runs}
-use Rattle.elf_image.specs.Joined.{IsLoad, AreLoads, AreSound, is_memory_of, Rise, joined}
+use Rattle.elf_image.specs.Joined.{IsLoad, AreLoads, AreSound, is_memory_of, Rise, join}
 use Rattle.elf_image.proofs.Joining.{each_at}
 use Rattle.elf_image.proofs.Pages.{runs_same}
 use Rattle.elf_image.proofs.Bytes.{byte_none, up_same, map_same, all_segments}
@@ -127,7 +127,7 @@ pub sorted_each : (n : ℕ) (ls ys : List Load) → AreSound n ls → IsPermutat
 sorted_each n ls ys s p = permuted_each n ls ys p s.each
 
 -- the loads of a file, in the order of their addresses, make its segments
-pub sorted_segments : (file : List ℕ) (ls ys : List Load) → AreSound (length file) ls → IsPermutation ls ys → IsNonDecreasingBy (λ (l : Load). l.paddr) ys → joined file ys ≡ segments_of file ls
+pub sorted_segments : (file : List ℕ) (ls ys : List Load) → AreSound (length file) ls → IsPermutation ls ys → IsNonDecreasingBy (λ (l : Load). l.paddr) ys → join file ys ≡ segments_of file ls
 sorted_segments file ls ys s p up =
     let g = permuted_each (length file) ls ys p s.each in
     let one : (a : ℕ) → count_by (is_memory_of a) ys ≤ 1 = λ a. let e = sum_by-IsPermutation (λ x. cond (is_memory_of a x) 1 0) ls ys p in let o = s.apart a in omega (arith, e, o) in

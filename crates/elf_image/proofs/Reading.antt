@@ -6,8 +6,8 @@ use Rattle.elf_image.specs.declared.load.Load.{Load}
 use Rattle.elf_image.specs.declared.fault.ElfFault.{ElfFault}
 use Rattle.elf_image.specs.declared.file_header.Header.{Header}
 use Rattle.kx_laws.specs.Results.{◌>>=◌, unless}
-use Rattle.elf_image.specs.FileHeader.{header_read, exec_fault, exec_header, is_table_cut, machine_of, entry_size, HasTable}
-use Rattle.elf_image.specs.Loads.{loads_read, exec_reading}
+use Rattle.elf_image.specs.FileHeader.{read_header, exec_fault, exec_header, is_table_cut, machine_of, entry_size, HasTable}
+use Rattle.elf_image.specs.Loads.{read_loads, exec_reading}
 use Rattle.elf_image.proofs.Walk.{peel}
 use Rattle.elf_image.proofs.Failing.{Fails, fails_err, fails_on}
 
@@ -21,7 +21,7 @@ tested_from (Err e) g k h = cc
 
 tested_fault : (bytes : List ℕ) (h : Header) → exec_header bytes ≡ Ok h → unless (exec_fault (length bytes) h) ≡ Ok tt
 unfolding exec_header
-tested_fault bytes h e = tested_from (header_read bytes) (λ k. unless (exec_fault (length bytes) k)) h e
+tested_fault bytes h e = tested_from (read_header bytes) (λ k. unless (exec_fault (length bytes) k)) h e
 
 table_from : (n : ℕ) (h : Header) → unless (exec_fault n h) ≡ Ok tt → is_table_cut n h ≡ false
 unfolding exec_fault
@@ -38,15 +38,15 @@ has_table bytes h e = record { inside = ltb-false (length bytes) _ (table_from (
 pub header_fails : (bytes : List ℕ) (e : ElfFault) → exec_header bytes ≡ Err e → Fails e (exec_reading bytes)
 unfolding exec_reading
 header_fails bytes e h =
-    fails_on e (exec_header bytes) (λ h. loads_read h bytes >>= λ ls. Ok (record { wide = h.wide; entry = h.file.entry; loads = ls })) (fails_err e (exec_header bytes) h)
+    fails_on e (exec_header bytes) (λ h. read_loads h bytes >>= λ ls. Ok (record { wide = h.wide; entry = h.file.entry; loads = ls })) (fails_err e (exec_header bytes) h)
 
-reads_loads : (bytes : List ℕ) (h : Header) → exec_header bytes ≡ Ok h → exec_reading bytes ≡ (loads_read h bytes >>= λ ls. Ok (record { wide = h.wide; entry = h.file.entry; loads = ls }))
+reads_loads : (bytes : List ℕ) (h : Header) → exec_header bytes ≡ Ok h → exec_reading bytes ≡ (read_loads h bytes >>= λ ls. Ok (record { wide = h.wide; entry = h.file.entry; loads = ls }))
 unfolding exec_reading
-reads_loads bytes h e = ap (λ r. r >>= λ h. loads_read h bytes >>= λ ls. Ok (record { wide = h.wide; entry = h.file.entry; loads = ls })) e
+reads_loads bytes h e = ap (λ r. r >>= λ h. read_loads h bytes >>= λ ls. Ok (record { wide = h.wide; entry = h.file.entry; loads = ls })) e
 
-pub loads_fail : (bytes : List ℕ) (h : Header) (e : ElfFault) → exec_header bytes ≡ Ok h → Fails e (loads_read h bytes) → Fails e (exec_reading bytes)
+pub loads_fail : (bytes : List ℕ) (h : Header) (e : ElfFault) → exec_header bytes ≡ Ok h → Fails e (read_loads h bytes) → Fails e (exec_reading bytes)
 loads_fail bytes h e is f =
-    subst (Fails e) (sym (reads_loads bytes h is)) (fails_on e (loads_read h bytes) (λ ls. Ok (record { wide = h.wide; entry = h.file.entry; loads = ls })) f)
+    subst (Fails e) (sym (reads_loads bytes h is)) (fails_on e (read_loads h bytes) (λ ls. Ok (record { wide = h.wide; entry = h.file.entry; loads = ls })) f)
 
-pub reads : (bytes : List ℕ) (h : Header) (ls : List Load) → exec_header bytes ≡ Ok h → loads_read h bytes ≡ Ok ls → exec_reading bytes ≡ Ok (record { wide = h.wide; entry = h.file.entry; loads = ls })
+pub reads : (bytes : List ℕ) (h : Header) (ls : List Load) → exec_header bytes ≡ Ok h → read_loads h bytes ≡ Ok ls → exec_reading bytes ≡ Ok (record { wide = h.wide; entry = h.file.entry; loads = ls })
 reads bytes h ls is found = reads_loads bytes h is ∙ ap (λ (r : Result (List Load) ElfFault). r >>= λ ls. Ok (record { wide = h.wide; entry = h.file.entry; loads = ls })) found

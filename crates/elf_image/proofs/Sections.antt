@@ -14,8 +14,8 @@ use Rattle.elf_image.specs.declared.fault.ElfFault.{ElfFault}
 use Rattle.elf_image.specs.declared.fault.ElfFault.TheVariants as faults
 use Rattle.elf_image.specs.declared.fault.ElfPart.TheVariants as parts
 use Rattle.kx_laws.specs.Results.{◌>>=◌, unless, unless_at}
-use Rattle.elf_image.specs.FileHeader.{elf64_read, object_fault, object_header}
-use Rattle.elf_image.specs.Section.{section_header, section_of, is_section_cut, IsInside, headers_of, tested_table, table_read, IsTable}
+use Rattle.elf_image.specs.FileHeader.{read_elf64, object_fault, object_header}
+use Rattle.elf_image.specs.Section.{section_header, section_of, is_section_cut, IsInside, headers_of, tested_table, read_table, IsTable}
 use Rattle.elf_image.proofs.Walk.{peel}
 use Rattle.elf_image.proofs.Failing.{Fails, fails_err, fails_on}
 use Rattle.elf_image.proofs.Reading.{tested_from}
@@ -24,7 +24,7 @@ use Rattle.elf_image.proofs.Reading.{tested_from}
 pub table_within : (file : List ℕ) (h : Header) → object_header file ≡ Ok h → h.file.shoff + 64 * h.file.shnum ≤ length file
 unfolding object_header object_fault
 table_within file h e =
-    let f = tested_from (elf64_read file) (λ k. unless (object_fault (length file) k)) h e in
+    let f = tested_from (read_elf64 file) (λ k. unless (object_fault (length file) k)) h e in
     let a = peel (not (h.file.machine == 62)) _ _ f in
     let b = peel (not (h.file.kind == 1)) _ _ a.1 in
     let c = peel (not (h.file.shnum == 0) && not (h.file.shentsize == 64)) _ _ b.1 in
@@ -34,22 +34,22 @@ table_within file h e =
     within : (n m : ℕ) → nat_lt n m ≡ false → m ≤ n
     within n m h = grind (arith, nat_tests)
 
-pub header_fails : (file : List ℕ) (e : ElfFault) → object_header file ≡ Err e → Fails e (table_read file)
-unfolding table_read
+pub header_fails : (file : List ℕ) (e : ElfFault) → object_header file ≡ Err e → Fails e (read_table file)
+unfolding read_table
 header_fails file e is =
     fails_on e (object_header file) (λ h. tested_table (length file) (record { start = h.file.shoff; headers = headers_of h.file.shoff h.file.shnum file })) (fails_err e _ is)
 
-reads_table : (file : List ℕ) (h : Header) (hs : List SectionHeader) → object_header file ≡ Ok h → hs ≡ headers_of h.file.shoff h.file.shnum file → table_read file ≡ tested_table (length file) (record { start = h.file.shoff; headers = hs })
-unfolding table_read
+reads_table : (file : List ℕ) (h : Header) (hs : List SectionHeader) → object_header file ≡ Ok h → hs ≡ headers_of h.file.shoff h.file.shnum file → read_table file ≡ tested_table (length file) (record { start = h.file.shoff; headers = hs })
+unfolding read_table
 reads_table file h hs e is =
     ap (λ r. r >>= λ h. tested_table (length file) (record { start = h.file.shoff; headers = headers_of h.file.shoff h.file.shnum file })) e
     ∙ ap (λ l. tested_table (length file) (record { start = h.file.shoff; headers = l })) (sym is)
 
-pub cut_told : (file : List ℕ) (h : Header) (hs : List SectionHeader) (i : ℕ) → object_header file ≡ Ok h → hs ≡ headers_of h.file.shoff h.file.shnum file → position (is_section_cut (length file)) hs ≡ Some i → table_read file ≡ Err (faults.Truncated (parts.Section i))
+pub cut_told : (file : List ℕ) (h : Header) (hs : List SectionHeader) (i : ℕ) → object_header file ≡ Ok h → hs ≡ headers_of h.file.shoff h.file.shnum file → position (is_section_cut (length file)) hs ≡ Some i → read_table file ≡ Err (faults.Truncated (parts.Section i))
 cut_told file h hs i e is cut =
     reads_table file h hs e is ∙ ap (λ o. unless_at (λ i. faults.Truncated (parts.Section i)) o >>= λ _. Ok (record { start = h.file.shoff; headers = hs })) cut
 
-pub table_told : (file : List ℕ) (h : Header) (hs : List SectionHeader) → object_header file ≡ Ok h → hs ≡ headers_of h.file.shoff h.file.shnum file → position (is_section_cut (length file)) hs ≡ None → table_read file ≡ Ok (record { start = h.file.shoff; headers = hs })
+pub table_told : (file : List ℕ) (h : Header) (hs : List SectionHeader) → object_header file ≡ Ok h → hs ≡ headers_of h.file.shoff h.file.shnum file → position (is_section_cut (length file)) hs ≡ None → read_table file ≡ Ok (record { start = h.file.shoff; headers = hs })
 table_told file h hs e is cut =
     reads_table file h hs e is ∙ ap (λ o. unless_at (λ i. faults.Truncated (parts.Section i)) o >>= λ _. Ok (record { start = h.file.shoff; headers = hs })) cut
 

@@ -14,7 +14,7 @@ use Rattle.elf_image.specs.Image.{page_count, segments_of, image}
 use Rattle.kx_laws.specs.Results.{◌>>=◌, unless}
 use Rattle.elf_image.specs.FileHeader.{exec_header}
 use Rattle.elf_image.specs.ProgramHeader.{loads_of}
-use Rattle.elf_image.specs.Loads.{Executable, load_stop, loads_meet, meets_any, has_memory, load_fault, load_onto, loads_onto, loads_read, exec_reading}
+use Rattle.elf_image.specs.Loads.{Executable, load_stop, loads_meet, meets_any, has_memory, load_fault, load_onto, loads_onto, read_loads, exec_reading}
 use Rattle.elf_image.specs.Joined.{AreLoads, AreSound, is_memory_of}
 use Rattle.elf_image.proofs.Walk.{IsFit, fit, fit_apart}
 use Rattle.elf_image.proofs.Order.{count_cons}
@@ -102,8 +102,8 @@ bind_ok (Err e) f y h = cc
 none_made : (n : ℕ) → AreMade n []
 none_made n = record { each = tt; apart = λ a. omega arith }
 
-loads_sound : (bytes : List ℕ) (h : Header) (ls : List Load) → loads_read h bytes ≡ Ok ls → AreSound (length bytes) ls
-unfolding loads_read
+loads_sound : (bytes : List ℕ) (h : Header) (ls : List Load) → read_loads h bytes ≡ Ok ls → AreSound (length bytes) ls
+unfolding read_loads
 loads_sound bytes h ls e =
     let a = bind_ok (loads_onto (length bytes) [] (loads_of h bytes)) (λ xs. Ok (filter has_memory xs)) ls e in
     let s : filter has_memory a.0 ≡ ls = cc in
@@ -116,8 +116,8 @@ loads_in (Err f) = []
 pub exec_sound : (bytes : List ℕ) (e : Executable) → exec_reading bytes ≡ Ok e → AreSound (length bytes) e.loads
 unfolding exec_reading loads_in
 exec_sound bytes e h =
-    let a = bind_ok (exec_header bytes) (λ h. loads_read h bytes >>= λ ls. Ok (record { wide = h.wide; entry = h.file.entry; loads = ls })) e h in
-    let b = bind_ok (loads_read a.0 bytes) (λ ls. Ok (record { wide = a.0.wide; entry = a.0.file.entry; loads = ls })) e a.2 in
+    let a = bind_ok (exec_header bytes) (λ h. read_loads h bytes >>= λ ls. Ok (record { wide = h.wide; entry = h.file.entry; loads = ls })) e h in
+    let b = bind_ok (read_loads a.0 bytes) (λ ls. Ok (record { wide = a.0.wide; entry = a.0.file.entry; loads = ls })) e a.2 in
     subst (AreSound (length bytes)) (ap loads_in b.2) (loads_sound bytes a.0 b.0 b.1)
 
 -- ---- the image

@@ -10,7 +10,7 @@ use Rattle.kx_laws.specs.Results.{unless_at}
 use Rattle.elf_image.specs.declared.fault.ElfFault.TheVariants as faults
 use Rattle.elf_image.specs.declared.reloc.Reloc.{Reloc}
 use Rattle.elf_image.specs.declared.reloc.RelocSection.{RelocSection}
-use Rattle.elf_image.specs.Reloc.{entry_of, entry_place, is_stray, symbols_tested}
+use Rattle.elf_image.specs.Reloc.{entry_of, entry_place, is_stray, test_symbols}
 
 number : (n k : ℕ) → k < n → get_or (range_with_len 0 n) k 0 ≡ k
 number n k below = get_or-range_with_len 0 n k 0 below ∙ omega arith
@@ -26,8 +26,8 @@ first_is p n i within before here =
 told : (file : List ℕ) (symbols : ℕ) (s : RelocSection) (i : ℕ) (b : Bool)
     → position_or_len (is_stray file symbols s) (range_with_len 0 s.count) ≡ i
     → nat_lt i s.count ≡ b
-    → symbols_tested file symbols s ≡ unless_at (λ k. faults.BadIndex (entry_place s k + 8)) (cond b (Some i) None)
-unfolding symbols_tested
+    → test_symbols file symbols s ≡ unless_at (λ k. faults.BadIndex (entry_place s k + 8)) (cond b (Some i) None)
+unfolding test_symbols
 told file symbols s i b is below =
     let p = is_stray file symbols s in
     let xs = range_with_len 0 s.count in
@@ -48,13 +48,13 @@ one_more file symbols s k r before is below j least = elim (cases_lt j k) [ inl 
     here : is_stray file symbols s k ≡ false
     here = let within : nat_lt r.symbol symbols ≡ true = grind (arith, nat_tests, below) in sym (ap (λ (r : Reloc). not (nat_lt r.symbol symbols)) is) ∙ ap not within
 
-pub none_stray : (file : List ℕ) (symbols : ℕ) (s : RelocSection) → ((k : ℕ) → k < s.count → is_stray file symbols s k ≡ false) → symbols_tested file symbols s ≡ Ok tt
+pub none_stray : (file : List ℕ) (symbols : ℕ) (s : RelocSection) → ((k : ℕ) → k < s.count → is_stray file symbols s k ≡ false) → test_symbols file symbols s ≡ Ok tt
 none_stray file symbols s none =
     let n = s.count in
     let is = first_is (is_stray file symbols s) n n (omega arith) none (λ l. absurd (omega (arith, l))) in
     told file symbols s n false is (grind (arith, nat_tests))
 
-pub first_stray : (file : List ℕ) (symbols : ℕ) (s : RelocSection) (k : ℕ) → k < s.count → ((j : ℕ) → j < k → is_stray file symbols s j ≡ false) → is_stray file symbols s k ≡ true → symbols_tested file symbols s ≡ Err (faults.BadIndex (entry_place s k + 8))
+pub first_stray : (file : List ℕ) (symbols : ℕ) (s : RelocSection) (k : ℕ) → k < s.count → ((j : ℕ) → j < k → is_stray file symbols s j ≡ false) → is_stray file symbols s k ≡ true → test_symbols file symbols s ≡ Err (faults.BadIndex (entry_place s k + 8))
 first_stray file symbols s k below before here =
     let is = first_is (is_stray file symbols s) s.count k (omega (arith, below)) before (λ _. here) in
     told file symbols s k true is (grind (arith, nat_tests, below))
@@ -66,7 +66,7 @@ is_symbol n m h = by (nat_lt n m) refl h
     by true t h = grind (arith, nat_tests)
     by false t h = cc
 
-pub all_symbols : (file : List ℕ) (symbols : ℕ) (s : RelocSection) → symbols_tested file symbols s ≡ Ok tt → (k : ℕ) → k < s.count → (entry_of file s k).symbol < symbols
+pub all_symbols : (file : List ℕ) (symbols : ℕ) (s : RelocSection) → test_symbols file symbols s ≡ Ok tt → (k : ℕ) → k < s.count → (entry_of file s k).symbol < symbols
 all_symbols file symbols s h k below = by (nat_lt first s.count) refl
   where
     first : ℕ

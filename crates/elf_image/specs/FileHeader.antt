@@ -1,6 +1,6 @@
 -- The file header (ELF gABI, chapter 4, "ELF Header": Elf64_Ehdr and Elf32_Ehdr; the values of x86-64 and i386 from
 -- their psABIs), and its tests. All numbers are little endian.
-use Rattle.std.specs.Prelude.{ℕ, ◌+◌, ◌*◌, ◌≤◌, ◌==◌, ◌&&◌, ◌||◌, not, Bool, true, false, List, [], ◌∷◌, length, nat_lt, nat_eq, slice_index, if◌then◌else◌, cond, Option, Some, None, Result, Ok, Err}
+use Rattle.std.specs.Prelude.{ℕ, ◌+◌, ◌*◌, ◌≤◌, ◌==◌, ◌&&◌, ◌||◌, not, Bool, true, false, List, [], ◌∷◌, length, nat_lt, nat_eq, slice_index, if◌then◌else◌, Option, Some, None, Result, Ok, Err}
 use Rattle.std.specs.List.{starts_with}
 use Rattle.kx_fields.specs.Fields.{bytes_at}
 use Rattle.kx_fields.specs.Formats.{Format, read}
@@ -24,8 +24,8 @@ is_known bytes =
     && ((slice_index bytes 5 == 1) && (slice_index bytes 6 == 1))
 
 -- e_ident: whether the file is ELF64, and not ELF32
-unfoldable pub class_read : List ℕ → Result Bool ElfFault
-class_read bytes =
+unfoldable pub read_class : List ℕ → Result Bool ElfFault
+read_class bytes =
     if nat_lt (length bytes) 16 || not (starts_with nat_eq bytes magic) then Err faults.NotElf
     else if not (is_known bytes) then Err faults.Class
     else Ok (slice_index bytes 4 == 2)
@@ -56,7 +56,7 @@ header_format true = file_header
 header_format false = elf32
 
 abbrev pub header_size : Bool → ℕ
-header_size wide = cond wide 64 52
+header_size wide = if wide then 64 else 52
 
 -- the file header of a file of this class
 abbrev pub header_of : List ℕ → Bool → Result Header ElfFault
@@ -69,25 +69,25 @@ header_of bytes wide =
     })
 
 -- the file header of an ELF file, and that of an ELF64 file
-unfoldable pub header_read : List ℕ → Result Header ElfFault
-header_read bytes = class_read bytes >>= header_of bytes
+unfoldable pub read_header : List ℕ → Result Header ElfFault
+read_header bytes = read_class bytes >>= header_of bytes
 
 abbrev pub elf64_only : List ℕ → Bool → Result Header ElfFault
 elf64_only bytes true = header_of bytes true
 elf64_only bytes false = Err faults.Class
 
-unfoldable pub elf64_read : List ℕ → Result Header ElfFault
-elf64_read bytes = class_read bytes >>= elf64_only bytes
+unfoldable pub read_elf64 : List ℕ → Result Header ElfFault
+read_elf64 bytes = read_class bytes >>= elf64_only bytes
 
 -- ---- an executable
 
 -- how many bytes a program header has
 abbrev pub entry_size : Bool → ℕ
-entry_size wide = cond wide 56 32
+entry_size wide = if wide then 56 else 32
 
 -- EM_X86_64 or EM_386
 abbrev pub machine_of : Bool → ℕ
-machine_of wide = cond wide em_x86_64 em_386
+machine_of wide = if wide then em_x86_64 else em_386
 
 -- the program headers do not lie in a file of n bytes
 abbrev pub is_table_cut : ℕ → Header → Bool
@@ -99,16 +99,16 @@ unfoldable pub exec_fault : ℕ → Header → Option ElfFault
 exec_fault n h =
     if not (h.file.machine == machine_of h.wide) then Some faults.Machine
     else if not (h.file.kind == et_exec) then Some faults.Kind
-    else if h.file.phnum == pn_xnum then Some (faults.BadIndex (cond h.wide 56 44))
+    else if h.file.phnum == pn_xnum then Some (faults.BadIndex (if h.wide then 56 else 44))
     else if not (h.file.phnum == 0) && not (h.file.phentsize == entry_size h.wide)
-    then Some (faults.BadEntrySize (cond h.wide 54 42))
+    then Some (faults.BadEntrySize (if h.wide then 54 else 42))
     else if is_table_cut n h then Some (faults.Truncated parts.ProgramTable)
     else None
 
 -- the header of an executable, tested
 unfoldable pub exec_header : List ℕ → Result Header ElfFault
 exec_header bytes = do
-  h ← header_read bytes
+  h ← read_header bytes
   _ ← unless (exec_fault (length bytes) h)
   Ok h
 
@@ -133,6 +133,6 @@ object_fault n h =
 -- the header of an object, tested
 unfoldable pub object_header : List ℕ → Result Header ElfFault
 object_header bytes = do
-  h ← elf64_read bytes
+  h ← read_elf64 bytes
   _ ← unless (object_fault (length bytes) h)
   Ok h

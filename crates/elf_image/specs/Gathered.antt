@@ -5,12 +5,12 @@ use Rattle.elf_image.specs.declared.fault.ElfFault.{ElfFault}
 use Rattle.elf_image.specs.declared.fault.ElfFault.TheVariants as faults
 
 -- all that f gives of these, one after another, or the first fault
-unfoldable pub gathered : {A B : Type 0} → (A → Result (List B) ElfFault) → List A
+unfoldable pub gather : {A B : Type 0} → (A → Result (List B) ElfFault) → List A
     → Result (List B) ElfFault
-gathered f [] = Ok []
-gathered f (x ∷ xs) = do
+gather f [] = Ok []
+gather f (x ∷ xs) = do
   ys ← f x
-  more ← gathered f xs
+  more ← gather f xs
   Ok (ys ++ more)
 
 -- one alone
@@ -19,7 +19,7 @@ one r = r >>= λ y. Ok (y ∷ [])
 
 -- what f gives of each of these, or the first fault
 abbrev pub each : {A B : Type 0} → (A → Result B ElfFault) → List A → Result (List B) ElfFault
-each f xs = gathered (λ x. one (f x)) xs
+each f xs = gather (λ x. one (f x)) xs
 
 -- behind others
 abbrev pub onto : {B : Type 0} → List B → Result (List B) ElfFault → Result (List B) ElfFault

@@ -54,6 +54,6 @@ joined_to file bytes mem stop (l ∷ ls) =
     else part bytes mem stop
     ∷ joined_to file (grown file l [] (first_of l)) (first_of l) (end_of l) ls
 
-unfoldable pub joined : List ℕ → List Load → List SegmentValue
-joined file [] = []
-joined file (l ∷ ls) = joined_to file (grown file l [] (first_of l)) (first_of l) (end_of l) ls
+unfoldable pub join : List ℕ → List Load → List SegmentValue
+join file [] = []
+join file (l ∷ ls) = joined_to file (grown file l [] (first_of l)) (first_of l) (end_of l) ls

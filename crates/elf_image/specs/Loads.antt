@@ -68,8 +68,8 @@ loads_onto n earlier (l ∷ ls) = do
   loads_onto n more ls
 
 -- the loads of a file that have memory, or the first fault of a load
-unfoldable pub loads_read : Header → List ℕ → Result (List Load) ElfFault
-loads_read h bytes = do
+unfoldable pub read_loads : Header → List ℕ → Result (List Load) ElfFault
+read_loads h bytes = do
   ls ← loads_onto (length bytes) [] (loads_of h bytes)
   Ok (filter has_memory ls)
 
@@ -77,5 +77,5 @@ loads_read h bytes = do
 unfoldable pub exec_reading : List ℕ → Result Executable ElfFault
 exec_reading bytes = do
   h ← exec_header bytes
-  ls ← loads_read h bytes
+  ls ← read_loads h bytes
   Ok (record { wide = h.wide; entry = h.file.entry; loads = ls })

@@ -9,9 +9,9 @@ use Rattle.elf_image.specs.declared.reloc.RelocSection.{RelocSection}
 use Rattle.kx_laws.specs.Results.{◌>>=◌}
 use Rattle.elf_image.specs.Numbers.{shn_abs, shn_common}
 use Rattle.elf_image.specs.Sym.{Sym}
-use Rattle.elf_image.specs.Section.{section_of, IsInside, table_read}
-use Rattle.elf_image.specs.Symbol.{symbols_read}
-use Rattle.elf_image.specs.Reloc.{AreInside, entry_of, entries_of, relocs_read}
+use Rattle.elf_image.specs.Section.{section_of, IsInside, read_table}
+use Rattle.elf_image.specs.Symbol.{read_symbols}
+use Rattle.elf_image.specs.Reloc.{AreInside, entry_of, entries_of, read_relocs}
 
 -- what contracts see of an object
 pub record Relocatable : Type 0 where
@@ -26,9 +26,9 @@ relocs_of file o = flat_map (entries_of file) o.reloc_sections
 -- what a file reads as, or its first fault: that of the headers, then of the symbols, then of the relocations
 unfoldable pub object_reading : List ℕ → Result Relocatable ElfFault
 object_reading file = do
-  t ← table_read file
-  symbols ← symbols_read file t
-  relocs ← relocs_read file t (length symbols)
+  t ← read_table file
+  symbols ← read_symbols file t
+  relocs ← read_relocs file t (length symbols)
   Ok (record { sections = map section_of t.headers; symbols = symbols; reloc_sections = relocs })
 
 -- a symbol's section is one of so many, or SHN_ABS or SHN_COMMON

@@ -10,7 +10,7 @@ use Rattle.elf_image.specs.declared.reloc.Rela.{Rela}
 use Rattle.elf_image.specs.declared.fault.ElfFault.{ElfFault}
 use Rattle.elf_image.specs.declared.fault.ElfFault.TheVariants as faults
 use Rattle.kx_laws.specs.Results.{◌>>=◌, unless, unless_at}
-use Rattle.elf_image.specs.Gathered.{gathered}
+use Rattle.elf_image.specs.Gathered.{gather}
 use Rattle.elf_image.specs.Numbers.{sht_symtab, sht_rela}
 use Rattle.elf_image.specs.Table.{Table}
 use Rattle.elf_image.specs.Section.{place_of, is_of, read_in}
@@ -53,8 +53,8 @@ abbrev pub is_stray : List ℕ → ℕ → RelocSection → ℕ → Bool
 is_stray file symbols s k = not (nat_lt (entry_of file s k).symbol symbols)
 
 -- a section in which one is, is refused for the first
-unfoldable pub symbols_tested : List ℕ → ℕ → RelocSection → Result (Unit {0}) ElfFault
-symbols_tested file symbols s =
+unfoldable pub test_symbols : List ℕ → ℕ → RelocSection → Result (Unit {0}) ElfFault
+test_symbols file symbols s =
     unless_at (λ k. faults.BadIndex (entry_place s k + 8))
     (position (is_stray file symbols s) (range_with_len 0 s.count))
 
@@ -78,13 +78,13 @@ unfoldable pub relocs_in : List ℕ → Table → ℕ → ℕ → SectionHeader
 relocs_in file t symbols i h =
     if h.kind == sht_rela
     then (unless (rela_fault t (place_of t i) h) >>= λ _.
-    symbols_tested file symbols (reloc_section i h) >>= λ _. Ok (reloc_section i h ∷ []))
+    test_symbols file symbols (reloc_section i h) >>= λ _. Ok (reloc_section i h ∷ []))
     else Ok []
 
 abbrev pub relocs_at : List ℕ → Table → ℕ → ℕ → Result (List RelocSection) ElfFault
 relocs_at file t symbols i = read_in (relocs_in file t symbols i) (slice_get t.headers i)
 
 -- the sections of relocations of an object that has so many symbols, or the first fault
-unfoldable pub relocs_read : List ℕ → Table → ℕ → Result (List RelocSection) ElfFault
-relocs_read file t symbols =
-    gathered (relocs_at file t symbols) (range_with_len 0 (length t.headers))
+unfoldable pub read_relocs : List ℕ → Table → ℕ → Result (List RelocSection) ElfFault
+read_relocs file t symbols =
+    gather (relocs_at file t symbols) (range_with_len 0 (length t.headers))

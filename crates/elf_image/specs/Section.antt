@@ -85,8 +85,8 @@ tested_table n t = do
   Ok t
 
 -- the section headers of an object, or the first fault
-unfoldable pub table_read : List ℕ → Result Table ElfFault
-table_read file = do
+unfoldable pub read_table : List ℕ → Result Table ElfFault
+read_table file = do
   h ← object_header file
   tested_table (length file)
       (record { start = h.file.shoff; headers = headers_of h.file.shoff h.file.shnum file })

@@ -40,12 +40,12 @@ symbol_of sections at k s (Some name) =
     then Ok (record { name = name; section = s.section; value = s.value; size = s.size })
     else Err (faults.BadIndex (at + 6))
 
-abbrev pub symbol_named : List ℕ → ℕ → ℕ → ℕ → SymbolEntry → Result Sym ElfFault
-symbol_named strings sections at k s = symbol_of sections at k s (name_in strings s.name)
+abbrev pub named_symbol : List ℕ → ℕ → ℕ → ℕ → SymbolEntry → Result Sym ElfFault
+named_symbol strings sections at k s = symbol_of sections at k s (name_in strings s.name)
 
 unfoldable pub symbol_in : List ℕ → List ℕ → ℕ → ℕ → ℕ → Result Sym ElfFault
 symbol_in file strings sections at k =
-    symbol_named strings sections at k (read symbol_entry (bytes_at at 24 file))
+    named_symbol strings sections at k (read symbol_entry (bytes_at at 24 file))
 
 -- the whole entries of a symbol table
 abbrev pub entries_in : List ℕ → ℕ → SectionHeader → List ℕ → Result (List Sym) ElfFault
@@ -70,8 +70,8 @@ unfoldable pub symbols_in : List ℕ → Table → ℕ → SectionHeader → Res
 symbols_in file t place h = strings_of file t place h >>= entries_in file (length t.headers) h
 
 -- a symbol table (SHT_SYMTAB) behind that of index i is refused
-abbrev pub second_refused : Table → ℕ → Result (Unit {0}) ElfFault
-second_refused t i =
+abbrev pub refuse_second : Table → ℕ → Result (Unit {0}) ElfFault
+refuse_second t i =
     unless_at (λ j. faults.BadIndex (place_of t j + 4)) (first_of sht_symtab (i + 1) t.headers)
 
 -- the symbols of the symbol table of this index, if there is one, which is the only one
@@ -79,9 +79,9 @@ abbrev pub symbols_at : List ℕ → Table → Option ℕ → Result (List Sym) 
 symbols_at file t None = Ok []
 symbols_at file t (Some i) = do
   symbols ← read_in (symbols_in file t (place_of t i)) (slice_get t.headers i)
-  _ ← second_refused t i
+  _ ← refuse_second t i
   Ok symbols
 
 -- the symbols of an object, or the first fault
-unfoldable pub symbols_read : List ℕ → Table → Result (List Sym) ElfFault
-symbols_read file t = symbols_at file t (first_of sht_symtab 0 t.headers)
+unfoldable pub read_symbols : List ℕ → Table → Result (List Sym) ElfFault
+read_symbols file t = symbols_at file t (first_of sht_symtab 0 t.headers)

@@ -3,7 +3,7 @@
 ghost use Rattle.std.specs.Prelude.{◌≡◌, ◌+◌, ◌*◌, ◌==◌, true, false, nat_lt};
 ghost use Rattle.kx_fields.specs.Formats.{read};
 ghost use Rattle.kx_laws.specs.Results.{unless};
-ghost use Rattle.elf_image.specs.FileHeader.{class_read, elf32, header_of, header_read, elf64_read, entry_size, is_table_cut, exec_fault, exec_header, object_fault, object_header};
+ghost use Rattle.elf_image.specs.FileHeader.{read_class, elf32, header_of, read_header, read_elf64, entry_size, is_table_cut, exec_fault, exec_header, object_fault, object_header};
 
 use crate::fault::{ElfFault, ElfPart};
 use elf_headers::{EM_386, EM_X86_64, ET_EXEC, ET_REL, FileHeader, PN_XNUM};
@@ -48,9 +48,9 @@ pub(crate) struct Header {
 }
 
 // Whether the file is ELF64, and not ELF32.
-#[tactic(auto, unfolding(crate::specs::FileHeader::class_read))]
+#[tactic(auto, unfolding(crate::specs::FileHeader::read_class))]
 fn read_class(bytes: &[u8]) -> Result<bool, ElfFault>
-    ensures { result ≡ class_read bytes.now }
+    ensures { result ≡ read_class bytes.now }
 {
     if bytes.len() < 16 || !bytes.starts_with(MAGIC) {
         return Err(ElfFault::NotElf);
@@ -93,9 +93,9 @@ fn read_narrow(bytes: &[u8]) -> Result<Header, ElfFault>
 
 impl Header {
     // The file header of an ELF file, or why there is none.
-    #[tactic(auto, unfolding(crate::specs::FileHeader::header_read))]
+    #[tactic(auto, unfolding(crate::specs::FileHeader::read_header))]
     fn read(bytes: &[u8]) -> Result<Header, ElfFault>
-        ensures { result ≡ header_read bytes.now }
+        ensures { result ≡ read_header bytes.now }
     {
         match read_class(bytes) {
             Ok(wide) => {
@@ -110,9 +110,9 @@ impl Header {
     }
 
     // That of an ELF64 file.
-    #[tactic(auto, unfolding(crate::specs::FileHeader::elf64_read))]
+    #[tactic(auto, unfolding(crate::specs::FileHeader::read_elf64))]
     fn read_elf64(bytes: &[u8]) -> Result<Header, ElfFault>
-        ensures { result ≡ elf64_read bytes.now }
+        ensures { result ≡ read_elf64 bytes.now }
     {
         match read_class(bytes) {
             Ok(wide) => {

@@ -10,7 +10,7 @@ ghost use Rattle.segments.specs.Values.{SegmentValue};
 ghost use Rattle.elf_image.specs.declared.load.Load.{Load};
 ghost use Rattle.elf_image.specs.Loads.{load_stop, exec_reading};
 ghost use Rattle.elf_image.specs.Image.{load_meets_page, is_met, segments_of, image, run_of, AreRuns};
-ghost use Rattle.elf_image.specs.Joined.{IsLoad, AreLoads, AreSound, Rise, first_of, end_of, grown, part, joined_to, joined};
+ghost use Rattle.elf_image.specs.Joined.{IsLoad, AreLoads, AreSound, Rise, first_of, end_of, grown, part, joined_to, join};
 
 use crate::exec::Exec;
 use crate::fault::ElfFault;
@@ -47,7 +47,7 @@ fn met_spans(alloc: Global, loads: &[Load]) -> Result<Vec<Span>, AllocError>
 }
 
 // The pages that the loads meet.
-fn met_set(alloc: Global, loads: &[Load]) -> Result<PageSet, AllocError>
+fn pages_of(alloc: Global, loads: &[Load]) -> Result<PageSet, AllocError>
     requires { (n : ℕ) × AreLoads n loads.now }
     ensures { IfOk result (λ s. (p : ℕ) → in_spans s p ≡ is_met loads.now p) }
 {
@@ -197,7 +197,7 @@ fn join(
     file: &[u8],
 ) -> Result<Vec<Segment>, AllocError>
     requires { AreLoads (length file.now) loads.now }
-    ensures { IfOk result (λ v. v.items ≡ joined file.now loads.now) }
+    ensures { IfOk result (λ v. v.items ≡ join file.now loads.now) }
 {
     let mut list = Vec::new(alloc);
     if loads.is_empty() {
@@ -212,7 +212,7 @@ fn join(
 }
 
 // The loads in the order of their addresses.
-fn sorted(mut loads: Vec<Load>) -> Vec<Load>
+fn sort(mut loads: Vec<Load>) -> Vec<Load>
     ensures same { IsPermutation loads.items result.items }
     ensures rising { IsNonDecreasingBy (λ (l : Load). l.paddr) result.items }
 {
@@ -230,7 +230,7 @@ fn make_segments(
     requires { AreSound (length file.now) loads.items }
     ensures { IfOk result (λ v. v.items ≡ segments_of file.now loads.items) }
 {
-    let list = sorted(loads);
+    let list = sort(loads);
     let segments = join(alloc, pages, &list, file)?;
     Ok(segments)
 }
@@ -244,7 +244,7 @@ pub fn image_pages(alloc: Global, exec: Exec, bytes: &[u8]) -> Result<Vec<Segmen
     ensures maximal { IfOk result (λ v. AreRuns (is_met exec.loads) (map run_of v.items)) }
 {
     let loads = exec.loads;
-    let pages = met_set(alloc, &loads)?;
+    let pages = pages_of(alloc, &loads)?;
     let total = pages.total();
     if total > SEGMENT_PAGE_LIMIT {
         return Err(ElfFault::TooLarge { pages: total });

@@ -7,7 +7,7 @@ ghost use Rattle.kx_laws.specs.Results.{unless, Gives};
 ghost use Rattle.elf_image.specs.declared.fault.ElfFault.TheVariants.{Memory};
 ghost use Rattle.elf_image.specs.FileHeader.{HasTable};
 ghost use Rattle.elf_image.specs.ProgramHeader.{loads_of};
-ghost use Rattle.elf_image.specs.Loads.{load_stop, loads_meet, meets_any, has_memory, load_fault, load_onto, entry_onto, loads_onto, loads_read};
+ghost use Rattle.elf_image.specs.Loads.{load_stop, loads_meet, meets_any, has_memory, load_fault, load_onto, entry_onto, loads_onto, read_loads};
 ghost use Rattle.elf_image.specs.Index.{HasMore};
 ghost use Rattle.range_index.specs.Ranges.{meets_any as meets_range};
 
@@ -38,7 +38,7 @@ fn add_memory(memory: &mut RangeIndex, load: Load) -> Result<(), AllocError>
 }
 
 // The first of some loads that this one meets, found one by one.
-fn position_met(earlier: &[Load], load: Load) -> Option<usize>
+fn position_of_meeting(earlier: &[Load], load: Load) -> Option<usize>
     ensures { result ≡ lists.position (loads_meet load) earlier.now }
 {
     earlier.iter().position(|l| load.meets(l))
@@ -67,13 +67,13 @@ impl Loads {
     }
 
     /// The first of the loads so far that this one meets. They are gone through only where it meets one.
-    fn first_met(&self, load: Load) -> Option<usize>
+    fn first_meeting(&self, load: Load) -> Option<usize>
         requires loads { AreIndexed self.now }
         requires load { load_stop load ≤ 2 ^ 46 }
         ensures { result ≡ lists.position (loads_meet load) self.now.list.items }
     {
         if self.meets_any(load) {
-            position_met(&self.list, load)
+            position_of_meeting(&self.list, load)
         } else {
             None
         }
@@ -94,7 +94,7 @@ impl Loads {
                 part: ElfPart::Load { i },
             });
         }
-        match self.first_met(load) {
+        match self.first_meeting(load) {
             Some(j) => Err(ElfFault::LoadsOverlap { i, j }),
             None => Ok(()),
         }
@@ -174,7 +174,7 @@ pub(crate) fn read_loads(
     bytes: &[u8],
 ) -> Result<Vec<Load>, ElfFault>
     requires { HasTable (length bytes.now) header.now }
-    ensures { Gives Memory (λ v. v.items) result (loads_read header.now bytes.now) }
+    ensures { Gives Memory (λ v. v.items) result (read_loads header.now bytes.now) }
 {
     match Loads::read(alloc, header, bytes) {
         Ok(loads) => Ok(with_memory(loads.list)),

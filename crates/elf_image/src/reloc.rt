@@ -9,7 +9,7 @@ ghost use Rattle.elf_image.specs.declared.fault.ElfFault.TheVariants.{Memory};
 ghost use Rattle.elf_image.specs.Gathered.{Adds};
 ghost use Rattle.elf_image.specs.Numbers.{sht_symtab};
 ghost use Rattle.elf_image.specs.Section.{IsTable, is_of};
-ghost use Rattle.elf_image.specs.Reloc.{AreInside, rela, rela_fault, entry_of, reloc_section, relocs_at, relocs_read, symbols_tested};
+ghost use Rattle.elf_image.specs.Reloc.{AreInside, rela, rela_fault, entry_of, reloc_section, relocs_at, read_relocs, test_symbols};
 
 use crate::fault::ElfFault;
 use crate::numbers::{SHT_RELA, SHT_SYMTAB};
@@ -111,7 +111,7 @@ impl RelocSection {
     // Refuses the first relocation whose symbol is none of so many.
     fn test_symbols(&self, file: &[u8], symbols: usize) -> Result<(), ElfFault>
         requires { AreInside file.now self.now }
-        ensures { result ≡ symbols_tested file.now symbols self.now }
+        ensures { result ≡ test_symbols file.now symbols self.now }
     {
         for entry in 0..self.count {
             if self.reloc(file, entry).symbol >= symbols {
@@ -202,7 +202,7 @@ pub(crate) fn read_relocs(
     symbols: usize,
 ) -> Result<Vec<RelocSection>, ElfFault>
     requires { IsTable file.now table.now }
-    ensures { Gives Memory (λ v. v.items) result (relocs_read file.now table.now symbols) }
+    ensures { Gives Memory (λ v. v.items) result (read_relocs file.now table.now symbols) }
 {
     let mut sections = Vec::new(alloc);
     for i in 0..table.len() {

@@ -6,7 +6,7 @@ ghost use Rattle.kx_fields.specs.Fields.{bytes_at};
 ghost use Rattle.kx_fields.specs.Formats.{read};
 ghost use Rattle.kx_laws.specs.Results.{Gives};
 ghost use Rattle.elf_image.specs.declared.fault.ElfFault.TheVariants.{Memory};
-ghost use Rattle.elf_image.specs.Section.{section_header, section_of, is_section_cut, headers_of, first_of, is_of, place_of, table_read, IsTable, Lies};
+ghost use Rattle.elf_image.specs.Section.{section_header, section_of, is_section_cut, headers_of, first_of, is_of, place_of, read_table, IsTable, Lies};
 
 use crate::fault::{ElfFault, ElfPart};
 use crate::file_header::Header;
@@ -161,7 +161,7 @@ impl Model for SectionTable {
 impl SectionTable {
     /// The section headers of an object, or the first fault.
     pub(crate) fn read(alloc: Global, file: &[u8]) -> Result<SectionTable, ElfFault>
-        ensures exact { Gives Memory (λ t. t) result (table_read file.now) }
+        ensures exact { Gives Memory (λ t. t) result (read_table file.now) }
         ensures valid { IfOk result (IsTable file.now) }
     {
         let header = match Header::read_object(file) {

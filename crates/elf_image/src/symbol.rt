@@ -7,7 +7,7 @@ ghost use Rattle.kx_laws.specs.Results.{Gives};
 ghost use Rattle.elf_image.specs.declared.fault.ElfFault.TheVariants.{Memory};
 ghost use Rattle.elf_image.specs.Gathered.{each};
 ghost use Rattle.elf_image.specs.Section.{IsTable, IsInside, section_of, place_of};
-ghost use Rattle.elf_image.specs.Symbol.{symbol_entry, up_to_nul, name_in, is_index, symbol_in, entries_in, strings_of, symbols_in, second_refused, symbols_at, symbols_read};
+ghost use Rattle.elf_image.specs.Symbol.{symbol_entry, up_to_nul, name_in, is_index, symbol_in, entries_in, strings_of, symbols_in, refuse_second, symbols_at, read_symbols};
 
 use crate::fault::ElfFault;
 use crate::numbers::{SHN_ABS, SHN_COMMON, SHT_STRTAB, SHT_SYMTAB};
@@ -222,7 +222,7 @@ fn read_table(
 fn refuse_second(file: &[u8], table: &SectionTable, i: usize) -> Result<(), ElfFault>
     requires table { IsTable file.now table.now }
     requires there { i < length table.now.headers }
-    ensures { result ≡ second_refused table.now i }
+    ensures { result ≡ refuse_second table.now i }
 {
     match table.first_of(SHT_SYMTAB, i + 1) {
         Some(second) => Err(ElfFault::BadIndex {
@@ -239,7 +239,7 @@ pub(crate) fn read_symbols(
     table: &SectionTable,
 ) -> Result<Vec<Symbol>, ElfFault>
     requires { IsTable file.now table.now }
-    ensures { Gives Memory (λ v. v.items) result (symbols_read file.now table.now) }
+    ensures { Gives Memory (λ v. v.items) result (read_symbols file.now table.now) }
 {
     let i = match table.first_of(SHT_SYMTAB, 0) {
         Some(i) => i,

@@ -1,7 +1,8 @@
 -- The runs of accepted lists end.
 use Rattle.std.proofs.Common.{◌≡◌, ◌∙◌, ℕ, ◌+◌, ◌^◌, ◌<◌, List, length, Option, Some, None, ap, refl, sym, subst, arith}
+use Rattle.std.specs.List.{AllByRecursion}
 use Rattle.std.specs.Prelude.{unwrap_or}
-use Rattle.kx_pages.specs.Lists.{Each, Has}
+use Rattle.kx_pages.specs.Lists.{Has}
 use Rattle.kx_pages.specs.Modes.{swap_page}
 use Rattle.kx_pages.specs.declared.image.Mode.{Mode}
 use Rattle.kx_pages.specs.declared.image.Mode.TheVariants.{Plain, Kept}
@@ -36,7 +37,7 @@ use Rattle.kexec_main.proofs.Leaving.{has_mode}
 use Rattle.kexec_main.proofs.Told.{one_memory}
 
 -- a wanted destination is a page
-low : (ss : List SegmentValue) (M : Mem) (qs : List (ℕ × ℕ)) → IsBare ss → Each (λ q. want ss q.0 ≡ Some (M q.1)) qs → Each (λ q. (q.0 < 2 ^ 34) × (⊥ → ⊥)) qs
+low : (ss : List SegmentValue) (M : Mem) (qs : List (ℕ × ℕ)) → IsBare ss → AllByRecursion (λ q. want ss q.0 ≡ Some (M q.1)) qs → AllByRecursion (λ q. (q.0 < 2 ^ 34) × (⊥ → ⊥)) qs
 low ss M qs bare right =
     let a = AreSegments-from_IsBare ss bare in
     Each-map qs (λ q e. (pages_below ss q.0 a.placed (Has-from_want ss q.0 (M q.1) a.placed e), λ n. n)) right

@@ -1,8 +1,8 @@
 -- Stores of a file of events have at most a page.
 use Rattle.std.proofs.Common.{◌≡◌, List, [], ◌∷◌, true, refl, arith}
+use Rattle.std.specs.List.{AllByRecursion}
 use Rattle.std.proofs.lemmas.Bool.Decides.{nat_tests}
 use Rattle.kx_laws.proofs.Booleans.{and_parts}
-use Rattle.kx_pages.specs.Lists.{Each}
 use Rattle.image_slots.specs.declared.event.Event.{Event}
 use Rattle.image_slots.specs.Events.{EventValue, Open, Add, Write, Install, Cancel, Unload, Store, Exec, Panic, HasFewBytes, event_of}
 use Rattle.kexec_main.specs.ShortStores.{are_short, is_short}
@@ -29,11 +29,11 @@ few_one (Store page bytes) t = grind (arith, nat_tests)
 few_one (Exec caller) t = tt
 few_one Panic t = tt
 
-pub all_short : (es : List Event) → Each (λ e. HasFewBytes (event_of e)) es → are_short es ≡ true
+pub all_short : (es : List Event) → AllByRecursion (λ e. HasFewBytes (event_of e)) es → are_short es ≡ true
 all_short [] h = refl
 all_short (e ∷ es) h = rw (short_one (event_of e) h.0) (all_short es h.1)
 
-pub all_few : (es : List Event) → are_short es ≡ true → Each (λ e. HasFewBytes (event_of e)) es
+pub all_few : (es : List Event) → are_short es ≡ true → AllByRecursion (λ e. HasFewBytes (event_of e)) es
 all_few [] t = tt
 all_few (e ∷ es) t =
     let both = and_parts (is_short (event_of e)) (are_short es) t in

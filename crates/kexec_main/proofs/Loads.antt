@@ -15,7 +15,7 @@ use Rattle.segments.specs.Values.{need}
 use Rattle.load_states.specs.Runs.{IsSameLoad}
 use Rattle.load_states.proofs.Alike.{tells_alike}
 use Rattle.load_states.proofs.Ready.{list_ends}
-use Rattle.page_memory.specs.File.{stored}
+use Rattle.page_memory.specs.File.{stored_pages}
 use Rattle.page_memory.proofs.OneFile.{stored-agree}
 use Rattle.kexec_words.specs.declared.commands.Runs.{Runs}
 use Rattle.kexec_plan.specs.Plan.{plan}
@@ -89,7 +89,7 @@ not_loaded wish i other q load h l = h
 -- a memory that has a file is not too heavy for one
 pub has_file : (N : Mem) (bytes : List ℕ) (n : ℕ) → IsFileOf N bytes → IsTooHeavy N n → ⊥
 has_file N bytes n f h =
-    let same : length (stored h.0) ≡ length (stored f.0) = ap length (stored-agree h.0 f.0 (λ p. h.2 p ∙ sym (f.2 p))) in
+    let same : length (stored_pages h.0) ≡ length (stored_pages f.0) = ap length (stored-agree h.0 f.0 (λ p. h.2 p ∙ sym (f.2 p))) in
     omega (arith, same, f.3, h.3)
 
 pub file_none : (N : Mem) (bytes : List ℕ) (why : Reason) → IsFileOf N bytes → HasNoFile N why → ⊥

@@ -7,7 +7,7 @@ use Rattle.page_memory.specs.File.{reading}
 use Rattle.segments.specs.Rules.{IsBare, bare_refusal}
 use Rattle.segments.specs.Values.{SegmentValue}
 use Rattle.segments.specs.declared.fault.SegFault.{SegFault}
-use Rattle.load_record.specs.File.{Record, head_tested, record_of, record_reading, ruled, segments_tested}
+use Rattle.load_record.specs.File.{Record, tested_head, record_of, record_reading, record_by, tested_segments}
 use Rattle.load_record.specs.Head.{version_of}
 use Rattle.load_record.specs.declared.fault.RecFault.{RecFault}
 use Rattle.load_record.specs.declared.head.Head.{Head}
@@ -74,15 +74,15 @@ exec_read e held x h =
     (m.1 ∙ ap Ok same.0, r.1 ∙ ap Ok same.1)
 
 -- the segments of a record that was read break no rule
-ruled_bare : (h : Head) (ss : List SegmentValue) (first : Option SegFault) (r : Record) → bare_refusal ss ≡ first → ruled h ss first ≡ Ok r → IsBare r.segments
+ruled_bare : (h : Head) (ss : List SegmentValue) (first : Option SegFault) (r : Record) → bare_refusal ss ≡ first → record_by h ss first ≡ Ok r → IsBare r.segments
 ruled_bare h ss None r e k = subst (λ (r : Record). IsBare r.segments) (ok_same {F = RecFault} (record_of h ss) r k) e
 ruled_bare h ss (Some fault) r e k = cc
 
 record_bare : (bytes : List ℕ) (r : Record) → record_reading bytes ≡ Ok r → IsBare r.segments
 unfolding record_reading
 record_bare bytes r h =
-    let head = bind_ok (head_tested bytes) _ r h in
-    let list = bind_ok (segments_tested (version_of bytes) (length bytes) head.0.segments (drop 96 bytes)) _ r head.2 in
+    let head = bind_ok (tested_head bytes) _ r h in
+    let list = bind_ok (tested_segments (version_of bytes) (length bytes) head.0.segments (drop 96 bytes)) _ r head.2 in
     ruled_bare head.0 list.0 (bare_refusal list.0) r refl list.2
 
 pub exec_bare : (e : ExecValue) (held : Files) (x : LoadFiles) → reads (exec_files e) held ≡ Ok (exec_of e (Normal x)) → IsBare x.load_record.segments

@@ -1,5 +1,5 @@
 -- What `load` takes and makes (this project's own).
-use Rattle.std.specs.Prelude.{◌≡◌, ℕ, List, [], ◌∷◌, false, cond, None, Result, Ok, Err, ◌⊎◌}
+use Rattle.std.specs.Prelude.{◌≡◌, ℕ, List, [], ◌∷◌, false, None, Result, Ok, Err, ◌⊎◌, if◌then◌else◌}
 use Rattle.kx_pages.specs.declared.image.Wish.{Wish}
 use Rattle.kx_pages.specs.declared.image.Wish.TheVariants.{Plain, Kept}
 use Rattle.page_memory.specs.Contents.{at}
@@ -30,7 +30,7 @@ pub record LoadCommand : Type 0 where
 
 -- the wish of `load`, with or without `--kept`
 abbrev pub load_wish : LoadValue → Wish
-load_wish l = cond l.kept Kept Plain
+load_wish l = if l.kept then Kept else Plain
 
 abbrev pub load_command_files : LoadValue → Take Reason LoadCommand
 load_command_files l = do

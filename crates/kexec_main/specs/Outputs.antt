@@ -3,7 +3,7 @@ use Rattle.std.specs.Prelude.{◌≡◌, ℕ, ◌≤◌, ◌<◌, List, [], ◌�
 use Rattle.page_memory.specs.Contents.{Contents, IsMemory, at}
 use Rattle.kx_pages.specs.Bytes.{Mem}
 use Rattle.page_memory.specs.Memory.{Agree}
-use Rattle.page_memory.specs.File.{stored, file}
+use Rattle.page_memory.specs.File.{stored_pages, file}
 use Rattle.list_checker.specs.declared.fault.ListFault.{ListFault}
 use Rattle.file_commands.specs.Answers.{Goods}
 use Rattle.file_commands.specs.Taking.{File}
@@ -17,13 +17,13 @@ Made = Goods ListFault
 -- the bytes are the one memory file of this memory, which has at most 131,072 pages that are not all zero
 abbrev pub IsFileOf : Mem → List ℕ → Type 0
 IsFileOf N bytes =
-    (m : Contents) × IsMemory m × Agree (at m) N × (length (stored m) ≤ 131072) × (bytes ≡ file m)
+    (m : Contents) × IsMemory m × Agree (at m) N × (length (stored_pages m) ≤ 131072) × (bytes ≡ file m)
 
 -- this memory has so many pages that are not all zero, too many for a memory file
 abbrev pub IsTooHeavy : Mem → ℕ → Type 0
 IsTooHeavy N count =
-    (m : Contents) × IsMemory m × Agree (at m) N × (131072 < length (stored m))
-    × (count ≡ length (stored m))
+    (m : Contents) × IsMemory m × Agree (at m) N × (131072 < length (stored_pages m))
+    × (count ≡ length (stored_pages m))
 
 -- this memory has no file, for this reason
 abbrev pub HasNoFile : Mem → Reason → Type 0

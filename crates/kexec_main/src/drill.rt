@@ -1,8 +1,7 @@
 //! `drill`: applies the events of several callers one after another.
 
 ghost use Rattle.std.specs.Prelude.{◌≡◌, ◌^◌, ℕ, List, map, None, Ok, false, string_bytes, IfOk};
-ghost use Rattle.std.specs.List.{find};
-ghost use Rattle.kx_pages.specs.Lists.{Each};
+ghost use Rattle.std.specs.List.{find, AllByRecursion};
 ghost use Rattle.kx_pages.specs.Spans.{Run};
 ghost use Rattle.page_memory.specs.Contents.{at};
 ghost use Rattle.page_pool.specs.Pages.{is_filed, usable_of};
@@ -47,7 +46,7 @@ fn take_events<S: Shelf>(
 ) -> Result<Vec<Event>, TakeFault<Reason>>
     ensures takes { Takes S.Shelf (events_file (string_bytes name)) (λ v. map event_of v.items)
         shelf.old result shelf.new }
-    ensures few { IfOk result (λ v. Each (λ e. HasFewBytes (event_of e)) v.items) }
+    ensures few { IfOk result (λ v. AllByRecursion (λ e. HasFewBytes (event_of e)) v.items) }
 {
     let bytes = take_file(alloc, name, TEXT_LIMIT, shelf)?;
     match read_events(alloc, &bytes) {

@@ -1,6 +1,6 @@
 //! `load`: loads a kernel and writes its load record.
 
-ghost use Rattle.std.specs.Prelude.{◌≡◌, List, cond, string_bytes, IfOk};
+ghost use Rattle.std.specs.Prelude.{◌≡◌, List, string_bytes, IfOk, if◌then◌else◌};
 ghost use Rattle.kx_pages.specs.declared.image.Wish.TheVariants.{Kept, Plain};
 ghost use Rattle.kx_pages.specs.declared.item.Item.{Item};
 ghost use Rattle.page_memory.specs.Contents.{at};
@@ -50,7 +50,7 @@ pub(crate) struct LoadCommand {
 
 // The wish of `load`, with or without `--kept`.
 fn kept_wish(kept: bool) -> Wish
-    ensures { result ≡ cond kept Kept Plain }
+    ensures { result ≡ (if kept then Kept else Plain) }
 {
     if kept { Wish::Kept } else { Wish::Plain }
 }

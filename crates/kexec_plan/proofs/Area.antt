@@ -2,12 +2,11 @@
 use Rattle.std.proofs.Common.{◌≡◌, ℕ, suc, ◌+◌, ◌≤◌, ◌++◌, List, [], ◌∷◌, length, Bool, true, false, Option, Some, None, Ok, Err, refl, sym, ap, ◌∙◌, subst, arith}
 use Rattle.std.specs.Prelude.{cond, not, option_map}
 use Rattle.std.specs.Option.{option_or}
-use Rattle.std.specs.List.{position, position_or_len}
+use Rattle.std.specs.List.{position, position_or_len, AllByRecursion}
 use Rattle.std.proofs.lemmas.Bool.Decides.{nat_tests}
 use Rattle.std.proofs.lemmas.Option.{none-some}
 use Rattle.kx_laws.specs.Results.{◌>>=◌, unless}
 use Rattle.kx_laws.proofs.Results.{bind_ok, ok_same}
-use Rattle.kx_pages.specs.Lists.{Each}
 use Rattle.kx_pages.specs.Spans.{Run, in_span}
 use Rattle.kx_pages.specs.declared.image.Start.{Start}
 use Rattle.kx_pages.proofs.Lists.{Each-append, Each-left, Each-right}
@@ -26,15 +25,15 @@ use Rattle.kexec_plan.specs.Requests.{Asked, Plan}
 use Rattle.kexec_plan.specs.Formats.{format_of, ground_for, reserved_ground, unused_part}
 use Rattle.kexec_plan.specs.Ground.{Ground, Machine, Reserved}
 use Rattle.kexec_plan.specs.Parts.{segment_at}
-use Rattle.kexec_plan.specs.Rules.{first_refusal, ram_runs, tested, unless_refused}
+use Rattle.kexec_plan.specs.Rules.{first_refusal, ram_runs, test_segments, unless_refused}
 use Rattle.kexec_plan.specs.Purgatory.{Linkage, PurgatoryValue, linked_at}
-use Rattle.kexec_plan.specs.Finish.{armed_plan, armed_segment, finished, plain_plan}
+use Rattle.kexec_plan.specs.Finish.{armed_plan, armed_segment, finish, plain_plan}
 use Rattle.kexec_plan.proofs.Ways.{linux_plan_ends}
 use Rattle.kexec_plan.specs.Plan.{linux_plan, plan, plan_as}
 
 -- each segment lies in the area
 abbrev pub AreInside : Run → List SegmentValue → Type 0
-AreInside area ss = Each (λ s. leaves area s ≡ false) ss
+AreInside area ss = AllByRecursion (λ s. leaves area s ≡ false) ss
 
 -- a page outside the area is a page of none of them
 outside_one : (area : Run) (s : SegmentValue) (q : ℕ) → leaves area s ≡ false → in_span area q ≡ false → is_page_of_segment s q ≡ false
@@ -60,11 +59,11 @@ map_none f (Some x) e = absurd (none-some (f x) (sym e))
 none_before : (p : SegmentValue → Bool) (xs : List SegmentValue) → position p xs ≡ None → length xs ≤ position_or_len p xs
 none_before p xs h = grind (arith, nat_tests)
 
-all_fail : (p : SegmentValue → Bool) (xs : List SegmentValue) → length xs ≤ position_or_len p xs → Each (λ x. p x ≡ false) xs
+all_fail : (p : SegmentValue → Bool) (xs : List SegmentValue) → length xs ≤ position_or_len p xs → AllByRecursion (λ x. p x ≡ false) xs
 all_fail p [] h = tt
 all_fail p (x ∷ xs) h = by (p x) refl h (λ few. all_fail p xs few)
   where
-    by : (b : Bool) → p x ≡ b → suc (length xs) ≤ cond (not b) (1 + position_or_len p xs) 0 → (length xs ≤ position_or_len p xs → Each (λ x. p x ≡ false) xs) → Each (λ x. p x ≡ false) (x ∷ xs)
+    by : (b : Bool) → p x ≡ b → suc (length xs) ≤ cond (not b) (1 + position_or_len p xs) 0 → (length xs ≤ position_or_len p xs → AllByRecursion (λ x. p x ≡ false) xs) → AllByRecursion (λ x. p x ≡ false) (x ∷ xs)
     by true e few rest = absurd (omega arith)
     by false e few rest = (e, rest (omega (arith, few)))
 
@@ -82,8 +81,8 @@ passed : (ss kept : List SegmentValue) (r : Option SegFault) → unless_refused 
 passed ss kept None e = (refl, ok_same {F = PlanFault} ss kept e)
 passed ss kept (Some f) e = cc
 
-tested_inside : (map : MapValue) (area : Run) (ss kept : List SegmentValue) → tested (Reserved map area) ss ≡ Ok kept → AreInside area ss × (ss ≡ kept)
-unfolding tested first_refusal
+tested_inside : (map : MapValue) (area : Run) (ss kept : List SegmentValue) → test_segments (Reserved map area) ss ≡ Ok kept → AreInside area ss × (ss ≡ kept)
+unfolding test_segments first_refusal
 tested_inside map area ss kept e =
     let k = passed ss kept (refusal (ram_runs map) (Crash area) ss) e in
     (unrefused_inside (ram_runs map) area ss k.0, k.1)
@@ -92,7 +91,7 @@ tested_inside map area ss kept e =
 plain_inside : (map : MapValue) (area : Run) (ss : List SegmentValue) (start : Start) (p : Plan) → plain_plan (Reserved map area) ss start ≡ Ok p → AreInside area p.segments
 unfolding plain_plan
 plain_inside map area ss start p e =
-    let a = bind_ok (tested (Reserved map area) ss) (λ kept. Ok (record { segments = kept; start = start; regions = 0; digest = 0 })) p e in
+    let a = bind_ok (test_segments (Reserved map area) ss) (λ kept. Ok (record { segments = kept; start = start; regions = 0; digest = 0 })) p e in
     let t = tested_inside map area ss a.0 a.1 in
     subst (λ (p : Plan). AreInside area p.segments) (ok_same {F = PlanFault} _ p a.2) (subst (AreInside area) t.1 t.0)
 
@@ -100,7 +99,7 @@ plain_inside map area ss start p e =
 armed_inside : (map : MapValue) (area : Run) (ss : List SegmentValue) (start : Start) (l : Linkage) (s : Site) (p : Plan) → armed_plan (Reserved map area) ss start l s ≡ Ok p → AreInside area p.segments
 unfolding armed_plan
 armed_inside map area ss start l s p e =
-    let a = bind_ok (tested (Reserved map area) (ss ++ segment_at s l.bytes ∷ [])) (λ _. Ok (record { segments = ss ++ armed_segment l start ss s ∷ []; start = record { entry = l.symbols.start; rax = 0; rbx = 0; rsi = 0 }; regions = l.symbols.regions; digest = l.symbols.digest })) p e in
+    let a = bind_ok (test_segments (Reserved map area) (ss ++ segment_at s l.bytes ∷ [])) (λ _. Ok (record { segments = ss ++ armed_segment l start ss s ∷ []; start = record { entry = l.symbols.start; rax = 0; rbx = 0; rsi = 0 }; regions = l.symbols.regions; digest = l.symbols.digest })) p e in
     let t = (tested_inside map area (ss ++ segment_at s l.bytes ∷ []) a.0 a.1).0 in
     let stays = λ (x : SegmentValue). leaves area x ≡ false in
     let front = Each-left stays ss (segment_at s l.bytes ∷ []) t in
@@ -112,8 +111,8 @@ linked_inside map area ss start v s p e =
     let a = bind_ok (linked_at v s) (λ l. armed_plan (Reserved map area) ss start l s) p e in
     armed_inside map area ss start a.0 s p a.2
 
-finished_inside : (map : MapValue) (area : Run) (ss : List SegmentValue) (start : Start) (v : Option PurgatoryValue) (s : Option Site) (p : Plan) → finished (Reserved map area) ss start v s ≡ Ok p → AreInside area p.segments
-unfolding finished
+finished_inside : (map : MapValue) (area : Run) (ss : List SegmentValue) (start : Start) (v : Option PurgatoryValue) (s : Option Site) (p : Plan) → finish (Reserved map area) ss start v s ≡ Ok p → AreInside area p.segments
+unfolding finish
 finished_inside map area ss start (Some v) (Some s) p e = linked_inside map area ss start v s p e
 finished_inside map area ss start (Some v) None p e = plain_inside map area ss start p e
 finished_inside map area ss start None s p e = plain_inside map area ss start p e

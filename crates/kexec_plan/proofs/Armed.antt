@@ -7,17 +7,17 @@ use Rattle.kexec_plan.specs.Ground.{Ground}
 use Rattle.purgatory_link.specs.Regions.{others, digest, region_table}
 use Rattle.kexec_plan.specs.declared.places.Site.{Site}
 use Rattle.kexec_plan.specs.Parts.{segment_at, start_at}
-use Rattle.kexec_plan.specs.Rules.{tested}
-use Rattle.kexec_plan.specs.Purgatory.{Linkage, armed}
+use Rattle.kexec_plan.specs.Rules.{test_segments}
+use Rattle.kexec_plan.specs.Purgatory.{Linkage, arm}
 use Rattle.kexec_plan.specs.Finish.{armed_segment, armed_plan}
 use Rattle.kexec_plan.proofs.Last.{last_set}
 
 -- segment number n of these with what the purgatory is to find
 abbrev pub with_armed : Linkage → Start → Site → List SegmentValue → ℕ → List SegmentValue
 with_armed l start s xs n =
-    slice_set xs n (segment_at s (armed l start (region_table (others xs n)) (digest xs n)))
+    slice_set xs n (segment_at s (arm l start (region_table (others xs n)) (digest xs n)))
 
-pub armed_is : (g : Ground) (ss : List SegmentValue) (start : Start) (l : Linkage) (s : Site) (segments new : List SegmentValue) (n : ℕ) → segments ≡ ss ++ segment_at s l.bytes ∷ [] → n ≡ length ss → tested g (ss ++ segment_at s l.bytes ∷ []) ≡ Ok segments → new ≡ with_armed l start s segments n → armed_plan g ss start l s ≡ Ok (record { segments = new; start = start_at l.symbols.start; regions = l.symbols.regions; digest = l.symbols.digest })
+pub armed_is : (g : Ground) (ss : List SegmentValue) (start : Start) (l : Linkage) (s : Site) (segments new : List SegmentValue) (n : ℕ) → segments ≡ ss ++ segment_at s l.bytes ∷ [] → n ≡ length ss → test_segments g (ss ++ segment_at s l.bytes ∷ []) ≡ Ok segments → new ≡ with_armed l start s segments n → armed_plan g ss start l s ≡ Ok (record { segments = new; start = start_at l.symbols.start; regions = l.symbols.regions; digest = l.symbols.digest })
 unfolding armed_plan
 armed_is g ss start l s segments new n e k t a =
     let is : new ≡ ss ++ armed_segment l start ss s ∷ [] =

@@ -8,7 +8,7 @@ use Rattle.elf_image.specs.Object.{Relocatable}
 use Rattle.purgatory_link.specs.declared.fault.LinkFault.{LinkFault}
 use Rattle.purgatory_link.specs.declared.fault.LinkFault.TheVariants as link
 use Rattle.purgatory_link.specs.Layout.{linked_size, is_rel}
-use Rattle.purgatory_link.specs.Link.{linking, linked, starts_of, unlinked}
+use Rattle.purgatory_link.specs.Link.{linking, link_at, starts_of, unlinked_bytes}
 use Rattle.purgatory_link.specs.Sym.{Image}
 use Rattle.purgatory_link.specs.Set.{symbol_of, is_inside}
 use Rattle.purgatory_link.specs.Regions.{digest}
@@ -17,7 +17,7 @@ use Rattle.kexec_plan.specs.declared.symbols.Symbols.{Symbols}
 use Rattle.kexec_plan.specs.Faults.{told_by, of_link}
 use Rattle.kexec_plan.specs.Purgatory.{PurgatoryValue, Linkage, place_by, symbol_place, symbol_address, symbols_of, linked_at, HasSymbols}
 use Rattle.std.specs.List.{position}
-use Rattle.purgatory_link.specs.Relocs.{relocated}
+use Rattle.purgatory_link.specs.Relocs.{relocate}
 use Rattle.purgatory_link.specs.Symbols.{names_of}
 
 told_ok : {A : Type 0} (r : Result A LinkFault) (x : A) → told_by of_link r ≡ Ok x → r ≡ Ok x
@@ -26,17 +26,17 @@ told_ok (Err link.Memory) x h = cc
 told_ok (Err e) x h = cc
 
 -- ---- it lies where it is linked at
-base_of : (base : ℕ) (o : Relocatable) (file : List ℕ) (n : ℕ) (image : Image) → linked base o file n ≡ Ok image → image.base ≡ base
-unfolding linked
+base_of : (base : ℕ) (o : Relocatable) (file : List ℕ) (n : ℕ) (image : Image) → link_at base o file n ≡ Ok image → image.base ≡ base
+unfolding link_at
 base_of base o file n image h =
-    let a = bind_ok (relocated base o file (starts_of o) (unlinked o file n)) (λ bytes. Ok (record { base = base; bytes = bytes; names = names_of base (starts_of o) o.symbols })) image h in
+    let a = bind_ok (relocate base o file (starts_of o) (unlinked_bytes o file n)) (λ bytes. Ok (record { base = base; bytes = bytes; names = names_of base (starts_of o) o.symbols })) image h in
     sym (ap (λ (i : Image). i.base) (ok_same (record { base = base; bytes = a.0; names = names_of base (starts_of o) o.symbols }) image a.2))
 
 base_is : (base : ℕ) (o : Relocatable) (file : List ℕ) (image : Image) → linking base o file ≡ Ok image → image.base ≡ base
 unfolding linking
 base_is base o file image h =
-    let a = bind_ok (unless_at link.RelSection (position (is_rel o.sections) o.sections)) (λ _. linked_size o.sections >>= λ n. linked base o file n) image h in
-    let b = bind_ok (linked_size o.sections) (λ n. linked base o file n) image a.2 in
+    let a = bind_ok (unless_at link.RelSection (position (is_rel o.sections) o.sections)) (λ _. linked_size o.sections >>= λ n. link_at base o file n) image h in
+    let b = bind_ok (linked_size o.sections) (λ n. link_at base o file n) image a.2 in
     base_of base o file b.0 image b.2
 
 -- ---- its symbols lie in its bytes

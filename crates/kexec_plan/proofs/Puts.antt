@@ -1,10 +1,10 @@
 -- The purgatory gets its table and its digest, and memory that has what is wanted of the segments passes the test.
 use Rattle.std.proofs.Common.{◌≡◌, ℕ, ◌+◌, ◌-◌, ◌*◌, ◌/◌, ◌<◌, ◌≤◌, ◌++◌, List, [], ◌∷◌, Bool, true, false, Some, refl, sym, ap, ◌∙◌, subst, arith, length, drop, map, set}
+use Rattle.std.specs.List.{AllByRecursion}
 use Rattle.std.specs.Prelude.{◌⊎◌, slice_get}
 use Rattle.std.proofs.lemmas.Bool.Decides.{nat_tests}
 use Rattle.std.proofs.lemmas.List.{length-take}
 use Rattle.kx_laws.proofs.Options.{some_same}
-use Rattle.kx_pages.specs.Lists.{Each}
 use Rattle.kx_pages.specs.Spans.{in_span, in_spans}
 use Rattle.kx_pages.specs.declared.image.Start.{Start}
 use Rattle.kx_fields.specs.Fields.{zeros, bytes_at, with_bytes}
@@ -25,7 +25,7 @@ use Rattle.purgatory_link.proofs.Replacing.{others_stay, digest_stays}
 use Rattle.purgatory_link.proofs.Placing.{regions_put}
 use Rattle.kexec_plan.specs.declared.places.Site.{Site}
 use Rattle.kexec_plan.specs.Parts.{segment_at}
-use Rattle.kexec_plan.specs.Purgatory.{Linkage, registers, registers_text, armed, HasSymbols}
+use Rattle.kexec_plan.specs.Purgatory.{Linkage, registers, registers_text, arm, HasSymbols}
 use Rattle.kexec_plan.specs.Finish.{armed_segment}
 use Rattle.kexec_plan.proofs.Last.{last_get, last_set}
 
@@ -54,7 +54,7 @@ span_has s q k = same_truth (in_span (span_of s) q) (is_page_of_segment s q) (λ
         let b : q < s.mem / 4096 + s.memsz / 4096 = omega (arith, high, k.starts, k.whole) in
         grind (arith, nat_tests)
 
-spans_have : (ss : List SegmentValue) (q : ℕ) → Each IsPlaced ss → in_spans (map span_of ss) q ≡ is_destination ss q
+spans_have : (ss : List SegmentValue) (q : ℕ) → AllByRecursion IsPlaced ss → in_spans (map span_of ss) q ≡ is_destination ss q
 spans_have [] q k = refl
 spans_have (s ∷ ss) q k =
     let here = span_has s q k.0 in
@@ -129,7 +129,7 @@ bare_put ss g r t s bare e has =
 
 -- it is the segment of the plan
 put_is_armed : (l : Linkage) (start : Start) (ss : List SegmentValue) (s : Site) → l.base ≡ s.at → IsBare (ss ++ segment_at s l.bytes ∷ []) → with_regions (ss ++ segment_at s (with_registers l start) ∷ []) (length ss) (segment_at s (with_registers l start)) l.symbols.regions l.symbols.digest ≡ armed_segment l start ss s
-unfolding armed
+unfolding arm
 put_is_armed l start ss s b bare =
     let old = segment_at s l.bytes in
     let new = segment_at s (with_registers l start) in

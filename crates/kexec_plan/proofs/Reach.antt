@@ -2,7 +2,7 @@
 use Rattle.std.proofs.Common.{◌≡◌, ℕ, ◌+◌, ◌-◌, ◌^◌, ◌≤◌, List, [], ◌∷◌, length, arith, length-append}
 use Rattle.std.specs.Prelude.{min}
 use Rattle.memory_map.specs.declared.row.Row.{Row}
-use Rattle.multiboot_image.specs.Modules.{PlacedModule, AreBelow, nul_ended, texts, texts_size}
+use Rattle.multiboot_image.specs.Modules.{PlacedModule, AreBelow, with_nul, texts, texts_size}
 use Rattle.multiboot_image.specs.Info.{IsInReach, info_size, name_place}
 use Rattle.kexec_plan.specs.declared.places.Site.{Site}
 use Rattle.kexec_plan.specs.Parts.{part_size}
@@ -14,7 +14,7 @@ use Rattle.kexec_plan.specs.Multiboot.{EndLow}
 below : (text : ℕ) (ms : List PlacedModule) → EndLow ms → text + texts_size ms ≤ 2 ^ 32 → AreBelow text ms
 below text [] low h = tt
 below text (m ∷ ms) low h =
-    let a = length-append (nul_ended m.text) (texts ms) in
+    let a = length-append (with_nul m.text) (texts ms) in
     let b = length-append m.text (0 ∷ []) in
     let first = low.0.low in
     (first, omega (arith, a, b, h), below (text + length m.text + 1) ms low.1 (omega (arith, a, b, h)))

@@ -12,10 +12,10 @@ use Rattle.purgatory_link.specs.Tie.{HasWanted}
 use Rattle.kexec_plan.specs.declared.places.Site.{Site}
 use Rattle.kexec_plan.specs.Requests.{Asked, Plan}
 use Rattle.kexec_plan.specs.Parts.{segment_at}
-use Rattle.kexec_plan.specs.Rules.{tested}
+use Rattle.kexec_plan.specs.Rules.{test_segments}
 use Rattle.kexec_plan.specs.Purgatory.{PurgatoryValue, Linkage, linked_at}
 use Rattle.kexec_plan.specs.Plan.{plan}
-use Rattle.kexec_plan.specs.Finish.{plain_plan, armed_plan, finished, HasTableApart}
+use Rattle.kexec_plan.specs.Finish.{plain_plan, armed_plan, finish, HasTableApart}
 use Rattle.kexec_plan.proofs.Bare.{armed_as, plain_as, tested_bare}
 use Rattle.kexec_plan.proofs.Linkages.{IsLinkage, linkage_is}
 use Rattle.kexec_plan.proofs.Puts.{armed_passes}
@@ -27,7 +27,7 @@ Passes M p = HasTableApart p → HasWanted M p.segments → test M p.regions p.d
 armed_plan_passes : (g : Ground) (ss : List SegmentValue) (start : Start) (l : Linkage) (s : Site) (p : Plan) (M : ℕ → List ℕ) → IsLinkage s l → armed_plan g ss start l s ≡ Ok p → Passes M p
 unfolding armed_plan
 armed_plan_passes g ss start l s p M is h =
-    let a = bind_ok (tested g (ss ++ segment_at s l.bytes ∷ [])) (λ _. Ok (armed_as ss start l s)) p h in
+    let a = bind_ok (test_segments g (ss ++ segment_at s l.bytes ∷ [])) (λ _. Ok (armed_as ss start l s)) p h in
     subst (Passes M) (ok_same (armed_as ss start l s) p a.2)
     (λ apart wanted. armed_passes l start ss s M is.base is.symbols (tested_bare g (ss ++ segment_at s l.bytes ∷ []) a.0 a.1) apart wanted)
 
@@ -40,12 +40,12 @@ linked_plan_passes g ss start o s p M h =
 plain_plan_passes : (g : Ground) (ss : List SegmentValue) (start : Start) (p : Plan) (M : ℕ → List ℕ) → plain_plan g ss start ≡ Ok p → Passes M p
 unfolding plain_plan
 plain_plan_passes g ss start p M h =
-    let a = bind_ok (tested g ss) (λ segments. Ok (plain_as segments start)) p h in
+    let a = bind_ok (test_segments g ss) (λ segments. Ok (plain_as segments start)) p h in
     subst (Passes M) (ok_same (plain_as a.0 start) p a.2)
     (λ apart wanted. absurd (⊎_elim (λ l. omega (arith, l)) (λ l. omega (arith, l)) apart))
 
-finished_passes : (M : ℕ → List ℕ) (g : Ground) (ss : List SegmentValue) (start : Start) (o : Option PurgatoryValue) (s : Option Site) (p : Plan) → finished g ss start o s ≡ Ok p → Passes M p
-unfolding finished
+finished_passes : (M : ℕ → List ℕ) (g : Ground) (ss : List SegmentValue) (start : Start) (o : Option PurgatoryValue) (s : Option Site) (p : Plan) → finish g ss start o s ≡ Ok p → Passes M p
+unfolding finish
 finished_passes M g ss start (Some o) (Some s) p h = linked_plan_passes g ss start o s p M h
 finished_passes M g ss start (Some o) None p h = plain_plan_passes g ss start p M h
 finished_passes M g ss start None s p h = plain_plan_passes g ss start p M h

@@ -16,19 +16,19 @@ use Rattle.kexec_plan.specs.declared.format.Format.TheVariants.{Raw, Elf, Bzimag
 use Rattle.kexec_plan.specs.Requests.{Asked, Plan}
 use Rattle.kexec_plan.specs.Formats.{ground_for, unused_part, format_of}
 use Rattle.kexec_plan.specs.Parts.{start_at}
-use Rattle.kexec_plan.specs.Places.{placed, placed_some, taken_by, taking}
+use Rattle.kexec_plan.specs.Places.{place, placed_some, taken_by, taking}
 use Rattle.kexec_plan.specs.Faults.{told_by, of_bzimage}
 use Rattle.kexec_plan.specs.Purgatory.{PurgatoryValue, some_purgatory, purgatory_rule}
 use Rattle.kexec_plan.specs.Linux.{linux_of, linux_start, command_of, linux_parts, linux_places}
 use Rattle.kexec_plan.specs.Multiboot.{multiboot_parts, multiboot_start, modules_onto}
 use Rattle.kexec_plan.specs.Plan.{fixed_plan, linux_plan, multiboot_plan, plan_as, plan}
-use Rattle.kexec_plan.specs.Finish.{finished}
+use Rattle.kexec_plan.specs.Finish.{finish}
 use Rattle.kexec_plan.specs.Kernels.{Kernel, raw_kernel, elf_kernel, multiboot_kernel}
 use Rattle.kexec_plan.specs.Table.{information_rule}
 
 -- what holds of each plan that is finished on this g
 module _ (g : Ground) (P : Plan → Type 0)
-    (end : (ss : List SegmentValue) (start : Start) (o : Option PurgatoryValue) (s : Option Site) (p : Plan) → finished g ss start o s ≡ Ok p → P p) where
+    (end : (ss : List SegmentValue) (start : Start) (o : Option PurgatoryValue) (s : Option Site) (p : Plan) → finish g ss start o s ≡ Ok p → P p) where
   abbrev Ends : Result Plan PlanFault → Type 0
   Ends r = (p : Plan) → r ≡ Ok p → P p
 
@@ -60,7 +60,7 @@ module _ (g : Ground) (P : Plan → Type 0)
       next_ends (multiboot_kernel r.kernel) _
       (λ k. next_ends (some_purgatory r.purgatory) _
       (λ o. next_ends (modules_onto (ram g) (record { taken = taken_by k.list; list = k.list; slots = [] }) r.modules) _
-      (λ l. next_ends (placed (ram g) l.taken (information_rule (rows g) (command_of r.command) l.slots)) _
+      (λ l. next_ends (place (ram g) l.taken (information_rule (rows g) (command_of r.command) l.slots)) _
       (λ i. next_ends (placed_some (ram g) (taking l.taken i) (option_map (purgatory_rule (most g false)) o)) _
       (λ s. end (multiboot_parts l i (rows g) (command_of r.command)) (multiboot_start k.entry i) o s)))))
 
@@ -73,7 +73,7 @@ module _ (g : Ground) (P : Plan → Type 0)
 
 -- every plan is one that was finished
 pub plan_ends : (P : Plan → Type 0)
-    → ((g : Ground) (ss : List SegmentValue) (start : Start) (o : Option PurgatoryValue) (s : Option Site) (p : Plan) → finished g ss start o s ≡ Ok p → P p)
+    → ((g : Ground) (ss : List SegmentValue) (start : Start) (o : Option PurgatoryValue) (s : Option Site) (p : Plan) → finish g ss start o s ≡ Ok p → P p)
     → (r : Asked) (m : Option MapValue) (p : Plan) → plan r m ≡ Ok p → P p
 unfolding plan
 plan_ends P end r m p e =

@@ -12,14 +12,14 @@ use Rattle.kexec_plan.specs.declared.places.Site.{Site}
 use Rattle.kexec_plan.specs.declared.symbols.Symbols.{Symbols}
 use Rattle.kexec_plan.specs.Requests.{Plan}
 use Rattle.kexec_plan.specs.Parts.{segment_at, start_at}
-use Rattle.kexec_plan.specs.Rules.{tested}
-use Rattle.kexec_plan.specs.Purgatory.{PurgatoryValue, Linkage, linked_at, armed}
+use Rattle.kexec_plan.specs.Rules.{test_segments}
+use Rattle.kexec_plan.specs.Purgatory.{PurgatoryValue, Linkage, linked_at, arm}
 
 -- the plan of these segments, without a purgatory
 unfoldable pub plain_plan : Ground → List SegmentValue → Start
     → Result Plan PlanFault
 plain_plan g ss start = do
-  segments ← tested g ss
+  segments ← test_segments g ss
   Ok (record { segments = segments; start = start; regions = 0; digest = 0 })
 
 -- segment number g of these has this property
@@ -29,7 +29,7 @@ OfSegment ss g P = (s : SegmentValue) → slice_get ss g ≡ Some s → P s
 -- the bytes of the purgatory, segment number g of these, with the registers for this start, with the table of the
 -- regions of all others and with their digest
 abbrev pub armed_among : List SegmentValue → ℕ → Linkage → Start → List ℕ
-armed_among ss g l start = armed l start (region_table (others ss g)) (digest ss g)
+armed_among ss g l start = arm l start (region_table (others ss g)) (digest ss g)
 
 abbrev pub armed_of : List SegmentValue → ℕ → ℕ → Symbols → Start → SegmentValue → List ℕ
 armed_of ss g base symbols start s =
@@ -44,7 +44,7 @@ armed_segment l start ss s =
 unfoldable pub armed_plan : Ground → List SegmentValue → Start → Linkage → Site
     → Result Plan PlanFault
 armed_plan g ss start l s = do
-  _ ← tested g (ss ++ segment_at s l.bytes ∷ [])
+  _ ← test_segments g (ss ++ segment_at s l.bytes ∷ [])
   Ok (record {
     segments = ss ++ armed_segment l start ss s ∷ [];
     start = start_at l.symbols.start;
@@ -53,13 +53,13 @@ armed_plan g ss start l s = do
   })
 
 -- the plan of these segments, and of the purgatory at its place
-unfoldable pub finished : Ground → List SegmentValue → Start → Option PurgatoryValue
+unfoldable pub finish : Ground → List SegmentValue → Start → Option PurgatoryValue
     → Option Site → Result Plan PlanFault
-finished g ss start (Some p) (Some s) = do
+finish g ss start (Some p) (Some s) = do
   l ← linked_at p s
   armed_plan g ss start l s
-finished g ss start (Some p) None = plain_plan g ss start
-finished g ss start None s = plain_plan g ss start
+finish g ss start (Some p) None = plain_plan g ss start
+finish g ss start None s = plain_plan g ss start
 
 -- The table of regions and the digest have no byte in common. The symbols of a purgatory may overlap, and one of the two
 -- is then written over the other. Without a purgatory both addresses are 0.

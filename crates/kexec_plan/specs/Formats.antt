@@ -6,7 +6,7 @@ use Rattle.elf_image.specs.FileHeader.{magic}
 use Rattle.multiboot_image.specs.declared.header.Header.{Header}
 use Rattle.multiboot_image.specs.declared.fault.MbFault.{MbFault}
 use Rattle.multiboot_image.specs.declared.fault.MbFault.TheVariants as multiboot
-use Rattle.multiboot_image.specs.Header.{header_found}
+use Rattle.multiboot_image.specs.Header.{find_header}
 use Rattle.memory_map.specs.Maps.{MapValue, reserved_area}
 use Rattle.kx_pages.specs.Spans.{Run}
 use Rattle.kexec_plan.specs.Ground.{Ground, Unknown, Machine, Reserved}
@@ -31,7 +31,7 @@ has_header (Err e) = true
 unfoldable pub shown_format : List ℕ → Result Format PlanFault
 shown_format file =
     if signature.is_bzimage file then Ok Bzimage
-    else if has_header (header_found file) then Ok Multiboot
+    else if has_header (find_header file) then Ok Multiboot
     else if starts_with nat_eq file magic then Ok Elf
     else Err faults.UnknownImage
 

@@ -7,7 +7,7 @@ use Rattle.elf_image.specs.Loads.{exec_reading}
 use Rattle.elf_image.specs.Image.{image}
 use Rattle.kexec_plan.specs.declared.fault.PlanFault.{PlanFault}
 use Rattle.kexec_plan.specs.declared.fault.PlanFault.TheVariants as faults
-use Rattle.multiboot_image.specs.Header.{header_found}
+use Rattle.multiboot_image.specs.Header.{find_header}
 use Rattle.multiboot_image.specs.Parts as multiboot
 use Rattle.kexec_plan.specs.Faults.{told_by, of_elf, of_multiboot}
 use Rattle.kexec_plan.specs.Parts.{whole_pages}
@@ -35,6 +35,6 @@ elf_kernel file = do
 -- a Multiboot kernel
 unfoldable pub multiboot_kernel : List ℕ → Result Kernel PlanFault
 multiboot_kernel file = do
-  header ← told_by of_multiboot (header_found file)
+  header ← told_by of_multiboot (find_header file)
   loaded ← told_by of_multiboot (multiboot.parts header file)
   Ok (record { list = loaded.list; entry = loaded.entry })

@@ -14,7 +14,7 @@ use Rattle.kexec_plan.specs.Requests.{Asked}
 use Rattle.kexec_plan.specs.Parts.{segment_at}
 use Rattle.kexec_plan.specs.Faults.{told_by, of_params}
 use Rattle.kexec_plan.specs.Ground.{Ground, ram, rows, most, headers_size}
-use Rattle.kexec_plan.specs.Places.{placed, placed_some, nothing, pages_of}
+use Rattle.kexec_plan.specs.Places.{place, placed_some, nothing, pages_of}
 use Rattle.kexec_plan.specs.Purgatory.{PurgatoryValue, purgatory_rule}
 use Rattle.kexec_plan.specs.Table.{kernel_rule, initrd_rule, headers_rule, parameters_rule}
 
@@ -33,9 +33,9 @@ abbrev pub command_of : Option (List ℕ) → List ℕ
 command_of command = unwrap_or command []
 
 -- a command before another word: a space behind it, where it is not empty
-abbrev pub separated : List ℕ → List ℕ
-separated [] = []
-separated (c ∷ cs) = (c ∷ cs) ++ 32 ∷ []
+abbrev pub with_space : List ℕ → List ℕ
+with_space [] = []
+with_space (c ∷ cs) = (c ∷ cs) ++ 32 ∷ []
 
 -- the word that tells a crash kernel where its headers lie, in KiB (Linux, Documentation/admin-guide/kdump)
 abbrev pub headers_word : ℕ → List ℕ
@@ -44,7 +44,7 @@ headers_word at = codes "elfcorehdr=" ++ (decimal (at / 1024) ++ codes "K")
 -- the command, which tells where the crash headers lie
 abbrev pub told_command : List ℕ → Option Site → List ℕ
 told_command command None = command
-told_command command (Some s) = separated command ++ headers_word s.at
+told_command command (Some s) = with_space command ++ headers_word s.at
 
 -- where the parts of a bzImage lie, and the command that tells a crash kernel of its headers
 pub record LinuxPlaces : Type 0 where
@@ -59,11 +59,11 @@ pub record LinuxPlaces : Type 0 where
 unfoldable pub linux_places : Ground → Kernel → LinuxAsked → Option PurgatoryValue
     → Result LinuxPlaces PlanFault
 linux_places g k r p = do
-  kernel ← placed (ram g) nothing (kernel_rule k (length r.kernel))
+  kernel ← place (ram g) nothing (kernel_rule k (length r.kernel))
   initrd ← placed_some (ram g) (pages_of (Some kernel ∷ [])) (option_map (initrd_rule k) r.initrd)
   headers ← placed_some (ram g) (pages_of (initrd ∷ Some kernel ∷ []))
       (option_map (headers_rule k) (headers_size g r.notes))
-  parameters ← placed (ram g) (pages_of (headers ∷ initrd ∷ Some kernel ∷ []))
+  parameters ← place (ram g) (pages_of (headers ∷ initrd ∷ Some kernel ∷ []))
       (parameters_rule k (rows g) (told_command (command_of r.command) headers))
   purgatory ← placed_some (ram g)
       (pages_of (Some parameters ∷ headers ∷ initrd ∷ Some kernel ∷ []))
@@ -89,10 +89,10 @@ segment_if (Some s) None = []
 segment_if None bytes = []
 
 -- address and length of an initrd
-abbrev pub initrd_told : Option Site → Option (List ℕ) → Option (ℕ × ℕ)
-initrd_told (Some s) (Some bytes) = Some (s.at, length bytes)
-initrd_told (Some s) None = None
-initrd_told None bytes = None
+abbrev pub initrd_range : Option Site → Option (List ℕ) → Option (ℕ × ℕ)
+initrd_range (Some s) (Some bytes) = Some (s.at, length bytes)
+initrd_range (Some s) None = None
+initrd_range None bytes = None
 
 -- the segments of these parts at their places: the kernel's protected-mode part, the initrd, the crash headers, the
 -- boot parameters
@@ -106,7 +106,7 @@ unfoldable pub linux_parts : Kernel → LinuxAsked → Option (List ℕ) → Lis
     → Result (List SegmentValue) PlanFault
 linux_parts k r headers rows s = do
   parameters ← told_by of_params
-      (params k rows s.command s.parameters.at (initrd_told s.initrd r.initrd))
+      (params k rows s.command s.parameters.at (initrd_range s.initrd r.initrd))
   Ok (linux_list s (drop k.start r.kernel) r.initrd headers parameters)
 
 -- the start at the 64-bit entry

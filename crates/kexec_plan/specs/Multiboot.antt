@@ -1,8 +1,8 @@
 -- A Multiboot kernel with its command and its modules (Multiboot Specification 0.6.96: eax holds 0x2badb002 at the start,
 -- and ebx the address of the information; the order of places is this project's own).
 use Rattle.std.specs.Prelude.{ℕ, ◌+◌, ◌^◌, ◌<◌, ◌++◌, Bool, List, [], ◌∷◌, length, Result, Ok}
+use Rattle.std.specs.List.{AllByRecursion}
 use Rattle.kx_laws.specs.Results.{◌>>=◌}
-use Rattle.kx_pages.specs.Lists.{Each}
 use Rattle.kx_pages.specs.Spans.{in_spans}
 use Rattle.kx_pages.specs.declared.image.Start.{Start}
 use Rattle.segments.specs.Values.{SegmentValue}
@@ -14,7 +14,7 @@ use Rattle.kexec_plan.specs.declared.places.Site.{Site}
 use Rattle.kexec_plan.specs.declared.multiboot_plan.Laying.{Laying}
 use Rattle.kexec_plan.specs.Modules.{AskedModule}
 use Rattle.kexec_plan.specs.Parts.{segment_at}
-use Rattle.kexec_plan.specs.Places.{placed, taking}
+use Rattle.kexec_plan.specs.Places.{place, taking}
 use Rattle.kexec_plan.specs.Table.{module_rule}
 
 -- what is laid so far: the pages that are taken, the segments, and the modules as the kernel is told of them
@@ -40,7 +40,7 @@ with_module l m s = record {
 
 unfoldable pub module_onto : (ℕ → Bool) → Laid → AskedModule → Result Laid PlanFault
 module_onto ram l m = do
-  s ← placed ram l.taken (module_rule m)
+  s ← place ram l.taken (module_rule m)
   Ok (with_module l m s)
 
 -- and these modules, one after another
@@ -55,7 +55,7 @@ pub record EndsLow (m : PlacedModule) : Type 0 where
   pub low : m.start + m.size < 2 ^ 32
 
 abbrev pub EndLow : List PlacedModule → Type 0
-EndLow ms = Each EndsLow ms
+EndLow ms = AllByRecursion EndsLow ms
 
 -- the segments, with that of the information behind them
 abbrev pub multiboot_parts : Laid → Site → List Row → List ℕ → List SegmentValue

@@ -17,8 +17,8 @@ site_at r None = Err (faults.NoHole r.part)
 site_at r (Some a) = Ok (record { at = a; size = part_size r.length })
 
 -- the place of a part by its rule, in RAM that is not taken
-unfoldable pub placed : (ℕ → Bool) → (ℕ → Bool) → PlaceRule → Result Site PlanFault
-placed ram taken r =
+unfoldable pub place : (ℕ → Bool) → (ℕ → Bool) → PlaceRule → Result Site PlanFault
+place ram taken r =
     if nat_le (2 ^ 46) (part_size r.length) then Err (faults.NoHole r.part)
     else site_at r (hole ram taken r)
 
@@ -47,7 +47,7 @@ unfoldable pub placed_some : (ℕ → Bool) → (ℕ → Bool) → Option PlaceR
     → Result (Option Site) PlanFault
 placed_some ram taken None = Ok None
 placed_some ram taken (Some r) = do
-  s ← placed ram taken r
+  s ← place ram taken r
   Ok (Some s)
 
 unfoldable pub taking_some : (ℕ → Bool) → Option Site → ℕ → Bool

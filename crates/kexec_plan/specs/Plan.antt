@@ -12,9 +12,9 @@ use Rattle.kexec_plan.specs.Formats.{format_of, ground_for, unused_part}
 use Rattle.kexec_plan.specs.Parts.{start_at}
 use Rattle.bzimage.specs.Kernel.{kernel_reading}
 use Rattle.kexec_plan.specs.Faults.{told_by, of_bzimage}
-use Rattle.kexec_plan.specs.Places.{placed, placed_some, taken_by, taking}
+use Rattle.kexec_plan.specs.Places.{place, placed_some, taken_by, taking}
 use Rattle.kexec_plan.specs.Purgatory.{some_purgatory, purgatory_rule}
-use Rattle.kexec_plan.specs.Finish.{finished}
+use Rattle.kexec_plan.specs.Finish.{finish}
 use Rattle.kexec_plan.specs.Kernels.{Kernel, raw_kernel, elf_kernel, multiboot_kernel}
 use Rattle.kexec_plan.specs.Table.{information_rule}
 use Rattle.kexec_plan.specs.Multiboot.{modules_onto, multiboot_parts, multiboot_start}
@@ -26,7 +26,7 @@ fixed_plan k file g = do
   purgatory ← some_purgatory file
   site ← placed_some (ram g) (taken_by k.list)
       (option_map (purgatory_rule (most g false)) purgatory)
-  finished g k.list (start_at k.entry) purgatory site
+  finish g k.list (start_at k.entry) purgatory site
 
 -- the plan of a bzImage: it is read, the purgatory is read, the parts are placed, and made
 unfoldable pub linux_plan : Asked → Ground → Result Plan PlanFault
@@ -36,7 +36,7 @@ linux_plan r g = do
   places ← linux_places g image (linux_of r) purgatory
   notes ← headers g r.notes
   parts ← linux_parts image (linux_of r) notes (rows g) places
-  finished g parts (linux_start places) purgatory places.purgatory
+  finish g parts (linux_start places) purgatory places.purgatory
 
 -- the plan of a Multiboot kernel: it is read, the purgatory is read, the modules are placed, then the information and the
 -- purgatory
@@ -45,11 +45,11 @@ multiboot_plan r g = do
   k ← multiboot_kernel r.kernel
   purgatory ← some_purgatory r.purgatory
   l ← modules_onto (ram g) (record { taken = taken_by k.list; list = k.list; slots = [] }) r.modules
-  information ← placed (ram g) l.taken
+  information ← place (ram g) l.taken
       (information_rule (rows g) (command_of r.command) l.slots)
   site ← placed_some (ram g) (taking l.taken information)
       (option_map (purgatory_rule (most g false)) purgatory)
-  finished g (multiboot_parts l information (rows g) (command_of r.command))
+  finish g (multiboot_parts l information (rows g) (command_of r.command))
       (multiboot_start k.entry information) purgatory site
 
 -- the plan of a kernel of this form

@@ -35,8 +35,8 @@ pub record IsPurgatory (p : PurgatoryValue) : Type 0 where
   pub most : p.size ≤ 16777216
   pub whole : p.size % 4096 ≡ 0
 
-unfoldable pub purgatory_read : List ℕ → Result PurgatoryValue PlanFault
-purgatory_read file = do
+unfoldable pub read_purgatory : List ℕ → Result PurgatoryValue PlanFault
+read_purgatory file = do
   object ← told_by of_object (object_reading file)
   size ← told_by of_link (linked_size object.sections)
   Ok (record { object = object; file = file; size = size })
@@ -44,7 +44,7 @@ purgatory_read file = do
 unfoldable pub some_purgatory : Option (List ℕ) → Result (Option PurgatoryValue) PlanFault
 some_purgatory None = Ok None
 some_purgatory (Some file) = do
-  p ← purgatory_read file
+  p ← read_purgatory file
   Ok (Some p)
 
 abbrev pub purgatory_rule : ℕ → PurgatoryValue → PlaceRule
@@ -107,8 +107,8 @@ unfoldable pub registers_text : Start → List ℕ
 registers_text s = written registers s (zeros 136)
 
 -- the bytes with these registers, this table of regions and this digest in place of the symbols, in this order
-unfoldable pub armed : Linkage → Start → List ℕ → List ℕ → List ℕ
-armed l start table digest =
+unfoldable pub arm : Linkage → Start → List ℕ → List ℕ → List ℕ
+arm l start table digest =
     with_bytes (l.symbols.digest - l.base) digest (
     with_bytes (l.symbols.regions - l.base) table (
     with_bytes (l.symbols.regs - l.base) (registers_text start) l.bytes))

@@ -28,6 +28,6 @@ abbrev pub unless_refused : List SegmentValue → Option SegFault
 unless_refused ss None = Ok ss
 unless_refused ss (Some fault) = Err (faults.Segments fault)
 
-unfoldable pub tested : Ground → List SegmentValue
+unfoldable pub test_segments : Ground → List SegmentValue
     → Result (List SegmentValue) PlanFault
-tested g ss = unless_refused ss (first_refusal g ss)
+test_segments g ss = unless_refused ss (first_refusal g ss)

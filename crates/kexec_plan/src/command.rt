@@ -1,7 +1,7 @@
 //! The command of a kernel, and what it tells a crash kernel.
 
 ghost use Rattle.std.specs.Prelude.{◌≡◌, ◌<◌, ◌^◌, length, option_map, string_bytes, IfOk};
-ghost use Rattle.kexec_plan.specs.Linux.{command_of, separated, headers_word, told_command};
+ghost use Rattle.kexec_plan.specs.Linux.{command_of, with_space, headers_word, told_command};
 
 use crate::places::Site;
 use std::alloc::{AllocError, Global};
@@ -25,8 +25,8 @@ fn headers_word(alloc: Global, at: u64) -> Result<String, AllocError>
 }
 
 // The command, and behind it a space where it is not empty.
-fn separated(alloc: Global, command: &[u8]) -> Result<Vec<u8>, AllocError>
-    ensures { IfOk result (λ v. v.items ≡ separated command.now) }
+fn with_space(alloc: Global, command: &[u8]) -> Result<Vec<u8>, AllocError>
+    ensures { IfOk result (λ v. v.items ≡ with_space command.now) }
 {
     let mut separated = Vec::from_slice(alloc, command)?;
     if !command.is_empty() {
@@ -46,7 +46,7 @@ pub(crate) fn told_command(
     match headers {
         Some(site) => {
             let word = headers_word(alloc, site.at)?;
-            let mut told = separated(alloc, command)?;
+            let mut told = with_space(alloc, command)?;
             told.extend_from_slice(word.as_bytes())?;
             Ok(told)
         }

@@ -5,14 +5,14 @@ ghost use Rattle.std.specs.List.{slice_set};
 ghost use Rattle.kx_laws.specs.Results.{Gives};
 ghost use Rattle.kexec_plan.specs.Requests.{planned_of};
 ghost use Rattle.kexec_plan.specs.Parts.{segment_at};
-ghost use Rattle.kexec_plan.specs.Rules.{tested};
+ghost use Rattle.kexec_plan.specs.Rules.{test_segments};
 ghost use Rattle.kexec_plan.specs.Purgatory.{IsLinkable, HasSymbols};
 ghost use Rattle.kexec_plan.specs.Finish.{OfSegment, armed_of, plain_plan, armed_segment};
-ghost use Rattle.kexec_plan.specs.Finish.{armed_plan, finished};
+ghost use Rattle.kexec_plan.specs.Finish.{armed_plan, finish};
 
 use crate::fault::PlanFault;
 use crate::fixed_kernels::start_at;
-use crate::ground::{Ground, tested};
+use crate::ground::{Ground, test_segments};
 use crate::places::{Site, segment_at};
 use crate::purgatory::{Linkage, Purgatory, arm};
 use crate::request::Planned;
@@ -97,7 +97,7 @@ fn armed_plan(
     } = linkage;
     let purgatory = list.len();
     list.push(segment_at(site, bytes))?;
-    let mut segments = tested(alloc, ground, list)?;
+    let mut segments = test_segments(alloc, ground, list)?;
     arm_segment(alloc, &mut segments, purgatory, base, symbols, start)?;
     Ok(Planned {
         segments,
@@ -108,8 +108,8 @@ fn armed_plan(
 }
 
 /// The plan of these segments, and of the purgatory at its place behind them.
-#[tactic(auto, unfolding(crate::specs::Finish::finished, crate::specs::Finish::plain_plan))]
-pub(crate) fn finished(
+#[tactic(auto, unfolding(crate::specs::Finish::finish, crate::specs::Finish::plain_plan))]
+pub(crate) fn finish(
     alloc: Global,
     ground: &Ground<'_>,
     list: Vec<Segment>,
@@ -119,7 +119,7 @@ pub(crate) fn finished(
 ) -> Result<Planned, PlanFault>
     requires { IsLinkable purgatory site }
     ensures { Gives PlanFault.Memory planned_of result
-        (finished ground.now list.items start purgatory site) }
+        (finish ground.now list.items start purgatory site) }
 {
     match (purgatory, site) {
         (Some(purgatory), Some(site)) => {
@@ -127,7 +127,7 @@ pub(crate) fn finished(
             armed_plan(alloc, ground, list, start, linkage, site)
         }
         _ => Ok(Planned {
-            segments: tested(alloc, ground, list)?,
+            segments: test_segments(alloc, ground, list)?,
             start,
             regions: 0,
             digest: 0,

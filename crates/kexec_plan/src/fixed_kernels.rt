@@ -8,7 +8,7 @@ ghost use Rattle.kexec_plan.specs.Kernels.{raw_kernel, elf_kernel, multiboot_ker
 ghost use Rattle.kexec_plan.specs.Plan.{fixed_plan};
 
 use crate::fault::PlanFault;
-use crate::finishing::finished;
+use crate::finishing::finish;
 use crate::ground::Ground;
 use crate::places::{place_some, taken_by};
 use crate::purgatory::{some_purgatory, some_purgatory_rule};
@@ -110,5 +110,5 @@ pub(crate) fn fixed_plan(
     let mut taken = taken_by(alloc, &list)?;
     let rule = some_purgatory_rule(&purgatory, ground.most(false));
     let site = place_some(ground.ram(), &mut taken, rule)?;
-    finished(alloc, ground, list, start_at(entry), purgatory, site)
+    finish(alloc, ground, list, start_at(entry), purgatory, site)
 }

@@ -7,7 +7,7 @@ ghost use Rattle.segments.specs.Rules.{Answers, refusal};
 ghost use Rattle.kexec_plan.specs.Ground.{ram, rows, most, headers, headers_size, Reserved};
 ghost use Rattle.kexec_plan.specs.Formats.{open_ground};
 ghost use Rattle.kexec_plan.specs.Requests.{lent};
-ghost use Rattle.kexec_plan.specs.Rules.{first_refusal, ram_runs, tested};
+ghost use Rattle.kexec_plan.specs.Rules.{first_refusal, ram_runs, test_segments};
 ghost use Rattle.kexec_plan.specs.Table.{headers_rule};
 
 use crate::fault::PlanFault;
@@ -67,7 +67,7 @@ impl<'a> Ground<'a> {
     }
 
     /// The reserved area of a machine.
-    pub(crate) fn reserved(
+    pub(crate) fn with_reserved(
         alloc: Global,
         map: &'a Map,
         area: Span,
@@ -168,15 +168,15 @@ fn test_over(alloc: Global, map: &Map, kind: Kind, list: Vec<Segment>) -> Result
 }
 
 /// The segments of the list, or that they are refused.
-#[tactic(auto, unfolding(crate::specs::Rules::tested))]
-pub(crate) fn tested(
+#[tactic(auto, unfolding(crate::specs::Rules::test_segments))]
+pub(crate) fn test_segments(
     alloc: Global,
     ground: &Ground<'_>,
     list: Vec<Segment>,
 ) -> Result<Segments, PlanFault>
     ensures same { IfOk result (λ s. s ≡ list.items) }
     ensures exact { Gives PlanFault.Memory (λ s. s) result
-        (tested ground.now list.items) }
+        (test_segments ground.now list.items) }
 {
     match ground.test(alloc, list) {
         Ok(segments) => Ok(segments),

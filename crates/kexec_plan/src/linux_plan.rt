@@ -7,11 +7,11 @@ ghost use Rattle.kexec_plan.specs.Requests.{planned_of, request_of};
 ghost use Rattle.kexec_plan.specs.Parts.{segment_at};
 ghost use Rattle.kexec_plan.specs.Purgatory.{IsLinkable};
 ghost use Rattle.kexec_plan.specs.Linux.{linux_list, linux_parts, segment_if};
-ghost use Rattle.kexec_plan.specs.Linux.{linux_of, initrd_told, AreLow};
+ghost use Rattle.kexec_plan.specs.Linux.{linux_of, initrd_range, AreLow};
 ghost use Rattle.kexec_plan.specs.Plan.{linux_plan};
 
 use crate::fault::PlanFault;
-use crate::finishing::finished;
+use crate::finishing::finish;
 use crate::ground::Ground;
 use crate::linux_places::{LinuxPlaces, linux_places};
 use crate::places::{Site, segment_at};
@@ -43,8 +43,8 @@ fn push_some(
 }
 
 // Address and length of the initrd.
-fn initrd_told(site: Option<Site>, initrd: &Option<Vec<u8>>) -> Option<(u64, u64)>
-    ensures { result ≡ initrd_told site (option_map (λ v. v.items) initrd.now) }
+fn initrd_range(site: Option<Site>, initrd: &Option<Vec<u8>>) -> Option<(u64, u64)>
+    ensures { result ≡ initrd_range site (option_map (λ v. v.items) initrd.now) }
 {
     match (site, initrd) {
         (Some(site), Some(initrd)) => Some((site.at, initrd.len() as u64)),
@@ -94,7 +94,7 @@ fn linux_parts(
         initrd,
         ..
     } = request;
-    let told = initrd_told(places.initrd, &initrd);
+    let told = initrd_range(places.initrd, &initrd);
     let at = places.parameters.at;
     let parameters = make(alloc, image, rows, &places.command, at, told)?;
     kernel.drain(..image.start);
@@ -123,5 +123,5 @@ pub(crate) fn linux_plan(
         rbx: 0,
         rsi: places.parameters.at,
     };
-    finished(alloc, ground, list, start, purgatory, places.purgatory)
+    finish(alloc, ground, list, start, purgatory, places.purgatory)
 }

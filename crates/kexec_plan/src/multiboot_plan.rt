@@ -14,7 +14,7 @@ ghost use Rattle.kexec_plan.specs.Plan.{multiboot_plan};
 
 use crate::command::command_of;
 use crate::fault::PlanFault;
-use crate::finishing::finished;
+use crate::finishing::finish;
 use crate::fixed_kernels::{Kernel, read_multiboot};
 use crate::ground::Ground;
 use crate::places::{Site, place, place_some, segment_at, taken_by};
@@ -138,5 +138,5 @@ pub(crate) fn multiboot_plan(
         rbx: information.at,
         rsi: 0,
     };
-    finished(alloc, ground, laying.list, start, purgatory, site)
+    finish(alloc, ground, laying.list, start, purgatory, site)
 }

@@ -4,7 +4,7 @@ ghost use Rattle.std.specs.Prelude.{◌≡◌, ◌+◌, ◌*◌, ◌<◌, ◌≤
 ghost use Rattle.kx_laws.specs.Results.{Gives};
 ghost use Rattle.kx_pages.specs.Spans.{in_span, in_spans};
 ghost use Rattle.kexec_plan.specs.Parts.{part_size, segment_at};
-ghost use Rattle.kexec_plan.specs.Places.{is_met, taken_by, placed, placed_some, taking, taking_some, pages_at, IsPlacedBy, IsPlacedIf};
+ghost use Rattle.kexec_plan.specs.Places.{is_met, taken_by, place, placed_some, taking, taking_some, pages_at, IsPlacedBy, IsPlacedIf};
 
 use crate::fault::{Part, PlanFault};
 use hole_search::{End, find};
@@ -84,11 +84,11 @@ pub(crate) fn taken_by(alloc: Global, list: &[Segment]) -> Result<PageSet, Alloc
 }
 
 // The place of a part by its rule, in RAM that is not taken.
-#[tactic(auto, unfolding(crate::specs::Places::placed), using(crate::proofs::Holes::hole_is))]
-fn found(ram: &PageSet, taken: &PageSet, rule: PlaceRule) -> Result<Site, PlanFault>
+#[tactic(auto, unfolding(crate::specs::Places::place), using(crate::proofs::Holes::hole_is))]
+fn place(ram: &PageSet, taken: &PageSet, rule: PlaceRule) -> Result<Site, PlanFault>
     requires some_align { 0 < rule.align }
     requires align { rule.align ≤ 2 ^ 45 }
-    ensures exact { result ≡ placed (in_spans ram.now) (in_spans taken.now) rule }
+    ensures exact { result ≡ place (in_spans ram.now) (in_spans taken.now) rule }
     ensures place { IfOk result (IsPlacedBy rule) }
 {
     if rule.length > ADDRESS_LIMIT - PAGE_SIZE {
@@ -116,11 +116,11 @@ pub(crate) fn place(ram: &PageSet, taken: &mut PageSet, rule: PlaceRule) -> Resu
     requires some_align { 0 < rule.align }
     requires align { rule.align ≤ 2 ^ 45 }
     ensures exact { Gives PlanFault.Memory (λ s. s) result
-        (placed (in_spans ram.now) (in_spans taken.old) rule) }
+        (place (in_spans ram.now) (in_spans taken.old) rule) }
     ensures place { IfOk result (IsPlacedBy rule) }
     ensures taken { IfOk result (λ s. in_spans taken.new ≡ taking (in_spans taken.old) s) }
 {
-    let site = found(ram, taken, rule)?;
+    let site = place(ram, taken, rule)?;
     take(taken, site)?;
     Ok(site)
 }

@@ -36,7 +36,7 @@ fn ground_for<'a>(
         return Err(PlanFault::NoReserved);
     };
     let area = map.reserved_area().ok_or(PlanFault::NoReserved)?;
-    Ok(Ground::reserved(alloc, map, area)?)
+    Ok(Ground::with_reserved(alloc, map, area)?)
 }
 
 // The plan of a kernel of this form.

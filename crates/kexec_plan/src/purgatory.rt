@@ -2,7 +2,7 @@
 
 ghost use Rattle.std.specs.Prelude.{◌≡◌, ◌+◌, ◌-◌, ◌≤◌, option_map, length, Some, IfOk};
 ghost use Rattle.kx_laws.specs.Results.{Gives};
-ghost use Rattle.kexec_plan.specs.Purgatory.{purgatory_read, some_purgatory, purgatory_rule, linked_at, armed, HasSymbols, IsLinkable};
+ghost use Rattle.kexec_plan.specs.Purgatory.{read_purgatory, some_purgatory, purgatory_rule, linked_at, arm, HasSymbols, IsLinkable};
 
 use crate::fault::{Part, PlanFault};
 use crate::places::{PlaceRule, Site};
@@ -53,9 +53,9 @@ impl Model for Linkage {
 }
 
 /// The purgatory of this file, or why it is none.
-#[tactic(auto, unfolding(crate::specs::Purgatory::purgatory_read))]
+#[tactic(auto, unfolding(crate::specs::Purgatory::read_purgatory))]
 fn read_purgatory(alloc: Global, file: Vec<u8>) -> Result<Purgatory, PlanFault>
-    ensures { Gives PlanFault.Memory (λ p. p) result (purgatory_read file.items) }
+    ensures { Gives PlanFault.Memory (λ p. p) result (read_purgatory file.items) }
 {
     let object = read_object(alloc, &file).map_err(PlanFault::of_object)?;
     let size = size(&object)?;
@@ -105,7 +105,7 @@ impl Purgatory {
 }
 
 /// Puts registers, table and digest in place of the symbols, in this order.
-#[tactic(auto, unfolding(crate::specs::Purgatory::armed))]
+#[tactic(auto, unfolding(crate::specs::Purgatory::arm))]
 pub(crate) fn arm(
     bytes: &mut [u8],
     base: u64,
@@ -118,7 +118,7 @@ pub(crate) fn arm(
     requires table { length table.now ≡ 256 }
     requires digest { length digest.now ≡ 32 }
     ensures { bytes.new
-        ≡ armed (record { base = base; bytes = bytes.old; symbols = symbols }) start table.now
+        ≡ arm (record { base = base; bytes = bytes.old; symbols = symbols }) start table.now
         digest.now }
 {
     let registers = registers_of(start);

@@ -29,16 +29,16 @@ abbrev pub is_written : Kind → Bool
 is_written kind.Output = true
 is_written other = false
 
-abbrev pub or_shared : GivenValue → Option Text → Option (GivenValue × Text)
+abbrev pub or_shared_file : GivenValue → Option Text → Option (GivenValue × Text)
     → Option (GivenValue × Text)
-or_shared g None later = later
-or_shared g (Some name) later = Some (g, name)
+or_shared_file g None later = later
+or_shared_file g (Some name) later = Some (g, name)
 
 -- the first of these files that is written and has the text of another of all that are given, and that one's name
 abbrev pub shared_among : List GivenValue → List GivenValue → Option (GivenValue × Text)
 shared_among [] given = None
 shared_among (g ∷ gs) given =
-    if is_written g.kind then or_shared g (other_with given g) (shared_among gs given)
+    if is_written g.kind then or_shared_file g (other_with given g) (shared_among gs given)
     else shared_among gs given
 
 abbrev pub shared_value : Given × Bor Text → GivenValue × Text

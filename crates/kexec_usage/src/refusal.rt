@@ -3,7 +3,7 @@
 ghost use Rattle.std.specs.Prelude.{◌≡◌, map, string_bytes};
 ghost use Rattle.kexec_usage.specs.OldWords.{meant_of};
 
-use crate::files::shared;
+use crate::files::shared_file;
 use crate::given::{Answer, Given, text_of};
 use crate::lookup::option_in;
 use crate::mistake::Mistake;
@@ -144,7 +144,7 @@ fn write_number<W: Write>(
 }
 
 fn write_same_name<W: Write>(given: &[Given<'_>], f: &mut Formatter<W>) -> fmt::Result {
-    let Some((file, other)) = shared(given) else {
+    let Some((file, other)) = shared_file(given) else {
         return write!(f, "{}", UsageWhy::SameName);
     };
     let name = file.name;

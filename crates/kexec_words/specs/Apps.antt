@@ -22,8 +22,8 @@ option id value kind =
     record { id = id; name = codes "--" ++ id; value = value; form = form.Value; kind = kind }
 
 -- the same, without which the command is refused
-abbrev pub needed : Text → Text → Kind → ArgumentValue
-needed id value kind =
+abbrev pub needed_option : Text → Text → Kind → ArgumentValue
+needed_option id value kind =
     record { id = id; name = codes "--" ++ id; value = value; form = form.Needed; kind = kind }
 
 -- an option without a value: --id
@@ -50,8 +50,8 @@ file id = option id (codes "FILE") kind.Input
 abbrev pub address : Text → ArgumentValue
 address id = option id (codes "ADDRESS") kind.Address
 
-abbrev pub map_needed : ArgumentValue
-map_needed = needed (codes "map") (codes "FILE") kind.Input
+abbrev pub needed_map : ArgumentValue
+needed_map = needed_option (codes "map") (codes "FILE") kind.Input
 
 -- the modules of `boot` and `load`: no word, one or several
 abbrev pub modules : ArgumentValue
@@ -86,7 +86,7 @@ load_arguments =
 abbrev pub load_panic_arguments : List ArgumentValue
 load_panic_arguments =
     input (codes "MEMORY") ∷ output (codes "OUT") ∷ output (codes "RECORD")
-    ∷ input (codes "KERNEL") ∷ map_needed
+    ∷ input (codes "KERNEL") ∷ needed_map
     ∷ option (codes "command") (codes "TEXT") kind.Text ∷ file (codes "initrd")
     ∷ file (codes "purgatory") ∷ file (codes "notes") ∷ []
 
@@ -114,12 +114,12 @@ abbrev pub boot_resident_arguments : List ArgumentValue
 boot_resident_arguments =
     input (codes "MEMORY") ∷ input (codes "POOL") ∷ output (codes "OUT")
     ∷ input (codes "KERNEL") ∷ input (codes "PAIRS")
-    ∷ needed (codes "at") (codes "ADDRESS") kind.Address ∷ []
+    ∷ needed_option (codes "at") (codes "ADDRESS") kind.Address ∷ []
 
 abbrev pub drill_arguments : List ArgumentValue
 drill_arguments =
     input (codes "MEMORY") ∷ input (codes "POOL") ∷ output (codes "OUT")
-    ∷ input (codes "EVENTS") ∷ map_needed ∷ []
+    ∷ input (codes "EVENTS") ∷ needed_map ∷ []
 
 abbrev pub core_arguments : List ArgumentValue
 core_arguments =

@@ -52,7 +52,7 @@ fn resident_address_in(matches: &ArgMatches<'_>) -> Result<Option<u64>, Which>
     address_in(option_in(matches, "at"), Which::At)
 }
 
-fn boot_resident_found(alloc: Global, matches: &ArgMatches<'_>) -> Result<BootResident, WordsFault>
+fn boot_resident_in(alloc: Global, matches: &ArgMatches<'_>) -> Result<BootResident, WordsFault>
     ensures { Answers boot_resident_value
         (boot_resident_in (rows_of (found_of matches.now))) result }
 {
@@ -74,5 +74,5 @@ pub(crate) fn read_boot_resident(
         (answer_by boot_resident_app boot_resident_in (map string_bytes words.now)) result }
 {
     let matches = matches_for(alloc, "boot-resident", BOOT_RESIDENT, words)?;
-    boot_resident_found(alloc, &matches)
+    boot_resident_in(alloc, &matches)
 }

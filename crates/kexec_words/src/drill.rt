@@ -44,7 +44,7 @@ fn drill_from(
     }
 }
 
-fn drill_found(alloc: Global, matches: &ArgMatches<'_>) -> Result<Drill, WordsFault>
+fn drill_in(alloc: Global, matches: &ArgMatches<'_>) -> Result<Drill, WordsFault>
     ensures { Answers drill_value (drill_in (rows_of (found_of matches.now))) result }
 {
     let memory = name_in(alloc, matches, "MEMORY")?;
@@ -61,5 +61,5 @@ pub(crate) fn read_drill(alloc: Global, words: &[String]) -> Result<Drill, Words
         (answer_by drill_app drill_in (map string_bytes words.now)) result }
 {
     let matches = matches_for(alloc, "drill", DRILL, words)?;
-    drill_found(alloc, &matches)
+    drill_in(alloc, &matches)
 }

@@ -100,7 +100,7 @@ pub(crate) fn name_in(
     String::from_str(alloc, word_in(matches, id))
 }
 
-fn owned(alloc: Global, text: Option<&str>) -> Result<Option<String>, AllocError>
+fn own(alloc: Global, text: Option<&str>) -> Result<Option<String>, AllocError>
     ensures { IfOk result (λ t. option_map string_bytes t ≡ text_in text.entry) }
 {
     match text {
@@ -118,10 +118,10 @@ pub(crate) fn some_name_in(
     ensures { IfOk result (λ t. option_map string_bytes t
         ≡ first_of id.now (rows_of (found_of matches.now))) }
 {
-    owned(alloc, option_in(matches, id))
+    own(alloc, option_in(matches, id))
 }
 
-fn all_owned(alloc: Global, texts: &[&str]) -> Result<Vec<String>, AllocError>
+fn own_all(alloc: Global, texts: &[&str]) -> Result<Vec<String>, AllocError>
     ensures { IfOk result (λ v. map string_bytes v.items ≡ texts_in texts.now) }
 {
     let mut names = Vec::with_capacity(alloc, texts.len())?;
@@ -141,7 +141,7 @@ pub(crate) fn names_in(
         ≡ words_of id.now (rows_of (found_of matches.now))) }
 {
     match matches.get_strs(id) {
-        Some(texts) => all_owned(alloc, texts),
+        Some(texts) => own_all(alloc, texts),
         None => Ok(Vec::new(alloc)),
     }
 }

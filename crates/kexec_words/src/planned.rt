@@ -110,7 +110,7 @@ fn boot_from(inputs: Inputs, out: String, numbers: PlanNumbers) -> Result<Boot, 
     })
 }
 
-fn boot_found(alloc: Global, matches: &ArgMatches<'_>) -> Result<Boot, WordsFault>
+fn boot_in(alloc: Global, matches: &ArgMatches<'_>) -> Result<Boot, WordsFault>
     ensures { Answers boot_value (boot_in (rows_of (found_of matches.now))) result }
 {
     let numbers = numbers_in(matches, option_in(matches, "kept"))?;
@@ -124,7 +124,7 @@ pub(crate) fn read_boot(alloc: Global, words: &[String]) -> Result<Boot, WordsFa
     ensures { Answers boot_value (answer_by boot_app boot_in (map string_bytes words.now)) result }
 {
     let matches = matches_for(alloc, "boot", BOOT, words)?;
-    boot_found(alloc, &matches)
+    boot_in(alloc, &matches)
 }
 
 fn load_from(
@@ -148,7 +148,7 @@ fn load_from(
     })
 }
 
-fn load_found(alloc: Global, matches: &ArgMatches<'_>) -> Result<Load, WordsFault>
+fn load_in(alloc: Global, matches: &ArgMatches<'_>) -> Result<Load, WordsFault>
     ensures { Answers load_value (load_in (rows_of (found_of matches.now))) result }
 {
     let numbers = numbers_in(matches, None)?;
@@ -163,5 +163,5 @@ pub(crate) fn read_load(alloc: Global, words: &[String]) -> Result<Load, WordsFa
     ensures { Answers load_value (answer_by load_app load_in (map string_bytes words.now)) result }
 {
     let matches = matches_for(alloc, "load", LOAD, words)?;
-    load_found(alloc, &matches)
+    load_in(alloc, &matches)
 }

@@ -57,7 +57,7 @@ fn load_panic_from(
     }
 }
 
-fn load_panic_found(alloc: Global, matches: &ArgMatches<'_>) -> Result<LoadPanic, WordsFault>
+fn load_panic_in(alloc: Global, matches: &ArgMatches<'_>) -> Result<LoadPanic, WordsFault>
     ensures { Answers load_panic_value (load_panic_in (rows_of (found_of matches.now))) result }
 {
     let inputs = crash_inputs_in(alloc, matches)?;
@@ -73,7 +73,7 @@ pub(crate) fn read_load_panic(alloc: Global, words: &[String]) -> Result<LoadPan
         (answer_by load_panic_app load_panic_in (map string_bytes words.now)) result }
 {
     let matches = matches_for(alloc, "load-panic", LOAD_PANIC, words)?;
-    load_panic_found(alloc, &matches)
+    load_panic_in(alloc, &matches)
 }
 
 fn loaded_names(alloc: Global, matches: &ArgMatches<'_>) -> Result<LoadNames, AllocError>
@@ -86,7 +86,7 @@ fn loaded_names(alloc: Global, matches: &ArgMatches<'_>) -> Result<LoadNames, Al
     })
 }
 
-fn loaded_found(alloc: Global, matches: &ArgMatches<'_>) -> Result<LoadNames, WordsFault>
+fn loaded_in(alloc: Global, matches: &ArgMatches<'_>) -> Result<LoadNames, WordsFault>
     ensures { Answers load_names_value (load_names_in (rows_of (found_of matches.now))) result }
 {
     Ok(loaded_names(alloc, matches)?)
@@ -98,7 +98,7 @@ pub(crate) fn read_check(alloc: Global, words: &[String]) -> Result<LoadNames, W
         (answer_by check_app load_names_in (map string_bytes words.now)) result }
 {
     let matches = matches_for(alloc, "check", LOADED, words)?;
-    loaded_found(alloc, &matches)
+    loaded_in(alloc, &matches)
 }
 
 // The words after `dump`.
@@ -107,7 +107,7 @@ pub(crate) fn read_dump(alloc: Global, words: &[String]) -> Result<LoadNames, Wo
         (answer_by dump_app load_names_in (map string_bytes words.now)) result }
 {
     let matches = matches_for(alloc, "dump", LOADED, words)?;
-    loaded_found(alloc, &matches)
+    loaded_in(alloc, &matches)
 }
 
 fn exec_names(alloc: Global, matches: &ArgMatches<'_>) -> Result<Exec, AllocError>
@@ -132,7 +132,7 @@ fn exec_from(exec: Exec) -> Result<Exec, WordsFault>
     Ok(exec)
 }
 
-fn exec_found(alloc: Global, matches: &ArgMatches<'_>) -> Result<Exec, WordsFault>
+fn exec_in(alloc: Global, matches: &ArgMatches<'_>) -> Result<Exec, WordsFault>
     ensures { Answers exec_value (exec_in (rows_of (found_of matches.now))) result }
 {
     let exec = exec_names(alloc, matches)?;
@@ -144,7 +144,7 @@ pub(crate) fn read_exec(alloc: Global, words: &[String]) -> Result<Exec, WordsFa
     ensures { Answers exec_value (answer_by exec_app exec_in (map string_bytes words.now)) result }
 {
     let matches = matches_for(alloc, "exec", EXEC, words)?;
-    exec_found(alloc, &matches)
+    exec_in(alloc, &matches)
 }
 
 fn trace_numbers_in(matches: &ArgMatches<'_>) -> Result<TraceNumbers, Which>
@@ -175,7 +175,7 @@ fn trace_from(memory: String, out: String, numbers: TraceNumbers) -> Result<Trac
     })
 }
 
-fn trace_found(alloc: Global, matches: &ArgMatches<'_>) -> Result<Trace, WordsFault>
+fn trace_in(alloc: Global, matches: &ArgMatches<'_>) -> Result<Trace, WordsFault>
     ensures { Answers trace_value (trace_in (rows_of (found_of matches.now))) result }
 {
     let numbers = trace_numbers_in(matches)?;
@@ -190,7 +190,7 @@ pub(crate) fn read_trace(alloc: Global, words: &[String]) -> Result<Trace, Words
         (answer_by trace_app trace_in (map string_bytes words.now)) result }
 {
     let matches = matches_for(alloc, "trace", TRACE, words)?;
-    trace_found(alloc, &matches)
+    trace_in(alloc, &matches)
 }
 
 fn migrate_names(alloc: Global, matches: &ArgMatches<'_>) -> Result<Migrate, AllocError>
@@ -213,7 +213,7 @@ fn migrate_from(migrate: Migrate) -> Result<Migrate, WordsFault>
     Ok(migrate)
 }
 
-fn migrate_found(alloc: Global, matches: &ArgMatches<'_>) -> Result<Migrate, WordsFault>
+fn migrate_in(alloc: Global, matches: &ArgMatches<'_>) -> Result<Migrate, WordsFault>
     ensures { Answers migrate_value (migrate_in (rows_of (found_of matches.now))) result }
 {
     let migrate = migrate_names(alloc, matches)?;
@@ -226,7 +226,7 @@ pub(crate) fn read_migrate(alloc: Global, words: &[String]) -> Result<Migrate, W
         (answer_by migrate_app migrate_in (map string_bytes words.now)) result }
 {
     let matches = matches_for(alloc, "migrate", MIGRATE, words)?;
-    migrate_found(alloc, &matches)
+    migrate_in(alloc, &matches)
 }
 
 fn sample_number_in(matches: &ArgMatches<'_>) -> Result<u64, Which>
@@ -235,7 +235,7 @@ fn sample_number_in(matches: &ArgMatches<'_>) -> Result<u64, Which>
     sample_number(word_in(matches, "NUMBER"))
 }
 
-fn sample_found(matches: &ArgMatches<'_>) -> Result<u64, WordsFault>
+fn sample_in(matches: &ArgMatches<'_>) -> Result<u64, WordsFault>
     ensures { Answers number_value (sample_in (rows_of (found_of matches.now))) result }
 {
     Ok(sample_number_in(matches)?)
@@ -247,7 +247,7 @@ pub(crate) fn read_sample(alloc: Global, words: &[String]) -> Result<u64, WordsF
         (answer_by sample_app sample_in (map string_bytes words.now)) result }
 {
     let matches = matches_for(alloc, "sample", SAMPLE, words)?;
-    sample_found(&matches)
+    sample_in(&matches)
 }
 
 fn core_address_in(matches: &ArgMatches<'_>) -> Result<u64, Which>
@@ -272,7 +272,7 @@ fn core_from(memory: String, out: String, address: u64) -> Result<Core, WordsFau
     })
 }
 
-fn core_found(alloc: Global, matches: &ArgMatches<'_>) -> Result<Core, WordsFault>
+fn core_in(alloc: Global, matches: &ArgMatches<'_>) -> Result<Core, WordsFault>
     ensures { Answers core_value (core_in (rows_of (found_of matches.now))) result }
 {
     let address = core_address_in(matches)?;
@@ -286,5 +286,5 @@ pub(crate) fn read_core(alloc: Global, words: &[String]) -> Result<Core, WordsFa
     ensures { Answers core_value (answer_by core_app core_in (map string_bytes words.now)) result }
 {
     let matches = matches_for(alloc, "core", CORE, words)?;
-    core_found(alloc, &matches)
+    core_in(alloc, &matches)
 }

@@ -12,7 +12,7 @@ use Rattle.kimage_list.proofs.Linking.{place-inside, sources-keys, word-still, w
 use Rattle.kimage_list.proofs.Lists.{eqb-self}
 use Rattle.kimage_list.proofs.OpenList.{holds-append}
 use Rattle.kimage_list.proofs.Takes.{destinations-append, sources-append}
-use Rattle.kimage_list.specs.Drafts.{IsHome, Draft, Renders, HasRoom, IsNext, loaded_from, CanTake}
+use Rattle.kimage_list.specs.Drafts.{IsHome, Draft, Renders, HasRoom, IsNext, with_move, CanTake}
 use Rattle.kimage_list.specs.Laying.{items, source_pages, Holds}
 use Rattle.kimage_list.specs.Load.{Loading, Move, source_of}
 use Rattle.kimage_list.specs.Opening.{open_pages, entry_place, number}
@@ -59,7 +59,7 @@ module _ (e : Draft) (t : ℕ × Loading) (memory : Contents) (pool : Pages) (ta
   -- the page is loaded
   pub arrived : (memory' : Contents) (table' : Slots) → at memory' ≡ set_word (at memory) next (code (Source t.0)) → ((q : ℕ) → IsHeld memory q → IsHeld memory' q)
       → slot table' p ≡ Some (Some (record { source = t.0; place = next })) → ((x : ℕ) → p ≢ x → slot table' x ≡ slot table x)
-      → Renders (loaded_from e p t) [] memory' pool table' (next + 8) (entries + 1)
+      → Renders (with_move e p t) [] memory' pool table' (next + 8) (entries + 1)
   arrived memory' table' m stay new old = record {
     tracks = record {
       left = w.tracks.left;

@@ -8,10 +8,10 @@ use Rattle.kx_pages.specs.Bytes.{page_of, Wants}
 use Rattle.page_memory.specs.Contents.{at}
 use Rattle.kimage_list.specs.declared.table.PageSource.{PageSource}
 use Rattle.kx_pages.specs.Lists.{Has, count, destinations}
-use Rattle.kimage_list.specs.Load.{Loading, Move, pages_of, starts, requests, given, loaded, source_of}
+use Rattle.kimage_list.specs.Load.{Loading, Move, pages_of, starts, requests, give_page, loading_after, source_of}
 use Rattle.kimage_list.specs.Laying.{Holds, source_pages}
 use Rattle.kimage_list.specs.Tables.{slot, source_in}
-use Rattle.kimage_list.specs.Drafts.{Renders, CanTake, IsSteady, IsNext, loaded_from, HeadIs}
+use Rattle.kimage_list.specs.Drafts.{Renders, CanTake, IsSteady, IsNext, with_move, HeadIs}
 use Rattle.kimage_list.specs.Counted.{UnderWay}
 use Rattle.kimage_list.specs.Writers.{History, Writer, StandsAt, IsOpen, IsAwaited, draft_of, is_wanted, need, pages_in, with_bytes}
 use Rattle.kimage_list.proofs.Lists.{eqb-self}
@@ -67,7 +67,7 @@ rebytes h l w d b z o = record {
   first = o.first;
   links = o.links;
   writes = record {
-    tracks = record { left = o.writes.tracks.left; filed = o.writes.tracks.filed; wanted = o.writes.tracks.wanted; loaded = o.writes.tracks.loaded; once = o.writes.tracks.once };
+    tracks = record { left = o.writes.tracks.left; filed = o.writes.tracks.filed; wanted = o.writes.tracks.wanted; loading_after = o.writes.tracks.loaded; once = o.writes.tracks.once };
     order = o.writes.order;
     spare = o.writes.spare;
     tight = o.writes.tight;
@@ -77,7 +77,7 @@ rebytes h l w d b z o = record {
     held = o.writes.held;
     below = o.writes.below;
     list = o.writes.list;
-    loaded = subst (Holds (at w.memory)) (sym (sources_same h.bytes d b l.pairs (ap (count d) o.writes.order ∙ z))) o.writes.loaded;
+    loading_after = subst (Holds (at w.memory)) (sym (sources_same h.bytes d b l.pairs (ap (count d) o.writes.order ∙ z))) o.writes.loaded;
     others = o.writes.others;
     places = o.writes.places;
     place = o.writes.place;
@@ -117,7 +117,7 @@ pub record Ready (h : History) (l : Loading) (first links : List ℕ) (d : ℕ) 
   pub room : Roomy h l first links
   pub page : ℕ × Loading
   pub can : CanTake (draft_of h room.then first room.more) (Some d) page
-  pub under_way : UnderWay h.pool (pages_in h.wanted) (need h) (loaded_from (draft_of h room.then first room.more) d page)
+  pub under_way : UnderWay h.pool (pages_in h.wanted) (need h) (with_move (draft_of h room.then first room.more) d page)
 
 pub source_ready : (h : History) (l : Loading) (w : Writer) (o : IsOpen h l w) → starts h.entries ≤ h.segments → (d : ℕ) → Waits h d → Ready h l o.first o.links d
 source_ready h l w o starts_few d a =
@@ -132,13 +132,13 @@ source_ready h l w o starts_few d a =
     let p = page_is_there h.pool (pages_in h.wanted) (need h) d (draft_of h r.then o.first r.more) r.under_way r.has_room there a.new (omega (arith, n, size, r.bound, few)) in
     record { room = r; page = p.0; can = p.1; under_way = p.2 }
 
-pub source_added : (h : History) (l : Loading) (w v : Writer) (o : IsOpen h l w) (d : ℕ) (r : Ready h l o.first o.links d) → loaded (is_wanted h) h.wish h.entries h.pool ≡ Some l → w.segments_left + starts h.entries ≡ h.segments
-    → Renders (loaded_from (draft_of h r.room.then o.first r.room.more) d r.page) [] v.memory v.pool v.table v.next v.entries → IsSteady (loaded_from (draft_of h r.room.then o.first r.room.more) d r.page) → HeadIs r.room.more v.head
+pub source_added : (h : History) (l : Loading) (w v : Writer) (o : IsOpen h l w) (d : ℕ) (r : Ready h l o.first o.links d) → loading_after (is_wanted h) h.wish h.entries h.pool ≡ Some l → w.segments_left + starts h.entries ≡ h.segments
+    → Renders (with_move (draft_of h r.room.then o.first r.room.more) d r.page) [] v.memory v.pool v.table v.next v.entries → IsSteady (with_move (draft_of h r.room.then o.first r.room.more) d r.page) → HeadIs r.room.more v.head
     → v.control ≡ w.control → v.mode ≡ w.mode → v.segments_left ≡ w.segments_left → v.destination ≡ Some (d + 1) → StandsAt (record h { entries = h.entries ++ Move d ∷ [] }) v
 source_added h l w v o d r requests segments writes steady head control mode same destination =
     let next : d + 1 ≡ suc d = omega arith in
-    stands_at (record h { entries = h.entries ++ Move d ∷ [] }) (given (Some d) r.page) v
-    (loaded-more (is_wanted h) h.wish h.entries (Move d) h.pool l r.room.then (given (Some d) r.page) requests r.room.served (one_served (is_wanted h) (Some d) r.room.then r.page r.can.gives))
+    stands_at (record h { entries = h.entries ++ Move d ∷ [] }) (give_page (Some d) r.page) v
+    (loaded-more (is_wanted h) h.wish h.entries (Move d) h.pool l r.room.then (give_page (Some d) r.page) requests r.room.served (one_served (is_wanted h) (Some d) r.room.then r.page r.can.gives))
     (record {
       first = o.first;
       links = r.room.more;

@@ -7,10 +7,10 @@ use Rattle.kx_pages.specs.Lists.{Distinct, count, destinations}
 use Rattle.kx_pages.specs.Spans.{Run, AreApart, pages, in_spans}
 use Rattle.kx_pages.specs.declared.image.Wish.{Wish}
 use Rattle.kx_pages.specs.declared.image.Wish.TheVariants.{Plain, Kept}
-use Rattle.kimage_list.specs.Load.{Loading, Entry, pages_of, starts, begun, given, loaded}
+use Rattle.kimage_list.specs.Load.{Loading, Entry, pages_of, starts, begun, give_page, loading_after}
 use Rattle.kimage_list.specs.Laying.{mode_with}
 use Rattle.kimage_list.specs.Tables.{Slots}
-use Rattle.kimage_list.specs.Drafts.{Renders, CanTake, first_taken}
+use Rattle.kimage_list.specs.Drafts.{Renders, CanTake, with_first}
 use Rattle.kimage_list.specs.Counted.{UnderWay}
 use Rattle.kimage_list.specs.Calls.{IsPrepared, load_begun}
 use Rattle.kimage_list.specs.declared.open_list.OpenList.{OpenList}
@@ -31,7 +31,7 @@ use Rattle.kimage_list.proofs.Standings.{some-first, stands_at, one_served}
 pub record First (h : History) (l : Loading) (first : List ℕ) : Type 0 where
   pub page : ℕ × Loading
   pub can : CanTake (draft_of h l first []) None page
-  pub under_way : UnderWay h.pool (pages_in h.wanted) (need h) (first_taken (draft_of h l first []) page)
+  pub under_way : UnderWay h.pool (pages_in h.wanted) (need h) (with_first (draft_of h l first []) page)
 
 pub first_page : (h : History) (l : Loading) (first : List ℕ) → UnderWay h.pool (pages_in h.wanted) (need h) (draft_of h l first []) → length first < first_count h.wish → First h l first
 first_page h l first u few =
@@ -54,12 +54,12 @@ module _ (h : History) (list : OpenList) (n : ℕ) (asked : Wish) (k : IsPrepare
   none_started : n + starts h.entries ≡ h.segments
   none_started = let z : starts h.entries ≡ 0 = ap starts k.nothing in omega (arith, z, k.segments)
 
-  pub plain_begun : asked ≡ Plain → (v : Writer) → Renders (first_taken (draft_of h (begun h.pool) [] []) control_page.page) [] v.memory v.pool v.table v.next v.entries
+  pub plain_begun : asked ≡ Plain → (v : Writer) → Renders (with_first (draft_of h (begun h.pool) [] []) control_page.page) [] v.memory v.pool v.table v.next v.entries
       → v.control ≡ control_page.page.0 → v.mode ≡ mode.Plain → v.segments_left ≡ n → v.destination ≡ None → StandsAt h v
   plain_begun e v w control mode segments destination =
       let wish : h.wish ≡ Plain = sym k.wish ∙ e in
-      stands_at h (given None control_page.page) v
-      (ap (λ x. loaded (is_wanted h) x h.entries h.pool) wish ∙ ap (λ es. loaded (is_wanted h) Plain es h.pool) k.nothing ∙ one_served (is_wanted h) None (begun h.pool) control_page.page control_page.can.gives)
+      stands_at h (give_page None control_page.page) v
+      (ap (λ x. loading_after (is_wanted h) x h.entries h.pool) wish ∙ ap (λ es. loading_after (is_wanted h) Plain es h.pool) k.nothing ∙ one_served (is_wanted h) None (begun h.pool) control_page.page control_page.can.gives)
       (record {
         first = control_page.page.0 ∷ [];
         links = [];
@@ -79,18 +79,18 @@ module _ (h : History) (list : OpenList) (n : ℕ) (asked : Wish) (k : IsPrepare
       plain_mode : h.wish ≡ Plain → mode_with h.wish 0 ≡ mode_with h.wish (slice_index (control_page.page.0 ∷ []) 1)
       plain_mode wish = ap (λ x. mode_with x 0) wish ∙ ap (λ x. mode_with x (slice_index (control_page.page.0 ∷ []) 1)) (sym wish)
 
-  pub swap_page : asked ≡ Kept → First h (given None control_page.page) (control_page.page.0 ∷ [])
-  swap_page e = first_page h (given None control_page.page) (control_page.page.0 ∷ []) control_page.under_way (let two : first_count h.wish ≡ 2 = ap first_count (sym k.wish ∙ e) in omega (arith, two))
+  pub swap_page : asked ≡ Kept → First h (give_page None control_page.page) (control_page.page.0 ∷ [])
+  swap_page e = first_page h (give_page None control_page.page) (control_page.page.0 ∷ []) control_page.under_way (let two : first_count h.wish ≡ 2 = ap first_count (sym k.wish ∙ e) in omega (arith, two))
 
-  pub kept_begun : (e : asked ≡ Kept) (v : Writer) → Renders (first_taken (draft_of h (given None control_page.page) (control_page.page.0 ∷ []) []) (swap_page e).page) [] v.memory v.pool v.table v.next v.entries
+  pub kept_begun : (e : asked ≡ Kept) (v : Writer) → Renders (with_first (draft_of h (give_page None control_page.page) (control_page.page.0 ∷ []) []) (swap_page e).page) [] v.memory v.pool v.table v.next v.entries
       → v.control ≡ control_page.page.0 → v.mode ≡ mode.Kept (swap_page e).page.0 → v.segments_left ≡ n → v.destination ≡ None → StandsAt h v
   kept_begun e v w control mode segments destination =
       let wish : h.wish ≡ Kept = sym k.wish ∙ e in
       let t = (swap_page e).page in
-      stands_at h (given None t) v
-      (ap (λ x. loaded (is_wanted h) x h.entries h.pool) wish ∙ ap (λ es. loaded (is_wanted h) Kept es h.pool) k.nothing
-      ∙ served-append (is_wanted h) (None ∷ []) (None ∷ []) (begun h.pool) (given None control_page.page) (one_served (is_wanted h) None (begun h.pool) control_page.page control_page.can.gives)
-      ∙ one_served (is_wanted h) None (given None control_page.page) t (swap_page e).can.gives)
+      stands_at h (give_page None t) v
+      (ap (λ x. loading_after (is_wanted h) x h.entries h.pool) wish ∙ ap (λ es. loading_after (is_wanted h) Kept es h.pool) k.nothing
+      ∙ served-append (is_wanted h) (None ∷ []) (None ∷ []) (begun h.pool) (give_page None control_page.page) (one_served (is_wanted h) None (begun h.pool) control_page.page control_page.can.gives)
+      ∙ one_served (is_wanted h) None (give_page None control_page.page) t (swap_page e).can.gives)
       (record {
         first = control_page.page.0 ∷ (t.0 ∷ []);
         links = [];

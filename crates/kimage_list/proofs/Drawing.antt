@@ -6,10 +6,10 @@ use Rattle.std.proofs.lemmas.Bool.Decides.{eqb_tells}
 use Rattle.std.specs.Ordering.{nat_cmp, is_eq}
 use Rattle.std.specs.Cmp.{nat_cmp_total, eq_by_cmp_equiv}
 use Rattle.std.specs.FinMap.{get, get-insert, nat_cmp-IsAntisymmetric}
-use Rattle.page_pool.specs.Pages.{Pages, is_filed, marked, usable_of}
+use Rattle.page_pool.specs.Pages.{Pages, is_filed, mark, usable_of}
 use Rattle.kx_laws.proofs.Booleans.{is_eq-false}
 use Rattle.kimage_list.proofs.Lists.{eqb-self}
-use Rattle.kimage_list.specs.Load.{Loading, without, source_of, at_home, is_for, draw, taken}
+use Rattle.kimage_list.specs.Load.{Loading, without, source_of, at_home, is_for, draw, take_page}
 use Rattle.kimage_list.specs.Tables.{Slots, slot, source_in, place_in}
 use Rattle.kimage_list.specs.Tracking.{Tracks, fate_of, Took, Gives, Exchanged as Pair, whole_pool}
 use Rattle.kimage_list.specs.declared.table.PageSource.{PageSource}
@@ -103,7 +103,7 @@ tracks-given D m pool pool' table q s l k = record {
   once = λ p. omega (arith, s.once p, ap (count p) (sym s.left ∙ l));
 }
 
-is_filed-marked : (pool : Pages) (q p : ℕ) (b : Bool) → is_filed (marked pool q b) p ≡ cond (eqb q p) b (is_filed pool p)
+is_filed-marked : (pool : Pages) (q p : ℕ) (b : Bool) → is_filed (mark pool q b) p ≡ cond (eqb q p) b (is_filed pool p)
 is_filed-marked pool q p b = ap (λ o. unwrap_or o false) (get-insert nat_cmp_total pool.marks q b p) ∙ go (eqb_tells q p)
   where
     go : ((eqb q p ≡ true) × (q ≡ p)) ⊎ ((eqb q p ≡ false) × (q ≢ p)) → unwrap_or (cond (is_eq (nat_cmp p q)) (Some b) (get pool.marks p)) false ≡ cond (eqb q p) b (is_filed pool p)
@@ -120,7 +120,7 @@ or_cond false c = refl
 
 -- the next page is filed
 pub tracks-filed : (D : ℕ → Bool) (m : Loading) (pool pool' : Pages) (table : Slots) (q : ℕ) → Tracks D m pool table → usable_of pool ≡ q ∷ usable_of pool' → pool'.marks ≡ pool.marks
-    → Tracks D (loading (usable_of pool') (q ∷ m.filed) m.pairs m.spare) (marked pool' q true) table
+    → Tracks D (loading (usable_of pool') (q ∷ m.filed) m.pairs m.spare) (mark pool' q true) table
 tracks-filed D m pool pool' table q s l k = record {
   left = refl;
   filed = λ p. is_filed-marked pool' q p true ∙ or_cond (eqb q p) (is_filed pool' p) ∙ ap (λ b. eqb q p || b) (ap (λ x. unwrap_or (get x p) false) k ∙ s.filed p);
@@ -212,11 +212,11 @@ whole-drawn pool pool' q left new =
     ap (λ (v : Pages). (v.drawn ++ usable_of pool', v.made, v.limit)) new
     ∙ ap (λ (xs : List ℕ). (xs, pool.made, pool.limit)) (append_assoc pool.drawn (q ∷ []) (usable_of pool') ∙ ap (λ xs. pool.drawn ++ xs) (sym left))
 
-pub whole-marked : (pool pool' : Pages) (q : ℕ) (b : Bool) → pool' ≡ marked pool q b → whole_pool pool' ≡ whole_pool pool
+pub whole-marked : (pool pool' : Pages) (q : ℕ) (b : Bool) → pool' ≡ mark pool q b → whole_pool pool' ≡ whole_pool pool
 whole-marked pool pool' q b e = ap whole_pool e
 
 pub draws-filed : (r : Option ℕ) (pool pool' pool'' : Pages) (start : Pages) (table now : Slots) (q : ℕ) → Draws r start table pool now → usable_of pool ≡ q ∷ usable_of pool' → pool' ≡ record pool { drawn = pool.drawn ++ q ∷ [] }
-    → Filed ≡ fate_of (is_for r q) (slot now q) → pool'' ≡ marked pool' q true → Draws r start table pool'' now
+    → Filed ≡ fate_of (is_for r q) (slot now q) → pool'' ≡ mark pool' q true → Draws r start table pool'' now
 draws-filed r pool pool' pool'' start table now q d left new f e = record {
   reaches = λ D l s.
       let h = d.reaches D l s in
@@ -288,7 +288,7 @@ has-without p d (x ∷ xs) c = go (eqb_tells x d) (eqb_tells d p) (has-without p
         last (inr v) = rw v.0 refl
 
 -- a filed page is taken
-pub tracks-taken : (D : ℕ → Bool) (l : Loading) (pool pool' : Pages) (table : Slots) (d : ℕ) → Tracks D l pool table → pool' ≡ marked pool d false → Tracks D (record l { filed = without d l.filed }) pool' table
+pub tracks-taken : (D : ℕ → Bool) (l : Loading) (pool pool' : Pages) (table : Slots) (d : ℕ) → Tracks D l pool table → pool' ≡ mark pool d false → Tracks D (record l { filed = without d l.filed }) pool' table
 tracks-taken D l pool pool' table d s e = subst (λ v. Tracks D (record l { filed = without d l.filed }) v table) (sym e) (record {
   left = s.left;
   filed = λ p. is_filed-marked pool d p false ∙ ap (cond (eqb d p) false) (s.filed p) ∙ sym (has-without p d l.filed (omega (arith, s.once d)));
@@ -297,10 +297,10 @@ tracks-taken D l pool pool' table d s e = subst (λ v. Tracks D (record l { file
   once = λ p. omega (arith, s.once p, count-without_le p d l.filed);
 })
 
-pub gives-filed : (D : ℕ → Bool) (r : Option ℕ) (l : Loading) (pool pool' : Pages) (table : Slots) (d p : ℕ) → Tracks D l pool table → r ≡ Some d → p ≡ d → is_filed pool d ≡ true → pool' ≡ marked pool d false
-    → Gives D l (taken D r l) (Some (record { page = p; moved = None })) pool' table table
+pub gives-filed : (D : ℕ → Bool) (r : Option ℕ) (l : Loading) (pool pool' : Pages) (table : Slots) (d p : ℕ) → Tracks D l pool table → r ≡ Some d → p ≡ d → is_filed pool d ≡ true → pool' ≡ mark pool d false
+    → Gives D l (take_page D r l) (Some (record { page = p; moved = None })) pool' table table
 gives-filed D r l pool pool' table d p s w e f n =
     let h : has d l.filed ≡ true = sym (s.filed d) ∙ f in
-    let k : taken D (Some d) l ≡ Some (d, record l { filed = without d l.filed }) = rw (h, taken) refl in
-    gives_at D l (taken D r l) (d, record l { filed = without d l.filed }) (record { page = p; moved = None }) pool' table table (ap (λ x. taken D x l) w ∙ k)
+    let k : take_page D (Some d) l ≡ Some (d, record l { filed = without d l.filed }) = rw (h, take_page) refl in
+    gives_at D l (take_page D r l) (d, record l { filed = without d l.filed }) (record { page = p; moved = None }) pool' table table (ap (λ x. take_page D x l) w ∙ k)
     (record { page = e; tracks = tracks-taken D l pool pool' table d s n; exchanged = refl; places = λ p. refl })

@@ -9,7 +9,7 @@ use Rattle.kimage_list.proofs.Linking.{items-full, place-inside, next-listed, so
 use Rattle.kimage_list.proofs.Lists.{heads_same, nil_cons}
 use Rattle.kimage_list.proofs.OpenList.{entry_added}
 use Rattle.kimage_list.proofs.Room.{room}
-use Rattle.kimage_list.specs.Drafts.{Draft, Renders, HasRoom, IsSteady, started}
+use Rattle.kimage_list.specs.Drafts.{Draft, Renders, HasRoom, IsSteady, with_start}
 use Rattle.kimage_list.specs.Laying.{items, source_pages, Holds}
 use Rattle.kimage_list.specs.Load.{Entry, Start, Move, pages_of}
 use Rattle.kimage_list.specs.Opening.{open_pages, entry_place, next_place, Tight, number}
@@ -149,7 +149,7 @@ module _ (d : Draft) (hand : List ℕ) (memory : Contents) (pool : Pages) (table
   places_more : (e : Entry) (x a : ℕ) → place_in (slot table x) ≡ Some a → a ≡ entry_place d.links (number x (d.entries ++ e ∷ []))
   places_more e x a h = w.places x a h ∙ ap (entry_place d.links) (sym (number-front x d.entries (e ∷ []) (place-inside d hand memory pool table next entries w x a h)))
 
-  pub entered : (p : ℕ) (memory' : Contents) → at memory' ≡ set_word (at memory) next (code (Destination p)) → ((q : ℕ) → IsHeld memory q → IsHeld memory' q) → Renders (started d p) hand memory' pool table (next + 8) (entries + 1)
+  pub entered : (p : ℕ) (memory' : Contents) → at memory' ≡ set_word (at memory) next (code (Destination p)) → ((q : ℕ) → IsHeld memory q → IsHeld memory' q) → Renders (with_start d p) hand memory' pool table (next + 8) (entries + 1)
   entered p memory' e stay = record {
     tracks = w.tracks;
     order = w.order ∙ sym (pages_of-start d.entries p);
@@ -173,7 +173,7 @@ module _ (d : Draft) (hand : List ℕ) (memory : Contents) (pool : Pages) (table
   pub steady_more : (e : Entry) → 511 * length d.links < length (d.entries ++ e ∷ []) + 511
   steady_more e = omega (arith, w.tight.0, length-append d.entries (e ∷ []))
 
-  pub steady_start : (p : ℕ) → IsSteady (started d p)
+  pub steady_start : (p : ℕ) → IsSteady (with_start d p)
   steady_start p = steady_more (Start p)
 
 pub same_writes : (d : Draft) (hand : List ℕ) (memory : Contents) (pool pool' : Pages) (table table' : Slots) (next next' entries entries' : ℕ) → pool ≡ pool' → table ≡ table' → next ≡ next' → entries ≡ entries'

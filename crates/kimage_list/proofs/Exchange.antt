@@ -1,5 +1,6 @@
 -- One word of a list that is being written is changed.
 use Rattle.std.proofs.Common.{◌≡◌, ℕ, zero, suc, ◌+◌, ◌-◌, ◌*◌, ◌<◌, ◌≤◌, List, [], ◌∷◌, ◌++◌, length, Some, refl, sym, ap, ◌∙◌, subst, ⊎_elim, inl, inr, arith, take, drop, append_assoc, length-append}
+use Rattle.std.specs.List.{AllByRecursion}
 use Rattle.std.specs.Prelude.{◌≢◌, ◌⊎◌, ◌/◌, ◌%◌, map, slice_index}
 use Rattle.std.proofs.lemmas.List.{length-take, length-drop, map-append, length-map}
 use Rattle.std.proofs.lemmas.Bool.{cases_lt}
@@ -12,7 +13,7 @@ use Rattle.kimage_list.specs.Laying.{in_bytes, items, source_pages, Holds}
 use Rattle.kimage_list.specs.Load.{Entry, Start, Move, source_of, at_home, pages_of}
 use Rattle.kimage_list.specs.Opening.{onward, open_pages, entry_place, number}
 use Rattle.kx_pages.specs.Items.{code}
-use Rattle.kx_pages.specs.Lists.{Each, Distinct, destinations}
+use Rattle.kx_pages.specs.Lists.{Distinct, destinations}
 use Rattle.kx_pages.specs.declared.item.Item.{Item}
 use Rattle.kx_pages.specs.declared.item.Item.TheVariants.{Destination, Source}
 use Rattle.kx_pages.specs.Bytes.{page_of, Mem, Wants}
@@ -42,12 +43,12 @@ take-outside zero xs zs l = (refl, refl)
 take-outside (suc n) [] zs l = absurd (omega (arith, l))
 take-outside (suc n) (x ∷ xs) zs l = let ih = take-outside n xs zs (omega (arith, l)) in (ap (λ ws. x ∷ ws) ih.0, ih.1)
 
-pub keys_are : (ls : List ℕ) (is : List Item) (p : ℕ) → Each (λ l. l ≢ p) ls → Each (λ x. x.0 ≢ p) (open_pages ls is)
+pub keys_are : (ls : List ℕ) (is : List Item) (p : ℕ) → AllByRecursion (λ l. l ≢ p) ls → AllByRecursion (λ x. x.0 ≢ p) (open_pages ls is)
 keys_are [] is p h = tt
 keys_are (l ∷ ls) is p h = (h.0, keys_are ls (drop 511 is) p h.1)
 
 -- a page that is no link page may change
-pub still : (N : Mem) (p : ℕ) (b : (List ℕ)) (xs : List (ℕ × (List ℕ))) → Each (λ x. x.0 ≢ p) xs → Holds N xs → Holds (put N p b) xs
+pub still : (N : Mem) (p : ℕ) (b : (List ℕ)) (xs : List (ℕ × (List ℕ))) → AllByRecursion (λ x. x.0 ≢ p) xs → Holds N xs → Holds (put N p b) xs
 still N p b xs h k = Each-both xs (λ x n e. put-apart N p x.0 b (λ f. n (sym f)) ∙ e) h k
 
 pub put-written : (N : Mem) (l a o : ℕ) (w : ℕ) (b : (List ℕ)) → a / 4096 ≡ l → a % 4096 ≡ o → page_with_word (N l) o w ≡ b → set_word N a w ≡ put N l b
@@ -60,7 +61,7 @@ words-split n xs ys i r l =
     ap (λ zs. map code zs ++ r) (take-inside n xs i ys l).0 ∙ ap (λ ws. ws ++ r) (map-append code xs (i ∷ take (n - suc (length xs)) ys))
     ∙ append_assoc (map code xs) (code i ∷ map code (take (n - suc (length xs)) ys)) r
 
-pub nth_apart : (k : ℕ) (ks : List ℕ) (n : ℕ) → Each (λ y. k ≢ y) ks → n < length ks → k ≢ slice_index ks n
+pub nth_apart : (k : ℕ) (ks : List ℕ) (n : ℕ) → AllByRecursion (λ y. k ≢ y) ks → n < length ks → k ≢ slice_index ks n
 nth_apart k [] n h l = absurd (omega (arith, l))
 nth_apart k (y ∷ ks) zero h l = h.0
 nth_apart k (y ∷ ks) (suc n) h l = nth_apart k ks n h.1 (omega (arith, l))
@@ -154,11 +155,11 @@ splits (Move t ∷ es) (p ∷ ps) q s o e = go (eqb_tells p.0 q) (λ f. splits e
         let k = ih (rw h.0 at e) in
         record { front = Source p.1 ∷ k.front; rest = k.rest; old = ap (λ is. Source p.1 ∷ is) k.old; new = rw h.0 (ap (λ is. Source p.1 ∷ is) k.new); place = ap suc k.place ∙ ap (λ b. cond b 0 (suc (number q es))) (sym h.0) ∙ ap (λ x. cond (eqb x q) 0 (suc (number q es))) same }
 
-sources_moved : (N : Mem) (W : Wants) (ps : List (ℕ × ℕ)) (q s : ℕ) → source_of q ps ≡ Some s → Each (λ r. r.1 ≢ q) ps → Holds N (source_pages W ps) → Holds (put N q (N s)) (source_pages W (at_home q ps))
+sources_moved : (N : Mem) (W : Wants) (ps : List (ℕ × ℕ)) (q s : ℕ) → source_of q ps ≡ Some s → AllByRecursion (λ r. r.1 ≢ q) ps → Holds N (source_pages W ps) → Holds (put N q (N s)) (source_pages W (at_home q ps))
 sources_moved N W [] q s e n h = absurd (none-some s e)
 sources_moved N W (p ∷ ps) q s e n h = go (eqb_tells p.0 q) (λ f. sources_moved N W ps q s f n.1 h.1)
   where
-    keep : (rs : List (ℕ × ℕ)) → Each (λ r. r.1 ≢ q) rs → Holds N (source_pages W rs) → Holds (put N q (N s)) (source_pages W rs)
+    keep : (rs : List (ℕ × ℕ)) → AllByRecursion (λ r. r.1 ≢ q) rs → Holds N (source_pages W rs) → Holds (put N q (N s)) (source_pages W rs)
     keep [] n h = tt
     keep (r ∷ rs) n h = (put-apart N q r.1 (N s) (λ f. n.0 (sym f)) ∙ h.0, keep rs n.1 h.1)
 
@@ -168,20 +169,20 @@ sources_moved N W (p ∷ ps) q s e n h = go (eqb_tells p.0 q) (λ f. sources_mov
         rw t.0 (put-same N q (N s) ∙ ap N (sym f) ∙ h.0 ∙ ap (λ x. unwrap_or (W x) []) t.1, keep ps n.1 h.1)
     go (inr t) ih = rw t.0 (put-apart N q p.1 (N s) (λ f. n.0 (sym f)) ∙ h.0, ih (rw t.0 at e))
 
-nth_has : (ls : List ℕ) (n : ℕ) (P : ℕ → Type 0) → n < length ls → Each P ls → P (slice_index ls n)
+nth_has : (ls : List ℕ) (n : ℕ) (P : ℕ → Type 0) → n < length ls → AllByRecursion P ls → P (slice_index ls n)
 nth_has [] n P l h = absurd (omega (arith, l))
 nth_has (x ∷ ls) zero P l h = h.0
 nth_has (x ∷ ls) (suc n) P l h = nth_has ls n P (omega (arith, l)) h.1
 
-sources_off : (W : Wants) (ps : List (ℕ × ℕ)) (q l : ℕ) → l ≢ q → Each (λ r. r.1 ≢ l) ps → Each (λ x. x.0 ≢ l) (source_pages W (at_home q ps))
+sources_off : (W : Wants) (ps : List (ℕ × ℕ)) (q l : ℕ) → l ≢ q → AllByRecursion (λ r. r.1 ≢ l) ps → AllByRecursion (λ x. x.0 ≢ l) (source_pages W (at_home q ps))
 sources_off W [] q l n h = tt
 sources_off W (p ∷ ps) q l n h = go (eqb p.0 q) (sources_off W ps q l n h.1)
   where
-    all : (rs : List (ℕ × ℕ)) → Each (λ r. r.1 ≢ l) rs → Each (λ x. x.0 ≢ l) (source_pages W rs)
+    all : (rs : List (ℕ × ℕ)) → AllByRecursion (λ r. r.1 ≢ l) rs → AllByRecursion (λ x. x.0 ≢ l) (source_pages W rs)
     all [] h = tt
     all (r ∷ rs) h = (h.0, all rs h.1)
 
-    go : (b : Bool) → Each (λ x. x.0 ≢ l) (source_pages W (at_home q ps)) → Each (λ x. x.0 ≢ l) (source_pages W (cond b ((q, q) ∷ ps) (p ∷ at_home q ps)))
+    go : (b : Bool) → AllByRecursion (λ x. x.0 ≢ l) (source_pages W (at_home q ps)) → AllByRecursion (λ x. x.0 ≢ l) (source_pages W (cond b ((q, q) ∷ ps) (p ∷ at_home q ps)))
     go true ih = ((λ e. n (sym e)), all ps h.1)
     go false ih = (h.0, ih)
 
@@ -189,11 +190,11 @@ sources_off W (p ∷ ps) q l n h = go (eqb p.0 q) (sources_off W ps q l n h.1)
 -- its sources stand as the pair (q, q) wants.
 pub exchange_at : (N : Mem) (W : Wants) (ls : List ℕ) (es : List Entry) (ps : List (ℕ × ℕ)) (q s : ℕ)
     → destinations ps ≡ pages_of es → length es ≤ 511 * length ls → Distinct ls → source_of q ps ≡ Some s
-    → Each (λ l. l ≢ q) ls → Each (λ r. (r.1 ≢ q) × Each (λ l. r.1 ≢ l) ls) ps
+    → AllByRecursion (λ l. l ≢ q) ls → AllByRecursion (λ r. (r.1 ≢ q) × AllByRecursion (λ l. r.1 ≢ l) ls) ps
     → Holds N (open_pages ls (items es ps)) → Holds N (source_pages W ps)
     → (number q es < 511 * length ls) × Holds (set_word (put N q (N s)) (entry_place ls (number q es)) (code (Source q))) (open_pages ls (items es (at_home q ps)))
     × Holds (set_word (put N q (N s)) (entry_place ls (number q es)) (code (Source q))) (source_pages W (at_home q ps))
-    × ((p : ℕ) → q ≢ p → Each (λ l. l ≢ p) ls → set_word (put N q (N s)) (entry_place ls (number q es)) (code (Source q)) p ≡ N p)
+    × ((p : ℕ) → q ≢ p → AllByRecursion (λ l. l ≢ p) ls → set_word (put N q (N s)) (entry_place ls (number q es)) (code (Source q)) p ≡ N p)
 exchange_at N W ls es ps q s o room d e fl fs hl hs =
     let k = splits es ps q s o e in
     let n = number q es in
@@ -208,7 +209,7 @@ exchange_at N W ls es ps q s o room d e fl fs hl hs =
     let a = entry_place ls n in
     let page : a / 4096 ≡ slice_index ls (n / 511) = place_page ls n in
     let aq : a / 4096 ≢ q = λ f. nth_has ls (n / 511) (λ l. l ≢ q) inside fl (sym page ∙ f) in
-    let as' : Each (λ r. r.1 ≢ a / 4096) ps = Each-map ps (λ r g f. nth_has ls (n / 511) (λ l. r.1 ≢ l) inside g.1 (f ∙ page)) fs in
+    let as' : AllByRecursion (λ r. r.1 ≢ a / 4096) ps = Each-map ps (λ r g f. nth_has ls (n / 511) (λ l. r.1 ≢ l) inside g.1 (f ∙ page)) fs in
     let h3 = sources_moved N W ps q s e (Each-map ps (λ r g. g.0) fs) hs in (
       size,
       subst (λ is. Holds (set_word N1 a (code (Source q))) (open_pages ls is)) (sym k.new) h2,

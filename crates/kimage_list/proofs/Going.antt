@@ -1,5 +1,6 @@
 -- A draft stays under way.
 use Rattle.std.proofs.Common.{◌≡◌, ℕ, ◌+◌, ◌*◌, ◌≤◌, List, [], ◌∷◌, ◌++◌, length, Option, Some, None, refl, sym, ap, ◌∙◌, subst, inl, inr, arith, drop, length-append, append_assoc, append-nil, Bool, true, false}
+use Rattle.std.specs.List.{AllByRecursion}
 use Rattle.std.specs.Prelude.{◌≢◌, ◌⊎◌, ◌/◌, ◌%◌, eqb}
 use Rattle.std.proofs.Math.Seq.{drop-append_seam}
 use Rattle.std.proofs.lemmas.Bool.Decides.{eqb_tells}
@@ -9,20 +10,20 @@ use Rattle.kimage_list.proofs.Entering.{pages_of-start, pages_of-move}
 use Rattle.kimage_list.proofs.Takes.{wished, others, taken_took}
 use Rattle.kimage_list.specs.Counted.{Counts, Allowed, UnderWay}
 use Rattle.kimage_list.specs.Laws.{RoomIsThere, PageIsThere, StartIsThere, AllDrawn, OpensUnderWay}
-use Rattle.kimage_list.specs.Drafts.{initial, first_taken, Draft, CanTake, linked, loaded_from, Room, RoomBy, HasRoom}
-use Rattle.kimage_list.specs.Load.{Loading, Start, Move, taken, given, pages_of}
-use Rattle.kx_pages.specs.Lists.{Each, Has, count}
+use Rattle.kimage_list.specs.Drafts.{initial, with_first, Draft, CanTake, with_link, with_move, Room, RoomBy, HasRoom}
+use Rattle.kimage_list.specs.Load.{Loading, Start, Move, take_page, give_page, pages_of}
+use Rattle.kx_pages.specs.Lists.{Has, count}
 use Rattle.kx_pages.specs.Bytes.{Mem, Wants}
 
 -- the counts after a request
-counted : (pool all : List ℕ) (need : ℕ) (d e : Draft) (r : Option ℕ) (t : ℕ × Loading) → Counts pool all d → taken d.wanted r d.loading ≡ Some t → e.loading ≡ given r t → e.wanted ≡ d.wanted
+counted : (pool all : List ℕ) (need : ℕ) (d e : Draft) (r : Option ℕ) (t : ℕ × Loading) → Counts pool all d → take_page d.wanted r d.loading ≡ Some t → e.loading ≡ give_page r t → e.wanted ≡ d.wanted
     → pages_of e.entries ≡ pages_of d.entries ++ wished (r ∷ []) → Allowed r all (pages_of d.entries) (length d.loading.spare) need → Counts pool all e
 counted pool all need d e r t k g l w es a =
     let spent = pages_of d.entries in
     let f = full_on d.wanted pool spent (length d.loading.spare) r d.loading t k.once (full_of pool all d k) g in
-    let f1 = subst (λ D. Full D pool (spent ++ wished (r ∷ [])) (length d.loading.spare + others (r ∷ [])) (given r t)) (sym w) f in
+    let f1 = subst (λ D. Full D pool (spent ++ wished (r ∷ [])) (length d.loading.spare + others (r ∷ [])) (give_page r t)) (sym w) f in
     let f2 = subst (λ x. Full e.wanted pool (spent ++ wished (r ∷ [])) (length d.loading.spare + others (r ∷ [])) x) (sym l) f1 in
-    let P : List ℕ → Type 0 = λ ys. Each (λ p. Has p all) ys in
+    let P : List ℕ → Type 0 = λ ys. AllByRecursion (λ p. Has p all) ys in
     let Q : List ℕ → Type 0 = λ ys. (x : ℕ) → count x ys ≤ 1 in
     record {
       once = k.once;
@@ -52,7 +53,7 @@ start_is_there pool all need p e u room = record {
     ends = u.counts.ends;
     free = u.counts.free;
     wanted = u.counts.wanted;
-    inside = let P : List ℕ → Type 0 = λ ys. Each (λ p. Has p all) ys in subst P (sym (pages_of-start e.entries p)) u.counts.inside;
+    inside = let P : List ℕ → Type 0 = λ ys. AllByRecursion (λ p. Has p all) ys in subst P (sym (pages_of-start e.entries p)) u.counts.inside;
     spent = let Q : List ℕ → Type 0 = λ ys. (x : ℕ) → count x ys ≤ 1 in subst Q (sym (pages_of-start e.entries p)) u.counts.spent;
   };
   enough = u.enough;
@@ -61,7 +62,7 @@ start_is_there pool all need p e u room = record {
   within = omega (arith, room, length-append e.entries (Start p ∷ []));
 }
 
-given_spare : (p : ℕ) (d : Draft) (t : ℕ × Loading) → taken d.wanted (Some p) d.loading ≡ Some t → (pool all : List ℕ) → Counts pool all d → t.1.spare ≡ d.loading.spare
+given_spare : (p : ℕ) (d : Draft) (t : ℕ × Loading) → take_page d.wanted (Some p) d.loading ≡ Some t → (pool all : List ℕ) → Counts pool all d → t.1.spare ≡ d.loading.spare
 given_spare p d t g pool all k = (taken_took d.wanted (Some p) d.loading t k.homes (λ x. omega (arith, k.conserved x, k.once x)) g).spared
 
 pub page_is_there : PageIsThere
@@ -71,7 +72,7 @@ page_is_there pool all need p e u room inside new fits =
       t.0,
       t.1,
       record {
-        counts = counted pool all need e (loaded_from e p t.0) (Some p) t.0 u.counts t.1.gives refl refl (pages_of-move e.entries p) a;
+        counts = counted pool all need e (with_move e p t.0) (Some p) t.0 u.counts t.1.gives refl refl (pages_of-move e.entries p) a;
         enough = u.enough;
         room = u.room;
         spare = given_spare p e t.0 t.1.gives pool all u.counts ∙ u.spare;
@@ -79,7 +80,7 @@ page_is_there pool all need p e u room inside new fits =
       },
     )
 
-none_spare : (d : Draft) (t : ℕ × Loading) → taken d.wanted None d.loading ≡ Some t → (pool all : List ℕ) → Counts pool all d → t.1.spare ≡ d.loading.spare
+none_spare : (d : Draft) (t : ℕ × Loading) → take_page d.wanted None d.loading ≡ Some t → (pool all : List ℕ) → Counts pool all d → t.1.spare ≡ d.loading.spare
 none_spare d t g pool all k = (taken_took d.wanted None d.loading t k.homes (λ x. omega (arith, k.conserved x, k.once x)) g).spared
 
 pub room_is_there : RoomIsThere
@@ -94,10 +95,10 @@ room_is_there pool all segments d u steady more = go (eqb_tells (length d.entrie
         let size : length d.loading.spare ≡ length d.first + length d.links = ap length u.spare ∙ length-append d.first d.links in
         let a : length d.loading.spare + 1 + length all ≤ length all + (segments + length all + 510) / 511 + length d.first = omega (arith, size, full, more) in
         let t = always_takes pool all need d None u.counts u.enough u.room a in (
-          linked d t.0,
-          (steady, subst (λ b. RoomBy b d (linked d t.0)) (sym n.0) (t.0, t.1, refl)),
+          with_link d t.0,
+          (steady, subst (λ b. RoomBy b d (with_link d t.0)) (sym n.0) (t.0, t.1, refl)),
           record {
-            counts = counted pool all need d (linked d t.0) None t.0 u.counts t.1.gives refl refl (sym (append-nil (pages_of d.entries))) a;
+            counts = counted pool all need d (with_link d t.0) None t.0 u.counts t.1.gives refl refl (sym (append-nil (pages_of d.entries))) a;
             enough = u.enough;
             room = u.room;
             spare = ap (λ ys. ys ++ t.0.0 ∷ []) (none_spare d t.0 t.1.gives pool all u.counts ∙ u.spare) ∙ append_assoc d.first d.links (t.0.0 ∷ []);
@@ -131,13 +132,13 @@ initial_counts M D W need pool all once wanted = record {
   spent = λ x. omega arith;
 }
 
-pub first_is_there : (pool all : List ℕ) (need : ℕ) (d : Draft) → UnderWay pool all need d → d.links ≡ [] → length d.loading.spare + 1 + length all ≤ need → (t : ℕ × Loading) × CanTake d None t × UnderWay pool all need (first_taken d t)
+pub first_is_there : (pool all : List ℕ) (need : ℕ) (d : Draft) → UnderWay pool all need d → d.links ≡ [] → length d.loading.spare + 1 + length all ≤ need → (t : ℕ × Loading) × CanTake d None t × UnderWay pool all need (with_first d t)
 first_is_there pool all need d u none a =
     let t = always_takes pool all need d None u.counts u.enough u.room a in (
       t.0,
       t.1,
       record {
-        counts = counted pool all need d (first_taken d t.0) None t.0 u.counts t.1.gives refl refl (sym (append-nil (pages_of d.entries))) a;
+        counts = counted pool all need d (with_first d t.0) None t.0 u.counts t.1.gives refl refl (sym (append-nil (pages_of d.entries))) a;
         enough = u.enough;
         room = u.room;
         spare = ap (λ ys. ys ++ t.0.0 ∷ []) (none_spare d t.0 t.1.gives pool all u.counts ∙ u.spare ∙ ap (λ ls. d.first ++ ls) none ∙ append-nil d.first)

@@ -1,5 +1,6 @@
 -- Taking a page while a list is written.
 use Rattle.std.proofs.Common.{◌≡◌, ℕ, ◌+◌, ◌*◌, ◌^◌, ◌<◌, ◌≤◌, List, [], ◌∷◌, length, Option, Some, None, refl, sym, ap, ◌∙◌, subst, ⊎_elim, inl, inr, arith, Bool, true, false, cond}
+use Rattle.std.specs.List.{AllByRecursion}
 use Rattle.std.specs.Prelude.{◌≢◌, ◌⊎◌, ◌/◌, ◌%◌, eqb, slice_index}
 use Rattle.std.proofs.lemmas.Option.{none-some}
 use Rattle.std.proofs.lemmas.Bool.Decides.{eqb_tells}
@@ -9,16 +10,16 @@ use Rattle.kimage_list.proofs.Drawing.{source_of-at_home}
 use Rattle.kimage_list.proofs.Exchange.{exchange_at}
 use Rattle.kimage_list.proofs.Lists.{eqb-self}
 use Rattle.kimage_list.proofs.Takes.{Takes as Moves, count-at_home, taken_took}
-use Rattle.kimage_list.specs.Drafts.{one, amount, Draft, Renders, CanTake, CanMove, moved}
+use Rattle.kimage_list.specs.Drafts.{one, amount, Draft, Renders, CanTake, CanMove, exchange}
 use Rattle.kimage_list.specs.Laying.{items, source_pages, Holds}
-use Rattle.kimage_list.specs.Load.{Loading, source_of, at_home, taken}
+use Rattle.kimage_list.specs.Load.{Loading, source_of, at_home, take_page}
 use Rattle.kimage_list.specs.Opening.{open_pages, entry_place, number}
 use Rattle.kimage_list.specs.Tables.{Slots}
 use Rattle.kimage_list.specs.Tracking.{Gives, Took, Exchanged as Pair}
 use Rattle.kimage_list.specs.declared.taking.MovedPage.{MovedPage}
 use Rattle.kimage_list.specs.declared.taking.TakenPage.{TakenPage}
 use Rattle.kx_pages.specs.Items.{code}
-use Rattle.kx_pages.specs.Lists.{Each, sources, count}
+use Rattle.kx_pages.specs.Lists.{sources, count}
 use Rattle.kx_pages.specs.declared.item.Item.TheVariants.{Source}
 use Rattle.kx_pages.specs.Bytes.{Mem}
 use Rattle.page_memory.specs.Memory.{put, set_word}
@@ -43,7 +44,7 @@ count-source q s (p ∷ ps) e = go (eqb_tells p.0 q) (count-source q s ps)
         let f : source_of q ps ≡ Some s = ap (λ b. cond b (Some p.1) (source_of q ps)) (sym t.0) ∙ e in
         omega (arith, ih f)
 
-sources-apart : (q : ℕ) (ls : List ℕ) (ps : List (ℕ × ℕ)) → count q (sources ps) ≡ 0 → ((x : ℕ) → count x (sources ps) + count x ls ≤ 1) → Each (λ r. (r.1 ≢ q) × Each (λ l. r.1 ≢ l) ls) ps
+sources-apart : (q : ℕ) (ls : List ℕ) (ps : List (ℕ × ℕ)) → count q (sources ps) ≡ 0 → ((x : ℕ) → count x (sources ps) + count x ls ≤ 1) → AllByRecursion (λ r. (r.1 ≢ q) × AllByRecursion (λ l. r.1 ≢ l) ls) ps
 sources-apart q ls [] z h = tt
 sources-apart q ls (p ∷ ps) z h =
     let a = Each-from_no_count q (p.1 ∷ sources ps) z in
@@ -55,7 +56,7 @@ record Facts (d : Draft) (N : Mem) (q s : ℕ) : Type 0 where
   inside : number q d.entries < 511 * length d.links
   list : Holds (set_word (put N q (N s)) (entry_place d.links (number q d.entries)) (code (Source q))) (open_pages d.links (items d.entries (at_home q d.loading.pairs)))
   loaded : Holds (set_word (put N q (N s)) (entry_place d.links (number q d.entries)) (code (Source q))) (source_pages d.bytes (at_home q d.loading.pairs))
-  others : (p : ℕ) → q ≢ p → Each (λ l. l ≢ p) d.links → set_word (put N q (N s)) (entry_place d.links (number q d.entries)) (code (Source q)) p ≡ N p
+  others : (p : ℕ) → q ≢ p → AllByRecursion (λ l. l ≢ p) d.links → set_word (put N q (N s)) (entry_place d.links (number q d.entries)) (code (Source q)) p ≡ N p
 
 module _ (d : Draft) (memory : Contents) (pool : Pages) (table : Slots) (next entries : ℕ) (w : Renders d [] memory pool table next entries) (r : Option ℕ) (t : ℕ × Loading) (can : CanTake d r t) where
   amounts : (x : ℕ) → amount x d.loading ≤ 1
@@ -104,7 +105,7 @@ module _ (d : Draft) (memory : Contents) (pool : Pages) (table : Slots) (next en
       )
 
   -- what tracks after the page is taken
-  pub after : (x : TakenPage) (memory' : Contents) (pool' : Pages) (table' : Slots) → Took d.wanted d.loading t x pool' table table' → at memory' ≡ moved (at memory) x.moved x.page → ((q : ℕ) → IsHeld memory q → IsHeld memory' q)
+  pub after : (x : TakenPage) (memory' : Contents) (pool' : Pages) (table' : Slots) → Took d.wanted d.loading t x pool' table table' → at memory' ≡ exchange (at memory) x.moved x.page → ((q : ℕ) → IsHeld memory q → IsHeld memory' q)
       → Renders (record d { loading = t.1 }) (t.0 ∷ []) memory' pool' table' next entries
   after x memory' pool' table' took e stay = record {
     tracks = took.tracks;
@@ -124,7 +125,7 @@ module _ (d : Draft) (memory : Contents) (pool : Pages) (table : Slots) (next en
     many = w.many;
   }
     where
-      list : (v : Option MovedPage) → Pair v d.loading.pairs t.1.pairs t.0 table → Holds (moved (at memory) v x.page) (open_pages d.links (items d.entries t.1.pairs))
+      list : (v : Option MovedPage) → Pair v d.loading.pairs t.1.pairs t.0 table → Holds (exchange (at memory) v x.page) (open_pages d.links (items d.entries t.1.pairs))
       list None p = subst (λ ps. Holds (at memory) (open_pages d.links (items d.entries ps))) (sym p) w.list
       list (Some v) p =
           let f = facts v.page x.page (p.0 ∙ ap (λ y. Some y) (sym took.page)) p.1 took.page in
@@ -132,7 +133,7 @@ module _ (d : Draft) (memory : Contents) (pool : Pages) (table : Slots) (next en
           subst (λ ps. Holds (set_word (put (at memory) v.page (at memory x.page)) v.place (code (Source v.page))) (open_pages d.links (items d.entries ps))) (sym p.1)
           (subst (λ a. Holds (set_word (put (at memory) v.page (at memory x.page)) a (code (Source v.page))) (open_pages d.links (items d.entries (at_home v.page d.loading.pairs)))) (sym place) f.list)
 
-      loaded : (v : Option MovedPage) → Pair v d.loading.pairs t.1.pairs t.0 table → Holds (moved (at memory) v x.page) (source_pages d.bytes t.1.pairs)
+      loaded : (v : Option MovedPage) → Pair v d.loading.pairs t.1.pairs t.0 table → Holds (exchange (at memory) v x.page) (source_pages d.bytes t.1.pairs)
       loaded None p = subst (λ ps. Holds (at memory) (source_pages d.bytes ps)) (sym p) w.loaded
       loaded (Some v) p =
           let f = facts v.page x.page (p.0 ∙ ap (λ y. Some y) (sym took.page)) p.1 took.page in
@@ -140,7 +141,7 @@ module _ (d : Draft) (memory : Contents) (pool : Pages) (table : Slots) (next en
           subst (λ ps. Holds (set_word (put (at memory) v.page (at memory x.page)) v.place (code (Source v.page))) (source_pages d.bytes ps)) (sym p.1)
           (subst (λ a. Holds (set_word (put (at memory) v.page (at memory x.page)) a (code (Source v.page))) (source_pages d.bytes (at_home v.page d.loading.pairs))) (sym place) f.loaded)
 
-      others : (v : Option MovedPage) → Pair v d.loading.pairs t.1.pairs t.0 table → (y : ℕ) → count y d.links + count y (sources t.1.pairs) + count y (t.0 ∷ []) ≡ 0 → moved (at memory) v x.page y ≡ d.before y
+      others : (v : Option MovedPage) → Pair v d.loading.pairs t.1.pairs t.0 table → (y : ℕ) → count y d.links + count y (sources t.1.pairs) + count y (t.0 ∷ []) ≡ 0 → exchange (at memory) v x.page y ≡ d.before y
       others None p y z = w.others y (omega (arith, z, ap (λ ps. count y (sources ps)) p))
       others (Some v) p y z =
           let f = facts v.page x.page (p.0 ∙ ap (λ y. Some y) (sym took.page)) p.1 took.page in
@@ -159,10 +160,10 @@ module _ (d : Draft) (memory : Contents) (pool : Pages) (table : Slots) (next en
           apart-one : (y q : ℕ) → q ≢ y → one y q ≡ 0
           apart-one y q n = ⊎_elim (λ u. absurd (n u.1)) (λ u. ap (λ b. cond b 1 0) u.0) (eqb_tells q y)
 
-pub took_of : (D : ℕ → Bool) (r : Option ℕ) (l : Loading) (t : ℕ × Loading) (x : TakenPage) (pool' : Pages) (table table' : Slots) → Gives D l (taken D r l) (Some x) pool' table table' → taken D r l ≡ Some t → Took D l t x pool' table table'
+pub took_of : (D : ℕ → Bool) (r : Option ℕ) (l : Loading) (t : ℕ × Loading) (x : TakenPage) (pool' : Pages) (table table' : Slots) → Gives D l (take_page D r l) (Some x) pool' table table' → take_page D r l ≡ Some t → Took D l t x pool' table table'
 took_of D r l t x pool' table table' g e = let P : Option (ℕ × Loading) → Type 0 = λ o. Gives D l o (Some x) pool' table table' in subst P e g
 
 -- where no page is loaded no exchange is made
-pub unmoved : (N : Mem) (v : Option MovedPage) (pairs pairs' : List (ℕ × ℕ)) (s x : ℕ) (table : Slots) → Pair v pairs pairs' s table → pairs ≡ [] → moved N v x ≡ N
+pub unmoved : (N : Mem) (v : Option MovedPage) (pairs pairs' : List (ℕ × ℕ)) (s x : ℕ) (table : Slots) → Pair v pairs pairs' s table → pairs ≡ [] → exchange N v x ≡ N
 unmoved N None pairs pairs' s x table p z = refl
 unmoved N (Some v) pairs pairs' s x table p z = absurd (none-some s (sym (ap (source_of v.page) z) ∙ p.0))

@@ -1,5 +1,6 @@
 -- A link page is added while a list is written.
 use Rattle.std.proofs.Common.{◌≡◌, ℕ, zero, suc, ◌+◌, ◌-◌, ◌*◌, ◌^◌, ◌<◌, ◌≤◌, List, [], ◌∷◌, ◌++◌, length, Option, Some, None, refl, sym, ap, ◌∙◌, subst, inl, inr, arith, true, false, length-append, append_assoc}
+use Rattle.std.specs.List.{AllByRecursion}
 use Rattle.std.specs.Prelude.{◌≢◌, ◌⊎◌, ◌/◌, ◌%◌, eqb, slice_index}
 use Rattle.std.proofs.lemmas.Option.{none-some}
 use Rattle.std.proofs.lemmas.Bool.Decides.{eqb_tells}
@@ -9,14 +10,14 @@ use Rattle.kimage_list.proofs.Exchange.{still}
 use Rattle.kimage_list.proofs.InHand.{count-first}
 use Rattle.kimage_list.proofs.Lists.{heads_same, nil_cons}
 use Rattle.kimage_list.proofs.OpenList.{next_page, first_link, link_added}
-use Rattle.kimage_list.specs.Drafts.{one, Draft, Renders, linked, IsFull, HeadIs}
+use Rattle.kimage_list.specs.Drafts.{one, Draft, Renders, with_link, IsFull, HeadIs}
 use Rattle.kimage_list.specs.Laying.{items, source_pages, Holds}
 use Rattle.kimage_list.specs.Load.{Loading, Entry, Start, Move, source_of, pages_of}
 use Rattle.kimage_list.specs.Opening.{open_pages, entry_place, next_place, Tight, number}
 use Rattle.kimage_list.specs.Tables.{Slots, slot, place_in, source_in}
 use Rattle.kimage_list.specs.declared.table.PageSource.{PageSource}
 use Rattle.kx_pages.specs.Items.{code}
-use Rattle.kx_pages.specs.Lists.{Each, Distinct, destinations, sources, count}
+use Rattle.kx_pages.specs.Lists.{Distinct, destinations, sources, count}
 use Rattle.kx_pages.specs.declared.item.Item.TheVariants.{Link}
 use Rattle.kx_pages.specs.Bytes.{page_of, Mem, Wants}
 use Rattle.page_memory.specs.Contents.{page_with_word}
@@ -64,11 +65,11 @@ next_place-link (l ∷ []) k n e = omega (arith, e)
 next_place-link (l ∷ (j ∷ ls)) k n e = next_place-link (j ∷ ls) k (n - 511) (omega (arith, e))
 
 -- what source pages keep when another page is written
-pub sources-keys : (W : Wants) (p : ℕ) (ps : List (ℕ × ℕ)) → count p (sources ps) ≡ 0 → Each (λ x. x.0 ≢ p) (source_pages W ps)
+pub sources-keys : (W : Wants) (p : ℕ) (ps : List (ℕ × ℕ)) → count p (sources ps) ≡ 0 → AllByRecursion (λ x. x.0 ≢ p) (source_pages W ps)
 sources-keys W p [] h = tt
 sources-keys W p (q ∷ ps) h = let a = Each-from_no_count p (q.1 ∷ sources ps) h in (a.0, sources-keys W p ps (omega (arith, h)))
 
-pub word-still : (N : Mem) (a v : ℕ) (xs : List (ℕ × (List ℕ))) → Each (λ x. x.0 ≢ a / 4096) xs → Holds N xs → Holds (set_word N a v) xs
+pub word-still : (N : Mem) (a v : ℕ) (xs : List (ℕ × (List ℕ))) → AllByRecursion (λ x. x.0 ≢ a / 4096) xs → Holds N xs → Holds (set_word N a v) xs
 word-still N a v xs n h = still N (a / 4096) (page_with_word (N (a / 4096)) (a % 4096) v) xs n h
 
 pub word-apart : (N : Mem) (a v y : ℕ) → a / 4096 ≢ y → set_word N a v y ≡ N y
@@ -94,10 +95,10 @@ pub next-listed : (ls : List ℕ) (n : ℕ) → Tight ls n → 1 ≤ length ls �
 next-listed [] n t h = absurd (omega (arith, h))
 next-listed (l ∷ ls) n t h = next_page l ls n (λ y. 1 ≤ count y (l ∷ ls)) t (all (l ∷ ls))
   where
-    more : (xs : List ℕ) (x : ℕ) (ys : List ℕ) → Each (λ y. 1 ≤ count y xs) ys → Each (λ y. 1 ≤ count y (x ∷ xs)) ys
+    more : (xs : List ℕ) (x : ℕ) (ys : List ℕ) → AllByRecursion (λ y. 1 ≤ count y xs) ys → AllByRecursion (λ y. 1 ≤ count y (x ∷ xs)) ys
     more xs x ys h = Each-map ys (λ y g. omega (arith, g)) h
 
-    all : (xs : List ℕ) → Each (λ y. 1 ≤ count y xs) xs
+    all : (xs : List ℕ) → AllByRecursion (λ y. 1 ≤ count y xs) xs
     all [] = tt
     all (x ∷ xs) = (omega (arith, count-first x xs), more xs x xs (all xs))
 
@@ -147,7 +148,7 @@ module _ (d : Draft) (t : ℕ × Loading) (memory : Contents) (pool : Pages) (ta
       → Holds (at memory') (open_pages (d.links ++ t.0 ∷ []) (items d.entries t.1.pairs))
       → Holds (at memory') (source_pages d.bytes t.1.pairs)
       → ((y : ℕ) → t.0 ≢ y → count y d.links ≡ 0 → at memory' y ≡ at memory y)
-      → Renders (linked d t) [] memory' pool table (4096 * t.0) entries
+      → Renders (with_link d t) [] memory' pool table (4096 * t.0) entries
   relinked memory' stay list loaded others = record {
     tracks = record { left = w.tracks.left; filed = w.tracks.filed; wanted = w.tracks.wanted; loaded = w.tracks.loaded; once = w.tracks.once };
     order = w.order;
@@ -174,7 +175,7 @@ module _ (d : Draft) (t : ℕ × Loading) (memory : Contents) (pool : Pages) (ta
       away y e z = let m : count t.0 (t.0 ∷ []) ≡ 0 = ap (λ x. count x (t.0 ∷ [])) e ∙ z in omega (arith, m, mine)
 
   -- the first link page
-  pub first : (memory' : Contents) → entries ≡ 0 → at memory' ≡ put (at memory) t.0 (page_of []) → ((q : ℕ) → IsHeld memory q → IsHeld memory' q) → Renders (linked d t) [] memory' pool table (4096 * t.0) entries
+  pub first : (memory' : Contents) → entries ≡ 0 → at memory' ≡ put (at memory) t.0 (page_of []) → ((q : ℕ) → IsHeld memory q → IsHeld memory' q) → Renders (with_link d t) [] memory' pool table (4096 * t.0) entries
   first memory' z e stay =
       let es : d.entries ≡ [] = no_entries d.entries (omega (arith, w.many, z)) in
       let ls : d.links ≡ [] = nil_from_length d.links (omega (arith, w.many, z, full)) in
@@ -186,7 +187,7 @@ module _ (d : Draft) (t : ℕ × Loading) (memory : Contents) (pool : Pages) (ta
       (λ y n c. ap (λ N. N y) e ∙ put-apart (at memory) t.0 y (page_of []) n)
 
   -- a later link page
-  pub later : (memory' : Contents) → entries ≢ 0 → at memory' ≡ set_word (put (at memory) t.0 (page_of [])) next (code (Link t.0)) → ((q : ℕ) → IsHeld memory q → IsHeld memory' q) → Renders (linked d t) [] memory' pool table (4096 * t.0) entries
+  pub later : (memory' : Contents) → entries ≢ 0 → at memory' ≡ set_word (put (at memory) t.0 (page_of [])) next (code (Link t.0)) → ((q : ℕ) → IsHeld memory q → IsHeld memory' q) → Renders (with_link d t) [] memory' pool table (4096 * t.0) entries
   later memory' n e stay =
       let N' = put (at memory) t.0 (page_of []) in
       let listed = next_listed n in
@@ -207,7 +208,7 @@ module _ (d : Draft) (t : ℕ × Loading) (memory : Contents) (pool : Pages) (ta
           let full' : length (items d.entries t.1.pairs) ≡ length d.entries = items-full d.entries t.1.pairs w.order in
           let size : length (items d.entries t.1.pairs) ≡ 511 * length (j ∷ ls) = full' ∙ full ∙ ap (λ xs. 511 * length xs) l in
           let distinct : Distinct (j ∷ ls) = subst Distinct l (Distinct-from_count d.links (λ x. omega (arith, w.once x, in_spare x))) in
-          let apart : Each (λ y. y ≢ t.0) (j ∷ ls) = subst (Each (λ y. y ≢ t.0)) l (Each-from_no_count t.0 d.links unlinked) in
+          let apart : AllByRecursion (λ y. y ≢ t.0) (j ∷ ls) = subst (AllByRecursion (λ y. y ≢ t.0)) l (Each-from_no_count t.0 d.links unlinked) in
           let held : Holds (at memory) (open_pages (j ∷ ls) is) = subst (λ xs. Holds (at memory) (open_pages xs is)) l w.list in
           let place : next_place (j ∷ ls) (length is) ≡ next = ap (next_place (j ∷ ls)) full' ∙ ap (λ xs. next_place xs (length d.entries)) (sym l) ∙ sym w.place in
           subst (λ xs. Holds (set_word (put (at memory) t.0 (page_of [])) next (code (Link t.0))) (open_pages (xs ++ t.0 ∷ []) is)) (sym l)

@@ -1,8 +1,9 @@
 -- Pages that are set.
 use Rattle.std.proofs.Common.{◌≡◌, ℕ, suc, ◌≤◌, List, [], ◌∷◌, ◌++◌, length, refl, sym, ap, ◌∙◌, ⊎_elim, arith, drop}
+use Rattle.std.specs.List.{AllByRecursion}
 use Rattle.std.specs.Prelude.{◌≢◌, map, eqb, true}
 use Rattle.std.proofs.lemmas.Bool.Decides.{eqb_tells}
-use Rattle.kx_pages.specs.Lists.{Each, count, sources}
+use Rattle.kx_pages.specs.Lists.{count, sources}
 use Rattle.kx_pages.proofs.Lists.{Each-both}
 use Rattle.kx_pages.proofs.Counting.{Each-from_no_count}
 use Rattle.page_memory.proofs.Laws.{put-apart, put-same}
@@ -18,7 +19,7 @@ eqb-self x = ⊎_elim (λ t. t.0) (λ t. absurd (t.1 refl)) (eqb_tells x x)
 abbrev pub keys : List (ℕ × List ℕ) → List ℕ
 keys xs = map (λ x. x.0) xs
 
-other_keys : (x : ℕ × List ℕ) (xs : List (ℕ × List ℕ)) → Each (λ y. y ≢ x.0) (keys xs) → Each (λ y. x.0 ≢ y.0) xs
+other_keys : (x : ℕ × List ℕ) (xs : List (ℕ × List ℕ)) → AllByRecursion (λ y. y ≢ x.0) (keys xs) → AllByRecursion (λ y. x.0 ≢ y.0) xs
 other_keys x [] h = tt
 other_keys x (y ∷ xs) h = ((λ e. h.0 (sym e)), other_keys x xs h.1)
 

@@ -2,8 +2,8 @@
 use Rattle.std.proofs.Common.{◌≡◌, ℕ, ◌+◌, ◌-◌, ◌*◌, ◌<◌, ◌≤◌, List, [], ◌∷◌, ◌++◌, length, Some, None, refl, sym, ap, ◌∙◌, subst, arith, length-append, Bool, true, false, cond}
 use Rattle.std.specs.Prelude.{◌/◌, ◌%◌, eqb}
 use Rattle.std.proofs.lemmas.Bool.{eqb-true}
-use Rattle.kimage_list.specs.Load.{Loading, Start, taken, given, served}
-use Rattle.kimage_list.specs.Drafts.{Draft, Renders, IsSteady, HasRoom, Room, RoomBy, linked, started, HeadIs}
+use Rattle.kimage_list.specs.Load.{Loading, Start, take_page, give_page, serve}
+use Rattle.kimage_list.specs.Drafts.{Draft, Renders, IsSteady, HasRoom, Room, RoomBy, with_link, with_start, HeadIs}
 use Rattle.kimage_list.specs.Counted.{UnderWay}
 use Rattle.kimage_list.specs.Writers.{History, Writer, StandsAt, IsOpen, draft_of, is_wanted, need, pages_in, with_destination}
 use Rattle.kimage_list.proofs.Going.{room_is_there, start_is_there}
@@ -44,20 +44,20 @@ make_room h l w o few =
           room = (o.steady, subst (λ b. RoomBy b (draft_of h l o.first o.links) (draft_of h l o.first o.links)) (sym f) refl);
           under_way = subst (UnderWay h.pool (pages_in h.wanted) (need h)) k u;
           has_room = subst HasRoom k free;
-          served = ap (λ b. served (is_wanted h) (cond b (None ∷ []) []) l) f;
+          serve = ap (λ b. serve (is_wanted h) (cond b (None ∷ []) []) l) f;
           bound = omega (arith, o.steady);
         }
     go true f e by u free =
         let k = subst (λ b. RoomBy b (draft_of h l o.first o.links) e) f by in
         let t = k.0 in
-        let g : taken (is_wanted h) None l ≡ Some t = k.1.gives in
+        let g : take_page (is_wanted h) None l ≡ Some t = k.1.gives in
         record {
-          then = given None t;
+          then = give_page None t;
           more = o.links ++ t.0 ∷ [];
-          room = (o.steady, subst (λ b. RoomBy b (draft_of h l o.first o.links) (linked (draft_of h l o.first o.links) t)) (sym f) (t, k.1, refl));
+          room = (o.steady, subst (λ b. RoomBy b (draft_of h l o.first o.links) (with_link (draft_of h l o.first o.links) t)) (sym f) (t, k.1, refl));
           under_way = subst (UnderWay h.pool (pages_in h.wanted) (need h)) k.2 u;
           has_room = subst HasRoom k.2 free;
-          served = ap (λ b. served (is_wanted h) (cond b (None ∷ []) []) l) f ∙ one_served (is_wanted h) None l t g;
+          serve = ap (λ b. serve (is_wanted h) (cond b (None ∷ []) []) l) f ∙ one_served (is_wanted h) None l t g;
           bound = omega (arith, o.steady, o.under_way.within, eqb-true (length h.entries % 511) 0 f, length-append o.links (t.0 ∷ []));
         }
 
@@ -67,7 +67,7 @@ start_room h w s n = make_room h s.loading w s.inside (omega (arith, length-entr
 
 -- the writer after a destination entry
 pub start_added : (h : History) (w v : Writer) (s : StandsAt h w) (p : ℕ) (r : Roomy h s.loading s.inside.first s.inside.links)
-    → Renders (started (draft_of h r.then s.inside.first r.more) p) [] v.memory v.pool v.table v.next v.entries → IsSteady (started (draft_of h r.then s.inside.first r.more) p) → HeadIs r.more v.head
+    → Renders (with_start (draft_of h r.then s.inside.first r.more) p) [] v.memory v.pool v.table v.next v.entries → IsSteady (with_start (draft_of h r.then s.inside.first r.more) p) → HeadIs r.more v.head
     → v.control ≡ w.control → v.mode ≡ w.mode → 0 < w.segments_left → v.segments_left ≡ w.segments_left - 1 → v.destination ≡ Some p → StandsAt (with_destination h p) v
 start_added h w v s p r writes steady head control mode some segments destination =
     let o = s.inside in

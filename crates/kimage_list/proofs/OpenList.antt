@@ -1,5 +1,6 @@
 -- The next word of a list that is being written.
 use Rattle.std.proofs.Common.{◌≡◌, ℕ, zero, suc, ◌+◌, ◌-◌, ◌*◌, ◌<◌, ◌≤◌, List, [], ◌∷◌, ◌++◌, length, refl, sym, ap, ◌∙◌, subst, arith, take, drop, length-append, append-nil}
+use Rattle.std.specs.List.{AllByRecursion}
 use Rattle.std.specs.Prelude.{◌≢◌, ◌/◌, ◌%◌, map}
 use Rattle.std.proofs.lemmas.List.{take_all, length-drop, map-append, length-map}
 use Rattle.kimage_list.proofs.Words.{next-word}
@@ -7,7 +8,7 @@ use Rattle.kimage_list.proofs.Exchange.{put-written, still, keys_are}
 use Rattle.kimage_list.specs.Laying.{in_bytes, link_pages, Holds}
 use Rattle.kimage_list.specs.Opening.{open_pages, next_place, Tight}
 use Rattle.kx_pages.specs.Items.{code}
-use Rattle.kx_pages.specs.Lists.{Each, Distinct}
+use Rattle.kx_pages.specs.Lists.{Distinct}
 use Rattle.kx_pages.specs.declared.item.Item.{Item}
 use Rattle.kx_pages.specs.declared.item.Item.TheVariants.{Link, Done}
 use Rattle.kx_pages.specs.Bytes.{page_of, Mem}
@@ -30,7 +31,7 @@ ended-open (l ∷ []) is = refl
 ended-open (l ∷ (k ∷ ks)) is = ap (λ ys. (l, page_of (in_bytes (map code (take 511 is) ++ code (Link k) ∷ []))) ∷ ys) (ended-open (k ∷ ks) (drop 511 is))
 
 -- the page of the next place
-pub next_page : (l : ℕ) (ls : List ℕ) (n : ℕ) (P : ℕ → Type 0) → Tight (l ∷ ls) n → Each P (l ∷ ls) → P (next_place (l ∷ ls) n / 4096)
+pub next_page : (l : ℕ) (ls : List ℕ) (n : ℕ) (P : ℕ → Type 0) → Tight (l ∷ ls) n → AllByRecursion P (l ∷ ls) → P (next_place (l ∷ ls) n / 4096)
 next_page l [] n P t h =
     let e : (4096 * l + 8 * n) / 4096 ≡ l = omega (arith, t.1) in
     subst P (sym e) h.0
@@ -127,7 +128,7 @@ pub first_link : (N : Mem) (k : ℕ) → Holds (put N k (page_of [])) (open_page
 first_link N k = (put-same N k (page_of []), tt)
 
 -- one link page more, a later one
-pub link_added : (N : Mem) (l : ℕ) (ls : List ℕ) (is : List Item) (k : ℕ) → length is ≡ 511 * length (l ∷ ls) → Distinct (l ∷ ls) → Each (λ y. y ≢ k) (l ∷ ls) → Holds N (open_pages (l ∷ ls) is)
+pub link_added : (N : Mem) (l : ℕ) (ls : List ℕ) (is : List Item) (k : ℕ) → length is ≡ 511 * length (l ∷ ls) → Distinct (l ∷ ls) → AllByRecursion (λ y. y ≢ k) (l ∷ ls) → Holds N (open_pages (l ∷ ls) is)
     → Holds (set_word (put N k (page_of [])) (next_place (l ∷ ls) (length is)) (code (Link k))) (open_pages ((l ∷ ls) ++ k ∷ []) is)
 link_added N l ls is k m d f h =
     let N' = put N k (page_of []) in

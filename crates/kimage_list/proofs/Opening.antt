@@ -11,7 +11,7 @@ use Rattle.std.proofs.lemmas.List.{get_or-take, length-take-le}
 use Rattle.std.proofs.lemmas.List.Elements.{All-get_or}
 use Rattle.std.proofs.lemmas.List.Sorted.{All-permutation, IsPermutation-sym}
 use Rattle.kimage_list.specs.Beginning.{AreHeld}
-use Rattle.kimage_list.specs.Drafts.{initial, first_taken, Draft, Renders}
+use Rattle.kimage_list.specs.Drafts.{initial, with_first, Draft, Renders}
 use Rattle.kimage_list.specs.Load.{Loading}
 use Rattle.kimage_list.specs.Tables.{Slots, slot, source_in, place_in, fresh_slot}
 use Rattle.kx_pages.specs.Lists.{Distinct, count}
@@ -75,7 +75,7 @@ opened M D W need memory pool table enough same once unfiled fresh held = record
 
 -- the page in hand is one of those before the link pages
 pub first_given : (d : Draft) (t : ℕ × Loading) (memory : Contents) (pool : Pages) (table : Slots) (next entries : ℕ) → Renders (record d { loading = t.1 }) (t.0 ∷ []) memory pool table next entries → d.links ≡ []
-    → ((y : ℕ) → at memory y ≡ d.before y) → Renders (first_taken d t) [] memory pool table next entries
+    → ((y : ℕ) → at memory y ≡ d.before y) → Renders (with_first d t) [] memory pool table next entries
 first_given d t memory pool table next entries w none same = record {
   tracks = record { left = w.tracks.left; filed = w.tracks.filed; wanted = w.tracks.wanted; loaded = w.tracks.loaded; once = w.tracks.once };
   order = w.order;

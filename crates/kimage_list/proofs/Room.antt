@@ -1,9 +1,10 @@
 -- How many link pages a reading may have.
 use Rattle.std.proofs.Common.{◌≡◌, ℕ, zero, suc, ◌<◌, ◌≤◌, List, [], ◌∷◌, length, refl, ap, inl, inr, arith}
+use Rattle.std.specs.List.{AllByRecursion}
 use Rattle.std.specs.Prelude.{◌≢◌, ◌⊎◌, true, false, eqb}
 use Rattle.std.proofs.lemmas.Bool.Decides.{eqb_tells}
 use Rattle.kimage_list.proofs.Counting.{counted_fit}
-use Rattle.kx_pages.specs.Lists.{Each, Has, count}
+use Rattle.kx_pages.specs.Lists.{Has, count}
 use Rattle.kx_pages.proofs.Lists.{Each-map}
 
 abbrev below : ℕ → List ℕ
@@ -23,5 +24,5 @@ length-below zero = refl
 length-below (suc n) = ap suc (length-below n)
 
 -- distinct numbers below n are at most n
-pub room : (n : ℕ) (xs : List ℕ) → ((x : ℕ) → count x xs ≤ 1) → Each (λ x. x < n) xs → length xs ≤ n
+pub room : (n : ℕ) (xs : List ℕ) → ((x : ℕ) → count x xs ≤ 1) → AllByRecursion (λ x. x < n) xs → length xs ≤ n
 room n xs c h = let r = counted_fit xs (below n) c (Each-map xs (λ x l. has_below n x l) h) in omega (arith, r, length-below n)

@@ -1,9 +1,10 @@
 -- The pages of spans, one by one.
 use Rattle.std.proofs.Common.{◌≡◌, ℕ, zero, suc, ◌+◌, ◌<◌, ◌≤◌, ◌^◌, List, [], ◌∷◌, length, refl, ap, ⊎_elim, inl, inr, arith, length-append, true, false}
+use Rattle.std.specs.List.{AllByRecursion}
 use Rattle.std.specs.Prelude.{◌≢◌, ◌⊎◌, ◌||◌, eqb}
 use Rattle.std.proofs.lemmas.Bool.{cases_lt, or_cases, false≢true, or_right}
 use Rattle.std.proofs.lemmas.Bool.Decides.{eqb_tells}
-use Rattle.kx_pages.specs.Lists.{Each, Has, count}
+use Rattle.kx_pages.specs.Lists.{Has, count}
 use Rattle.kx_pages.specs.Spans.{Run, end, in_span, in_spans, pages, AreApart}
 use Rattle.kimage_list.specs.Writers.{pages_from, pages_in}
 use Rattle.kx_pages.proofs.Lists.{Each-map, Each-append, Has-left, Has-right}
@@ -84,12 +85,12 @@ spans-low b (r ∷ rs) x h m = ⊎_elim
     (λ a. spans-low (end r + 1) rs x h.3 a)
     (or_cases (in_span r x) (in_spans rs x) m)
 
-each-from : (p n : ℕ) → Each (λ x. (p ≤ x) × (x < p + n)) (pages_from p n)
+each-from : (p n : ℕ) → AllByRecursion (λ x. (p ≤ x) × (x < p + n)) (pages_from p n)
 each-from p zero = tt
 each-from p (suc n) = ((omega arith, omega arith), Each-map (pages_from (suc p) n) (λ x h. (omega (arith, h.0), omega (arith, h.1))) (each-from (suc p) n))
 
 -- each of their pages is one of the spans'
-pub each-pages_in : (rs : List Run) → Each (λ x. in_spans rs x ≡ true) (pages_in rs)
+pub each-pages_in : (rs : List Run) → AllByRecursion (λ x. in_spans rs x ≡ true) (pages_in rs)
 each-pages_in [] = tt
 each-pages_in (r ∷ rs) =
     Each-append (λ x. in_spans (r ∷ rs) x ≡ true) (pages_from r.first r.count) (pages_in rs)

@@ -8,7 +8,7 @@ use Rattle.kx_pages.specs.Lists.{Has, count, sources}
 use Rattle.kx_pages.specs.declared.item.Item.{Item}
 use Rattle.kx_pages.specs.declared.image.Wish.{Wish}
 use Rattle.kx_pages.specs.declared.image.Wish.TheVariants.{Plain, Kept}
-use Rattle.kimage_list.specs.Load.{Loading, Request, Entry, Start, Move, pages_of, starts, own_request, requests_from, requests, begun, taken, given, served, loaded}
+use Rattle.kimage_list.specs.Load.{Loading, Request, Entry, Start, Move, pages_of, starts, own_request, requests_from, requests, begun, take_page, give_page, serve, loading_after}
 use Rattle.kimage_list.specs.Laying.{items, source_pages, links_of, mode_with}
 use Rattle.kimage_list.specs.Opening.{open_pages, laid_so_far}
 use Rattle.kimage_list.specs.Tables.{Slots}
@@ -61,7 +61,7 @@ pub links_are : (wish : Wish) (spare first links : List ℕ) → spare ≡ first
 links_are wish spare first links e n = ap (drop (first_count wish)) e ∙ ap (λ m. drop m (first ++ links)) (sym n) ∙ drop-append_seam first links
 
 -- what is kept inside tells all
-pub stands_at : (h : History) (l : Loading) (w : Writer) → loaded (is_wanted h) h.wish h.entries h.pool ≡ Some l → IsOpen h l w → w.segments_left + starts h.entries ≡ h.segments → w.destination ≡ destination_after None h.entries → StandsAt h w
+pub stands_at : (h : History) (l : Loading) (w : Writer) → loading_after (is_wanted h) h.wish h.entries h.pool ≡ Some l → IsOpen h l w → w.segments_left + starts h.entries ≡ h.segments → w.destination ≡ destination_after None h.entries → StandsAt h w
 stands_at h l w requests o segments destination = record {
   loading = l;
   requests = requests;
@@ -107,14 +107,14 @@ requests-more wish es e =
     zero-more : 0 + length es ≡ length es
     zero-more = omega arith
 
-pub loaded-more : (D : ℕ → Bool) (wish : Wish) (es : List Entry) (e : Entry) (pool : List ℕ) (l m o : Loading) → loaded D wish es pool ≡ Some l → served D (link_request (length es)) l ≡ Some m → served D (own_request e) m ≡ Some o → loaded D wish (es ++ e ∷ []) pool ≡ Some o
+pub loaded-more : (D : ℕ → Bool) (wish : Wish) (es : List Entry) (e : Entry) (pool : List ℕ) (l m o : Loading) → loading_after D wish es pool ≡ Some l → serve D (link_request (length es)) l ≡ Some m → serve D (own_request e) m ≡ Some o → loading_after D wish (es ++ e ∷ []) pool ≡ Some o
 loaded-more D wish es e pool l m o f g k =
-    ap (λ rs. served D rs (begun pool)) (requests-more wish es e)
+    ap (λ rs. serve D rs (begun pool)) (requests-more wish es e)
     ∙ served-append D (requests wish es) (link_request (length es) ++ own_request e) (begun pool) l f
     ∙ served-append D (link_request (length es)) (own_request e) l m g ∙ k
 
-pub one_served : (D : ℕ → Bool) (r : Request) (l : Loading) (t : ℕ × Loading) → taken D r l ≡ Some t → served D (r ∷ []) l ≡ Some (given r t)
-one_served D r l t g = rw (g, served) refl
+pub one_served : (D : ℕ → Bool) (r : Request) (l : Loading) (t : ℕ × Loading) → take_page D r l ≡ Some t → serve D (r ∷ []) l ≡ Some (give_page r t)
+one_served D r l t g = rw (g, serve) refl
 
 -- no page stands twice among the entries, and each is wanted
 pub few_pages : (h : History) (l : Loading) (w : Writer) (o : IsOpen h l w) → length (pages_of h.entries) ≤ length (pages_in h.wanted)

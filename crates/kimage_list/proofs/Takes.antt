@@ -1,13 +1,14 @@
 -- What taking a page does.
 use Rattle.std.proofs.Common.{◌≡◌, ℕ, suc, ◌+◌, ◌≤◌, List, [], ◌∷◌, ◌++◌, length, Option, Some, None, refl, sym, ap, ◌∙◌, subst, ⊎_elim, inl, inr, arith, Bool, true, false, cond, append-nil, append_assoc, length-append}
+use Rattle.std.specs.List.{AllByRecursion}
 use Rattle.std.specs.Prelude.{◌≢◌, ◌⊎◌, eqb, not, ◌||◌}
 use Rattle.std.proofs.lemmas.Option.{none-some}
 use Rattle.std.proofs.lemmas.Bool.{or_cases, or_parts, eqb-true, eq-eqb, false≢true}
 use Rattle.std.proofs.lemmas.Bool.Decides.{eqb_tells}
 use Rattle.kimage_list.specs.Drafts.{one, amount, IsHome}
-use Rattle.kimage_list.specs.Load.{without, source_of, at_home, is_for, Loading, draw, taken, given, served}
+use Rattle.kimage_list.specs.Load.{without, source_of, at_home, is_for, Loading, draw, take_page, give_page, serve}
 use Rattle.kx_laws.proofs.Booleans.{not_false, not_true}
-use Rattle.kx_pages.specs.Lists.{Each, Has, destinations, sources, count, has}
+use Rattle.kx_pages.specs.Lists.{Has, destinations, sources, count, has}
 use Rattle.kx_pages.proofs.Lists.{Each-map, Each-append}
 use Rattle.kx_pages.proofs.Counting.{count-append}
 use Rattle.kx_laws.proofs.Options.{some_same}
@@ -28,11 +29,11 @@ count-at_home x q s (p ∷ ps) h = go (eqb_tells p.0 q) (count-at_home x q s ps)
     go (inl e) ih = let f : p.1 ≡ s = some_same p.1 s (rw e.0 at h) in rw (e.0, f) (omega arith)
     go (inr e) ih = let i = ih (rw e.0 at h) in rw e.0 (omega (arith, i))
 
-home-at_home : (D : ℕ → Bool) (q : ℕ) (ps : List (ℕ × ℕ)) → Each (IsHome D) ps → Each (IsHome D) (at_home q ps)
+home-at_home : (D : ℕ → Bool) (q : ℕ) (ps : List (ℕ × ℕ)) → AllByRecursion (IsHome D) ps → AllByRecursion (IsHome D) (at_home q ps)
 home-at_home D q [] h = tt
 home-at_home D q (p ∷ ps) h = go (eqb p.0 q) (home-at_home D q ps h.1)
   where
-    go : (b : Bool) → Each (IsHome D) (at_home q ps) → Each (IsHome D) (cond b ((q, q) ∷ ps) (p ∷ at_home q ps))
+    go : (b : Bool) → AllByRecursion (IsHome D) (at_home q ps) → AllByRecursion (IsHome D) (cond b ((q, q) ∷ ps) (p ∷ at_home q ps))
     go true ih = (inl refl, h.1)
     go false ih = (h.0, ih)
 
@@ -45,7 +46,7 @@ destinations-at_home q (p ∷ ps) = go (eqb_tells p.0 q) (destinations-at_home q
     go (inr e) ih = rw e.0 (ap (λ ys. p.0 ∷ ys) ih)
 
 -- the source of a pair that is not at home is no destination
-source_free : (D : ℕ → Bool) (q s : ℕ) (ps : List (ℕ × ℕ)) → Each (IsHome D) ps → source_of q ps ≡ Some s → count q (sources ps) ≡ 0 → D s ≡ false
+source_free : (D : ℕ → Bool) (q s : ℕ) (ps : List (ℕ × ℕ)) → AllByRecursion (IsHome D) ps → source_of q ps ≡ Some s → count q (sources ps) ≡ 0 → D s ≡ false
 source_free D q s [] h e c = absurd (none-some s e)
 source_free D q s (p ∷ ps) h e c = go (eqb_tells p.0 q) h.0 (source_free D q s ps h.1)
   where
@@ -70,11 +71,11 @@ length-without d (y ∷ xs) h = go (eqb_tells y d) (length-without d xs)
     go (inl e) ih = rw e.0 (omega arith)
     go (inr e) ih = let i = ih (rw e.0 at h) in rw e.0 (omega (arith, i))
 
-each-without : (P : ℕ → Type 0) (d : ℕ) (xs : List ℕ) → Each P xs → Each P (without d xs)
+each-without : (P : ℕ → Type 0) (d : ℕ) (xs : List ℕ) → AllByRecursion P xs → AllByRecursion P (without d xs)
 each-without P d [] h = tt
 each-without P d (x ∷ xs) h = go (eqb x d) (each-without P d xs h.1)
   where
-    go : (b : Bool) → Each P (without d xs) → Each P (cond b xs (x ∷ without d xs))
+    go : (b : Bool) → AllByRecursion P (without d xs) → AllByRecursion P (cond b xs (x ∷ without d xs))
     go true ih = h.1
     go false ih = (h.0, ih)
 
@@ -98,19 +99,19 @@ no_destination q (p ∷ ps) e (inr h) = go (eqb p.0 q) refl (no_destination q ps
 -- what taking a page for r from l gave: a page, and the loading after it
 pub record Takes (D : ℕ → Bool) (r : Option ℕ) (l : Loading) (o : ℕ × Loading) : Type 0 where
   pub conserves : (x : ℕ) → amount x o.1 + one x o.0 ≡ amount x l
-  pub homes : Each (IsHome D) o.1.pairs
+  pub homes : AllByRecursion (IsHome D) o.1.pairs
   pub serves : (is_for r o.0 ≡ true) ⊎ (D o.0 ≡ false)
   pub order : destinations o.1.pairs ≡ destinations l.pairs
   pub spared : o.1.spare ≡ l.spare
   pub sizes : size o.1 + 1 ≡ size l
   pub ends : (front : List ℕ) × (l.left ≡ front ++ o.1.left)
-  pub files : Each (Awaited D l.pairs) l.filed → Each (Awaited D o.1.pairs) o.1.filed
+  pub files : AllByRecursion (Awaited D l.pairs) l.filed → AllByRecursion (Awaited D o.1.pairs) o.1.filed
 
 abbrev pub at : List (ℕ × ℕ) → List ℕ → List ℕ → List ℕ → Loading
 at pairs spare filed left = record { left = left; filed = filed; pairs = pairs; spare = spare }
 
 draw_took : (D : ℕ → Bool) (r : Option ℕ) (pairs : List (ℕ × ℕ)) (spare filed left : List ℕ) (o : ℕ × Loading)
-    → Each (IsHome D) pairs → ((x : ℕ) → amount x (at pairs spare filed left) ≤ 1)
+    → AllByRecursion (IsHome D) pairs → ((x : ℕ) → amount x (at pairs spare filed left) ≤ 1)
     → draw D r pairs spare filed left ≡ Some o → Takes D r (at pairs spare filed left) o
 draw_took D r pairs spare filed [] o h c e = absurd (none-some o e)
 draw_took D r pairs spare filed (q ∷ left) o h c e = go (is_for r q || not (D q)) refl (draw_took D r pairs spare (q ∷ filed) left o h)
@@ -162,13 +163,13 @@ draw_took D r pairs spare filed (q ∷ left) o h c e = go (is_for r q || not (D 
     go false f ih = seek ih f (source_of q pairs) refl
 
 pub taken_took : (D : ℕ → Bool) (r : Option ℕ) (l : Loading) (o : ℕ × Loading)
-    → Each (IsHome D) l.pairs → ((x : ℕ) → amount x l ≤ 1) → taken D r l ≡ Some o → Takes D r l o
+    → AllByRecursion (IsHome D) l.pairs → ((x : ℕ) → amount x l ≤ 1) → take_page D r l ≡ Some o → Takes D r l o
 taken_took D None l o h c e = draw_took D None l.pairs l.spare l.filed l.left o h c e
 taken_took D (Some d) l o h c e = go (has d l.filed) refl
   where
     go : (b : Bool) → has d l.filed ≡ b → Takes D (Some d) l o
     go true f =
-        let i = some_same _ _ (rw (f, taken) at e) in
+        let i = some_same _ _ (rw (f, take_page) at e) in
         subst (Takes D (Some d) l) i (record {
           conserves = λ x. omega (arith, count-without x d l.filed f);
           homes = h;
@@ -179,14 +180,14 @@ taken_took D (Some d) l o h c e = go (has d l.filed) refl
           ends = ([], refl);
           files = λ w. each-without (Awaited D l.pairs) d l.filed w;
         })
-    go false f = draw_took D (Some d) l.pairs l.spare l.filed l.left o h c (rw (f, taken) at e)
+    go false f = draw_took D (Some d) l.pairs l.spare l.filed l.left o h c (rw (f, take_page) at e)
 
 -- what holds of a loading. spent is the destinations requested so far, and n the number of other requests
 pub record Sound (D : ℕ → Bool) (pool spent : List ℕ) (n : ℕ) (l : Loading) : Type 0 where
   pub conserved : (x : ℕ) → amount x l ≡ count x pool
-  pub homes : Each (IsHome D) l.pairs
+  pub homes : AllByRecursion (IsHome D) l.pairs
   pub order : destinations l.pairs ≡ spent
-  pub free : Each (λ p. D p ≡ false) l.spare
+  pub free : AllByRecursion (λ p. D p ≡ false) l.spare
   pub many : length l.spare ≡ n
 
 -- the destinations among these requests
@@ -218,7 +219,7 @@ others-cons n None rs = omega arith
 others-cons n (Some d) rs = omega arith
 
 pub given_sound : (D : ℕ → Bool) (pool spent : List ℕ) (n : ℕ) (r : Option ℕ) (l : Loading) (t : ℕ × Loading)
-    → Sound D pool spent n l → Takes D r l t → Sound D pool (spent ++ wished (r ∷ [])) (n + others (r ∷ [])) (given r t)
+    → Sound D pool spent n l → Takes D r l t → Sound D pool (spent ++ wished (r ∷ [])) (n + others (r ∷ [])) (give_page r t)
 given_sound D pool spent n None l t s k =
     let free : D t.0 ≡ false = ⊎_elim (λ e. absurd (false≢true e)) (λ e. e) k.serves in
     record {
@@ -239,16 +240,16 @@ given_sound D pool spent n (Some d) l t s k =
     }
 
 pub served_sound : (D : ℕ → Bool) (pool spent : List ℕ) (n : ℕ) (rs : List (Option ℕ)) (l o : Loading)
-    → ((x : ℕ) → count x pool ≤ 1) → Sound D pool spent n l → served D rs l ≡ Some o → Sound D pool (spent ++ wished rs) (n + others rs) o
+    → ((x : ℕ) → count x pool ≤ 1) → Sound D pool spent n l → serve D rs l ≡ Some o → Sound D pool (spent ++ wished rs) (n + others rs) o
 served_sound D pool spent n [] l o c s e =
     let z : n ≡ n + others [] = omega arith in
     subst (Sound D pool (spent ++ []) (n + others [])) (some_same l o e) (subst (λ m. Sound D pool (spent ++ []) m l) z (subst (λ ys. Sound D pool ys n l) (sym (append-nil spent)) s))
-served_sound D pool spent n (r ∷ rs) l o c s e = go (taken D r l) refl (λ t. served_sound D pool (spent ++ wished (r ∷ [])) (n + others (r ∷ [])) rs (given r t) o c)
+served_sound D pool spent n (r ∷ rs) l o c s e = go (take_page D r l) refl (λ t. served_sound D pool (spent ++ wished (r ∷ [])) (n + others (r ∷ [])) rs (give_page r t) o c)
   where
-    go : (m : Option (ℕ × Loading)) → taken D r l ≡ m → ((t : ℕ × Loading) → Sound D pool (spent ++ wished (r ∷ [])) (n + others (r ∷ [])) (given r t) → served D rs (given r t) ≡ Some o → Sound D pool ((spent ++ wished (r ∷ [])) ++ wished rs) (n + others (r ∷ []) + others rs) o) → Sound D pool (spent ++ wished (r ∷ rs)) (n + others (r ∷ rs)) o
-    go None f ih = absurd (none-some o (rw (f, served) at e))
+    go : (m : Option (ℕ × Loading)) → take_page D r l ≡ m → ((t : ℕ × Loading) → Sound D pool (spent ++ wished (r ∷ [])) (n + others (r ∷ [])) (give_page r t) → serve D rs (give_page r t) ≡ Some o → Sound D pool ((spent ++ wished (r ∷ [])) ++ wished rs) (n + others (r ∷ []) + others rs) o) → Sound D pool (spent ++ wished (r ∷ rs)) (n + others (r ∷ rs)) o
+    go None f ih = absurd (none-some o (rw (f, serve) at e))
     go (Some t) f ih =
         let k = taken_took D r l t s.homes (λ x. omega (arith, s.conserved x, c x)) f in
-        let v = ih t (given_sound D pool spent n r l t s k) (rw (f, served) at e) in
+        let v = ih t (given_sound D pool spent n r l t s k) (rw (f, serve) at e) in
         subst (λ ys. Sound D pool ys (n + others (r ∷ rs)) o) (append_assoc spent (wished (r ∷ [])) (wished rs) ∙ ap (λ ys. spent ++ ys) (wished-cons r rs))
         (subst (λ m. Sound D pool ((spent ++ wished (r ∷ [])) ++ wished rs) m o) (others-cons n r rs) v)

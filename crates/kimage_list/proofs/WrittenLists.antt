@@ -11,7 +11,7 @@ use Rattle.kx_pages.specs.Lists.{Has, has, count, sources}
 use Rattle.kx_pages.specs.Items.{code}
 use Rattle.kx_pages.specs.declared.item.Item.TheVariants.{Link}
 use Rattle.kimage_list.specs.Load.{pages_of}
-use Rattle.kimage_list.specs.Laying.{items, source_pages, put_all, link_pages, laid, head_of, links_of, control_of, load_mode}
+use Rattle.kimage_list.specs.Laying.{items, source_pages, put_all, link_pages, lay, head_of, links_of, control_of, load_mode}
 use Rattle.kimage_list.specs.Tables.{slot, source_in}
 use Rattle.kimage_list.specs.Drafts.{Draft, HasLink, laid_by, HeadIs}
 use Rattle.kimage_list.specs.Calls.{IsWritten}
@@ -83,7 +83,7 @@ module _ (h : History) (w : Writer) (s : StandsAt h w) (started_all : w.segments
   head_is [] n e m = absurd (omega (arith, m))
   head_is (l ∷ ls) n e m = e
 
-  unused : (p : ℕ) → count p (take (need h) h.pool) ≡ 0 → laid h.before h.bytes h.wish h.entries s.loading p ≡ h.before p
+  unused : (p : ℕ) → count p (take (need h) h.pool) ≡ 0 → lay h.before h.bytes h.wish h.entries s.loading p ≡ h.before p
   unused p z = put_all_other h.before (link_pages (links_of h.wish s.loading) (items h.entries s.loading.pairs) ++ source_pages h.bytes s.loading.pairs) p (omega (arith, named, in_use p, in_links p, ap (count p) links_same, z))
     where
       named : count p (keys (link_pages (links_of h.wish s.loading) (items h.entries s.loading.pairs) ++ source_pages h.bytes s.loading.pairs)) ≡ count p (links_of h.wish s.loading) + count p (sources s.loading.pairs)
@@ -96,7 +96,7 @@ module _ (h : History) (w : Writer) (s : StandsAt h w) (started_all : w.segments
   pub list_written : (r : Written) → ((p : ℕ) → at r.memory p ≡ laid_by (draft_of h s.loading s.inside.first s.inside.links) p) → r.pool ≡ w.pool
       → r.image ≡ record { head = w.head; mode = w.mode; control = w.control } → IsWritten h r
   list_written r memory pool image =
-      let laid_there : (p : ℕ) → at r.memory p ≡ laid h.before h.bytes h.wish h.entries s.loading p = λ p. memory p ∙ ap (λ ls. put_all h.before (link_pages ls (items h.entries s.loading.pairs) ++ source_pages h.bytes s.loading.pairs) p) (sym links_same) in
+      let laid_there : (p : ℕ) → at r.memory p ≡ lay h.before h.bytes h.wish h.entries s.loading p = λ p. memory p ∙ ap (λ ls. put_all h.before (link_pages ls (items h.entries s.loading.pairs) ++ source_pages h.bytes s.loading.pairs) p) (sym links_same) in
       record {
         loading = s.loading;
         requests = s.requests;

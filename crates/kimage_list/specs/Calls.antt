@@ -11,8 +11,8 @@ use Rattle.kimage_list.specs.declared.written.BeginFault.{BeginFault}
 use Rattle.kimage_list.specs.declared.written.BeginFault.TheVariants.{NoPages, Memory}
 use Rattle.kimage_list.specs.declared.open_list.OpenList.{OpenList}
 use Rattle.kimage_list.specs.declared.writer.ListWriter.TheInside.{Inside}
-use Rattle.kimage_list.specs.Load.{Loading, begun, loaded}
-use Rattle.kimage_list.specs.Laying.{image_of, laid}
+use Rattle.kimage_list.specs.Load.{Loading, begun, loading_after}
+use Rattle.kimage_list.specs.Laying.{image_of, lay}
 use Rattle.kimage_list.specs.Drafts.{Renders}
 use Rattle.kimage_list.specs.Counted.{UnderWay}
 use Rattle.kimage_list.specs.Writers.{History, Writer, is_wanted, need, pages_in, draft_of}
@@ -74,11 +74,11 @@ pub record HasDrawn (n : ℕ) (p q : Pages) : Type 0 where
 -- What a load leaves that was asked for all its pages.
 pub record IsWritten (h : History) (w : Written) : Type 0 where
   pub loading : Loading
-  pub requests : loaded (is_wanted h) h.wish h.entries h.pool ≡ Some loading
+  pub requests : loading_after (is_wanted h) h.wish h.entries h.pool ≡ Some loading
   -- the head word, the mode and the control page
   pub image : w.image ≡ image_of h.wish loading
   -- the list over the link pages, the bytes given at the sources, and every other page as before
-  pub memory : (p : ℕ) → at w.memory p ≡ laid h.before h.bytes h.wish h.entries loading p
+  pub memory : (p : ℕ) → at w.memory p ≡ lay h.before h.bytes h.wish h.entries loading p
   -- of the usable pages those are left that follow the first, as many as the load takes, and these are the pages in use
   pub usable : usable_of w.pool ≡ drop (need h) h.pool
   pub in_use : (x : ℕ)

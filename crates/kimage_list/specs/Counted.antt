@@ -1,6 +1,7 @@
 -- How the pages of a load are counted (this project's own).
 use Rattle.std.specs.Prelude.{◌≡◌, ℕ, ◌+◌, ◌≤◌, ◌*◌, List, ◌++◌, length, take, true, false, Some, None}
-use Rattle.kx_pages.specs.Lists.{Each, Has, count, destinations}
+use Rattle.std.specs.List.{AllByRecursion}
+use Rattle.kx_pages.specs.Lists.{Has, count, destinations}
 use Rattle.kimage_list.specs.Load.{Request, pages_of}
 use Rattle.kimage_list.specs.Drafts.{amount, IsHome, Draft}
 
@@ -8,17 +9,17 @@ use Rattle.kimage_list.specs.Drafts.{amount, IsHome, Draft}
 pub record Counts (pool all : List ℕ) (d : Draft) : Type 0 where
   pub once : (x : ℕ) → count x pool ≤ 1
   pub conserved : (x : ℕ) → amount x d.loading ≡ count x pool
-  pub homes : Each (IsHome d.wanted) d.loading.pairs
+  pub homes : AllByRecursion (IsHome d.wanted) d.loading.pairs
   pub order : destinations d.loading.pairs ≡ pages_of d.entries
-  pub files : Each (λ p. (d.wanted p ≡ true) × (Has p (destinations d.loading.pairs) → ⊥))
+  pub files : AllByRecursion (λ p. (d.wanted p ≡ true) × (Has p (destinations d.loading.pairs) → ⊥))
       d.loading.filed
   pub sizes : length d.loading.left + length d.loading.filed + length d.loading.spare
       + length d.loading.pairs ≡ length pool
   pub front : List ℕ
   pub ends : pool ≡ front ++ d.loading.left
-  pub free : Each (λ p. d.wanted p ≡ false) d.loading.spare
+  pub free : AllByRecursion (λ p. d.wanted p ≡ false) d.loading.spare
   pub wanted : (p : ℕ) → d.wanted p ≡ true → Has p all
-  pub inside : Each (λ p. Has p all) (pages_of d.entries)
+  pub inside : AllByRecursion (λ p. Has p all) (pages_of d.entries)
   pub spent : (x : ℕ) → count x (pages_of d.entries) ≤ 1
 
 -- a request that the count allows: n are the requests for no destination so far

@@ -1,25 +1,26 @@
 -- A list under way: what was asked for so far, and what stands in memory, pool and table (this project's own).
-use Rattle.std.specs.Prelude.{◌≡◌, ℕ, ◌+◌, ◌*◌, ◌/◌, ◌%◌, ◌<◌, ◌≤◌, ◌^◌, ◌⊎◌, List, [], ◌∷◌, ◌++◌, length, take, Bool, true, false, cond, eqb, Option, Some, None}
+use Rattle.std.specs.Prelude.{◌≡◌, ℕ, ◌+◌, ◌*◌, ◌/◌, ◌%◌, ◌<◌, ◌≤◌, ◌^◌, ◌⊎◌, List, [], ◌∷◌, ◌++◌, length, take, Bool, true, false, Option, Some, None, if◌then◌else◌, ◌==◌}
+use Rattle.std.specs.List.{AllByRecursion}
 use Rattle.kx_pages.specs.Bytes.{page_of, Mem, Wants}
 use Rattle.page_memory.specs.Contents.{Contents, at, IsHeld}
 use Rattle.page_memory.specs.Memory.{put, set_word}
 use Rattle.page_pool.specs.Pages.{Pages}
 use Rattle.kx_pages.specs.Items.{code}
-use Rattle.kx_pages.specs.Lists.{Each, count, destinations, sources}
+use Rattle.kx_pages.specs.Lists.{count, destinations, sources}
 use Rattle.kx_pages.specs.declared.item.Item.TheVariants.{Source, Link}
 use Rattle.kimage_list.specs.declared.taking.MovedPage.{MovedPage}
-use Rattle.kimage_list.specs.Load.{Loading, Request, Entry, Start, Move, pages_of, begun, taken, given}
+use Rattle.kimage_list.specs.Load.{Loading, Request, Entry, Start, Move, pages_of, begun, take_page, give_page}
 use Rattle.kimage_list.specs.Laying.{Holds, items, source_pages, link_pages, put_all}
 use Rattle.kimage_list.specs.Opening.{open_pages, entry_place, next_place, Tight, number}
 use Rattle.kimage_list.specs.Tables.{Slots, slot, place_in}
 use Rattle.kimage_list.specs.Tracking.{Tracks}
 
 abbrev pub one : ℕ → ℕ → ℕ
-one x y = cond (eqb y x) 1 0
+one x y = if y == x then 1 else 0
 
 -- how often x is filed or in use
-abbrev pub used : ℕ → Loading → ℕ
-used x l = count x l.filed + count x l.spare + count x (sources l.pairs)
+abbrev pub uses : ℕ → Loading → ℕ
+uses x l = count x l.filed + count x l.spare + count x (sources l.pairs)
 
 -- how often x is left, filed or in use
 abbrev pub amount : ℕ → Loading → ℕ
@@ -47,9 +48,9 @@ pub record Renders (d : Draft) (hand : List ℕ) (memory : Contents) (pool : Pag
   pub order : destinations d.loading.pairs ≡ pages_of d.entries
   pub spare : d.loading.spare ≡ d.first ++ d.links
   pub tight : Tight d.links (length d.entries)
-  pub homes : Each (IsHome d.wanted) d.loading.pairs
+  pub homes : AllByRecursion (IsHome d.wanted) d.loading.pairs
   pub once : (x : ℕ) → amount x d.loading + count x hand ≤ 1
-  pub within : (x : ℕ) → used x d.loading + count x hand ≤ count x d.room
+  pub within : (x : ℕ) → uses x d.loading + count x hand ≤ count x d.room
   pub held : (x : ℕ) → 1 ≤ count x d.room → IsHeld memory x
   pub below : (x : ℕ) → 1 ≤ count x d.room → x < 2 ^ 34
   pub list : Holds (at memory) (open_pages d.links (items d.entries d.loading.pairs))
@@ -63,8 +64,8 @@ pub record Renders (d : Draft) (hand : List ℕ) (memory : Contents) (pool : Pag
 
 -- taking gives t, and draws no page past the room
 pub record CanTake (d : Draft) (r : Request) (t : ℕ × Loading) : Type 0 where
-  pub gives : taken d.wanted r d.loading ≡ Some t
-  pub within : (x : ℕ) → used x t.1 + one x t.0 ≤ count x d.room
+  pub gives : take_page d.wanted r d.loading ≡ Some t
+  pub within : (x : ℕ) → uses x t.1 + one x t.0 ≤ count x d.room
 
 -- an exchange can be made in this memory
 abbrev pub CanMove : Option MovedPage → Contents → Type 0
@@ -73,13 +74,13 @@ CanMove (Some v) m =
     (v.place < 2 ^ 46) × (v.place % 8 ≡ 0) × IsHeld m v.page × IsHeld m (v.place / 4096)
 
 -- memory after the exchange that freed page s
-abbrev pub moved : Mem → Option MovedPage → ℕ → Mem
-moved N None s = N
-moved N (Some v) s = set_word (put N v.page (N s)) v.place (code (Source v.page))
+abbrev pub exchange : Mem → Option MovedPage → ℕ → Mem
+exchange N None s = N
+exchange N (Some v) s = set_word (put N v.page (N s)) v.place (code (Source v.page))
 
 -- the draft with page t.0 as its next link page
-abbrev pub linked : Draft → ℕ × Loading → Draft
-linked d t = record d { loading = given None t; links = d.links ++ t.0 ∷ [] }
+abbrev pub with_link : Draft → ℕ × Loading → Draft
+with_link d t = record d { loading = give_page None t; links = d.links ++ t.0 ∷ [] }
 
 -- a link page is wanted before the next entry
 abbrev pub IsFull : Draft → Type 0
@@ -95,19 +96,19 @@ HasRoom d = length d.entries < 511 * length d.links
 
 -- e is d with room for one more entry
 abbrev pub RoomBy : Bool → Draft → Draft → Type 0
-RoomBy true d e = (t : ℕ × Loading) × CanTake d None t × (e ≡ linked d t)
+RoomBy true d e = (t : ℕ × Loading) × CanTake d None t × (e ≡ with_link d t)
 RoomBy false d e = e ≡ d
 
 abbrev pub Room : Draft → Draft → Type 0
-Room d e = IsSteady d × RoomBy (eqb (length d.entries % 511) 0) d e
+Room d e = IsSteady d × RoomBy (length d.entries % 511 == 0) d e
 
 -- with the entry of a segment's start
-abbrev pub started : Draft → ℕ → Draft
-started d p = record d { entries = d.entries ++ Start p ∷ [] }
+abbrev pub with_start : Draft → ℕ → Draft
+with_start d p = record d { entries = d.entries ++ Start p ∷ [] }
 
 -- with page p loaded from the page that was taken
-abbrev pub loaded_from : Draft → ℕ → ℕ × Loading → Draft
-loaded_from d p t = record d { loading = given (Some p) t; entries = d.entries ++ Move p ∷ [] }
+abbrev pub with_move : Draft → ℕ → ℕ × Loading → Draft
+with_move d p t = record d { loading = give_page (Some p) t; entries = d.entries ++ Move p ∷ [] }
 
 -- page p is wanted, not yet loaded, and to have these bytes
 pub record IsNext (d : Draft) (p : ℕ) (bytes : List ℕ) : Type 0 where
@@ -131,8 +132,8 @@ HeadIs [] h = Unit {0}
 HeadIs (l ∷ ls) h = h ≡ code (Link l)
 
 -- with one more page before the link pages
-abbrev pub first_taken : Draft → ℕ × Loading → Draft
-first_taken d t = record d { loading = given None t; first = d.first ++ t.0 ∷ [] }
+abbrev pub with_first : Draft → ℕ × Loading → Draft
+with_first d t = record d { loading = give_page None t; first = d.first ++ t.0 ∷ [] }
 
 -- nothing is written yet
 abbrev pub initial : Mem → (ℕ → Bool) → Wants → ℕ → List ℕ → Draft

@@ -3,8 +3,8 @@
 use Rattle.std.specs.Prelude.{◌≡◌, ℕ, ◌+◌, ◌<◌, ◌≤◌, ◌/◌, List, [], ◌∷◌, ◌++◌, length, take, drop, Bool, true, Some, None, not, filter}
 use Rattle.kx_pages.specs.Bytes.{Mem, Wants}
 use Rattle.kx_pages.specs.Lists.{Has, count}
-use Rattle.kimage_list.specs.Load.{Loading, Request, begun, taken, given, served, pages_of, Entry, loaded}
-use Rattle.kimage_list.specs.Drafts.{Draft, CanTake, IsSteady, HasRoom, Room, initial, first_taken, started, loaded_from}
+use Rattle.kimage_list.specs.Load.{Loading, Request, begun, take_page, give_page, serve, pages_of, Entry, loading_after}
+use Rattle.kimage_list.specs.Drafts.{Draft, CanTake, IsSteady, HasRoom, Room, initial, with_first, with_start, with_move}
 use Rattle.kx_pages.specs.declared.image.Wish.{Wish}
 use Rattle.kimage_list.specs.Counted.{UnderWay, Counts, Allowed}
 use Rattle.kx_pages.specs.Needs.{first_count}
@@ -21,8 +21,8 @@ AlwaysTakes =
 abbrev pub OneMore : Type 0
 OneMore =
     (D : ℕ → Bool) (rs : List Request) (pool : List ℕ) (r : Request) (l : Loading) (t : ℕ × Loading)
-    → served D rs (begun pool) ≡ Some l → taken D r l ≡ Some t
-    → served D (rs ++ r ∷ []) (begun pool) ≡ Some (given r t)
+    → serve D rs (begun pool) ≡ Some l → take_page D r l ≡ Some t
+    → serve D (rs ++ r ∷ []) (begun pool) ≡ Some (give_page r t)
 
 -- Before each entry there is room, or a link page can be taken: the load has this many segments, and first pages.
 abbrev pub RoomIsThere : Type 0
@@ -39,13 +39,13 @@ abbrev pub PageIsThere : Type 0
 PageIsThere =
     (pool all : List ℕ) (need p : ℕ) (e : Draft) → UnderWay pool all need e → HasRoom e → Has p all
     → count p (pages_of e.entries) ≡ 0 → length e.loading.spare + length all ≤ need
-    → (t : ℕ × Loading) × CanTake e (Some p) t × UnderWay pool all need (loaded_from e p t)
+    → (t : ℕ × Loading) × CanTake e (Some p) t × UnderWay pool all need (with_move e p t)
 
 -- With room, a segment's start keeps the draft under way.
 abbrev pub StartIsThere : Type 0
 StartIsThere =
     (pool all : List ℕ) (need p : ℕ) (e : Draft) → UnderWay pool all need e → HasRoom e
-    → UnderWay pool all need (started e p)
+    → UnderWay pool all need (with_start e p)
 
 -- When all wanted pages are loaded, exactly the need is drawn and none is filed.
 abbrev pub AllDrawn : Type 0
@@ -63,13 +63,13 @@ OpensUnderWay =
     → UnderWay pool all need (initial M D W need pool) × IsSteady (initial M D W need pool))
     × ((pool all : List ℕ) (need : ℕ) (d : Draft) → UnderWay pool all need d → d.links ≡ []
     → length d.loading.spare + 1 + length all ≤ need
-    → (t : ℕ × Loading) × CanTake d None t × UnderWay pool all need (first_taken d t))
+    → (t : ℕ × Loading) × CanTake d None t × UnderWay pool all need (with_first d t))
 
 -- The pages taken first, the control page, the swap page and the first link page, are the first usable pages of the pool
 -- that are no destinations. D tells the destinations.
 abbrev pub FirstPages : Type 0
 FirstPages =
     (D : ℕ → Bool) (wish : Wish) (e : Entry) (es : List Entry) (pool : List ℕ) (l : Loading)
-    → loaded D wish (e ∷ es) pool ≡ Some l
+    → loading_after D wish (e ∷ es) pool ≡ Some l
     → take (first_count wish + 1) l.spare
     ≡ take (first_count wish + 1) (filter (λ p. not (D p)) pool)

@@ -1,11 +1,11 @@
 -- What a load lays in memory: the words of its list over the link pages, as the kernel's kexec core has them
 -- (kimage_entry_t), and the destinations' bytes at the sources. Which page is which is this project's own.
 use Rattle.std.specs.Prelude.{◌≡◌, ℕ, List, [], ◌∷◌, ◌++◌, map, take, drop, unwrap_or, slice_index}
+use Rattle.std.specs.List.{AllByRecursion}
 use Rattle.byteorder.specs.Endian.{little_bytes}
 use Rattle.kx_pages.specs.Bytes.{Mem, Wants, page_of}
 use Rattle.page_memory.specs.Memory.{put}
 use Rattle.kx_pages.specs.Items.{code}
-use Rattle.kx_pages.specs.Lists.{Each}
 use Rattle.kx_pages.specs.declared.item.Item.{Item}
 use Rattle.kx_pages.specs.declared.item.Item.TheVariants.{Link, Destination, Source, Done}
 use Rattle.kx_pages.specs.declared.image.Wish.{Wish}
@@ -34,9 +34,9 @@ items (Move p ∷ es) [] = items es []
 items (Move p ∷ es) (q ∷ qs) = Source q.1 ∷ items es qs
 
 -- the items over these link pages, 511 to a page, and the done word
-abbrev pub chained : List ℕ → List Item → List Item
-chained [] is = Done 0 ∷ []
-chained (l ∷ ls) is = Link l ∷ take 511 is ++ chained ls (drop 511 is)
+abbrev pub chain : List ℕ → List Item → List Item
+chain [] is = Done 0 ∷ []
+chain (l ∷ ls) is = Link l ∷ take 511 is ++ chain ls (drop 511 is)
 
 -- words as bytes, eight each, the lowest first
 abbrev pub in_bytes : List ℕ → List ℕ
@@ -47,7 +47,7 @@ in_bytes (w ∷ ws) = little_bytes 8 w ++ in_bytes ws
 abbrev pub link_pages : List ℕ → List Item → List (ℕ × List ℕ)
 link_pages [] is = []
 link_pages (l ∷ ls) is =
-    (l, page_of (in_bytes (map code (take 511 is ++ take 1 (chained ls (drop 511 is))))))
+    (l, page_of (in_bytes (map code (take 511 is ++ take 1 (chain ls (drop 511 is))))))
     ∷ link_pages ls (drop 511 is)
 
 -- each source page with the bytes of its destination
@@ -61,16 +61,16 @@ put_all M (x ∷ xs) = put (put_all M xs) x.0 x.1
 
 -- memory has these pages' bytes
 abbrev pub Holds : Mem → List (ℕ × List ℕ) → Type 0
-Holds M xs = Each (λ x. M x.0 ≡ x.1) xs
+Holds M xs = AllByRecursion (λ x. M x.0 ≡ x.1) xs
 
 -- the memory of a load: M, but for the link pages and the sources
-abbrev pub laid : Mem → Wants → Wish → List Entry → Loading → Mem
-laid M W wish es l =
+abbrev pub lay : Mem → Wants → Wish → List Entry → Loading → Mem
+lay M W wish es l =
     put_all M (link_pages (links_of wish l) (items es l.pairs) ++ source_pages W l.pairs)
 
 -- its list, with the link that the head word is
 abbrev pub list_of : Wish → List Entry → Loading → List Item
-list_of wish es l = chained (links_of wish l) (items es l.pairs)
+list_of wish es l = chain (links_of wish l) (items es l.pairs)
 
 -- its head word: the first link page's address and flag
 abbrev pub head_of : Wish → Loading → ℕ

@@ -1,7 +1,7 @@
 -- Which pages a load takes: its entries, the requests for pages that they make, and how the pool serves them. The rules
 -- and their order are this project's own; they follow the kernel's kexec core, which keeps a drawn destination page for
 -- its own request (kimage_alloc_page).
-use Rattle.std.specs.Prelude.{ℕ, zero, suc, ◌%◌, Bool, true, false, cond, not, ◌||◌, eqb, List, [], ◌∷◌, ◌++◌, replicate, Option, Some, None}
+use Rattle.std.specs.Prelude.{ℕ, zero, suc, ◌%◌, Bool, true, false, not, ◌||◌, List, [], ◌∷◌, ◌++◌, replicate, Option, Some, None, if◌then◌else◌, ◌==◌}
 use Rattle.kx_pages.specs.Lists.{has}
 use Rattle.kx_pages.specs.Needs.{first_count}
 use Rattle.kx_pages.specs.declared.image.Wish.{Wish}
@@ -35,7 +35,7 @@ Request = Option ℕ
 
 abbrev pub is_for : Request → ℕ → Bool
 is_for None q = false
-is_for (Some d) q = eqb d q
+is_for (Some d) q = d == q
 
 abbrev pub own_request : Entry → List Request
 own_request (Start p) = []
@@ -45,7 +45,7 @@ own_request (Move p) = Some p ∷ []
 abbrev pub requests_from : ℕ → List Entry → List Request
 requests_from n [] = []
 requests_from n (e ∷ es) =
-    cond (eqb (n % 511) 0) (None ∷ []) [] ++ (own_request e ++ requests_from (suc n) es)
+    (if n % 511 == 0 then None ∷ [] else []) ++ (own_request e ++ requests_from (suc n) es)
 
 -- the requests of a load, in order
 abbrev pub requests : Wish → List Entry → List Request
@@ -64,17 +64,17 @@ begun pool = record { left = pool; filed = []; pairs = []; spare = [] }
 -- the first p taken out
 abbrev pub without : ℕ → List ℕ → List ℕ
 without p [] = []
-without p (x ∷ xs) = cond (eqb x p) xs (x ∷ without p xs)
+without p (x ∷ xs) = if x == p then xs else x ∷ without p xs
 
 -- the source from which page p is loaded
 abbrev pub source_of : ℕ → List (ℕ × ℕ) → Option ℕ
 source_of p [] = None
-source_of p (q ∷ qs) = cond (eqb q.0 p) (Some q.1) (source_of p qs)
+source_of p (q ∷ qs) = if q.0 == p then Some q.1 else source_of p qs
 
 -- the pair of destination p becomes (p, p)
 abbrev pub at_home : ℕ → List (ℕ × ℕ) → List (ℕ × ℕ)
 at_home p [] = []
-at_home p (q ∷ qs) = cond (eqb q.0 p) ((p, p) ∷ qs) (q ∷ at_home p qs)
+at_home p (q ∷ qs) = if q.0 == p then (p, p) ∷ qs else q ∷ at_home p qs
 
 -- Draws pages until one serves. D tells the destination pages. A page that was asked for, or that is no destination,
 -- is given. Where a destination page is loaded already, its source is given, and it becomes its own source. Any other
@@ -93,24 +93,24 @@ draw D r pairs spare filed (q ∷ left) =
     ]
 
 -- the page that a request takes, and where the load stands then: a filed page serves its own request
-abbrev pub taken : (ℕ → Bool) → Request → Loading → Option (ℕ × Loading)
-taken D None l = draw D None l.pairs l.spare l.filed l.left
-taken D (Some d) l =
+abbrev pub take_page : (ℕ → Bool) → Request → Loading → Option (ℕ × Loading)
+take_page D None l = draw D None l.pairs l.spare l.filed l.left
+take_page D (Some d) l =
     elim (has d l.filed) [
       | true ↦ Some (d, record l { filed = without d l.filed })
       | false ↦ draw D (Some d) l.pairs l.spare l.filed l.left
     ]
 
 -- the page that was taken is put to its use
-abbrev pub given : Request → ℕ × Loading → Loading
-given None t = record t.1 { spare = t.1.spare ++ t.0 ∷ [] }
-given (Some d) t = record t.1 { pairs = t.1.pairs ++ (d, t.0) ∷ [] }
+abbrev pub give_page : Request → ℕ × Loading → Loading
+give_page None t = record t.1 { spare = t.1.spare ++ t.0 ∷ [] }
+give_page (Some d) t = record t.1 { pairs = t.1.pairs ++ (d, t.0) ∷ [] }
 
 -- where these requests, one after another, lead: None where the pool runs out
-abbrev pub served : (ℕ → Bool) → List Request → Loading → Option Loading
-served D [] l = Some l
-served D (r ∷ rs) l = elim (taken D r l) [ None ↦ None | Some t ↦ served D rs (given r t) ]
+abbrev pub serve : (ℕ → Bool) → List Request → Loading → Option Loading
+serve D [] l = Some l
+serve D (r ∷ rs) l = elim (take_page D r l) [ None ↦ None | Some t ↦ serve D rs (give_page r t) ]
 
 -- where a load of these entries stands that began with a pool of these usable pages
-abbrev pub loaded : (ℕ → Bool) → Wish → List Entry → List ℕ → Option Loading
-loaded D wish es pool = served D (requests wish es) (begun pool)
+abbrev pub loading_after : (ℕ → Bool) → Wish → List Entry → List ℕ → Option Loading
+loading_after D wish es pool = serve D (requests wish es) (begun pool)

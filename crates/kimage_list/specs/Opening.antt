@@ -1,5 +1,5 @@
 -- The list while it is written: no done word yet, and the last link page has room or is full (this project's own).
-use Rattle.std.specs.Prelude.{ℕ, suc, cond, eqb, ◌≤◌, ◌-◌, ◌+◌, ◌*◌, ◌/◌, ◌%◌, List, [], ◌∷◌, ◌++◌, map, length, take, drop, slice_index}
+use Rattle.std.specs.Prelude.{ℕ, suc, ◌≤◌, ◌-◌, ◌+◌, ◌*◌, ◌/◌, ◌%◌, List, [], ◌∷◌, ◌++◌, map, length, take, drop, slice_index, if◌then◌else◌, ◌==◌}
 use Rattle.kx_pages.specs.Bytes.{Mem, Wants, page_of}
 use Rattle.kx_pages.specs.Items.{code}
 use Rattle.kx_pages.specs.declared.item.Item.{Item}
@@ -41,4 +41,4 @@ Tight ls n = (511 * length ls ≤ n + 511) × (n ≤ 511 * length ls)
 abbrev pub number : ℕ → List Entry → ℕ
 number p [] = 0
 number p (Start t ∷ es) = suc (number p es)
-number p (Move t ∷ es) = cond (eqb t p) 0 (suc (number p es))
+number p (Move t ∷ es) = if t == p then 0 else suc (number p es)

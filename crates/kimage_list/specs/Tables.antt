@@ -1,6 +1,6 @@
 -- The table of the wanted pages: of each its source and the place of its word, once it is loaded (this project's
 -- own).
-use Rattle.std.specs.Prelude.{◌≤◌, ◌+◌, ◌-◌, ◌&&◌, ℕ, Bool, true, false, cond, nat_le, nat_lt, List, [], ◌∷◌, length, replicate, Option, Some, None, refl}
+use Rattle.std.specs.Prelude.{◌≤◌, ◌+◌, ◌-◌, ◌&&◌, ℕ, Bool, true, false, nat_le, nat_lt, List, [], ◌∷◌, length, replicate, Option, Some, None, refl, if◌then◌else◌}
 use Rattle.std.specs.List.{slice_get}
 use Rattle.std.specs.Coded.{Coded, code_by, coded×, coded_ℕ, coded_list, coded_option}
 use Rattle.kx_pages.specs.Spans.{Run}
@@ -52,7 +52,7 @@ slots_code = coded_list row_code
 -- what the table has of a page: None where it is not wanted, Some None where it is not loaded yet
 unfoldable pub slot : Slots → ℕ → Option (Option PageSource)
 slot [] p = None
-slot (r ∷ rs) p = cond (in_row r p) (slice_get r.slots (p - r.first)) (slot rs p)
+slot (r ∷ rs) p = if in_row r p then slice_get r.slots (p - r.first) else slot rs p
 
 abbrev pub source_in : Option (Option PageSource) → Option ℕ
 source_in None = None

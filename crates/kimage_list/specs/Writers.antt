@@ -1,16 +1,17 @@
 -- A load under way: what it was asked for so far, and where the writer stands then (this project's own).
-use Rattle.std.specs.Prelude.{◌≡◌, ℕ, zero, suc, ◌+◌, ◌≤◌, List, [], ◌∷◌, ◌++◌, ◌⊎◌, length, take, slice_index, Bool, true, false, cond, eqb, Option, Some, None, refl}
+use Rattle.std.specs.Prelude.{◌≡◌, ℕ, zero, suc, ◌+◌, ◌≤◌, List, [], ◌∷◌, ◌++◌, ◌⊎◌, length, take, slice_index, Bool, true, false, Option, Some, None, refl, if◌then◌else◌, ◌==◌}
+use Rattle.std.specs.List.{AllByRecursion}
 use Rattle.std.specs.Coded.{Coded, code_by, coded×, coded_ℕ, coded_option}
 use Rattle.page_memory.specs.Contents.{Contents, contents_code, at}
 use Rattle.kx_pages.specs.Bytes.{Mem, Wants}
 use Rattle.page_pool.specs.Pages.{Pages, pages_code, is_filed, usable_of}
 use Rattle.kx_pages.specs.Spans.{Run, in_spans, pages, AreApart}
-use Rattle.kx_pages.specs.Lists.{Each, Has, has, count, sources}
+use Rattle.kx_pages.specs.Lists.{Has, has, count, sources}
 use Rattle.kx_pages.specs.declared.image.Wish.{Wish}
 use Rattle.kx_pages.specs.declared.image.Mode.{Mode}
 use Rattle.kx_pages.specs.Modes.{mode_of, swap_page}
 use Rattle.kx_pages.proofs.Modes.{mode_of-swap_page}
-use Rattle.kimage_list.specs.Load.{Loading, Entry, Start, Move, pages_of, starts, loaded}
+use Rattle.kimage_list.specs.Load.{Loading, Entry, Start, Move, pages_of, starts, loading_after}
 use Rattle.kimage_list.specs.Laying.{control_of, load_mode, mode_with, links_of}
 use Rattle.kimage_list.specs.Opening.{laid_so_far}
 use Rattle.kimage_list.specs.Tables.{Slots, slots_code, slot}
@@ -41,7 +42,7 @@ with_destination h d = record h { entries = h.entries ++ Start d ∷ [] }
 
 -- the bytes given, with those of page d
 abbrev pub with_bytes : Wants → ℕ → List ℕ → Wants
-with_bytes W d bytes p = cond (eqb p d) (Some bytes) (W p)
+with_bytes W d bytes p = if p == d then Some bytes else W p
 
 -- the load with the source entry of destination page d, for which these bytes were given
 abbrev pub with_source : History → ℕ → List ℕ → History
@@ -154,7 +155,7 @@ pub record IsOpen (h : History) (l : Loading) (w : Writer) : Type 0 where
 pub record StandsAt (h : History) (w : Writer) : Type 0 where
   pub loading : Loading
   -- usable pages, pages filed, pairs, link pages are those of the requests so far
-  pub requests : loaded (is_wanted h) h.wish h.entries h.pool ≡ Some loading
+  pub requests : loading_after (is_wanted h) h.wish h.entries h.pool ≡ Some loading
   pub left : usable_of w.pool ≡ loading.left
   pub filed : (p : ℕ) → is_filed w.pool p ≡ has p loading.filed
   -- memory is as it was, but for the list and the sources so far
@@ -176,5 +177,5 @@ pub record KeepsPages (h : History) (l : Loading) : Type 0 where
   pub ends : h.pool ≡ drawn ++ l.left
   pub in_use : (x : ℕ)
       → count x drawn ≡ count x l.filed + count x l.spare + count x (sources l.pairs)
-  pub filed : Each (λ p. (is_wanted h p ≡ true) × (Has p (pages_of h.entries) → ⊥)) l.filed
-  pub sources : Each (λ q. (q.1 ≡ q.0) ⊎ (is_wanted h q.1 ≡ false)) l.pairs
+  pub filed : AllByRecursion (λ p. (is_wanted h p ≡ true) × (Has p (pages_of h.entries) → ⊥)) l.filed
+  pub sources : AllByRecursion (λ q. (q.1 ≡ q.0) ⊎ (is_wanted h q.1 ≡ false)) l.pairs

@@ -7,7 +7,7 @@ ghost use Rattle.kimage_list.specs.Held.{HoldSame};
 ghost use Rattle.kimage_list.specs.Load.{Loading};
 ghost use Rattle.kimage_list.specs.OpenLists.{IsRendered, IsRenderedBut};
 ghost use Rattle.kimage_list.specs.Tracking.{whole_pool};
-ghost use Rattle.kimage_list.specs.Drafts.{Draft, CanTake, IsFull, linked, Room, HasRoom, IsSteady, IsNext, first_taken, started, loaded_from, HasLink, laid_by, HeadIs};
+ghost use Rattle.kimage_list.specs.Drafts.{Draft, CanTake, IsFull, with_link, Room, HasRoom, IsSteady, IsNext, with_first, with_start, with_move, HasLink, laid_by, HeadIs};
 
 use crate::pages::{destination_word, fill, link_word, settle, source_word, write_word};
 use crate::table::{PageSource, Table};
@@ -67,7 +67,7 @@ impl OpenList {
             (d.links ≡ []) × (d.loading.pairs ≡ []) }
         ensures given { (d : Draft) (t : ℕ × Loading) → IsRendered self.old d → CanTake d None t
             → d.links ≡ []
-            → d.loading.pairs ≡ [] → (result ≡ t.0) × IsRendered self.new (first_taken d t) }
+            → d.loading.pairs ≡ [] → (result ≡ t.0) × IsRendered self.new (with_first d t) }
         ensures pages { whole_pool self.new.pool ≡ whole_pool self.old.pool }
         ensures held { HoldSame self.new.memory self.old.memory }
     {
@@ -104,10 +104,10 @@ impl OpenList {
             IsFull d }
         ensures written { (d : Draft) (t : ℕ × Loading) → IsRendered self.old d
             → CanTake d None t → IsFull d
-            → IsRendered self.new (linked d t) }
+            → IsRendered self.new (with_link d t) }
         ensures head { (d : Draft) (t : ℕ × Loading) → IsRendered self.old d
             → CanTake d None t → IsFull d
-            → HeadIs d.links self.old.head → HeadIs (linked d t).links self.new.head }
+            → HeadIs d.links self.old.head → HeadIs (with_link d t).links self.new.head }
         ensures pages { whole_pool self.new.pool ≡ whole_pool self.old.pool }
         ensures held { HoldSame self.new.memory self.old.memory }
     {
@@ -156,7 +156,7 @@ impl OpenList {
     pub(crate) fn add_start(&mut self, p: Page)
         requires { (d : Draft) × (e : Draft) × IsRendered self.old d × Room d e }
         ensures written { (d : Draft) (e : Draft) → IsRendered self.old d → Room d e →
-            IsRendered self.new (started e p) × IsSteady (started e p) }
+            IsRendered self.new (with_start e p) × IsSteady (with_start e p) }
         ensures head { (d : Draft) (e : Draft) → IsRendered self.old d → Room d e →
             HeadIs d.links self.old.head → HeadIs e.links self.new.head }
         ensures pages { whole_pool self.new.pool ≡ whole_pool self.old.pool }
@@ -177,7 +177,7 @@ impl OpenList {
         ensures written { (d : Draft) (e : Draft) (t : ℕ × Loading)
             → IsRendered self.old d → Room d e
             → CanTake e (Some p) t → IsNext e p bytes.now →
-            IsRendered self.new (loaded_from e p t) × IsSteady (loaded_from e p t) }
+            IsRendered self.new (with_move e p t) × IsSteady (with_move e p t) }
         ensures head { (d : Draft) (e : Draft) (t : ℕ × Loading) → IsRendered self.old d → Room d e
             → CanTake e (Some p) t → HeadIs d.links self.old.head → HeadIs e.links self.new.head }
         ensures pages { whole_pool self.new.pool ≡ whole_pool self.old.pool }

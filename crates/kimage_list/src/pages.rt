@@ -6,7 +6,7 @@ ghost use Rattle.page_memory.specs.Contents.{at, IsHeld};
 ghost use Rattle.page_memory.specs.Memory.{put, set_word};
 ghost use Rattle.kx_pages.specs.Items.{code};
 ghost use Rattle.kx_pages.specs.declared.item.Item.TheVariants.{Source, Link, Destination};
-ghost use Rattle.kimage_list.specs.Drafts.{CanMove, moved};
+ghost use Rattle.kimage_list.specs.Drafts.{CanMove, exchange};
 
 use crate::taking::TakenPage;
 use kx_pages::{Item, Page};
@@ -76,7 +76,7 @@ pub(crate) fn destination_word(p: Page) -> u64
 /// it after that.
 pub(crate) fn settle(memory: &mut Memory, taken: &TakenPage)
     requires { CanMove taken.now.moved memory.old }
-    ensures value { at memory.new ≡ moved (at memory.old) taken.now.moved taken.now.page }
+    ensures value { at memory.new ≡ exchange (at memory.old) taken.now.moved taken.now.page }
     ensures stay { (q : ℕ) → IsHeld memory.old q → IsHeld memory.new q }
     ensures only { (q : ℕ) → IsHeld memory.new q → IsHeld memory.old q }
 {

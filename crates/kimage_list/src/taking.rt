@@ -9,7 +9,7 @@
 //! The link pages, the control page and the swap page are no destinations either, so the list stands while it runs.
 
 ghost use Rattle.std.specs.Prelude.{◌≡◌, ◌≢◌, ℕ, Bool, Some, IsSome, ◌==◌};
-ghost use Rattle.kimage_list.specs.Load.{Loading, is_for, draw, taken};
+ghost use Rattle.kimage_list.specs.Load.{Loading, is_for, draw, take_page};
 ghost use Rattle.kimage_list.specs.Tables.{slot};
 ghost use Rattle.kimage_list.specs.Tracking.{Tracks, Gives, fate_of, whole_pool};
 
@@ -124,7 +124,7 @@ pub(crate) fn take_page(
     wanted: Option<Page>,
 ) -> Option<TakenPage>
     ensures gives { (D : ℕ → Bool) (l : Loading) → Tracks D l pool.old table.old →
-        Gives D l (taken D wanted l) result pool.new table.old table.new }
+        Gives D l (take_page D wanted l) result pool.new table.old table.new }
     ensures pages { whole_pool pool.new ≡ whole_pool pool.old }
 {
     if let Some(d) = wanted {

@@ -8,7 +8,7 @@ ghost use Rattle.kx_pages.specs.Lists.{Has, count, sources};
 ghost use Rattle.kx_pages.specs.Spans.{pages};
 ghost use Rattle.kx_pages.specs.Needs.{need_of};
 ghost use Rattle.kimage_list.specs.Held.{HoldSame, load_pages};
-ghost use Rattle.kimage_list.specs.Laying.{image_of, laid};
+ghost use Rattle.kimage_list.specs.Laying.{image_of, lay};
 ghost use Rattle.kimage_list.specs.Tables.{slot};
 ghost use Rattle.kimage_list.specs.Tracking.{whole_pool};
 ghost use Rattle.kimage_list.specs.Writers.{History, StandsAt, IsAwaited, with_destination, with_source, need};

@@ -1,11 +1,11 @@
 -- Laws of counting: how often a number stands in a list, lists of distinct numbers, and how many of these there can be.
 use Rattle.std.proofs.Common.{◌≡◌, ℕ, zero, suc, ◌+◌, ◌<◌, ◌≤◌, ◌++◌, List, [], ◌∷◌, length, refl, sym, ap, ◌∙◌, subst, inl, inr, arith, Bool, true, false, cond}
 use Rattle.std.specs.Prelude.{◌≢◌, ◌⊎◌, eqb, slice_index}
-use Rattle.std.specs.List.{range_with_len, filter}
+use Rattle.std.specs.List.{range_with_len, filter, AllByRecursion}
 use Rattle.std.proofs.lemmas.Bool.{or_parts}
 use Rattle.std.proofs.lemmas.Bool.Decides.{eqb_tells}
 use Rattle.std.proofs.lemmas.List.FromFn.{length-range_with_len}
-use Rattle.kx_pages.specs.Lists.{Each, Has, has, Distinct, count}
+use Rattle.kx_pages.specs.Lists.{Has, has, Distinct, count}
 use Rattle.kx_pages.proofs.Lists.{Each-map, Each-filter, Each-both, Each-append, Each-right, Each-from_Has, Has-range, range-Has}
 
 pub count-append : (x : ℕ) (xs ys : List ℕ) → count x (xs ++ ys) ≡ count x xs + count x ys
@@ -22,7 +22,7 @@ count-at [] i h = absurd (omega (arith, h))
 count-at (x ∷ xs) zero h = grind arith
 count-at (x ∷ xs) (suc i) h = omega (arith, count-at xs i (omega (arith, h)))
 
-pub Each-from_count : (P : ℕ → Type 0) (xs : List ℕ) → ((x : ℕ) → 1 ≤ count x xs → P x) → Each P xs
+pub Each-from_count : (P : ℕ → Type 0) (xs : List ℕ) → ((x : ℕ) → 1 ≤ count x xs → P x) → AllByRecursion P xs
 Each-from_count P [] h = tt
 Each-from_count P (x ∷ xs) h = (h x (grind arith), Each-from_count P xs (λ y n. h y (omega (arith, n))))
 
@@ -31,11 +31,11 @@ count-from_has_not x [] h = refl
 count-from_has_not x (y ∷ ys) h = let p = or_parts (eqb y x) (has x ys) h in let ih = count-from_has_not x ys p.1 in rw p.0 (omega (arith, ih))
 
 -- where p does not stand, each number is another one
-pub Each-from_no_count : (p : ℕ) (xs : List ℕ) → count p xs ≡ 0 → Each (λ x. x ≢ p) xs
+pub Each-from_no_count : (p : ℕ) (xs : List ℕ) → count p xs ≡ 0 → AllByRecursion (λ x. x ≢ p) xs
 Each-from_no_count p [] h = tt
 Each-from_no_count p (x ∷ xs) h = ((λ e. grind (arith, h, e)), Each-from_no_count p xs (omega (arith, h)))
 
-pub no_count-from_Each : (p : ℕ) (xs : List ℕ) → Each (λ x. x ≢ p) xs → count p xs ≡ 0
+pub no_count-from_Each : (p : ℕ) (xs : List ℕ) → AllByRecursion (λ x. x ≢ p) xs → count p xs ≡ 0
 no_count-from_Each p [] h = refl
 no_count-from_Each p (x ∷ xs) h = go (eqb_tells x p) (no_count-from_Each p xs h.1)
   where
@@ -77,11 +77,11 @@ Distinct-filter f (x ∷ xs) d = go (f x) (Distinct-filter f xs d.1)
     go false k = k
 
 -- one more number at the end
-pub Distinct-push : (xs : List ℕ) (p : ℕ) → Distinct xs → Each (λ x. x ≢ p) xs → Distinct (xs ++ p ∷ [])
+pub Distinct-push : (xs : List ℕ) (p : ℕ) → Distinct xs → AllByRecursion (λ x. x ≢ p) xs → Distinct (xs ++ p ∷ [])
 Distinct-push [] p d h = (tt, tt)
 Distinct-push (x ∷ xs) p d h = (Each-append (λ y. x ≢ y) xs (p ∷ []) d.0 (h.0, tt), Distinct-push xs p d.1 h.1)
 
-pub Distinct-split : (xs : List ℕ) (p : ℕ) (ys : List ℕ) → Distinct (xs ++ p ∷ ys) → Each (λ x. x ≢ p) xs
+pub Distinct-split : (xs : List ℕ) (p : ℕ) (ys : List ℕ) → Distinct (xs ++ p ∷ ys) → AllByRecursion (λ x. x ≢ p) xs
 Distinct-split [] p ys d = tt
 Distinct-split (x ∷ xs) p ys d = ((Each-right (λ y. x ≢ y) xs (p ∷ ys) d.0).0, Distinct-split xs p ys d.1)
 
@@ -119,14 +119,14 @@ Has-less x y (z ∷ ys) n h = go (eqb_tells z x) h (Has-less x y ys n)
     go (inr e) (inr h) ih = rw e.0 (inr (ih h))
 
 -- distinct numbers that stand in another list are not more than those of the list
-pub no_longer : (xs ys : List ℕ) → Distinct xs → Each (λ x. Has x ys) xs → length xs ≤ length ys
+pub no_longer : (xs ys : List ℕ) → Distinct xs → AllByRecursion (λ x. Has x ys) xs → length xs ≤ length ys
 no_longer [] ys d h = omega arith
 no_longer (x ∷ xs) ys d h =
     let ih = no_longer xs (less x ys) d.1 (Each-both xs (λ y n k. Has-less x y ys n k) d.0 h.1) in
     omega (arith, ih, length-less x ys h.0)
 
 -- the pigeonhole law: distinct numbers below n are at most n
-pub room : (n : ℕ) (xs : List ℕ) → Distinct xs → Each (λ x. x < n) xs → length xs ≤ n
+pub room : (n : ℕ) (xs : List ℕ) → Distinct xs → AllByRecursion (λ x. x < n) xs → length xs ≤ n
 room n xs d h =
     let r = no_longer xs (range_with_len 0 n) d (Each-map xs (λ x l. range-Has n 0 x (omega arith) (omega (arith, l))) h) in
     omega (arith, r, length-range_with_len 0 n)

@@ -1,100 +1,100 @@
 -- Laws of lists: what holds of each element, membership, and how often a number stands in a list.
 use Rattle.std.proofs.Common.{◌≡◌, ℕ, zero, suc, ◌+◌, ◌<◌, ◌≤◌, ◌++◌, ◌||◌, List, [], ◌∷◌, length, get_or, take, drop, Bool, true, false, cond, not, Some, None, refl, sym, ap, ◌∙◌, subst, ⊎_elim, inl, inr, arith}
 use Rattle.std.specs.Prelude.{◌≢◌, ◌⊎◌, eqb, All}
-use Rattle.std.specs.List.{range_with_len, filter, slice_get, position, position_or_len}
+use Rattle.std.specs.List.{range_with_len, filter, slice_get, position, position_or_len, AllByRecursion}
 use Rattle.std.proofs.lemmas.Bool.{or_cases, or_parts, eqb-true, eqb-false, ne_eqb, false≢true, cases_eq}
 use Rattle.kx_laws.proofs.Booleans.{or_false, or_shift}
 use Rattle.kx_laws.proofs.Options.{some_same}
 use Rattle.kx_laws.proofs.Lists.{none_first}
-use Rattle.kx_pages.specs.Lists.{Each, Has, has, destinations, sources}
+use Rattle.kx_pages.specs.Lists.{Has, has, destinations, sources}
 
 -- ---- what holds of each element
 
-pub Each-map : {X : Type 0} {P Q : X → Type 0} (xs : List X) → ((x : X) → P x → Q x) → Each P xs → Each Q xs
+pub Each-map : {X : Type 0} {P Q : X → Type 0} (xs : List X) → ((x : X) → P x → Q x) → AllByRecursion P xs → AllByRecursion Q xs
 Each-map [] f h = tt
 Each-map (x ∷ xs) f h = (f x h.0, Each-map xs f h.1)
 
-pub Each-both : {X : Type 0} {P Q R : X → Type 0} (xs : List X) → ((x : X) → P x → Q x → R x) → Each P xs → Each Q xs → Each R xs
+pub Each-both : {X : Type 0} {P Q R : X → Type 0} (xs : List X) → ((x : X) → P x → Q x → R x) → AllByRecursion P xs → AllByRecursion Q xs → AllByRecursion R xs
 Each-both [] f h k = tt
 Each-both (x ∷ xs) f h k = (f x h.0 k.0, Each-both xs f h.1 k.1)
 
-pub Each-append : {X : Type 0} (P : X → Type 0) (xs ys : List X) → Each P xs → Each P ys → Each P (xs ++ ys)
+pub Each-append : {X : Type 0} (P : X → Type 0) (xs ys : List X) → AllByRecursion P xs → AllByRecursion P ys → AllByRecursion P (xs ++ ys)
 Each-append P [] ys h k = k
 Each-append P (x ∷ xs) ys h k = (h.0, Each-append P xs ys h.1 k)
 
-pub Each-left : {X : Type 0} (P : X → Type 0) (xs ys : List X) → Each P (xs ++ ys) → Each P xs
+pub Each-left : {X : Type 0} (P : X → Type 0) (xs ys : List X) → AllByRecursion P (xs ++ ys) → AllByRecursion P xs
 Each-left P [] ys h = tt
 Each-left P (x ∷ xs) ys h = (h.0, Each-left P xs ys h.1)
 
-pub Each-right : {X : Type 0} (P : X → Type 0) (xs ys : List X) → Each P (xs ++ ys) → Each P ys
+pub Each-right : {X : Type 0} (P : X → Type 0) (xs ys : List X) → AllByRecursion P (xs ++ ys) → AllByRecursion P ys
 Each-right P [] ys h = h
 Each-right P (x ∷ xs) ys h = Each-right P xs ys h.1
 
-pub Each-take : {X : Type 0} (P : X → Type 0) (n : ℕ) (xs : List X) → Each P xs → Each P (take n xs)
+pub Each-take : {X : Type 0} (P : X → Type 0) (n : ℕ) (xs : List X) → AllByRecursion P xs → AllByRecursion P (take n xs)
 Each-take P zero xs h = tt
 Each-take P (suc n) [] h = tt
 Each-take P (suc n) (x ∷ xs) h = (h.0, Each-take P n xs h.1)
 
-pub Each-drop : {X : Type 0} (P : X → Type 0) (n : ℕ) (xs : List X) → Each P xs → Each P (drop n xs)
+pub Each-drop : {X : Type 0} (P : X → Type 0) (n : ℕ) (xs : List X) → AllByRecursion P xs → AllByRecursion P (drop n xs)
 Each-drop P zero xs h = h
 Each-drop P (suc n) [] h = tt
 Each-drop P (suc n) (x ∷ xs) h = Each-drop P n xs h.1
 
-pub Each-filter : {X : Type 0} (P : X → Type 0) (f : X → Bool) (xs : List X) → Each P xs → Each P (filter f xs)
+pub Each-filter : {X : Type 0} (P : X → Type 0) (f : X → Bool) (xs : List X) → AllByRecursion P xs → AllByRecursion P (filter f xs)
 Each-filter P f [] h = tt
 Each-filter P f (x ∷ xs) h = more (f x) (Each-filter P f xs h.1)
   where
-    more : (b : Bool) → Each P (filter f xs) → Each P (cond b (x ∷ filter f xs) (filter f xs))
+    more : (b : Bool) → AllByRecursion P (filter f xs) → AllByRecursion P (cond b (x ∷ filter f xs) (filter f xs))
     more true k = (h.0, k)
     more false k = k
 
-pub Each-slice_get : {X : Type 0} (P : X → Type 0) (xs : List X) (i : ℕ) (x : X) → Each P xs → slice_get xs i ≡ Some x → P x
+pub Each-slice_get : {X : Type 0} (P : X → Type 0) (xs : List X) (i : ℕ) (x : X) → AllByRecursion P xs → slice_get xs i ≡ Some x → P x
 Each-slice_get P [] i x h e = cc
 Each-slice_get P (y ∷ xs) zero x h e = subst P (some_same y x e) h.0
 Each-slice_get P (y ∷ xs) (suc i) x h e = Each-slice_get P xs i x h.1 e
 
 -- where none is the first that passes a test, each fails it
-pub Each-from_no_first : {X : Type 0} (p : X → Bool) (xs : List X) → position p xs ≡ None → Each (λ x. p x ≡ false) xs
+pub Each-from_no_first : {X : Type 0} (p : X → Bool) (xs : List X) → position p xs ≡ None → AllByRecursion (λ x. p x ≡ false) xs
 Each-from_no_first p xs none = each_fails p xs (none_first p xs none)
   where
-    each_fails : {X : Type 0} (p : X → Bool) (xs : List X) → length xs ≤ position_or_len p xs → Each (λ x. p x ≡ false) xs
+    each_fails : {X : Type 0} (p : X → Bool) (xs : List X) → length xs ≤ position_or_len p xs → AllByRecursion (λ x. p x ≡ false) xs
     each_fails p [] h = tt
     each_fails p (x ∷ xs) h = by (p x) refl h (λ few. each_fails p xs few)
       where
-        by : (b : Bool) → p x ≡ b → suc (length xs) ≤ cond (not b) (1 + position_or_len p xs) 0 → (length xs ≤ position_or_len p xs → Each (λ x. p x ≡ false) xs) → Each (λ x. p x ≡ false) (x ∷ xs)
+        by : (b : Bool) → p x ≡ b → suc (length xs) ≤ cond (not b) (1 + position_or_len p xs) 0 → (length xs ≤ position_or_len p xs → AllByRecursion (λ x. p x ≡ false) xs) → AllByRecursion (λ x. p x ≡ false) (x ∷ xs)
         by true e few rest = absurd (omega arith)
         by false e few rest = (e, rest (omega (arith, few)))
 
 -- from the words of the standard library
-pub Each-from_All : (P : ℕ → Type 0) (xs : List ℕ) → All P xs → Each P xs
+pub Each-from_All : (P : ℕ → Type 0) (xs : List ℕ) → All P xs → AllByRecursion P xs
 Each-from_All P [] all = tt
 Each-from_All P (x ∷ xs) all = (all 0 x (omega arith), Each-from_All P xs (λ k d inside. all (suc k) d (omega (arith, inside))))
 
 -- what holds of each element holds of one that stands in the list, and the other way round
-pub Each-at : (P : ℕ → Type 0) (xs : List ℕ) (p : ℕ) → Each P xs → Has p xs → P p
+pub Each-at : (P : ℕ → Type 0) (xs : List ℕ) (p : ℕ) → AllByRecursion P xs → Has p xs → P p
 Each-at P [] p h i = absurd i
 Each-at P (x ∷ xs) p h (inl e) = subst P e h.0
 Each-at P (x ∷ xs) p h (inr i) = Each-at P xs p h.1 i
 
-pub Each-from_Has : (P : ℕ → Type 0) (xs : List ℕ) → ((x : ℕ) → Has x xs → P x) → Each P xs
+pub Each-from_Has : (P : ℕ → Type 0) (xs : List ℕ) → ((x : ℕ) → Has x xs → P x) → AllByRecursion P xs
 Each-from_Has P [] h = tt
 Each-from_Has P (x ∷ xs) h = (h x (inl refl), Each-from_Has P xs (λ y k. h y (inr k)))
 
 -- ---- destinations and sources of pairs
 
-pub Each-from_destinations : (P : ℕ → Type 0) (qs : List (ℕ × ℕ)) → Each P (destinations qs) → Each (λ q. P q.0) qs
+pub Each-from_destinations : (P : ℕ → Type 0) (qs : List (ℕ × ℕ)) → AllByRecursion P (destinations qs) → AllByRecursion (λ q. P q.0) qs
 Each-from_destinations P [] h = tt
 Each-from_destinations P (q ∷ qs) h = (h.0, Each-from_destinations P qs h.1)
 
-pub Each-destinations : (P : ℕ → Type 0) (qs : List (ℕ × ℕ)) → Each (λ q. P q.0) qs → Each P (destinations qs)
+pub Each-destinations : (P : ℕ → Type 0) (qs : List (ℕ × ℕ)) → AllByRecursion (λ q. P q.0) qs → AllByRecursion P (destinations qs)
 Each-destinations P [] h = tt
 Each-destinations P (q ∷ qs) h = (h.0, Each-destinations P qs h.1)
 
-pub Each-from_sources : (P : ℕ → Type 0) (qs : List (ℕ × ℕ)) → Each P (sources qs) → Each (λ q. P q.1) qs
+pub Each-from_sources : (P : ℕ → Type 0) (qs : List (ℕ × ℕ)) → AllByRecursion P (sources qs) → AllByRecursion (λ q. P q.1) qs
 Each-from_sources P [] h = tt
 Each-from_sources P (q ∷ qs) h = (h.0, Each-from_sources P qs h.1)
 
-pub Each-sources : (P : ℕ → Type 0) (qs : List (ℕ × ℕ)) → Each (λ q. P q.1) qs → Each P (sources qs)
+pub Each-sources : (P : ℕ → Type 0) (qs : List (ℕ × ℕ)) → AllByRecursion (λ q. P q.1) qs → AllByRecursion P (sources qs)
 Each-sources P [] h = tt
 Each-sources P (q ∷ qs) h = (h.0, Each-sources P qs h.1)
 
@@ -117,11 +117,11 @@ has-from_Has p [] h = absurd h
 has-from_Has p (x ∷ xs) (inl e) = grind (arith, e)
 has-from_Has p (x ∷ xs) (inr h) = let ih = has-from_Has p xs h in grind (arith, ih)
 
-pub Each-from_has_not : (p : ℕ) (xs : List ℕ) → has p xs ≡ false → Each (λ x. x ≢ p) xs
+pub Each-from_has_not : (p : ℕ) (xs : List ℕ) → has p xs ≡ false → AllByRecursion (λ x. x ≢ p) xs
 Each-from_has_not p [] h = tt
 Each-from_has_not p (x ∷ xs) h = let q = or_parts (eqb x p) (has p xs) h in (eqb-false x p q.0, Each-from_has_not p xs q.1)
 
-pub has_not-from_Each : (p : ℕ) (xs : List ℕ) → Each (λ x. x ≢ p) xs → has p xs ≡ false
+pub has_not-from_Each : (p : ℕ) (xs : List ℕ) → AllByRecursion (λ x. x ≢ p) xs → has p xs ≡ false
 has_not-from_Each p [] h = refl
 has_not-from_Each p (x ∷ xs) h = rw (ne_eqb x p h.0) (has_not-from_Each p xs h.1)
 

@@ -3,7 +3,7 @@
 ghost use Rattle.std.specs.Prelude.{◌≡◌, ℕ, ◌-◌, ◌<◌, ◌≤◌, ◌^◌, ◌↔◌, ◌++◌, ◌∷◌, ◌&&◌, ◌||◌, [], not, nat_lt, List, length, IsTrue, IfOk, IfErr};
 ghost use Rattle.std.specs.List.{slice_get, All};
 ghost use Rattle.kx_pages.specs.Spans.{Run, end, in_span, in_spans, pages, AreApart, passing, IsMaximal};
-ghost use Rattle.kx_pages.specs.Edits.{joined, if_some, without, spans_meet, with_rest};
+ghost use Rattle.kx_pages.specs.Edits.{join, if_some, without, spans_meet, with_rest};
 
 use crate::page::{PAGE_LIMIT, Page};
 use crate::search::{any_has, any_meets};
@@ -113,7 +113,7 @@ impl PageSet {
         ensures { IfOk result (λ s. (q : ℕ) → in_spans s q ≡ in_spans spans.items q) }
     {
         spans.sort_unstable_by_key(|s| s.first());
-        gathered(alloc, &spans)
+        gather(alloc, &spans)
     }
 
     /// The pages of this set that are not in the other, found in one pass over both.
@@ -162,7 +162,7 @@ fn all_before(spans: &[Span], first: u64) -> bool
 // Puts a span among those that rise: at the end where it lies behind all of them.
 fn put_among(spans: &mut Vec<Span>, span: Span) -> Result<(), AllocError>
     requires { AreApart 0 spans.old.items }
-    ensures ok { IfOk result (λ _. spans.new.items ≡ joined spans.old.items span) }
+    ensures ok { IfOk result (λ _. spans.new.items ≡ join spans.old.items span) }
     ensures err { IfErr result (λ _. spans.new.items ≡ spans.old.items) }
 {
     if all_before(spans, span.first()) {
@@ -200,7 +200,7 @@ fn put(made: &mut Vec<Span>, rest: Option<Span>, s: Span) -> Result<Option<Span>
 }
 
 fn join(alloc: Global, spans: &[Span], span: Span) -> Result<Vec<Span>, AllocError>
-    ensures { IfOk result (λ v. v.items ≡ joined spans.now span) }
+    ensures { IfOk result (λ v. v.items ≡ join spans.now span) }
 {
     let mut made = Vec::new(alloc);
     let mut rest = Some(span);
@@ -250,7 +250,7 @@ fn take_in(set: &mut PageSet, last: Span, s: Span) -> Result<Span, AllocError>
 }
 
 // The pages of these spans. It is fast where the spans rise.
-fn gathered(alloc: Global, spans: &[Span]) -> Result<PageSet, AllocError>
+fn gather(alloc: Global, spans: &[Span]) -> Result<PageSet, AllocError>
     ensures { IfOk result (λ set. (q : ℕ) → in_spans set q ≡ in_spans spans.now q) }
 {
     let mut set = PageSet::new(alloc);

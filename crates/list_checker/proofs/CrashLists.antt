@@ -2,7 +2,7 @@
 use Rattle.std.proofs.Common.{◌≡◌, ℕ, ◌^◌, List, [], ◌∷◌, Option, Some, None, Bool, true, false, refl, sym, ap, ◌∙◌, arith}
 use Rattle.std.specs.Prelude.{◌%◌, ◌/◌, not, leb, map, cond}
 use Rattle.std.specs.Option.{option_map}
-use Rattle.std.specs.List.{find}
+use Rattle.std.specs.List.{find, AllByRecursion}
 use Rattle.std.proofs.lemmas.Option.{none-some}
 use Rattle.kx_pages.specs.declared.item.Item.{Item}
 use Rattle.kx_pages.specs.declared.item.Item.TheVariants.{Link, Destination, Source, Done}
@@ -10,7 +10,6 @@ use Rattle.list_checker.specs.declared.fault.Why.{Why}
 use Rattle.list_checker.specs.declared.fault.Why.TheVariants.{Flags, Missing, PastLimit, HeadKind}
 use Rattle.kx_pages.specs.Bytes.{Mem, Wants}
 use Rattle.kx_pages.specs.Items.{code, decode}
-use Rattle.kx_pages.specs.Lists.{Each}
 use Rattle.list_checker.specs.Faults.{first_of, are_wanted}
 use Rattle.list_checker.specs.Laws.{ListsWanted}
 use Rattle.list_checker.specs.Crash.{AcceptedCrash, crash_reason, crash_reasons, lacks}
@@ -24,11 +23,11 @@ module _ (M : Mem) (W : Wants) where
   abbrev Right : ℕ → Type 0
   Right d = are_wanted (W d) (M d) ≡ true
 
-  Each-right : (ds : List ℕ) → Each (λ r. r.0 ≡ false) (map {B = Bool × Why} (λ d. (lacks M W d, Missing d)) ds) → Each Right ds
+  Each-right : (ds : List ℕ) → AllByRecursion (λ r. r.0 ≡ false) (map {B = Bool × Why} (λ d. (lacks M W d, Missing d)) ds) → AllByRecursion Right ds
   Each-right [] h = tt
   Each-right (d ∷ ds) h = (not_false (are_wanted (W d) (M d)) h.0, Each-right ds h.1)
 
-  none_lacks : (ds : List ℕ) → Each Right ds → Each (λ r. r.0 ≡ false) (map {B = Bool × Why} (λ d. (lacks M W d, Missing d)) ds)
+  none_lacks : (ds : List ℕ) → AllByRecursion Right ds → AllByRecursion (λ r. r.0 ≡ false) (map {B = Bool × Why} (λ d. (lacks M W d, Missing d)) ds)
   none_lacks [] h = tt
   none_lacks (d ∷ ds) h = (ap not h.0, none_lacks ds h.1)
 
@@ -63,7 +62,7 @@ module _ (M : Mem) (W : Wants) where
   pub crash_refused : (all : List ℕ) (head : ℕ) (why : Why) → ListsWanted W all → crash_reason M W all (decode head) ≡ Some why → AcceptedCrash M W head → ⊥
   crash_refused all head why l r a =
       let d = done_decoded head a.done in
-      let right : Each Right all = Each-from_Has Right all (λ q h. let b = l.each q h in ap (λ o. are_wanted o (M q)) (b.1 ∙ ap Some (sym (a.there q b.0 b.1))) ∙ equal-same_bytes (M q)) in
+      let right : AllByRecursion Right all = Each-from_Has Right all (λ q h. let b = l.each q h in ap (λ o. are_wanted o (M q)) (b.1 ∙ ap Some (sym (a.there q b.0 b.1))) ∙ equal-same_bytes (M q)) in
       let none : first_of (crash_reasons M W all (Done d.0)) ≡ None = none_first (crash_reasons M W all (Done d.0)) (none_lacks all right) in
       none-some why (sym none ∙ ap (crash_reason M W all) (sym d.1) ∙ r)
 

@@ -11,7 +11,7 @@ use Rattle.list_checker.specs.declared.fault.Why.TheVariants.{Flags}
 use Rattle.kx_pages.specs.Bytes.{Mem, Wants}
 use Rattle.page_memory.specs.Memory.{word}
 use Rattle.kx_pages.specs.Items.{decode}
-use Rattle.kx_pages.specs.Lists.{Each, Distinct}
+use Rattle.kx_pages.specs.Lists.{Distinct}
 use Rattle.list_checker.specs.Faults.{Earlier, nothing_earlier, with_item, with_pair, following, reason, reasons, Faulty, Faultless}
 use Rattle.list_checker.specs.Laws.{CheckEnds}
 use Rattle.kx_laws.proofs.Options.{some_same}
@@ -27,11 +27,11 @@ unfolding IsDistinct
 distinct_by_test [] d = tt
 distinct_by_test (x ∷ xs) d = (each xs d.0, distinct_by_test xs d.1)
   where
-    each : (ys : List ℕ) → Each (λ y. x ≢ y) ys → AllByRecursion (λ y. eqb x y ≡ false) ys
+    each : (ys : List ℕ) → AllByRecursion (λ y. x ≢ y) ys → AllByRecursion (λ y. eqb x y ≡ false) ys
     each [] h = tt
     each (y ∷ ys) h = (ne_eqb x y h.0, each ys h.1)
 
-each_below : (n : ℕ) (xs : List ℕ) → Each (λ x. x < n) xs → (q : ℕ) → list_any (eqb q) xs ≡ true → q < n
+each_below : (n : ℕ) (xs : List ℕ) → AllByRecursion (λ x. x < n) xs → (q : ℕ) → list_any (eqb q) xs ≡ true → q < n
 each_below n [] h q e = absurd (false≢true e)
 each_below n (x ∷ xs) h q e = ⊎_elim (λ k. let s = eqb-true q x k in omega (arith, s, h.0)) (λ k. each_below n xs h.1 q k) (or_cases (eqb q x) (list_any (eqb q) xs) e)
 
@@ -47,12 +47,12 @@ reach n place links = 4097 * (n - links) + bytes_left place
 -- links that are pages, each once
 pub record Linked (ls : List ℕ) : Type 0 where
   pub once : Distinct ls
-  pub below : Each (λ x. x < 2 ^ 34) ls
+  pub below : AllByRecursion (λ x. x < 2 ^ 34) ls
 
 pub linked_none : Linked []
 linked_none = record { once = tt; below = tt }
 
-pub linked_more : (ls : List ℕ) (p : ℕ) → Linked ls → Each (λ x. x ≢ p) ls → p < 2 ^ 34 → Linked (ls ++ p ∷ [])
+pub linked_more : (ls : List ℕ) (p : ℕ) → Linked ls → AllByRecursion (λ x. x ≢ p) ls → p < 2 ^ 34 → Linked (ls ++ p ∷ [])
 linked_more ls p k n l = record { once = Distinct-push ls p k.once n; below = Each-append (λ x. x < 2 ^ 34) ls (p ∷ []) k.below (l, tt) }
 
 pub few_links : (ls : List ℕ) → Linked ls → length ls ≤ 2 ^ 34

@@ -1,5 +1,6 @@
 -- One word of the checker's loop.
 use Rattle.std.proofs.Common.{◌≡◌, ℕ, suc, ◌+◌, ◌^◌, ◌<◌, ◌≤◌, List, length, map, Option, Some, None, refl, sym, ap, ◌∙◌, subst, arith, false}
+use Rattle.std.specs.List.{AllByRecursion}
 use Rattle.std.specs.Prelude.{◌%◌, leb}
 use Rattle.std.specs.BTreeSet.{btree_set_len}
 use Rattle.std.proofs.lemmas.Bool.{true≢false}
@@ -15,7 +16,6 @@ use Rattle.list_checker.specs.declared.earlier.Accept.{Accept}
 use Rattle.list_checker.specs.declared.earlier.Earlier.{Earlier as Sets}
 use Rattle.page_memory.specs.Memory.{word}
 use Rattle.kx_pages.specs.Items.{decode}
-use Rattle.kx_pages.specs.Lists.{Each}
 use Rattle.list_checker.specs.Faults.{Earlier, nothing_earlier, with_item, with_pair, following, is_wanted, reasons, pair_reasons, Faulty, Faultless}
 use Rattle.list_checker.specs.Checked.{Shows, as_pair, why_refused, Fits, Leads, IsPlace, IsAccept, IsFirstFault}
 use Rattle.list_checker.proofs.Lists.{none_holds}
@@ -80,7 +80,7 @@ module _ (m : Contents) (S : List SegmentValue) (im : Image) where
   paired_links None s p = refl
   paired_links (Some t) s p = refl
 
-  paired_fits : IsBare S → (s : Earlier) (p : ℕ) (o : Option ℕ) → Each (λ r. r.0 ≡ false) (pair_reasons (at m) (want S) (pages S) im.control (swap_page im.mode) o s p) → (d : ℕ) × (o ≡ Some d) × (d < 2 ^ 34)
+  paired_fits : IsBare S → (s : Earlier) (p : ℕ) (o : Option ℕ) → AllByRecursion (λ r. r.0 ≡ false) (pair_reasons (at m) (want S) (pages S) im.control (swap_page im.mode) o s p) → (d : ℕ) × (o ≡ Some d) × (d < 2 ^ 34)
   paired_fits k s p None t = absurd (true≢false t.0)
   paired_fits k s p (Some d) t = (d, refl, wanted_below S k d (not_false (is_wanted (want S d)) t.0))
 

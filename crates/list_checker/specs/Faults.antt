@@ -1,6 +1,6 @@
 -- The first fault of a list that is not accepted, word by word. These are this project's own reasons, in its own order.
 -- Which lists are accepted is defined without them.
-use Rattle.std.specs.Prelude.{◌≡◌, ◌≢◌, ℕ, zero, suc, ◌+◌, ◌*◌, ◌%◌, ◌^◌, Bool, true, false, cond, not, ◌||◌, ◌&&◌, eqb, leb, List, [], ◌∷◌, ◌++◌, map, Option, Some, None}
+use Rattle.std.specs.Prelude.{◌≡◌, ◌≢◌, ℕ, zero, suc, ◌+◌, ◌*◌, ◌%◌, ◌^◌, Bool, true, false, not, ◌||◌, ◌&&◌, leb, List, [], ◌∷◌, ◌++◌, map, Option, Some, None, if◌then◌else◌, ◌==◌}
 use Rattle.kx_pages.specs.declared.item.Item.{Item}
 use Rattle.kx_pages.specs.declared.item.Item.TheVariants.{Link, Destination, Source, Done}
 use Rattle.kx_pages.specs.Items.{decode}
@@ -51,7 +51,7 @@ abbrev pub same_bytes : List ℕ → List ℕ → Bool
 same_bytes [] [] = true
 same_bytes [] (y ∷ ys) = false
 same_bytes (x ∷ xs) [] = false
-same_bytes (x ∷ xs) (y ∷ ys) = eqb x y && same_bytes xs ys
+same_bytes (x ∷ xs) (y ∷ ys) = x == y && same_bytes xs ys
 
 -- something is wanted
 abbrev pub is_wanted : Option (List ℕ) → Bool
@@ -66,12 +66,12 @@ are_wanted (Some b) c = same_bytes b c
 -- the page is the swap page, where there is one
 abbrev pub is_swap : Option ℕ → ℕ → Bool
 is_swap None p = false
-is_swap (Some s) p = eqb p s
+is_swap (Some s) p = p == s
 
 -- the first reason that holds
 abbrev pub first_of : List (Bool × Why) → Option Why
 first_of [] = None
-first_of (r ∷ rs) = cond r.0 (Some r.1) (first_of rs)
+first_of (r ∷ rs) = if r.0 then Some r.1 else first_of rs
 
 -- at the head alone: the swap page is the control page
 abbrev pub swap_meets_control : ℕ → Option ℕ → Option ℕ → Bool
@@ -122,7 +122,7 @@ abbrev pub link_reasons : ℕ → Option ℕ → Option ℕ → Earlier → ℕ 
 link_reasons control swap place s p =
     (has p s.links, LinkAgain)
     ∷ (has p (destinations s.pairs) || (is_kept swap && has p (sources s.pairs)), LinkSpoiled)
-    ∷ (eqb p control, ControlTouched)
+    ∷ (p == control, ControlTouched)
     ∷ (is_swap swap p || swap_meets_control control swap place, SwapTouched) ∷ []
 
 -- the reasons of the done word, where all is the list of the wanted pages in their order
@@ -140,7 +140,7 @@ module _ (M : Mem) (W : Wants) (all : List ℕ) (control : ℕ) (swap : Option �
       ∷ (has t (destinations s.pairs), TwiceWritten)
       ∷ (has p (destinations s.pairs), SourceSpoiled)
       ∷ (has t s.links || (is_kept swap && has p s.links), LinkSpoiled)
-      ∷ (eqb t control || eqb p control, ControlTouched)
+      ∷ (t == control || p == control, ControlTouched)
       ∷ (is_kept swap && (has t (sources s.pairs) || has p (sources s.pairs)), PairsMeet)
       ∷ (is_swap swap t || is_swap swap p, SwapTouched)
       ∷ (not (are_wanted (W t) (M p)), WrongBytes) ∷ []

@@ -2,10 +2,11 @@
 -- a page's address with one flag, as in the kernel's kexec core (kimage_entry_t): destination, link (indirection),
 -- done, source. A link page holds 512 words.
 use Rattle.std.specs.Prelude.{◌≡◌, ◌≢◌, ℕ, suc, ◌+◌, ◌*◌, ◌%◌, ◌^◌, ◌<◌, List, [], ◌∷◌, Option, Some, None}
+use Rattle.std.specs.List.{AllByRecursion}
 use Rattle.kx_pages.specs.declared.item.Item.{Item}
 use Rattle.kx_pages.specs.declared.item.Item.TheVariants.{Link, Destination, Source, Done}
 use Rattle.kx_pages.specs.Items.{code}
-use Rattle.kx_pages.specs.Lists.{Each, Has, Distinct, destinations}
+use Rattle.kx_pages.specs.Lists.{Has, Distinct, destinations}
 use Rattle.kx_pages.specs.Bytes.{Mem, Wants}
 use Rattle.page_memory.specs.Memory.{word}
 
@@ -61,13 +62,13 @@ pairs is = pairs_from 0 is
 -- written before it is copied
 abbrev pub InOrder : List (ℕ × ℕ) → Type 0
 InOrder [] = Unit {0}
-InOrder (q ∷ qs) = Each (λ r. (q.0 ≢ r.0) × (q.0 ≢ r.1)) qs × InOrder qs
+InOrder (q ∷ qs) = AllByRecursion (λ r. (q.0 ≢ r.0) × (q.0 ≢ r.1)) qs × InOrder qs
 
 -- no page stands in two pairs
 abbrev pub PairsApart : List (ℕ × ℕ) → Type 0
 PairsApart [] = Unit {0}
 PairsApart (q ∷ qs) =
-    Each (λ r. (q.0 ≢ r.0) × (q.0 ≢ r.1) × (q.1 ≢ r.0) × (q.1 ≢ r.1)) qs × PairsApart qs
+    AllByRecursion (λ r. (q.0 ≢ r.0) × (q.0 ≢ r.1) × (q.1 ≢ r.0) × (q.1 ≢ r.1)) qs × PairsApart qs
 
 -- These items are a plain list that is accepted for what W wants: it is a walk, no two link words name one page, each
 -- source word has a destination word before it, the destinations are exactly the wanted pages, each source holds what its
@@ -78,10 +79,10 @@ pub record Accepted (M : Mem) (W : Wants) (head control : ℕ) (is : List Item) 
   pub destination_first : DestinationFirst is
   pub in_order : InOrder (pairs is)
   pub whole : (p : ℕ) (bytes : List ℕ) → W p ≡ Some bytes → Has p (destinations (pairs is))
-  pub right_bytes : Each (λ q. W q.0 ≡ Some (M q.1)) (pairs is)
-  pub links_unwritten : Each (λ q. Each (λ l. q.0 ≢ l) (links is)) (pairs is)
-  pub control_apart : Each (λ l. l ≢ control) (links is)
-      × Each (λ q. (q.0 ≢ control) × (q.1 ≢ control)) (pairs is)
+  pub right_bytes : AllByRecursion (λ q. W q.0 ≡ Some (M q.1)) (pairs is)
+  pub links_unwritten : AllByRecursion (λ q. AllByRecursion (λ l. q.0 ≢ l) (links is)) (pairs is)
+  pub control_apart : AllByRecursion (λ l. l ≢ control) (links is)
+      × AllByRecursion (λ q. (q.0 ≢ control) × (q.1 ≢ control)) (pairs is)
 
 -- The same with context preserved. Besides, no page stands in two pairs, no link page is a source, and the swap page is
 -- not the control page, a link page, a destination or a source.
@@ -89,9 +90,9 @@ pub record AcceptedKept (M : Mem) (W : Wants) (head control swap : ℕ) (is : Li
     : Type 0 where
   pub plain : Accepted M W head control is
   pub apart : PairsApart (pairs is)
-  pub links_no_sources : Each (λ q. Each (λ l. q.1 ≢ l) (links is)) (pairs is)
-  pub swap_apart : (swap ≢ control) × Each (λ l. l ≢ swap) (links is)
-      × Each (λ q. (q.0 ≢ swap) × (q.1 ≢ swap)) (pairs is)
+  pub links_no_sources : AllByRecursion (λ q. AllByRecursion (λ l. q.1 ≢ l) (links is)) (pairs is)
+  pub swap_apart : (swap ≢ control) × AllByRecursion (λ l. l ≢ swap) (links is)
+      × AllByRecursion (λ q. (q.0 ≢ swap) × (q.1 ≢ swap)) (pairs is)
 
 abbrev pub IsAccepted : Mem → Wants → ℕ → ℕ → Option ℕ → List Item → Type 0
 IsAccepted M W head control None is = Accepted M W head control is

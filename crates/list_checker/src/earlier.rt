@@ -1,6 +1,6 @@
 //! What came before a word.
 
-ghost use Rattle.std.specs.Prelude.{◌≡◌, ℕ, ◌&&◌, ◌||◌, OnOk, Option, Some, is_some, eqb, not, false};
+ghost use Rattle.std.specs.Prelude.{◌≡◌, ℕ, ◌&&◌, ◌||◌, OnOk, Option, Some, is_some, not, false, ◌==◌};
 ghost use Rattle.std.specs.Ordering.{nat_cmp};
 ghost use Rattle.std.specs.BTreeSet.{contains, btree_set_len};
 ghost use Rattle.std.specs.List.{find};
@@ -57,7 +57,7 @@ pub(crate) struct Earlier {
 fn add_source_page(sources: &mut Option<BTreeSet<Page>>, p: Page) -> Result<(), AllocError>
     ensures kept { is_some sources.new ≡ is_some sources.old }
     ensures added { OnOk result ((q : ℕ) → is_among sources.new q ≡
-        (is_some sources.old && (is_among sources.old q || eqb p q))) }
+        (is_some sources.old && (is_among sources.old q || p == q))) }
 {
     if let Some(kept) = sources {
         kept.insert(p)?;

@@ -6,7 +6,7 @@ ghost use Rattle.list_checker.specs.Checked.{IsAccept, IsCheckFault};
 
 use crate::earlier::{Accept, Earlier};
 use crate::fault::{CheckFault, ListFault};
-use crate::reasons::{following, judged};
+use crate::reasons::{following, judge};
 use kx_pages::{Image, Item};
 use page_memory::Memory;
 use segments::Segments;
@@ -46,7 +46,7 @@ pub fn check(
     let mut w = image.head;
     let mut words = 0;
     'words: loop {
-        let item = match judged(memory, image, segments, &earlier, place, w) {
+        let item = match judge(memory, image, segments, &earlier, place, w) {
             Ok(item) => item,
             Err(why) => return Err(CheckFault::List {
                 fault: ListFault { word: words, why },

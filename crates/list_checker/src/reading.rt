@@ -50,7 +50,7 @@ fn obstacle(links: &BTreeSet<Page>, place: Option<u64>, item: Item) -> Option<Wh
     }
 }
 
-fn followed(links: &BTreeSet<Page>, place: Option<u64>, w: u64) -> Result<Item, Why>
+fn follow(links: &BTreeSet<Page>, place: Option<u64>, w: u64) -> Result<Item, Why>
     ensures { (s : spec.Earlier) → ShowsLinks links.now s → IsFollowed place s w result }
 {
     match Item::of_word(w) {
@@ -95,7 +95,7 @@ pub fn walk(alloc: Global, memory: &Memory, head: u64) -> Result<Walk, AllocErro
     let mut w = head;
     let mut word: u64 = 0;
     'words: loop {
-        let found = followed(&links, place, w);
+        let found = follow(&links, place, w);
         words.push(w)?;
         let item = match found {
             Ok(item) => item,

@@ -1,6 +1,6 @@
 //! Why a word is refused.
 
-ghost use Rattle.std.specs.Prelude.{◌≡◌, ◌≢◌, ℕ, ◌+◌, ◌*◌, ◌/◌, ◌%◌, ◌<◌, ◌^◌, IsTrue, IfSome, MatchResult, Option, Some, None, true, false, not, eqb, ◌||◌, ◌&&◌};
+ghost use Rattle.std.specs.Prelude.{◌≡◌, ◌≢◌, ℕ, ◌+◌, ◌*◌, ◌/◌, ◌%◌, ◌<◌, ◌^◌, IsTrue, IfSome, MatchResult, Option, Some, None, true, false, not, ◌||◌, ◌&&◌, ◌==◌};
 ghost use Rattle.page_memory.specs.Contents.{at};
 ghost use Rattle.segments.specs.Values.{want, pages};
 ghost use Rattle.segments.specs.Rules.{IsBare};
@@ -88,13 +88,13 @@ fn pairs_meet(earlier: &Earlier, d: Page, p: Page) -> bool
 }
 
 fn is_control(image: &Image, p: Page) -> bool
-    ensures { result ≡ eqb p image.now.control }
+    ensures { result ≡ (p == image.now.control) }
 {
     p == image.control
 }
 
 fn pair_touches_control(image: &Image, d: Page, p: Page) -> bool
-    ensures { result ≡ (eqb d image.now.control || eqb p image.now.control) }
+    ensures { result ≡ (d == image.now.control || p == image.now.control) }
 {
     d == image.control || p == image.control
 }
@@ -256,7 +256,7 @@ pub(crate) fn refusal(
 }
 
 /// The item that a word is, or why the word is refused.
-pub(crate) fn judged(
+pub(crate) fn judge(
     memory: &Memory,
     image: &Image,
     segments: &Segments,

@@ -1,7 +1,7 @@
 -- The segments in a record's file, as they are read and written.
 use Rattle.std.proofs.Common.{◌≡◌, ℕ, zero, suc, ◌+◌, ◌-◌, ◌^◌, ◌<◌, ◌≤◌, List, [], ◌∷◌, ◌++◌, length, take, drop, map, Bool, true, false, cond, refl, sym, ap, ◌∙◌, subst, arith, Ok, Err, Result, Option, Some, None, append_assoc}
 use Rattle.std.specs.Prelude.{nat_lt, ◌==◌, not}
-use Rattle.std.specs.List.{flat_map}
+use Rattle.std.specs.List.{flat_map, AllByRecursion}
 use Rattle.std.specs.Str.{bytes_eq}
 use Rattle.std.proofs.lemmas.Bool.Decides.{nat_tests}
 use Rattle.std.proofs.lemmas.List.{length-take-le, take-append-drop, length-append, drop-drop}
@@ -16,7 +16,6 @@ use Rattle.kx_laws.specs.Results.{◌>>=◌}
 use Rattle.kx_laws.proofs.Booleans.{not_false}
 use Rattle.kx_laws.proofs.Lists.{take_front, drop_front}
 use Rattle.kx_laws.proofs.Results.{bind_ok, guard_ok, ok_same}
-use Rattle.kx_pages.specs.Lists.{Each}
 use Rattle.segments.specs.Values.{SegmentValue}
 use Rattle.segments.specs.Shape.{IsPlaced}
 use Rattle.load_record.specs.declared.fault.RecFault.{RecFault}
@@ -24,7 +23,7 @@ use Rattle.load_record.specs.declared.fault.RecFault.TheVariants as faults
 use Rattle.load_record.specs.declared.body.SegmentHead.{SegmentHead}
 use Rattle.load_record.specs.declared.version.Version.{Version}
 use Rattle.load_record.specs.declared.version.Version.TheVariants.{First, Second}
-use Rattle.load_record.specs.File.{FileSegment, digest_of, digest_size, is_wrong, has_wrong_digest, wrong_digest, values, without_wrong, segment_text, segment_format, head_of_segment, segment_of, file_segment, segment_behind, segment_at, segments_read, segments_tested}
+use Rattle.load_record.specs.File.{FileSegment, digest_of, digest_size, is_wrong, has_wrong_digest, wrong_digest, values, without_wrong, segment_text, segment_format, head_of_segment, segment_of, file_segment, segment_behind, segment_at, read_segments, tested_segments}
 use Rattle.std.proofs.lemmas.Bool.{ltb-false}
 
 pub segment_is : IsFormat 24 segment_format
@@ -96,12 +95,12 @@ none_wrong true k others h = cc
 none_wrong false k others h = (refl, h)
 
 -- segments that were read are written as they were
-segments_spelled : (v : Version) (total n k : ℕ) (bytes : List ℕ) (fs : List FileSegment) → AreBytes bytes → segments_read v total n bytes ≡ Ok fs → wrong_digest v k fs ≡ None → (length (values fs) ≡ n) × (flat_map (segment_text v) (values fs) ≡ bytes)
-unfolding segments_read
+segments_spelled : (v : Version) (total n k : ℕ) (bytes : List ℕ) (fs : List FileSegment) → AreBytes bytes → read_segments v total n bytes ≡ Ok fs → wrong_digest v k fs ≡ None → (length (values fs) ≡ n) × (flat_map (segment_text v) (values fs) ≡ bytes)
+unfolding read_segments
 segments_spelled v total zero k bytes fs small h right = no_bytes v total bytes fs (length bytes == 0) refl h
 segments_spelled v total (suc n) k bytes fs small h right =
     let one = bind_ok (segment_at v total bytes) _ fs h in
-    let more = bind_ok (segments_read v total n one.0.1) _ fs one.2 in
+    let more = bind_ok (read_segments v total n one.0.1) _ fs one.2 in
     let same : one.0.0 ∷ more.0 ≡ fs = ok_same _ fs more.2 in
     let all = none_wrong (has_wrong_digest v one.0.0) k (wrong_digest v (k + 1) more.0) (ap (wrong_digest v k) same ∙ right) in
     let part = segment_spelled v total bytes one.0 small one.1 all.0 in
@@ -114,10 +113,10 @@ pub right_ok : (ss ts : List SegmentValue) (wrong : Option ℕ) → without_wron
 right_ok ss ts None h = (refl, ok_same ss ts h)
 right_ok ss ts (Some k) h = cc
 
-pub tested_spelled : (v : Version) (total n : ℕ) (bytes : List ℕ) (ss : List SegmentValue) → AreBytes bytes → segments_tested v total n bytes ≡ Ok ss → (length ss ≡ n) × (flat_map (segment_text v) ss ≡ bytes)
-unfolding segments_tested
+pub tested_spelled : (v : Version) (total n : ℕ) (bytes : List ℕ) (ss : List SegmentValue) → AreBytes bytes → tested_segments v total n bytes ≡ Ok ss → (length ss ≡ n) × (flat_map (segment_text v) ss ≡ bytes)
+unfolding tested_segments
 tested_spelled v total n bytes ss small h =
-    let read = bind_ok (segments_read v total n bytes) _ ss h in
+    let read = bind_ok (read_segments v total n bytes) _ ss h in
     let right = right_ok (values read.0) ss (wrong_digest v 0 read.0) read.2 in
     subst (λ xs. (length xs ≡ n) × (flat_map (segment_text v) xs ≡ bytes)) right.1 (segments_spelled v total n 0 bytes read.0 small read.1 right.0)
 
@@ -179,11 +178,11 @@ segment_back v total s rest r =
     ∙ bytes_back total s digest rest
 
 -- segments are read as they were written
-segments_back : (v : Version) (total : ℕ) (ss : List SegmentValue) → Each IsSegmentInRange ss → segments_read v total (length ss) (flat_map (segment_text v) ss) ≡ Ok (map (in_file v) ss)
-unfolding segments_read
+segments_back : (v : Version) (total : ℕ) (ss : List SegmentValue) → AllByRecursion IsSegmentInRange ss → read_segments v total (length ss) (flat_map (segment_text v) ss) ≡ Ok (map (in_file v) ss)
+unfolding read_segments
 segments_back v total [] r = refl
 segments_back v total (s ∷ ss) r =
-    ap (λ x. x >>= λ e. segments_read v total (length ss) e.1 >>= λ fs. Ok (e.0 ∷ fs)) (segment_back v total s (flat_map (segment_text v) ss) r.0)
+    ap (λ x. x >>= λ e. read_segments v total (length ss) e.1 >>= λ fs. Ok (e.0 ∷ fs)) (segment_back v total s (flat_map (segment_text v) ss) r.0)
     ∙ ap (λ x. x >>= λ fs. Ok (in_file v s ∷ fs)) (segments_back v total ss r.1)
 
 values_again : (v : Version) (ss : List SegmentValue) → values (map (in_file v) ss) ≡ ss
@@ -197,14 +196,14 @@ digests_again v k (s ∷ ss) =
     let same : bytes_eq (digest_of v s.bytes) (digest_of v s.bytes) ≡ true = (bytes_eq-Decides (digest_of v s.bytes) (digest_of v s.bytes)).1 refl in
     ap (λ b. cond (not b) (Some k) (wrong_digest v (k + 1) (map (in_file v) ss))) same ∙ digests_again v (k + 1) ss
 
-pub tested_back : (v : Version) (total : ℕ) (ss : List SegmentValue) → Each IsSegmentInRange ss → segments_tested v total (length ss) (flat_map (segment_text v) ss) ≡ Ok ss
-unfolding segments_tested
+pub tested_back : (v : Version) (total : ℕ) (ss : List SegmentValue) → AllByRecursion IsSegmentInRange ss → tested_segments v total (length ss) (flat_map (segment_text v) ss) ≡ Ok ss
+unfolding tested_segments
 tested_back v total ss r =
     ap (λ x. x >>= λ fs. without_wrong (values fs) (wrong_digest v 0 fs)) (segments_back v total ss r)
     ∙ ap (without_wrong (values (map (in_file v) ss))) (digests_again v 0 ss)
     ∙ ap Ok (values_again v ss)
 
-pub segment_ranges : (ss : List SegmentValue) → Each IsPlaced ss → Each (λ s. length s.bytes ≤ s.memsz) ss → Each IsSegmentInRange ss
+pub segment_ranges : (ss : List SegmentValue) → AllByRecursion IsPlaced ss → AllByRecursion (λ s. length s.bytes ≤ s.memsz) ss → AllByRecursion IsSegmentInRange ss
 segment_ranges [] p f = tt
 segment_ranges (s ∷ ss) p f =
     let below = p.0.below in

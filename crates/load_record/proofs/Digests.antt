@@ -8,20 +8,20 @@ use Rattle.sha2.specs.Sha256.{sha256}
 use Rattle.segments.specs.Values.{SegmentValue}
 use Rattle.load_record.specs.declared.version.Version.{Version}
 use Rattle.load_record.specs.declared.version.Version.TheVariants.{First, Second}
-use Rattle.load_record.specs.File.{digest_made, digests_made, digests_of}
+use Rattle.load_record.specs.File.{made_digest, made_digests, digests_of}
 use Rattle.kx_laws.proofs.Lists.{drop_at}
 
-pub none_made : (v : Version) → [] ≡ digests_made v []
+pub none_made : (v : Version) → [] ≡ made_digests v []
 none_made First = refl
 none_made Second = refl
 
 -- one more was read
-pub made_step : (v : Version) (ss : List SegmentValue) (s : SegmentValue) (digests : List (List ℕ)) → digests ≡ digests_made v ss → digests ++ option_to_list (digest_made v s.bytes) ≡ digests_made v (ss ++ s ∷ [])
+pub made_step : (v : Version) (ss : List SegmentValue) (s : SegmentValue) (digests : List (List ℕ)) → digests ≡ made_digests v ss → digests ++ option_to_list (made_digest v s.bytes) ≡ made_digests v (ss ++ s ∷ [])
 made_step First ss s digests h = append-nil digests ∙ h
 made_step Second ss s digests h = ap (λ l. l ++ sha256 s.bytes ∷ []) h ∙ sym (map-append (λ (s : SegmentValue). sha256 s.bytes) ss (s ∷ []))
 
 -- the digests of all, if one was made of the first
-pub made_all : {A : Type 0} (view : A → List (List ℕ)) (v : Version) (s : SegmentValue) (ss : List SegmentValue) (first : Option (List ℕ)) (others : List (List ℕ)) (all : Option A) → first ≡ digest_made v s.bytes → others ≡ digests_made v ss → option_map view all ≡ option_map (λ d. d ∷ others) first → IfSome all (λ d. view d ≡ digests_of (s ∷ ss))
+pub made_all : {A : Type 0} (view : A → List (List ℕ)) (v : Version) (s : SegmentValue) (ss : List SegmentValue) (first : Option (List ℕ)) (others : List (List ℕ)) (all : Option A) → first ≡ made_digest v s.bytes → others ≡ made_digests v ss → option_map view all ≡ option_map (λ d. d ∷ others) first → IfSome all (λ d. view d ≡ digests_of (s ∷ ss))
 made_all view v s ss first others None e f g = tt
 made_all view First s ss first others (Some d) e f g = let none : Some (view d) ≡ None = g ∙ ap (option_map (λ d. d ∷ others)) e in absurd (cc)
 made_all view Second s ss first others (Some d) e f g =

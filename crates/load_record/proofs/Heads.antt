@@ -18,7 +18,7 @@ use Rattle.load_record.specs.declared.head.Head.{Head}
 use Rattle.load_record.specs.declared.version.Version.{Version}
 use Rattle.load_record.specs.declared.version.Version.TheVariants.{First, Second}
 use Rattle.load_record.specs.Head.{magic, has_magic, version_of, head_format, head_text, head_fault, IsInRange, is_bad_mode, is_bad_page}
-use Rattle.load_record.specs.File.{head_read, head_tested}
+use Rattle.load_record.specs.File.{read_head, tested_head}
 
 pub head_is : IsFormat 96 head_format
 head_is = record { numbered = λ at fits. refl; whole = λ at fits. refl; apart = refl }
@@ -146,10 +146,10 @@ unless_ok : (o : Option RecFault) (x : Unit {0}) → unless o ≡ Ok x → o ≡
 unless_ok None x h = refl
 unless_ok (Some e) x h = cc
 
-pub head_found : (bytes : List ℕ) (h : Head) → head_tested bytes ≡ Ok h → IsHeadOf bytes h
-unfolding head_tested head_read
+pub head_found : (bytes : List ℕ) (h : Head) → tested_head bytes ≡ Ok h → IsHeadOf bytes h
+unfolding tested_head read_head
 head_found bytes h e =
-    let a = bind_ok (head_read bytes) (λ h. unless (head_fault h) >>= λ _. Ok h) h e in
+    let a = bind_ok (read_head bytes) (λ h. unless (head_fault h) >>= λ _. Ok h) h e in
     let b = bind_ok (unless (head_fault a.0)) (λ _. Ok a.0) h a.2 in
     let same : a.0 ≡ h = ok_same a.0 h b.2 in
     let c = guard_ok (not (has_magic First bytes || has_magic Second bytes)) _ _ a.0 a.1 in
@@ -173,8 +173,8 @@ magic_first Second bytes e =
     let front : take 96 bytes ≡ magic Second ++ take 88 (drop 8 bytes) = ap (take 96) e in
     front ∙ ap (λ l. magic Second ++ l) (sym (ap (drop 8) front))
 
-pub head_tested_text : (v : Version) (h : Head) (rest : List ℕ) → IsInRange h → head_fault h ≡ None → head_tested (head_text v h ++ rest) ≡ Ok h
-unfolding head_tested head_read
+pub head_tested_text : (v : Version) (h : Head) (rest : List ℕ) → IsInRange h → head_fault h ≡ None → tested_head (head_text v h ++ rest) ≡ Ok h
+unfolding tested_head read_head
 head_tested_text v h rest r none =
     let text = head_text v h ++ rest in
     let size = head_size v h in

@@ -21,7 +21,7 @@ use Rattle.load_record.specs.declared.head.Head.{Head}
 use Rattle.load_record.specs.declared.version.Version.{Version}
 use Rattle.load_record.specs.declared.version.Version.TheVariants.{First, Second}
 use Rattle.load_record.specs.Head.{magic, has_magic, version_of, head_text, head_fault, IsInRange}
-use Rattle.load_record.specs.File.{Record, HasPages, IsWritable, mode_number, swap_address, head_of_record, record_of, segment_text, record_text, head_tested, segments_tested, ruled, record_reading}
+use Rattle.load_record.specs.File.{Record, HasPages, IsWritable, mode_number, swap_address, head_of_record, record_of, segment_text, record_text, tested_head, tested_segments, record_by, record_reading}
 use Rattle.load_record.proofs.Heads.{IsGood, good_head, no_fault_of, head_spelled, head_found, magic_first, version_again, head_tested_text, behind_head}
 use Rattle.load_record.proofs.Bodies.{tested_spelled, tested_back, segment_ranges}
 
@@ -72,7 +72,7 @@ pub record_of-writable : (h : Head) (ss : List SegmentValue) → IsGood h → Is
 record_of-writable h ss g e = writable_by h.kind h.mode h.swap h.control e g.plain g.no_control
 
 -- a file that was read is how its version spells what was read
-pub file_found : (bytes : List ℕ) (h : Head) (ss : List SegmentValue) → AreBytes bytes → head_tested bytes ≡ Ok h → segments_tested (version_of bytes) (length bytes) h.segments (drop 96 bytes) ≡ Ok ss → record_text (version_of bytes) (record_of h ss) ≡ bytes
+pub file_found : (bytes : List ℕ) (h : Head) (ss : List SegmentValue) → AreBytes bytes → tested_head bytes ≡ Ok h → tested_segments (version_of bytes) (length bytes) h.segments (drop 96 bytes) ≡ Ok ss → record_text (version_of bytes) (record_of h ss) ≡ bytes
 unfolding record_text
 file_found bytes h ss small e f =
     let v = version_of bytes in
@@ -95,13 +95,13 @@ pub reading_found : (bytes : List ℕ) (r : Record) → AreBytes bytes → recor
 unfolding record_reading
 reading_found bytes r small e =
     let v = version_of bytes in
-    let a = bind_ok (head_tested bytes) (λ h. segments_tested v (length bytes) h.segments (drop 96 bytes) >>= λ ss. ruled h ss (bare_refusal ss)) r e in
-    let b = bind_ok (segments_tested v (length bytes) a.0.segments (drop 96 bytes)) (λ ss. ruled a.0 ss (bare_refusal ss)) r a.2 in
+    let a = bind_ok (tested_head bytes) (λ h. tested_segments v (length bytes) h.segments (drop 96 bytes) >>= λ ss. record_by h ss (bare_refusal ss)) r e in
+    let b = bind_ok (tested_segments v (length bytes) a.0.segments (drop 96 bytes)) (λ ss. record_by a.0 ss (bare_refusal ss)) r a.2 in
     let same : record_of a.0 b.0 ≡ r = ruled_ok a.0 b.0 (bare_refusal b.0) r b.2 in
     let good = good_head a.0 (head_found bytes a.0 a.1).good in
     subst (λ (r : Record). (record_text v r ≡ bytes) × IsWritable r) same (file_found bytes a.0 b.0 small a.1 b.1, record_of-writable a.0 b.0 good)
   where
-    ruled_ok : (h : Head) (ss : List SegmentValue) (o : Option SegFault) (r : Record) → ruled h ss o ≡ Ok r → record_of h ss ≡ r
+    ruled_ok : (h : Head) (ss : List SegmentValue) (o : Option SegFault) (r : Record) → record_by h ss o ≡ Ok r → record_of h ss ≡ r
     ruled_ok h ss None r e = ok_same (record_of h ss) r e
     ruled_ok h ss (Some f) r e = cc
 
@@ -174,9 +174,9 @@ reading_text v r x =
     let text = head_text v h ++ body in
     let ss = AreSegments-from_IsBare r.segments x.pages.bare in
     let parts = tested_back v (length text) r.segments (segment_ranges r.segments ss.placed ss.fit) in
-    ap (λ x. x >>= λ h. segments_tested (version_of text) (length text) h.segments (drop 96 text) >>= λ ss. ruled h ss (bare_refusal ss)) (head_tested_text v h body x.range (no_fault r x))
-    ∙ ap (λ u. segments_tested u (length text) (length r.segments) (drop 96 text) >>= λ ss. ruled h ss (bare_refusal ss)) (version_again v h body)
-    ∙ ap (λ l. segments_tested v (length text) (length r.segments) l >>= λ ss. ruled h ss (bare_refusal ss)) (behind_head v h body)
-    ∙ ap (λ x. x >>= λ ss. ruled h ss (bare_refusal ss)) parts
-    ∙ ap (λ o. ruled h r.segments o) x.pages.bare
+    ap (λ x. x >>= λ h. tested_segments (version_of text) (length text) h.segments (drop 96 text) >>= λ ss. record_by h ss (bare_refusal ss)) (head_tested_text v h body x.range (no_fault r x))
+    ∙ ap (λ u. tested_segments u (length text) (length r.segments) (drop 96 text) >>= λ ss. record_by h ss (bare_refusal ss)) (version_again v h body)
+    ∙ ap (λ l. tested_segments v (length text) (length r.segments) l >>= λ ss. record_by h ss (bare_refusal ss)) (behind_head v h body)
+    ∙ ap (λ x. x >>= λ ss. record_by h ss (bare_refusal ss)) parts
+    ∙ ap (λ o. record_by h r.segments o) x.pages.bare
     ∙ ap Ok (record_of-head r)

@@ -8,7 +8,7 @@ ghost use Rattle.kx_fields.specs.Fields.{zeros};
 ghost use Rattle.kx_fields.specs.Formats.{read, written};
 ghost use Rattle.kx_laws.specs.Results.{Gives};
 ghost use Rattle.load_record.specs.declared.version.Version.TheVariants.{Second};
-ghost use Rattle.load_record.specs.File.{digest_made, digest_size, digests_made, digests_of, file_segment, head_of_segment, is_wrong, record_file, segment_at, segment_format, segment_of, segment_text, segments_kept, segments_tested, without_wrong};
+ghost use Rattle.load_record.specs.File.{made_digest, digest_size, made_digests, digests_of, file_segment, head_of_segment, is_wrong, record_file, segment_at, segment_format, segment_of, segment_text, keep_segments, tested_segments, without_wrong};
 ghost use Rattle.kx_laws.specs.Cuts.{IsCutAt};
 
 use crate::fault::RecFault;
@@ -94,7 +94,7 @@ fn cut_segment<'a>(
     ensures exact { Gives RecFault.Memory
         (λ x. (file_segment x.0 (drop 24 own.now) x.2.now, x.3.now)) result
         (segment_at version total (own.now ++ behind.now)) }
-    ensures made { IfOk result (λ x. x.1.made ≡ digest_made version x.2.now) }
+    ensures made { IfOk result (λ x. x.1.made ≡ made_digest version x.2.now) }
     ensures digest { IfOk result (λ x. x.1.is_wrong ≡ is_wrong version (drop 24 own.now) x.2.now) }
     ensures place { IfOk result (λ x. x.2.now ≡ take x.0.bufsz behind.now) }
     ensures inside { IfOk result (λ x. x.0.bufsz + length x.3.now ≡ length behind.now) }
@@ -148,8 +148,8 @@ fn copied_segments(
     requires order { first ≤ count }
     requires few { count ≤ 16 }
     ensures exact { Gives RecFault.Memory (λ x. (x.0.items, x.2)) result
-        (segments_kept version total first before (count - first) bytes.now) }
-    ensures digests { IfOk result (λ x. x.1.items ≡ digests_made version x.0.items) }
+        (keep_segments version total first before (count - first) bytes.now) }
+    ensures digests { IfOk result (λ x. x.1.items ≡ made_digests version x.0.items) }
 {
     let mut rest = bytes;
     let mut wrong = before;
@@ -197,7 +197,7 @@ pub(crate) fn read_segments(
     requires whole { 96 ≤ length file.now }
     requires few { count ≤ 16 }
     ensures { Gives RecFault.Memory (λ v. v.items) result
-        (segments_tested version (length file.now) count (drop 96 file.now)) }
+        (tested_segments version (length file.now) count (drop 96 file.now)) }
 {
     let (_, body) = file.split_at(96);
     match copied_segments(alloc, version, file.len() as u64, None, 0, count, body) {
@@ -239,7 +239,7 @@ pub(crate) fn take_segments(
     requires some { 0 < count }
     requires few { count ≤ 16 }
     ensures exact { Gives RecFault.Memory (λ x. x.0.items) result
-        (segments_tested version total count (own.now ++ rest.items)) }
+        (tested_segments version total count (own.now ++ rest.items)) }
     ensures digests { IfOk result (λ x. IfSome x.1 (λ d. d.items ≡ digests_of x.0.items)) }
 {
     let (head, tested, _, after) = match cut_segment(version, total, own, &rest) {

@@ -5,7 +5,7 @@ ghost use Rattle.kx_fields.specs.Fields.{AreBytes};
 ghost use Rattle.kx_laws.specs.Results.{Gives};
 ghost use Rattle.segments.specs.Rules.{bare_refusal};
 ghost use Rattle.load_record.specs.Head.{head_fault, version_of};
-ghost use Rattle.load_record.specs.File.{IsWritable, digests_of, record_reading, record_file, record_text, ruled};
+ghost use Rattle.load_record.specs.File.{IsWritable, digests_of, record_reading, record_file, record_text, record_by};
 ghost use Rattle.kx_laws.specs.Cuts.{IsCutAt};
 
 use crate::body::{put_in_front, put_segments, read_segments, room_of, take_segments};
@@ -48,7 +48,7 @@ impl LoadRecord {
         ensures found { IfOk result (λ r. record_text (version_of bytes.now) r ≡ bytes.now) }
         ensures writable { IfOk result IsWritable }
     {
-        let head = match Head::read_tested(bytes) {
+        let head = match Head::tested(bytes) {
             Ok(head) => head,
             Err(fault) => return Err(fault),
         };
@@ -121,7 +121,7 @@ pub(crate) fn record_in_two(
     ensures writable { IfOk result (λ x. IsWritable x.0) }
     ensures digests { IfOk result (λ x. IfSome x.1 (λ d. d.items ≡ digests_of x.0.segments)) }
 {
-    let head = match Head::read_tested(front) {
+    let head = match Head::tested(front) {
         Ok(head) => head,
         Err(fault) => return Err(fault),
     };
@@ -154,7 +154,7 @@ fn total_of(front: &[u8], rest: &[u8]) -> u64
 fn record_with(alloc: Global, head: Head, list: Vec<Segment>) -> Result<LoadRecord, RecFault>
     requires { head_fault head ≡ None }
     ensures exact { Gives RecFault.Memory (λ r. r) result
-        (ruled head list.items (bare_refusal list.items)) }
+        (record_by head list.items (bare_refusal list.items)) }
     ensures segments { IfOk result (λ r. r.segments ≡ list.items) }
 {
     match Segments::bare(alloc, list) {

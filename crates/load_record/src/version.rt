@@ -2,7 +2,7 @@
 
 ghost use Rattle.std.specs.Prelude.{◌≡◌, ◌+◌, length};
 ghost use Rattle.load_record.specs.Head.{version_of};
-ghost use Rattle.load_record.specs.File.{digest_made, digest_size, is_wrong};
+ghost use Rattle.load_record.specs.File.{made_digest, digest_size, is_wrong};
 
 use sha2::{Digest, Sha256};
 
@@ -55,7 +55,7 @@ impl Version {
     /// Tests the digest that stands before a segment's bytes.
     pub fn test(self, digest: &[u8], bytes: &[u8]) -> Tested
         requires { length digest.now ≡ digest_size self }
-        ensures made { result.made ≡ digest_made self bytes.now }
+        ensures made { result.made ≡ made_digest self bytes.now }
         ensures wrong { result.is_wrong ≡ is_wrong self digest.now bytes.now }
     {
         match self {

@@ -1,7 +1,8 @@
 -- Accepted lists, as `accept` answers them.
 use Rattle.std.proofs.Common.{◌≡◌, ℕ, sym, ap, ◌∙◌, subst, inl, inr, ⊎_elim}
+use Rattle.std.specs.List.{AllByRecursion}
 use Rattle.std.specs.Prelude.{◌⊎◌, IsSome, map}
-use Rattle.kx_pages.specs.Lists.{Each, Has}
+use Rattle.kx_pages.specs.Lists.{Has}
 use Rattle.kx_pages.proofs.Lists.{Each-at}
 use Rattle.kx_pages.specs.Modes.{swap_page}
 use Rattle.page_memory.specs.Contents.{IsHeld}
@@ -43,7 +44,7 @@ made_accepted s n a (variants.Kept c) left h made =
 
 -- which pages are held then
 pub made_held : (s n : Load) (a : Accept) (r : Accepted) → IsLeftAs s n → IsMadeOf n a r
-    → Each (λ q. IsHeld n.memory q) (written_pages s.image.mode (map as_pair a.pairs.items))
+    → AllByRecursion (λ q. IsHeld n.memory q) (written_pages s.image.mode (map as_pair a.pairs.items))
     → ((q : ℕ) → IsHeld n.memory q → IsHeld s.memory q ⊎ Has q (written_pages s.image.mode (map as_pair a.pairs.items)))
     → HoldsForRun s (checked_in r)
 made_held s n a r left made written only =

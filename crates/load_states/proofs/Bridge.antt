@@ -1,11 +1,12 @@
 -- The machine of relocate_machine follows an accepted list.
 use Rattle.std.proofs.Common.{◌≡◌, ℕ, suc, ◌+◌, ◌*◌, ◌/◌, ◌%◌, ◌^◌, ◌<◌, List, [], ◌∷◌, length, Bool, true, false, cond, None, refl, sym, ap, ◌∙◌, subst, inl, inr, arith}
+use Rattle.std.specs.List.{AllByRecursion}
 use Rattle.std.specs.Prelude.{◌≢◌, nat_le, bit_and, eqb}
 use Rattle.std.proofs.lemmas.Bool.Decides.{nat_tests}
 use Rattle.std.proofs.lemmas.Nat.Bits.{and_pow}
 use Rattle.kx_pages.specs.declared.image.Mode.{Mode}
 use Rattle.kx_pages.specs.declared.image.Mode.TheVariants.{Plain, Kept}
-use Rattle.page_memory.specs.Contents.{Contents, at, copied, IsHeld}
+use Rattle.page_memory.specs.Contents.{Contents, at, copy_page, IsHeld}
 use Rattle.page_memory.proofs.Laws.{frame_at-insert_same, frame_at-insert_other, held-insert, word-same_page}
 use Rattle.relocate_machine.specs.declared.step.Step.{Step}
 use Rattle.relocate_machine.specs.declared.step.Step.TheVariants as steps
@@ -17,7 +18,7 @@ use Rattle.relocate_machine.specs.Run.{run_from, run_after, HeldFrom, HeldAfter}
 use Rattle.kx_pages.specs.declared.item.Item.{Item}
 use Rattle.kx_pages.specs.declared.item.Item.TheVariants.{Link, Destination, Source, Done}
 use Rattle.kx_pages.specs.Items.{code}
-use Rattle.kx_pages.specs.Lists.{Each, Has}
+use Rattle.kx_pages.specs.Lists.{Has}
 use Rattle.kx_pages.specs.Bytes.{Mem, Wants}
 use Rattle.page_memory.specs.Memory.{word, copied_page}
 use Rattle.list_checker.specs.Walk.{Reads, Walk, links, pairs_from, pairs, Accepted, AcceptedKept}
@@ -170,18 +171,18 @@ last_one H k s t st same =
 alike : (H : Type 0) (n k : ℕ) (s : State) (M N : Mem) → ((p : ℕ) → M p ≡ N p) → Comes H n k s M → Comes H n k s N
 alike H n k s M N h f = record { out = f.out; leaves = λ p. f.leaves p ∙ h p; sets = f.sets; held = f.held; stay = f.stay }
 
-at_copied : (m : Contents) (d s q : ℕ) → at (copied m d s) q ≡ copied_page (at m) s d q
+at_copied : (m : Contents) (d s q : ℕ) → at (copy_page m d s) q ≡ copied_page (at m) s d q
 at_copied m d s q = by_test (eqb q d) refl
   where
-    by_test : (b : Bool) → eqb q d ≡ b → at (copied m d s) q ≡ cond b (at m s) (at m q)
-    by_test true e = let same : q ≡ d = grind (arith, nat_tests) in subst (λ q. at (copied m d s) q ≡ at m s) (sym same) (frame_at-insert_same m.pages d (at m s))
+    by_test : (b : Bool) → eqb q d ≡ b → at (copy_page m d s) q ≡ cond b (at m s) (at m q)
+    by_test true e = let same : q ≡ d = grind (arith, nat_tests) in subst (λ q. at (copy_page m d s) q ≡ at m s) (sym same) (frame_at-insert_same m.pages d (at m s))
     by_test false e = let ne : q ≢ d = grind (arith, nat_tests) in frame_at-insert_other m.pages d (at m s) q ne
 
 at_moved : (mode : Mode) (m : Contents) (d s q : ℕ) → at (after_move mode m d s) q ≡ moved_in mode (at m) s d q
 at_moved Plain m d s q = at_copied m d s q
 at_moved (Kept w) m d s q =
-    let m1 = copied m w s in
-    let m2 = copied m1 s d in
+    let m1 = copy_page m w s in
+    let m2 = copy_page m1 s d in
     at_copied m2 d w q
     ∙ copied_alike (at m2) (copied_page (at m1) d s) w d (at_copied m1 s d) q
     ∙ copied_alike (copied_page (at m1) d s) (copied_page (copied_page (at m) s w) d s) w d (copied_alike (at m1) (copied_page (at m) s w) d s (at_copied m w s)) q
@@ -193,8 +194,8 @@ sets_moved (Kept w) m d s = refl
 stays_moved : (mode : Mode) (m : Contents) (d s q : ℕ) → IsHeld m q → IsHeld (after_move mode m d s) q
 stays_moved Plain m d s q h = held-insert m.pages d (at m s) q h
 stays_moved (Kept w) m d s q h =
-    let m1 = copied m w s in
-    let m2 = copied m1 s d in
+    let m1 = copy_page m w s in
+    let m2 = copy_page m1 s d in
     held-insert m2.pages d (at m2 w) q (held-insert m1.pages s (at m1 d) q (held-insert m.pages w (at m s) q h))
 
 still_held : (mode : Mode) (m n : Contents) (d s : ℕ) → ((q : ℕ) → IsHeld m q → IsHeld n q) → AreHeld m (move_writes mode d s) → AreHeld n (move_writes mode d s)
@@ -205,7 +206,7 @@ still_held (Kept w) m n d s stay h = (stay d h.0, stay s h.1, stay w h.2)
 abbrev pub Ready : Type 0 → Mode → Contents → (ℕ → Type 0) → ℕ × ℕ → Type 0
 Ready H mode m K q = (q.0 < 2 ^ 34) × (H → AreHeld m (move_writes mode q.0 q.1)) × ((p : ℕ) → K p → Spares mode q p)
 
-still_ready : (H : Type 0) (mode : Mode) (m : Contents) (K : ℕ → Type 0) (d s : ℕ) (qs : List (ℕ × ℕ)) → Each (Ready H mode m K) qs → Each (Ready H mode (after_move mode m d s) K) qs
+still_ready : (H : Type 0) (mode : Mode) (m : Contents) (K : ℕ → Type 0) (d s : ℕ) (qs : List (ℕ × ℕ)) → AllByRecursion (Ready H mode m K) qs → AllByRecursion (Ready H mode (after_move mode m d s) K) qs
 still_ready H mode m K d s [] h = tt
 still_ready H mode m K d s (q ∷ qs) h =
     ((h.0.0, λ x. still_held mode m (after_move mode m d s) q.0 q.1 (stays_moved mode m d s) (h.0.1 x), h.0.2), still_ready H mode m K d s qs h.1)
@@ -215,7 +216,7 @@ finishes : (H : Type 0) (mode : Mode) (M₀ : Mem) (K : ℕ → Type 0) (is : Li
     → a / 4096 < 2 ^ 34 → K (a / 4096)
     → ((p : ℕ) → K p → at m p ≡ M₀ p)
     → ((p : ℕ) → Has p (links is) → K p)
-    → Each (Ready H mode m K) (pairs_from t is)
+    → AllByRecursion (Ready H mode m K) (pairs_from t is)
     → Reads M₀ a is
     → Comes H (length is) k (state_at mode a t m) (moves mode (at m) (pairs_from t is))
 finishes H mode M₀ K [] a t k m la ka same list ready r = absurd r
@@ -259,7 +260,7 @@ begin-done H mode p m head e =
 pub finishes_from : (H : Type 0) (mode : Mode) (M₀ : Mem) (m : Contents) (K : ℕ → Type 0) (head : ℕ) (is : List Item)
     → ((p : ℕ) → K p → at m p ≡ M₀ p)
     → ((p : ℕ) → Has p (links is) → K p)
-    → Each (Ready H mode m K) (pairs_from 0 is)
+    → AllByRecursion (Ready H mode m K) (pairs_from 0 is)
     → Walk M₀ head is
     → Comes H (length is) 0 (start_at m head mode) (moves mode (at m) (pairs_from 0 is))
 finishes_from H mode M₀ m K head [] same list ready r = absurd r
@@ -276,21 +277,21 @@ finishes_from H mode M₀ m K head (Link p ∷ is) same list ready r =
 -- the run of a list that is accepted with context preserved, over a memory that has its words
 pub kept_runs : (H : Type 0) (M₀ : Mem) (m : Contents) (W : Wants) (head control swap : ℕ) (is : List Item) → AcceptedKept M₀ W head control swap is
     → ((p : ℕ) → Has p (links is) → at m p ≡ M₀ p)
-    → Each (λ q. (q.0 < 2 ^ 34) × (H → AreHeld m (move_writes (Kept swap) q.0 q.1))) (pairs is)
+    → AllByRecursion (λ q. (q.0 < 2 ^ 34) × (H → AreHeld m (move_writes (Kept swap) q.0 q.1))) (pairs is)
     → Comes H (length is) 0 (start_at m head (Kept swap)) (exchange (at m) (pairs is) swap)
 kept_runs H M₀ m W head control swap is a same held =
     let K : ℕ → Type 0 = λ p. Has p (links is) in
-    let one : Each (λ q. (p : ℕ) → K p → (q.0 ≢ p) × (q.1 ≢ p)) (pairs is) = Each-both (pairs is) (λ q x y p h. (Each-at (λ l. q.0 ≢ l) (links is) p x h, Each-at (λ l. q.1 ≢ l) (links is) p y h)) a.plain.links_unwritten a.links_no_sources in
-    let ready : Each (Ready H (Kept swap) m K) (pairs is) = Each-both (pairs is) (λ q x b. (b.0, b.1, λ p h. ((x p h).0, (x p h).1, λ e. Each-at (λ l. l ≢ swap) (links is) p a.swap_apart.1 h (sym e)))) one held in
+    let one : AllByRecursion (λ q. (p : ℕ) → K p → (q.0 ≢ p) × (q.1 ≢ p)) (pairs is) = Each-both (pairs is) (λ q x y p h. (Each-at (λ l. q.0 ≢ l) (links is) p x h, Each-at (λ l. q.1 ≢ l) (links is) p y h)) a.plain.links_unwritten a.links_no_sources in
+    let ready : AllByRecursion (Ready H (Kept swap) m K) (pairs is) = Each-both (pairs is) (λ q x b. (b.0, b.1, λ p h. ((x p h).0, (x p h).1, λ e. Each-at (λ l. l ≢ swap) (links is) p a.swap_apart.1 h (sym e)))) one held in
     alike H _ _ _ _ _ (λ p. exchanges swap (pairs is) (at m) p a.apart a.swap_apart.2) (finishes_from H (Kept swap) M₀ m K head is same (λ p h. h) ready a.plain.walk)
 
 -- the run of a plain list that is accepted
 pub plain_runs : (H : Type 0) (m : Contents) (W : Wants) (head control : ℕ) (is : List Item) → Accepted (at m) W head control is
-    → Each (λ q. (q.0 < 2 ^ 34) × (H → AreHeld m (move_writes Plain q.0 q.1))) (pairs is)
+    → AllByRecursion (λ q. (q.0 < 2 ^ 34) × (H → AreHeld m (move_writes Plain q.0 q.1))) (pairs is)
     → Comes H (length is) 0 (start_at m head Plain) (overlay (at m) W)
 plain_runs H m W head control is a held =
     let K : ℕ → Type 0 = λ p. Has p (links is) in
-    let ready : Each (Ready H Plain m K) (pairs is) = Each-both (pairs is) (λ q x b. (b.0, b.1, λ p h. Each-at (λ l. q.0 ≢ l) (links is) p x h)) a.links_unwritten held in
+    let ready : AllByRecursion (Ready H Plain m K) (pairs is) = Each-both (pairs is) (λ q x b. (b.0, b.1, λ p h. Each-at (λ l. q.0 ≢ l) (links is) p x h)) a.links_unwritten held in
     alike H _ _ _ _ _ (λ p. lays_over (at m) W (pairs is) a.in_order a.whole a.right_bytes p) (finishes_from H Plain (at m) m K head is (λ p h. refl) (λ p h. h) ready a.walk)
 
 -- the run of a list that is a done word alone

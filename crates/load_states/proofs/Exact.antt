@@ -1,13 +1,14 @@
 -- A load comes to its end exactly where the pool has the pages that it takes.
 use Rattle.std.proofs.Common.{◌≡◌, ℕ, ◌+◌, ◌/◌, ◌≤◌, List, [], ◌∷◌, ◌++◌, length, Some, None, refl, sym, ap, ◌∙◌, subst, arith, cond, Bool, true, append_assoc, length-append}
+use Rattle.std.specs.List.{AllByRecursion}
 use Rattle.std.specs.Prelude.{is_some}
 use Rattle.kx_laws.proofs.Options.{some_of}
-use Rattle.kx_pages.specs.Lists.{Each, Has, count, sources}
+use Rattle.kx_pages.specs.Lists.{Has, count, sources}
 use Rattle.kx_pages.specs.declared.image.Wish.{Wish}
 use Rattle.segments.specs.Values.{SegmentValue, is_destination, need, pages}
 use Rattle.segments.specs.Shape.{AreSegments}
 use Rattle.segments.proofs.Laws.{Has-from_is_destination, Distinct-pages}
-use Rattle.kimage_list.specs.Load.{Loading, Request, begun, given, pages_of, requests, served}
+use Rattle.kimage_list.specs.Load.{Loading, Request, begun, give_page, pages_of, requests, serve}
 use Rattle.kimage_list.specs.Counted.{Allowed}
 use Rattle.kimage_list.proofs.Counting.{Full, full_on, counted_fit}
 use Rattle.kimage_list.proofs.Enough.{has_of_count, taken_some}
@@ -35,7 +36,7 @@ others-cons (Some p) rs = omega arith
 
 -- where each page in all is wanted and the pool has as many pages as it takes, requests are served
 module _ (D : ℕ → Bool) (pool all : List ℕ) (need : ℕ) (once : (x : ℕ) → count x pool ≤ 1) (wanted : (p : ℕ) → D p ≡ true → Has p all) (enough : need ≤ length pool) where
-  allowed : (r : Request) (rs : List Request) (spent : List ℕ) (n : ℕ) → Each (λ p. Has p all) (spent ++ wished (r ∷ rs))
+  allowed : (r : Request) (rs : List Request) (spent : List ℕ) (n : ℕ) → AllByRecursion (λ p. Has p all) (spent ++ wished (r ∷ rs))
       → ((x : ℕ) → count x (spent ++ wished (r ∷ rs)) ≤ 1) → n + others (r ∷ rs) + length all ≤ need → Allowed r all spent n need
   allowed None rs spent n inside single fits = omega (arith, fits)
   allowed (Some p) rs spent n inside single fits =
@@ -45,16 +46,16 @@ module _ (D : ℕ → Bool) (pool all : List ℕ) (need : ℕ) (once : (x : ℕ)
         omega (arith, fits),
       )
 
-  serves : (rs : List Request) (spent : List ℕ) (n : ℕ) (l : Loading) → Full D pool spent n l → Each (λ p. Has p all) (spent ++ wished rs)
-      → ((x : ℕ) → count x (spent ++ wished rs) ≤ 1) → n + others rs + length all ≤ need → (m : Loading) × (served D rs l ≡ Some m)
+  serves : (rs : List Request) (spent : List ℕ) (n : ℕ) (l : Loading) → Full D pool spent n l → AllByRecursion (λ p. Has p all) (spent ++ wished rs)
+      → ((x : ℕ) → count x (spent ++ wished rs) ≤ 1) → n + others rs + length all ≤ need → (m : Loading) × (serve D rs l ≡ Some m)
   serves [] spent n l f inside single fits = (l, refl)
   serves (r ∷ rs) spent n l f inside single fits =
       let t = taken_some D pool spent all n need l once f wanted (Each-left (λ p. Has p all) spent (wished (r ∷ rs)) inside)
       (λ x. omega (arith, count-append x spent (wished (r ∷ rs)), single x)) enough r (allowed r rs spent n inside single fits) in
       let more : (spent ++ wished (r ∷ [])) ++ wished rs ≡ spent ++ wished (r ∷ rs) = append_assoc spent (wished (r ∷ [])) (wished rs) ∙ ap (λ ys. spent ++ ys) (wished-cons r rs) in
-      let ih = serves rs (spent ++ wished (r ∷ [])) (n + others (r ∷ [])) (given r t.0) (full_on D pool spent n r l t.0 once f t.1)
-      (subst (Each (λ p. Has p all)) (sym more) inside) (λ x. subst (λ ys. count x ys ≤ 1) (sym more) (single x)) (omega (arith, fits, others-cons r rs)) in
-      (ih.0, served-append D (r ∷ []) rs l (given r t.0) (one_served D r l t.0 t.1) ∙ ih.1)
+      let ih = serves rs (spent ++ wished (r ∷ [])) (n + others (r ∷ [])) (give_page r t.0) (full_on D pool spent n r l t.0 once f t.1)
+      (subst (AllByRecursion (λ p. Has p all)) (sym more) inside) (λ x. subst (λ ys. count x ys ≤ 1) (sym more) (single x)) (omega (arith, fits, others-cons r rs)) in
+      (ih.0, served-append D (r ∷ []) rs l (give_page r t.0) (one_served D r l t.0 t.1) ∙ ih.1)
 
 -- nothing is drawn yet
 full_begun : (D : ℕ → Bool) (pool : List ℕ) → Full D pool [] 0 (begun pool)
@@ -81,7 +82,7 @@ module _ (wish : Wish) (ss : List SegmentValue) (pool : List ℕ) (k : AreSegmen
   comes : need wish ss ≤ length pool → (l : Loading) × (loading_of wish ss pool ≡ Some l)
   comes enough =
       serves (is_destination ss) pool (pages ss) (need wish ss) once (λ p h. Has-from_is_destination ss p k.placed h) enough (requests wish (entries_of ss)) [] 0 (begun pool) (full_begun (is_destination ss) pool)
-      (subst (Each (λ p. Has p (pages ss))) (sym wishes) (Each-from_Has (λ p. Has p (pages ss)) (pages ss) (λ p h. h)))
+      (subst (AllByRecursion (λ p. Has p (pages ss))) (sym wishes) (Each-from_Has (λ p. Has p (pages ss)) (pages ss) (λ p h. h)))
       (λ x. subst (λ ys. count x ys ≤ 1) (sym wishes) (count-from_Distinct x (pages ss) (Distinct-pages ss k.placed k.apart)))
       (omega (arith, others_in wish (entries_of ss), needs, ap (λ n. (n + 510) / 511) size))
 

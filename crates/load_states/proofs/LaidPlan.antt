@@ -1,7 +1,7 @@
 -- The entries of segments.
 use Rattle.std.proofs.Common.{◌≡◌, ℕ, zero, suc, ◌+◌, ◌/◌, ◌<◌, ◌≤◌, List, [], ◌∷◌, ◌++◌, length, Some, refl, sym, ap, ◌∙◌, subst, arith, true}
-use Rattle.std.specs.List.{range_with_len}
-use Rattle.kx_pages.specs.Lists.{Each, Has, count}
+use Rattle.std.specs.List.{range_with_len, AllByRecursion}
+use Rattle.kx_pages.specs.Lists.{Has, count}
 use Rattle.kx_pages.specs.declared.image.Wish.TheVariants.{Plain, Kept}
 use Rattle.segments.specs.Values.{SegmentValue, is_destination, want, page_count, pages_of_segment, pages}
 use Rattle.segments.specs.Shape.{AreSegments, IsPlaced}
@@ -32,7 +32,7 @@ follows-pages : (n p : ℕ) (es : List Entry) → ((t : ℕ) → Follows t es) �
 follows-pages zero p es h = h p
 follows-pages (suc n) p es h = (refl, follows-pages n (suc p) es h)
 
-follows-entries : (ss : List SegmentValue) (t : ℕ) → Each IsPlaced ss → Follows t (entries_of ss)
+follows-entries : (ss : List SegmentValue) (t : ℕ) → AllByRecursion IsPlaced ss → Follows t (entries_of ss)
 follows-entries [] t k = tt
 follows-entries (s ∷ ss) t k = (
   omega (arith, k.0.starts, k.0.below),
@@ -52,7 +52,7 @@ plan_of ss k =
       follows = follows-entries ss 0 k.placed;
       begins = begins-entries ss k.some;
       once = λ x. subst (λ ys. count x ys ≤ 1) (sym same) (count-from_Distinct x (pages ss) (Distinct-pages ss k.placed k.apart));
-      wanted = subst (Each P) (sym same) (Each-from_Has P (pages ss) (λ p h. let w = want-from_Has ss p k.placed h in (is_destination-from_Has ss p k.placed h, w.0, w.1)));
+      wanted = subst (AllByRecursion P) (sym same) (Each-from_Has P (pages ss) (λ p h. let w = want-from_Has ss p k.placed h in (is_destination-from_Has ss p k.placed h, w.0, w.1)));
       only = λ p bytes e. subst (Has p) (sym same) (Has-from_want ss p bytes k.placed e);
     }
 

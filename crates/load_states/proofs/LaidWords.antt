@@ -1,5 +1,6 @@
 -- The list that is laid is read as a walk.
 use Rattle.std.proofs.Common.{◌≡◌, ℕ, suc, ◌+◌, ◌-◌, ◌*◌, ◌^◌, ◌<◌, ◌≤◌, List, [], ◌∷◌, ◌++◌, length, refl, sym, ap, ◌∙◌, subst, arith, take, drop, append_assoc, length-append}
+use Rattle.std.specs.List.{AllByRecursion}
 use Rattle.std.specs.Prelude.{map, ◌/◌, ◌%◌, replicate}
 use Rattle.std.proofs.Math.Seq.{drop-append_seam}
 use Rattle.std.proofs.lemmas.List.{length-take, map-append, length-map}
@@ -8,11 +9,10 @@ use Rattle.byteorder.specs.Numbers.{little_number-reads_back}
 use Rattle.kx_pages.specs.Bytes.{Mem, page_of}
 use Rattle.page_memory.specs.Memory.{word}
 use Rattle.kx_pages.specs.Items.{code}
-use Rattle.kx_pages.specs.Lists.{Each}
 use Rattle.kx_pages.specs.declared.item.Item.{Item}
 use Rattle.kx_pages.specs.declared.item.Item.TheVariants.{Link, Destination, Source, Done}
 use Rattle.list_checker.specs.Walk.{Reads, Walk}
-use Rattle.kimage_list.specs.Laying.{chained, in_bytes, link_pages, Holds}
+use Rattle.kimage_list.specs.Laying.{chain, in_bytes, link_pages, Holds}
 use Rattle.kimage_list.proofs.Words.{length-in_bytes, page-split}
 use Rattle.kx_pages.proofs.Lists.{Each-drop, Each-take}
 
@@ -64,7 +64,7 @@ short_take (i ∷ r) = omega arith
 -- what the words of one page are: some that were read, some still to be read, and the next link or done word
 reads_page : (M : Mem) (l : ℕ) (was todo r : List Item)
     → M l ≡ page_of (in_bytes (map code (was ++ (todo ++ take 1 r))))
-    → length was + length todo ≤ 511 → Each IsMove todo → lead r < 2 ^ 64 → Walk M (lead r) r
+    → length was + length todo ≤ 511 → AllByRecursion IsMove todo → lead r < 2 ^ 64 → Walk M (lead r) r
     → Reads M (4096 * l + 8 * length was) (todo ++ r)
 reads_page M l was [] [] e n m f w = absurd w
 reads_page M l was [] (Destination p ∷ r) e n m f w = absurd w
@@ -88,14 +88,14 @@ reads_page M l was (Source p ∷ todo) r e n m f w =
     let next : 4096 * l + 8 * length (was ++ Source p ∷ []) ≡ 4096 * l + 8 * length was + 8 = omega (arith, more) in
     (here, m.0, omega (arith, n), subst (λ a. Reads M a (todo ++ r)) next (reads_page M l (was ++ Source p ∷ []) todo r e' (omega (arith, more, n)) m.1 f w))
 
-lead_fits : (ls : List ℕ) (is : List Item) → Each (λ l. l < 2 ^ 34) ls → lead (chained ls is) < 2 ^ 64
+lead_fits : (ls : List ℕ) (is : List Item) → AllByRecursion (λ l. l < 2 ^ 34) ls → lead (chain ls is) < 2 ^ 64
 lead_fits [] is h = omega arith
 lead_fits (l ∷ ls) is h = omega (arith, h.0)
 
-pub walks : (M : Mem) (ls : List ℕ) (is : List Item) → Each (λ l. l < 2 ^ 34) ls → Each IsMove is → Holds M (link_pages ls is) → Walk M (lead (chained ls is)) (chained ls is)
+pub walks : (M : Mem) (ls : List ℕ) (is : List Item) → AllByRecursion (λ l. l < 2 ^ 34) ls → AllByRecursion IsMove is → Holds M (link_pages ls is) → Walk M (lead (chain ls is)) (chain ls is)
 walks M [] is h m k = (refl, refl)
 walks M (l ∷ ls) is h m k =
-    let r = chained ls (drop 511 is) in
+    let r = chain ls (drop 511 is) in
     let w = walks M ls (drop 511 is) h.1 (Each-drop IsMove 511 is m) k.1 in
     let z : 4096 * l + 8 * length {A = Item} [] ≡ 4096 * l = omega arith in
     let n : length {A = Item} [] + length (take 511 is) ≤ 511 = omega (arith, length-take 511 is) in

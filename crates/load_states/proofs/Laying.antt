@@ -1,13 +1,13 @@
 -- Putting pages in their place, one after another.
 use Rattle.std.proofs.Common.{◌≡◌, ℕ, zero, suc, ◌+◌, ◌<◌, ◌≤◌, ◌++◌, List, [], ◌∷◌, Option, Some, None, Bool, true, false, refl, sym, ap, ◌∙◌, subst, inl, inr, ⊎_elim, arith, length, take, append_assoc, append-nil}
 use Rattle.std.specs.Prelude.{◌⊎◌, ◌||◌, All, Result, Ok, Err, OnOk, IsTrue, IsSome, is_some, unwrap_or, slice_get}
-use Rattle.std.specs.List.{range_with_len}
+use Rattle.std.specs.List.{range_with_len, AllByRecursion}
 use Rattle.std.proofs.lemmas.Bool.{false≢true, or_cases}
 use Rattle.std.proofs.lemmas.Bool.Decides.{nat_tests, eqb_tells}
 use Rattle.std.proofs.lemmas.Option.{none-some, slice_get-get_or}
 use Rattle.std.proofs.lemmas.List.Folds.{Any-from_list_any}
 use Rattle.kx_pages.specs.Spans.{Run, in_span, in_spans, IsMaximal}
-use Rattle.kx_pages.specs.Lists.{Each, Has}
+use Rattle.kx_pages.specs.Lists.{Has}
 use Rattle.kx_pages.proofs.Lists.{Each-at, Each-from_All, Has-left, Has-right, Has-either, Has-range, range-Has}
 use Rattle.kx_pages.specs.Bytes.{Mem}
 use Rattle.page_memory.specs.Contents.{Contents, IsHeld, at, after_set}
@@ -102,7 +102,7 @@ pages-from_set (r ∷ rs) p e = ⊎_elim
 
 pub all_held : {T E : Type 0} (r : Result T E) (rs : List Run) (m : Contents) (pages : List ℕ) → pages ≡ pages_of_spans rs → OnOk r (All (λ p. IsHeld m p) pages) → OnOk r ((p : ℕ) → IsTrue (in_spans rs p) → IsHeld m p)
 all_held (Err e) rs m pages same h = h
-all_held (Ok x) rs m pages same h = λ p t. Each-at (λ p. IsHeld m p) (pages_of_spans rs) p (subst (Each (λ p. IsHeld m p)) same (Each-from_All (λ p. IsHeld m p) pages h)) (pages-from_set rs p t)
+all_held (Ok x) rs m pages same h = λ p t. Each-at (λ p. IsHeld m p) (pages_of_spans rs) p (subst (AllByRecursion (λ p. IsHeld m p)) same (Each-from_All (λ p. IsHeld m p) pages h)) (pages-from_set rs p t)
 
 -- a held page that is set: no other comes to be held
 pub set_holds : (m : Contents) (p : ℕ) (bytes : List ℕ) (q : ℕ) → IsHeld m p → IsHeld (after_set m p bytes) q → IsHeld m q

@@ -1,11 +1,12 @@
 -- Accepted lists whose pages are held, and their runs.
 use Rattle.std.proofs.Common.{◌≡◌, ℕ, ◌%◌, ◌^◌, ◌<◌, List, [], ◌∷◌, length, Option, Some, None, refl, sym, ap, ◌∙◌, subst, inl, inr, ◌+◌, arith}
+use Rattle.std.specs.List.{AllByRecursion}
 use Rattle.std.specs.Prelude.{◌≢◌, IsSome, map, unwrap_or}
 use Rattle.kx_pages.specs.declared.item.Item.{Item}
 use Rattle.kx_pages.specs.declared.image.Mode.{Mode}
 use Rattle.kx_pages.specs.declared.image.Mode.TheVariants.{Plain, Kept}
 use Rattle.relocate_machine.specs.Writes.{AreHeld, move_writes}
-use Rattle.kx_pages.specs.Lists.{Each, Has, destinations, sources}
+use Rattle.kx_pages.specs.Lists.{Has, destinations, sources}
 use Rattle.page_memory.specs.Contents.{Contents, at, IsHeld, after_set}
 use Rattle.page_memory.proofs.Laws.{frame_at-insert_other, held-insert}
 use Rattle.std.proofs.lemmas.Option.{none-some}
@@ -32,7 +33,7 @@ use Rattle.kx_pages.specs.Modes.{swap_page}
 use Rattle.kx_laws.proofs.Options.{some_of}
 
 -- each destination of an accepted list is a page
-below : (W : ℕ → Option (List ℕ)) (M : Mem) (qs : List (ℕ × ℕ)) → ((p : ℕ) (b : List ℕ) → W p ≡ Some b → p < 2 ^ 34) → Each (λ q. W q.0 ≡ Some (M q.1)) qs → Each (λ q. q.0 < 2 ^ 34) qs
+below : (W : ℕ → Option (List ℕ)) (M : Mem) (qs : List (ℕ × ℕ)) → ((p : ℕ) (b : List ℕ) → W p ≡ Some b → p < 2 ^ 34) → AllByRecursion (λ q. W q.0 ≡ Some (M q.1)) qs → AllByRecursion (λ q. q.0 < 2 ^ 34) qs
 below W M qs h k = Each-map qs (λ q e. h q.0 (M q.1) e) k
 
 wanted_below : (S : List SegmentValue) → IsBare S → (p : ℕ) (b : List ℕ) → want S p ≡ Some b → p < 2 ^ 34
@@ -46,7 +47,7 @@ pub plain_ready : (s : Load) (a : Accept) → IsAccept s.memory s.segments s.ima
 plain_ready s a h k m held =
     let told = told_of s a h in
     let plain : Accepted (at s.memory) (want s.segments) s.image.head s.image.control h.0 = subst (λ mode. IsAccepted (at s.memory) (want s.segments) s.image.head s.image.control (swap_page mode) h.0) m h.1 in
-    let low : Each (λ q. q.0 < 2 ^ 34) (map as_pair a.pairs.items) = subst (Each (λ q. q.0 < 2 ^ 34)) h.4 (below (want s.segments) (at s.memory) (pairs h.0) (wanted_below s.segments k) plain.right_bytes) in
+    let low : AllByRecursion (λ q. q.0 < 2 ^ 34) (map as_pair a.pairs.items) = subst (AllByRecursion (λ q. q.0 < 2 ^ 34)) h.4 (below (want s.segments) (at s.memory) (pairs h.0) (wanted_below s.segments k) plain.right_bytes) in
     record {
       mode = m;
       told = told;
@@ -57,7 +58,7 @@ plain_ready s a h k m held =
 pub kept_ready : (s : Load) (a : Accept) (swap : ℕ) → IsAccept s.memory s.segments s.image a → IsBare s.segments → s.image.mode ≡ Kept swap → Holds s.memory s.image.mode (map as_pair a.pairs.items) → IsReadyKept (checked_of s a)
 kept_ready s a swap h k m held =
     let kept : AcceptedKept (at s.memory) (want s.segments) s.image.head s.image.control swap h.0 = subst (λ mode. IsAccepted (at s.memory) (want s.segments) s.image.head s.image.control (swap_page mode) h.0) m h.1 in
-    let low : Each (λ q. q.0 < 2 ^ 34) (map as_pair a.pairs.items) = subst (Each (λ q. q.0 < 2 ^ 34)) h.4 (below (want s.segments) (at s.memory) (pairs h.0) (wanted_below s.segments k) kept.plain.right_bytes) in
+    let low : AllByRecursion (λ q. q.0 < 2 ^ 34) (map as_pair a.pairs.items) = subst (AllByRecursion (λ q. q.0 < 2 ^ 34)) h.4 (below (want s.segments) (at s.memory) (pairs h.0) (wanted_below s.segments k) kept.plain.right_bytes) in
     record {
       swap = swap;
       items = h.0;
@@ -76,7 +77,7 @@ kept_ready s a swap h k m held =
 abbrev Held : Type 0
 Held = Unit {0}
 
-as_held : (m : Contents) (mode : Mode) (qs : List (ℕ × ℕ)) → HoldsPairs m mode qs → Each (λ q. (q.0 < 2 ^ 34) × (Held → AreHeld m (move_writes mode q.0 q.1))) qs
+as_held : (m : Contents) (mode : Mode) (qs : List (ℕ × ℕ)) → HoldsPairs m mode qs → AllByRecursion (λ q. (q.0 < 2 ^ 34) × (Held → AreHeld m (move_writes mode q.0 q.1))) qs
 as_held m mode qs h = Each-map qs (λ q x. (x.0, λ u. x.1)) h
 
 -- the run of a plain list
@@ -146,11 +147,11 @@ pub kept_held : (c : Checked) → IsReadyKept c → HoldsPairs c.load.memory c.l
 kept_held c r = subst (λ mode. HoldsPairs c.load.memory mode c.pairs) (sym r.kept.mode) r.kept.held
 
 -- the pairs and the swap page have no page in common
-pub pairs_apart : (M : Mem) (c : Checked) (swap : ℕ) (items : List Item) → IsKept M c swap items → PairsApart c.pairs × Each (λ q. (q.0 ≢ swap_of c.load) × (q.1 ≢ swap_of c.load)) c.pairs
+pub pairs_apart : (M : Mem) (c : Checked) (swap : ℕ) (items : List Item) → IsKept M c swap items → PairsApart c.pairs × AllByRecursion (λ q. (q.0 ≢ swap_of c.load) × (q.1 ≢ swap_of c.load)) c.pairs
 pairs_apart M c swap items k =
     let w = sym (swap_is M c swap items k) in (
       subst PairsApart k.same_pairs k.accepted.apart,
-      subst (λ w. Each (λ q. (q.0 ≢ w) × (q.1 ≢ w)) c.pairs) w (subst (Each (λ q. (q.0 ≢ swap) × (q.1 ≢ swap))) k.same_pairs k.accepted.swap_apart.2),
+      subst (λ w. AllByRecursion (λ q. (q.0 ≢ w) × (q.1 ≢ w)) c.pairs) w (subst (AllByRecursion (λ q. (q.0 ≢ swap) × (q.1 ≢ swap))) k.same_pairs k.accepted.swap_apart.2),
     )
 
 -- a list stays ready to run where its words stand, what is held stays held, and all else is as it was
@@ -199,7 +200,7 @@ kept_arrives c r p b e =
 pub record Undoes (c : Checked) (N : Mem) : Type 0 where
   pub restored : (M : Mem) → ((q : ℕ) → at c.load.memory q ≡ exchange M c.pairs (swap_of c.load) q) → (p : ℕ) → p ≢ swap_of c.load → N p ≡ M p
   pub undone : (M : Mem) → ((q : ℕ) → want c.load.segments q ≡ None → at c.load.memory q ≡ exchange M c.pairs (swap_of c.load) q) → (p : ℕ) → p ≢ swap_of c.load → (Has p (sources c.pairs) → ⊥) → N p ≡ M p
-  pub sources : Each (λ q. N q.1 ≡ at c.load.memory q.0) c.pairs
+  pub sources : AllByRecursion (λ q. N q.1 ≡ at c.load.memory q.0) c.pairs
 
 pub undoes : (c : Checked) → IsToGoBack c → (N : Mem) → ((p : ℕ) → N p ≡ exchange (at c.load.memory) c.pairs (swap_of c.load) p) → Undoes c N
 undoes c r N leaves =
@@ -289,7 +290,7 @@ module _ (c : Checked) (swap : ℕ) (mode : c.load.image.mode ≡ Kept swap) (t 
 pub list_ends : (s : Load) (words link_count : ℕ) (qs : List (ℕ × ℕ)) → IsBare s.segments → Told s words link_count qs → EndsAfter s words
 list_ends s words link_count qs bare told = by_mode s.image.mode refl
   where
-    low : (M : Mem) → Each (λ q. want s.segments q.0 ≡ Some (M q.1)) (pairs told.items) → Each (λ q. (q.0 < 2 ^ 34) × (⊥ → ⊥)) (pairs told.items)
+    low : (M : Mem) → AllByRecursion (λ q. want s.segments q.0 ≡ Some (M q.1)) (pairs told.items) → AllByRecursion (λ q. (q.0 < 2 ^ 34) × (⊥ → ⊥)) (pairs told.items)
     low M right = Each-map (pairs told.items) (λ q x. (x, λ e. e)) (below (want s.segments) M (pairs told.items) (wanted_below s.segments bare) right)
 
     counted : (mode : Mode) → (run_of s.memory s.image.head mode (length told.items)).1 ≡ outcomes.Done (0 + length told.items) → (run_of s.memory s.image.head mode words).1 ≡ outcomes.Done words

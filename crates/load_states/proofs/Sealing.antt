@@ -10,7 +10,7 @@ use Rattle.kx_pages.specs.Bytes.{Mem}
 use Rattle.page_pool.specs.Pages.{usable_of}
 use Rattle.segments.specs.Values.{is_destination, want, pages, need}
 use Rattle.segments.proofs.Laws.{Has-from_is_destination, Has-from_want}
-use Rattle.kimage_list.specs.Load.{pages_of, starts, loaded}
+use Rattle.kimage_list.specs.Load.{pages_of, starts, loading_after}
 use Rattle.kimage_list.specs.Laying.{list_of}
 use Rattle.kimage_list.specs.Writers.{History, StandsAt, IsAwaited}
 use Rattle.kimage_list.specs.Writers as writers
@@ -68,7 +68,7 @@ module _ (M : Mem) (pool : List ℕ) (wish : Wish) (f : Fill) (k : FillsFrom M p
       let w = subst (λ h. IsWritten h r) same_load written in
       let l = w.loading in
       let D : in_spans k.fills.load.wanted ≡ is_destination f.segments = λ i q. k.fills.all_pages q i in
-      let requests : loading_of wish f.segments pool ≡ Some l = ap (λ d. loaded d wish (entries_of f.segments) pool) (sym D) ∙ w.requests in
+      let requests : loading_of wish f.segments pool ≡ Some l = ap (λ d. loading_after d wish (entries_of f.segments) pool) (sym D) ∙ w.requests in
       let used : (x : ℕ) → count x l.spare + count x (sources l.pairs) ≡ count x (take (need wish f.segments) pool) = λ x. w.in_use x ∙ ap (λ n. count x (take n pool)) need_is in
       let a = load_is_accepted M wish f.segments pool l k.good w.once (λ x n. w.below x (subst (λ m. 1 ≤ m) (w.in_use x) n)) requests in
       let P : Mem → Image → Type 0 = λ N i. IsAccepted N (want f.segments) i.head i.control (swap_page i.mode) (list_of wish (entries_of f.segments) l) in

@@ -1,5 +1,5 @@
 -- A load of segments while they are written (this project's own).
-use Rattle.std.specs.Prelude.{◌≡◌, ℕ, ◌+◌, ◌-◌, ◌≤◌, List, length, take, drop, cond, false, Some, None, refl}
+use Rattle.std.specs.Prelude.{◌≡◌, ℕ, ◌+◌, ◌-◌, ◌≤◌, List, length, take, drop, false, Some, None, refl, if◌then◌else◌}
 use Rattle.std.specs.Coded.{Coded, code_by, coded×, coded_ℕ, coded_list}
 use Rattle.kx_pages.specs.Lists.{has, count, sources}
 use Rattle.kx_pages.specs.Spans.{in_spans}
@@ -49,7 +49,7 @@ pub record Fills (M : Mem) (pool : List ℕ) (wish : Wish) (ss : List SegmentVal
   pub all_segments : load.segments ≡ length ss
   pub all_pages : (q : ℕ) → in_spans load.wanted q ≡ is_destination ss q
   pub entries : load.entries ≡ es
-  pub bytes : (q : ℕ) → load.bytes q ≡ cond (has q (pages_of es)) (want ss q) None
+  pub bytes : (q : ℕ) → load.bytes q ≡ if has q (pages_of es) then want ss q else None
 
 -- So many segments of the load are written, whole, and no other.
 pub record FillsFrom (M : Mem) (pool : List ℕ) (wish : Wish) (f : Fill) : Type 0 where

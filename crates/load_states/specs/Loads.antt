@@ -3,8 +3,8 @@ use Rattle.std.specs.Prelude.{◌≡◌, ℕ, ◌+◌, ◌/◌, ◌<◌, ◌≤�
 use Rattle.kx_pages.specs.Lists.{count, sources}
 use Rattle.kx_pages.specs.declared.image.Wish.{Wish}
 use Rattle.kx_pages.specs.Bytes.{Mem}
-use Rattle.kimage_list.specs.Load.{Loading, Entry, Start, page_entries, loaded}
-use Rattle.kimage_list.specs.Laying.{laid, head_of, control_of, load_mode, list_of}
+use Rattle.kimage_list.specs.Load.{Loading, Entry, Start, page_entries, loading_after}
+use Rattle.kimage_list.specs.Laying.{lay, head_of, control_of, load_mode, list_of}
 use Rattle.segments.specs.Values.{SegmentValue, page_count, is_destination, need, want}
 use Rattle.segments.specs.Shape.{AreSegments}
 use Rattle.list_checker.specs.Walk.{IsAccepted}
@@ -18,7 +18,7 @@ entries_of (s ∷ ss) =
 
 -- where a load of segments stands that has written all entries, over a pool of these usable pages
 abbrev pub loading_of : Wish → List SegmentValue → List ℕ → Option Loading
-loading_of wish ss pool = loaded (is_destination ss) wish (entries_of ss) pool
+loading_of wish ss pool = loading_after (is_destination ss) wish (entries_of ss) pool
 
 -- A load of the segments comes to its end over a pool of these usable pages exactly where they are as many as it takes.
 abbrev pub LoadsExactly : Wish → List SegmentValue → List ℕ → Type 0
@@ -26,7 +26,7 @@ LoadsExactly wish ss pool = IsSome (loading_of wish ss pool) ↔ (need wish ss �
 
 -- the memory that it leaves: M, but for the list and the sources
 abbrev pub memory_of : Mem → Wish → List SegmentValue → Loading → Mem
-memory_of M wish ss l = laid M (want ss) wish (entries_of ss) l
+memory_of M wish ss l = lay M (want ss) wish (entries_of ss) l
 
 -- What a load lays is accepted: M is any memory, and the pages that the load has in use differ and have numbers below
 -- 2 ^ 34.

@@ -1,9 +1,10 @@
 -- Accepted lists in the memory that a state owns.
 use Rattle.std.specs.Prelude.{◌≡◌, ℕ, ◌<◌, ◌^◌, ◌++◌, List, [], ◌∷◌, length}
+use Rattle.std.specs.List.{AllByRecursion}
 use Rattle.kx_pages.specs.declared.item.Item.{Item}
 use Rattle.kx_pages.specs.declared.image.Mode.{Mode}
 use Rattle.kx_pages.specs.declared.image.Mode.TheVariants.{Plain, Kept}
-use Rattle.kx_pages.specs.Lists.{Each, Has, destinations, sources}
+use Rattle.kx_pages.specs.Lists.{Has, destinations, sources}
 use Rattle.page_memory.specs.Contents.{Contents, at}
 use Rattle.kx_pages.specs.Bytes.{Mem}
 use Rattle.relocate_machine.specs.Writes.{AreHeld, move_writes}
@@ -30,7 +31,7 @@ written_pages (Kept swap) qs = destinations qs ++ (sources qs ++ swap ∷ [])
 
 -- each page that the pairs' moves write is held
 abbrev pub HoldsPairs : Contents → Mode → List (ℕ × ℕ) → Type 0
-HoldsPairs m mode qs = Each (λ q. (q.0 < 2 ^ 34) × AreHeld m (move_writes mode q.0 q.1)) qs
+HoldsPairs m mode qs = AllByRecursion (λ q. (q.0 < 2 ^ 34) × AreHeld m (move_writes mode q.0 q.1)) qs
 
 -- a plain list is accepted in the memory that the state owns, and each page that its run writes is held
 pub record IsReadyPlain (c : Checked) : Type 0 where

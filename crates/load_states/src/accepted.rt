@@ -1,7 +1,7 @@
 //! Accepted lists, which can be run.
 
 ghost use Rattle.std.specs.Prelude.{◌≡◌, ℕ, List, map, IsSome, Some};
-ghost use Rattle.kx_pages.specs.Lists.{Each};
+ghost use Rattle.std.specs.List.{AllByRecursion};
 ghost use Rattle.page_memory.specs.Contents.{at};
 ghost use Rattle.relocate_machine.specs.Writes.{AreHeld, move_writes};
 ghost use Rattle.segments.specs.Values.{overlay, want};
@@ -36,7 +36,7 @@ pub enum Accepted {
 pub(crate) fn of_mode(loaded: Loaded, accept: Accept) -> Accepted
     requires told { IsAccept loaded.memory loaded.segments loaded.image accept }
     requires bare { IsBare loaded.segments }
-    requires held { Each (λ q.
+    requires held { AllByRecursion (λ q.
         AreHeld loaded.memory (move_writes loaded.image.mode q.0 q.1))
         (map as_pair accept.pairs.items) }
     ensures { IsMadeOf loaded accept result }

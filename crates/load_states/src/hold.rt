@@ -1,7 +1,8 @@
 //! Holding the pages that a run writes.
 
 ghost use Rattle.std.specs.Prelude.{◌≡◌, ◌⊎◌, ℕ, ◌++◌, map, IfOk, OnOk};
-ghost use Rattle.kx_pages.specs.Lists.{Each, Has, destinations, sources};
+ghost use Rattle.std.specs.List.{AllByRecursion};
+ghost use Rattle.kx_pages.specs.Lists.{Has, destinations, sources};
 ghost use Rattle.page_memory.specs.Contents.{at, IsHeld};
 ghost use Rattle.relocate_machine.specs.Writes.{AreHeld, move_writes};
 ghost use Rattle.list_checker.specs.Checked.{as_pair};
@@ -54,12 +55,12 @@ pub(crate) fn hold_pairs(
     mode: &Mode,
     pairs: &[Pair],
 ) -> Result<(), AllocError>
-    ensures held { OnOk result (Each (λ q.
+    ensures held { OnOk result (AllByRecursion (λ q.
         AreHeld memory.new (move_writes mode.now q.0 q.1)) (map as_pair pairs.now)) }
     ensures same { (q : ℕ) → at memory.new q ≡ at memory.old q }
     ensures sets { memory.new.sets ≡ memory.old.sets }
     ensures stay { (q : ℕ) → IsHeld memory.old q → IsHeld memory.new q }
-    ensures written { OnOk result (Each (λ q. IsHeld memory.new q)
+    ensures written { OnOk result (AllByRecursion (λ q. IsHeld memory.new q)
         (written_pages mode.now (map as_pair pairs.now))) }
     ensures only { (q : ℕ) → IsHeld memory.new q →
         IsHeld memory.old q ⊎ Has q (written_pages mode.now (map as_pair pairs.now)) }

@@ -1,7 +1,8 @@
 //! Memory with any list.
 
 ghost use Rattle.std.specs.Prelude.{◌≡◌, ◌≤◌, ◌⊎◌, ℕ, length, map, IfOk, IfErr, OnOk};
-ghost use Rattle.kx_pages.specs.Lists.{Each, Has};
+ghost use Rattle.std.specs.List.{AllByRecursion};
+ghost use Rattle.kx_pages.specs.Lists.{Has};
 ghost use Rattle.kx_pages.specs.Bytes.{page_of};
 ghost use Rattle.page_memory.specs.Contents.{IsHeld, after_set};
 ghost use Rattle.relocate_machine.specs.Writes.{AreHeld, move_writes};
@@ -130,11 +131,11 @@ impl Loaded {
 
     // Holds the pages that the pairs' moves write, and no other.
     fn hold(&mut self, alloc: Global, pairs: &[Pair]) -> Result<(), AllocError>
-        ensures held { OnOk result (Each (λ q.
+        ensures held { OnOk result (AllByRecursion (λ q.
             AreHeld self.new.memory (move_writes self.new.image.mode q.0 q.1))
             (map as_pair pairs.now)) }
         ensures same { IsLeftAs self.old self.new }
-        ensures written { OnOk result (Each (λ q. IsHeld self.new.memory q)
+        ensures written { OnOk result (AllByRecursion (λ q. IsHeld self.new.memory q)
             (written_pages self.old.image.mode (map as_pair pairs.now))) }
         ensures only { (q : ℕ) → IsHeld self.new.memory q → IsHeld self.old.memory q
             ⊎ Has q (written_pages self.old.image.mode (map as_pair pairs.now)) }

@@ -1,7 +1,8 @@
 //! What runs leave.
 
 ghost use Rattle.std.specs.Prelude.{◌≡◌, ◌≢◌, ℕ, ◌≤◌, None, IsSome, length};
-ghost use Rattle.kx_pages.specs.Lists.{Each, Has, sources};
+ghost use Rattle.std.specs.List.{AllByRecursion};
+ghost use Rattle.kx_pages.specs.Lists.{Has, sources};
 ghost use Rattle.kx_pages.specs.Bytes.{page_of, Mem};
 ghost use Rattle.page_memory.specs.Contents.{at, after_set};
 ghost use Rattle.segments.specs.Values.{want};
@@ -143,7 +144,7 @@ impl RanKept {
         // Of a list that `Filling::seal` made, whatever was written to pages of the segments.
         ensures others { RestoresOthers self result }
         // Each source holds what its destination held.
-        ensures sources { Each (λ q.
+        ensures sources { AllByRecursion (λ q.
             at result.load.memory q.1 ≡ at self.load.memory q.0) self.pairs }
         ensures sets { result.load.memory.sets ≡ self.load.memory.sets }
         ensures rest { result.load ≡ with_memory self.load result.load.memory }

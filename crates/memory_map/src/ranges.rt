@@ -36,7 +36,7 @@ fn push_area(made: &mut Vec<Row>, area: Row) -> Result<(), AllocError>
 }
 
 /// One area over both, the second of which does not start before the first.
-fn joined(last: Row, area: Row) -> Row
+fn join(last: Row, area: Row) -> Row
     requires last { IsBelow last }
     requires area { IsBelow area }
     ensures { result ≡ record {
@@ -67,7 +67,7 @@ fn push_behind(made: &mut Vec<Row>, last: Row, area: Row) -> Result<(), AllocErr
         ≡ (covers q (made.old.items ++ last ∷ []) || is_inside q area)) }
 {
     if area.start <= last.start + last.size {
-        made.push(joined(last, area))?;
+        made.push(join(last, area))?;
         return Ok(());
     }
     made.push(last)?;
@@ -75,7 +75,7 @@ fn push_behind(made: &mut Vec<Row>, last: Row, area: Row) -> Result<(), AllocErr
     Ok(())
 }
 
-fn merged_sorted(alloc: Global, areas: &[Row]) -> Result<Vec<Row>, AllocError>
+fn merge_sorted(alloc: Global, areas: &[Row]) -> Result<Vec<Row>, AllocError>
     requires below { All (λ r. IsBelow r) areas.now }
     requires order { IsNonDecreasingBy (λ r. r.start) areas.now }
     ensures parts { IfOk result (λ v. AreParts 0 0 v.items) }
@@ -89,7 +89,7 @@ fn merged_sorted(alloc: Global, areas: &[Row]) -> Result<Vec<Row>, AllocError>
 }
 
 /// The bytes of the areas as areas that rise, none empty, no two of which meet or touch. They are sorted once.
-fn merged(alloc: Global, areas: &[Row]) -> Result<Vec<Row>, AllocError>
+fn merge(alloc: Global, areas: &[Row]) -> Result<Vec<Row>, AllocError>
     requires { AreBelow areas.now }
     ensures parts { IfOk result (λ v. AreParts 0 0 v.items) }
     ensures bytes { IfOk result (λ v. (q : ℕ) → covers q v.items ≡ covers q areas.now) }
@@ -97,7 +97,7 @@ fn merged(alloc: Global, areas: &[Row]) -> Result<Vec<Row>, AllocError>
     let mut sorted = Vec::new(alloc);
     sorted.extend_from_slice(areas)?;
     sorted.sort_unstable_by_key(|area| area.start);
-    merged_sorted(alloc, &sorted)
+    merge_sorted(alloc, &sorted)
 }
 
 /// Adds the bytes from `start` on and before `end`, if there are any.
@@ -212,7 +212,7 @@ pub(crate) fn core_ranges(
         ≡ core_ranges (record { rows = rows.now; areas = areas.now })) }
     ensures below { IfOk result (λ v. AreBelow v.items) }
 {
-    let areas = merged(alloc, areas)?;
+    let areas = merge(alloc, areas)?;
     let ram = ram_rows(alloc, rows)?;
     let ranges = all_outside(alloc, &areas, &ram)?;
     Ok(ranges)

@@ -9,7 +9,7 @@ use Rattle.multiboot_image.specs.declared.info.Info.{Info}
 use Rattle.multiboot_image.specs.declared.map_rows.MapRow.{MapRow}
 use Rattle.multiboot_image.specs.declared.modules.ModuleRow.{ModuleRow}
 use Rattle.multiboot_image.specs.MapRows.{map_row, row_text, is_low, is_high, kib, kib_of, mem_lower, mem_upper, map_row_of, map_text}
-use Rattle.multiboot_image.specs.Modules.{PlacedModule, module_row, module_text, module_row_of, module_table, nul_ended, texts}
+use Rattle.multiboot_image.specs.Modules.{PlacedModule, module_row, module_text, module_row_of, module_table, with_nul, texts}
 use Rattle.multiboot_image.specs.Info.{info_format, info_text, places_of, info_of, info, info_size}
 use Rattle.multiboot_image.proofs.Search.{first_here, first_none}
 use Rattle.kx_fields.specs.Formats.{IsFormat}
@@ -53,12 +53,12 @@ six a b c d e f =
     ∙ append_assoc (a ++ b) c (d ++ (e ++ f))
     ∙ append_assoc a b (c ++ (d ++ (e ++ f)))
 
-pub parts_joined : (at : ℕ) (rows : List Row) (command : List ℕ) (modules : List PlacedModule) (a b c d e f : List ℕ) → a ≡ info_text (info_of (places_of at (length rows) (length modules) (length command)) rows (length modules)) → b ≡ a ++ map_text rows → c ≡ b ++ module_table (places_of at (length rows) (length modules) (length command)).texts modules → d ≡ c ++ nul_ended command → e ≡ d ++ nul_ended (codes "kexec") → f ≡ e ++ texts modules → f ≡ info at rows command modules
+pub parts_joined : (at : ℕ) (rows : List Row) (command : List ℕ) (modules : List PlacedModule) (a b c d e f : List ℕ) → a ≡ info_text (info_of (places_of at (length rows) (length modules) (length command)) rows (length modules)) → b ≡ a ++ map_text rows → c ≡ b ++ module_table (places_of at (length rows) (length modules) (length command)).texts modules → d ≡ c ++ with_nul command → e ≡ d ++ with_nul (codes "kexec") → f ≡ e ++ texts modules → f ≡ info at rows command modules
 unfolding info
 parts_joined at rows command modules a b c d e f p q r s t u =
     u
-    ∙ ap (λ x. x ++ texts modules) (t ∙ ap (λ x. x ++ nul_ended (codes "kexec")) (s ∙ ap (λ x. x ++ nul_ended command) (r ∙ ap (λ x. x ++ module_table (places_of at (length rows) (length modules) (length command)).texts modules) (q ∙ ap (λ x. x ++ map_text rows) p))))
-    ∙ six (info_text (info_of (places_of at (length rows) (length modules) (length command)) rows (length modules))) (map_text rows) (module_table (places_of at (length rows) (length modules) (length command)).texts modules) (nul_ended command) (nul_ended (codes "kexec")) (texts modules)
+    ∙ ap (λ x. x ++ texts modules) (t ∙ ap (λ x. x ++ with_nul (codes "kexec")) (s ∙ ap (λ x. x ++ with_nul command) (r ∙ ap (λ x. x ++ module_table (places_of at (length rows) (length modules) (length command)).texts modules) (q ∙ ap (λ x. x ++ map_text rows) p))))
+    ∙ six (info_text (info_of (places_of at (length rows) (length modules) (length command)) rows (length modules))) (map_text rows) (module_table (places_of at (length rows) (length modules) (length command)).texts modules) (with_nul command) (with_nul (codes "kexec")) (texts modules)
 
 info_long : (i : Info) → length (info_text i) ≡ 88
 unfolding info_text
@@ -87,8 +87,8 @@ info_long_all at rows command modules =
     let b = map_text rows in
     let t = (places_of at (length rows) (length modules) (length command)).texts in
     let c = module_table t modules in
-    let d = nul_ended command in
-    let e = nul_ended (codes "kexec") in
+    let d = with_nul command in
+    let e = with_nul (codes "kexec") in
     let f = texts modules in
     let six_long : length e ≡ 6 = refl in
     omega (arith, length-append a (b ++ (c ++ (d ++ (e ++ f)))), length-append b (c ++ (d ++ (e ++ f))), length-append c (d ++ (e ++ f)), length-append d (e ++ f), length-append e f, length-append command (0 ∷ []), six_long, table_long t modules, map_long rows, info_long (info_of (places_of at (length rows) (length modules) (length command)) rows (length modules)))

@@ -82,5 +82,5 @@ header_in bytes (Some at) = header_of bytes at (head_at bytes at).flags
 header_in bytes None = Err faults.NoHeader
 
 -- the header of a file, in its first 8,192 bytes
-unfoldable pub header_found : List ℕ → Result Header MbFault
-header_found bytes = header_in (take 8192 bytes) (header_place (take 8192 bytes))
+unfoldable pub find_header : List ℕ → Result Header MbFault
+find_header bytes = header_in (take 8192 bytes) (header_place (take 8192 bytes))

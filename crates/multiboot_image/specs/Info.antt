@@ -8,7 +8,7 @@ use Rattle.memory_map.specs.declared.row.Row.{Row}
 use Rattle.multiboot_image.specs.declared.info.Info.{Info}
 use Rattle.multiboot_image.specs.declared.info.Places.{Places}
 use Rattle.multiboot_image.specs.MapRows.{mem_lower, mem_upper, map_text}
-use Rattle.multiboot_image.specs.Modules.{PlacedModule, module_table, nul_ended, texts, texts_size, AreBelow}
+use Rattle.multiboot_image.specs.Modules.{PlacedModule, module_table, with_nul, texts, texts_size, AreBelow}
 
 abbrev pub info_format : Format Info
 info_format = record {
@@ -73,8 +73,8 @@ info at rows command modules =
     (length modules))
     ++ (map_text rows
     ++ (module_table (places_of at (length rows) (length modules) (length command)).texts modules
-    ++ (nul_ended command
-    ++ (nul_ended (codes "kexec")
+    ++ (with_nul command
+    ++ (with_nul (codes "kexec")
     ++ texts modules))))
 
 -- all addresses that are written are below 2^32

@@ -36,11 +36,11 @@ module_table text [] = []
 module_table text (m ∷ ms) = module_bytes text m ++ module_table (text + length m.text + 1) ms
 
 -- a text and a NUL
-abbrev pub nul_ended : List ℕ → List ℕ
-nul_ended text = text ++ 0 ∷ []
+abbrev pub with_nul : List ℕ → List ℕ
+with_nul text = text ++ 0 ∷ []
 
 abbrev pub texts : List PlacedModule → List ℕ
-texts modules = flat_map (λ m. nul_ended m.text) modules
+texts modules = flat_map (λ m. with_nul m.text) modules
 
 -- the addresses in the module table are below 2^32, where the texts begin at this address
 abbrev pub AreBelow : ℕ → List PlacedModule → Type 0

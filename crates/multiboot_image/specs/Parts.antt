@@ -24,14 +24,14 @@ abbrev pub place : Site → ℕ
 place s = s.at + s.kludge.load_addr - s.kludge.header_addr
 
 -- how many bytes are loaded: up to load_end_addr, or to the end of the file
-abbrev pub loaded : Site → ℕ
-loaded s =
+abbrev pub loaded_length : Site → ℕ
+loaded_length s =
     if s.kludge.load_end_addr == 0 then s.total - place s
     else s.kludge.load_end_addr - s.kludge.load_addr
 
 -- the address behind the loaded bytes
 abbrev pub load_stop : Site → ℕ
-load_stop s = s.kludge.load_addr + loaded s
+load_stop s = s.kludge.load_addr + loaded_length s
 
 -- the address behind the memory
 abbrev pub memory_stop : Site → ℕ
@@ -43,7 +43,7 @@ is_bad s =
     nat_lt s.kludge.header_addr s.kludge.load_addr
     || (nat_lt (s.at + s.kludge.load_addr) s.kludge.header_addr
     || ((not (s.kludge.load_end_addr == 0) && nat_lt s.kludge.load_end_addr s.kludge.load_addr)
-    || (nat_lt s.total (place s + loaded s)
+    || (nat_lt s.total (place s + loaded_length s)
     || (nat_lt (2 ^ 32) (memory_stop s)
     || (not (s.kludge.bss_end_addr == 0) && nat_lt s.kludge.bss_end_addr (load_stop s))))))
 
@@ -58,7 +58,7 @@ memory_meets_page p s = meets_page s.kludge.load_addr (memory_stop s) p
 -- the segment of these pages: zeros up to load_addr, then the loaded bytes
 abbrev pub segment : List ℕ → Site → SegmentValue
 segment file s = record {
-  bytes = replicate (s.kludge.load_addr % 4096) 0 ++ take (loaded s) (drop (place s) file);
+  bytes = replicate (s.kludge.load_addr % 4096) 0 ++ take (loaded_length s) (drop (place s) file);
   mem = 4096 * (s.kludge.load_addr / 4096);
   memsz = 4096 * page_count s;
 }

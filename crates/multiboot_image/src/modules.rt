@@ -1,7 +1,7 @@
 //! Modules: their table and their texts.
 
 ghost use Rattle.std.specs.Prelude.{◌≡◌, ◌+◌, ◌-◌, ◌^◌, ◌++◌, ◌<◌, min, OnOk};
-ghost use Rattle.multiboot_image.specs.Modules.{module_text, module_bytes, module_table, texts, texts_size, nul_ended, AreBelow};
+ghost use Rattle.multiboot_image.specs.Modules.{module_text, module_bytes, module_table, texts, texts_size, with_nul, AreBelow};
 
 use kx_fields::Block;
 use std::alloc::AllocError;
@@ -90,7 +90,7 @@ pub(crate) fn put_module_table(
 
 /// Puts a text and a NUL behind the others.
 pub(crate) fn put_text(out: &mut Vec<u8>, text: &[u8]) -> Result<(), AllocError>
-    ensures { OnOk result (out.new.items ≡ out.old.items ++ nul_ended text.now) }
+    ensures { OnOk result (out.new.items ≡ out.old.items ++ with_nul text.now) }
 {
     out.extend_from_slice(text)?;
     out.push(0)?;

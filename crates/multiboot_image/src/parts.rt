@@ -4,7 +4,7 @@ ghost use Rattle.std.specs.Prelude.{◌≡◌, ◌+◌, ◌++◌, ◌≤◌, ◌
 ghost use Rattle.kx_laws.specs.Results.{Gives};
 ghost use Rattle.segments.specs.Values.{is_destination};
 ghost use Rattle.multiboot_image.specs.declared.fault.MbFault.TheVariants.{Memory};
-ghost use Rattle.multiboot_image.specs.Parts.{place, loaded, load_stop, memory_stop, is_bad, page_count, segment, memory_meets_page, HasPagesMet, kludge_parts, elf_parts, parts};
+ghost use Rattle.multiboot_image.specs.Parts.{place, loaded_length, load_stop, memory_stop, is_bad, page_count, segment, memory_meets_page, HasPagesMet, kludge_parts, elf_parts, parts};
 
 use crate::fault::MbFault;
 use crate::header::{Header, Kludge};
@@ -53,8 +53,8 @@ impl Site {
     }
 
     /// How many bytes are loaded, or 0 where that would be negative.
-    fn loaded(self) -> u128
-        ensures value { result ≡ loaded self }
+    fn loaded_length(self) -> u128
+        ensures value { result ≡ loaded_length self }
         ensures small { result < 2 ^ 64 }
     {
         if self.kludge.load_end_addr == 0 {
@@ -68,7 +68,7 @@ impl Site {
         ensures value { result ≡ load_stop self }
         ensures small { result < 2 ^ 65 }
     {
-        u128::from(self.kludge.load_addr) + self.loaded()
+        u128::from(self.kludge.load_addr) + self.loaded_length()
     }
 
     /// The address behind the memory.
@@ -90,7 +90,7 @@ impl Site {
         k.load_addr > k.header_addr
             || self.at as u128 + u128::from(k.load_addr) < u128::from(k.header_addr)
             || k.load_end_addr != 0 && k.load_end_addr < k.load_addr
-            || self.place() + self.loaded() > self.total as u128
+            || self.place() + self.loaded_length() > self.total as u128
             || self.memory_stop() > MEMORY_LIMIT
             || k.bss_end_addr != 0 && u128::from(k.bss_end_addr) < self.load_stop()
     }
@@ -115,8 +115,8 @@ impl Site {
         let start = u64::from(self.kludge.load_addr);
         let front = (start % PAGE_SIZE) as usize;
         let (_, behind) = file.split_at(self.place() as usize);
-        let (part, _) = behind.split_at(self.loaded() as usize);
-        let bytes = padded(alloc, front, part)?;
+        let (part, _) = behind.split_at(self.loaded_length() as usize);
+        let bytes = with_zeros_before(alloc, front, part)?;
         Ok(Segment {
             bytes,
             mem: start / PAGE_SIZE * PAGE_SIZE,
@@ -126,7 +126,7 @@ impl Site {
 }
 
 /// So many zeros, and these bytes behind them.
-fn padded(alloc: Global, front: usize, part: &[u8]) -> Result<Vec<u8>, AllocError>
+fn with_zeros_before(alloc: Global, front: usize, part: &[u8]) -> Result<Vec<u8>, AllocError>
     requires { front < 4096 }
     ensures { IfOk result (λ v. v.items ≡ replicate front 0 ++ part.now) }
 {

@@ -62,7 +62,7 @@ fn entry(alloc: Global, file: &[u8]) -> Result<(u64, usize), MbFault> {
 // The address and the size of the first segment, and how many bytes it has.
 type Loaded = Result<Option<(u64, u64, usize)>, MbFault>;
 
-fn loaded(alloc: Global, file: &[u8]) -> Loaded {
+fn loaded_length(alloc: Global, file: &[u8]) -> Loaded {
     match parts(alloc, file)?.list.first() {
         Some(segment) => Ok(Some((segment.mem, segment.memsz, segment.bytes.len()))),
         None => Ok(None),
@@ -162,7 +162,7 @@ fn each_prefix_of_a_file_is_read_as_far_as_it_goes(rt: HostRuntime) -> Result<()
     let kernel = file(rt.alloc(), 64, &[(0, &KERNEL)])?;
     for length in 0..65 {
         let front = kernel.get(..length).ok_or("a prefix")?;
-        assert_eq!(rt; loaded(rt.alloc(), front), loaded_front(length));
+        assert_eq!(rt; loaded_length(rt.alloc(), front), loaded_front(length));
     }
     Ok(())
 }
@@ -243,7 +243,7 @@ const ADDRESSES: [([u32; 4], Loaded); 16] = [
 fn addresses_give_a_segment_or_are_refused(rt: HostRuntime) -> Result<(), Fail> {
     for (addresses, wanted) in ADDRESSES {
         let kernel = file(rt.alloc(), 64, &[(0, &KERNEL), (12, &addresses)])?;
-        assert_eq!(rt; loaded(rt.alloc(), &kernel), wanted, "with {addresses:?}");
+        assert_eq!(rt; loaded_length(rt.alloc(), &kernel), wanted, "with {addresses:?}");
     }
     Ok(())
 }

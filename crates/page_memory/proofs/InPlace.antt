@@ -12,13 +12,13 @@ use Rattle.byteorder.specs.Endian.{little_bytes}
 use Rattle.byteorder.specs.Numbers.{length-bytes_low_first}
 use Rattle.page_memory.specs.Contents.{page_with_word}
 use Rattle.page_memory.specs.File.{magic, page_text, text_of}
-use Rattle.page_memory.specs.Frames.{frame_entries, frame_in, put_frame, traded}
+use Rattle.page_memory.specs.Frames.{frame_entries, frame_in, put_frame, trade_frames}
 use Rattle.page_memory.specs.InPlace.{AreArranged, AreGathered, AreOwned, AreSlotsOf, Holds, place, slot_entries, slots_of}
 use Rattle.page_memory.proofs.Moves.{frame_in-front, length-frame_in, put_frame-append}
 use Rattle.page_memory.proofs.Frames.{frame_in-append, frame_in-put_same, frame_in-put_other, length-put_frame}
 
 -- two frames of one buffer, the first of them in the part before the second
-pub exchanged : (xs : List ℕ) (low high : ℕ) → low + 4096 ≤ high → high + 4096 ≤ length xs → put_frame (take high xs) low (frame_in xs high) ++ (frame_in (take high xs) low ++ drop 4096 (drop high xs)) ≡ traded xs low high
+pub exchanged : (xs : List ℕ) (low high : ℕ) → low + 4096 ≤ high → high + 4096 ≤ length xs → put_frame (take high xs) low (frame_in xs high) ++ (frame_in (take high xs) low ++ drop 4096 (drop high xs)) ≡ trade_frames xs low high
 unfolding put_frame
 exchanged xs low high apart inside =
     ap (λ t. put_frame (take high xs) low (frame_in xs high) ++ (t ++ drop 4096 (drop high xs))) (frame_in-front xs high low (omega (arith, inside)) apart)
@@ -26,7 +26,7 @@ exchanged xs low high apart inside =
 
 -- the buffer after the frames in two slots changed places
 abbrev pub slots_traded : List ℕ → ℕ → ℕ → List ℕ
-slots_traded xs k from = traded xs (place k) (place from)
+slots_traded xs k from = trade_frames xs (place k) (place from)
 
 slots_apart : (i j : ℕ) → place i < place j → place i + 4096 ≤ place j
 slots_apart i j less = omega arith

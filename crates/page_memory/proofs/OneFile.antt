@@ -12,7 +12,7 @@ use Rattle.kx_laws.proofs.Booleans.{and_parts, is_eq-false, Equal-from_is_eq}
 use Rattle.kx_laws.proofs.Options.{none_some, some_same}
 use Rattle.page_memory.specs.Contents.{Contents, at, zero_page, frame_at}
 use Rattle.page_memory.specs.Memory.{Agree}
-use Rattle.page_memory.specs.File.{is_stored, is_all_zeros, stored, file, text_of}
+use Rattle.page_memory.specs.File.{is_stored, is_all_zeros, stored_pages, file, text_of}
 
 abbrev pub Entries : Type 0
 Entries = List (ℕ × List ℕ)
@@ -165,11 +165,11 @@ unfolding frame_at
 found_at m q = ap (λ o. unwrap_or o zero_page) (sym (get-entries m.pages q))
 
 -- memories that agree at every page store the same pages
-pub stored-agree : (m n : Contents) → Agree (at m) (at n) → stored m ≡ stored n
+pub stored-agree : (m n : Contents) → Agree (at m) (at n) → stored_pages m ≡ stored_pages n
 stored-agree m n h =
     let r = rising_sorted (entries m.pages) (entries_sorted m.pages) in
     let t = rising_sorted (entries n.pages) (entries_sorted n.pages) in
-    same_entries 0 0 (stored m) (stored n) (rising-stored 0 (entries m.pages) r) (rising-stored 0 (entries n.pages) t)
+    same_entries 0 0 (stored_pages m) (stored_pages n) (rising-stored 0 (entries m.pages) r) (rising-stored 0 (entries n.pages) t)
     (λ q.
     find-stored 0 q (entries m.pages) r ∙ ap kept (found_at m q ∙ h q ∙ sym (found_at n q)) ∙ sym (find-stored 0 q (entries n.pages) t))
 

@@ -15,7 +15,7 @@ use Rattle.kx_fields.proofs.Fields.{AreBytes-drop, little_bytes-little_number}
 use Rattle.kx_laws.proofs.Booleans.{not_false}
 use Rattle.kx_laws.proofs.Lists.{begins_with}
 use Rattle.kx_laws.proofs.Results.{bind_ok, choose_ok, guard_ok, ok_same}
-use Rattle.page_memory.specs.File.{is_stored, page_text, text_of, entry_at, pages_onto, pages_read, magic}
+use Rattle.page_memory.specs.File.{is_stored, page_text, text_of, entry_at, pages_onto, read_pages, magic}
 use Rattle.page_memory.proofs.Stored.{no_entries}
 
 abbrev Entries : Type 0
@@ -86,8 +86,8 @@ filter_all : (es : Entries) → AllByRecursion (λ e. is_stored e ≡ true) es �
 filter_all [] h = refl
 filter_all (e ∷ es) h = ap (λ b. cond b (e ∷ filter is_stored es) (filter is_stored es)) h.0 ∙ ap (λ t. e ∷ t) (filter_all es h.1)
 
-pub read_spelled : (bytes : List ℕ) (k : FinMap nat_cmp (List ℕ)) → AreBytes bytes → pages_read bytes ≡ Ok k → text_of (filter is_stored (entries k)) ≡ bytes
-unfolding pages_read text_of
+pub read_spelled : (bytes : List ℕ) (k : FinMap nat_cmp (List ℕ)) → AreBytes bytes → read_pages bytes ≡ Ok k → text_of (filter is_stored (entries k)) ≡ bytes
+unfolding read_pages text_of
 read_spelled bytes k small h =
     let a = guard_ok _ _ _ _ h in
     let b = guard_ok _ _ _ _ a.1 in

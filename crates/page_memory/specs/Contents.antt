@@ -40,12 +40,12 @@ abbrev pub with_page : Contents → ℕ → List ℕ → Contents
 with_page m p bytes = record { pages = finite.insert m.pages p bytes; sets = m.sets }
 
 -- page d becomes what page s reads as
-abbrev pub copied : Contents → ℕ → ℕ → Contents
-copied m d s = with_page m d (at m s)
+abbrev pub copy_page : Contents → ℕ → ℕ → Contents
+copy_page m d s = with_page m d (at m s)
 
 -- the copies s to w, d to s, w to d, in this order
-abbrev pub swapped : Contents → ℕ → ℕ → ℕ → Contents
-swapped m d s w = copied (copied (copied m w s) s d) d w
+abbrev pub swap_pages : Contents → ℕ → ℕ → ℕ → Contents
+swap_pages m d s w = copy_page (copy_page (copy_page m w s) s d) d w
 
 -- with_page, where the number of sets goes on
 abbrev pub after_set : Contents → ℕ → List ℕ → Contents

@@ -22,8 +22,8 @@ abbrev pub is_stored : ℕ × List ℕ → Bool
 is_stored e = not (is_all_zeros e.1)
 
 -- the pages that a file has
-abbrev pub stored : Contents → List (ℕ × List ℕ)
-stored m = filter is_stored (finite.entries m.pages)
+abbrev pub stored_pages : Contents → List (ℕ × List ℕ)
+stored_pages m = filter is_stored (finite.entries m.pages)
 
 abbrev pub page_text : ℕ × List ℕ → List ℕ
 page_text e = little_bytes 8 e.0 ++ e.1
@@ -42,7 +42,7 @@ HasNoFile es e = e ≢ heavy.Memory → (131072 < length es) × (e ≡ heavy.Too
 
 -- the file of a memory
 abbrev pub file : Contents → List ℕ
-file m = text_of (stored m)
+file m = text_of (stored_pages m)
 
 -- a page's number and bytes, and what stands after it, or the first fault. `low` is the least number that rises.
 unfoldable pub entry_at : ℕ → ℕ → ℕ → List ℕ → Result (ℕ × List ℕ × List ℕ) MemFault
@@ -68,8 +68,8 @@ abbrev pub pages_from : ℕ → List ℕ → Result (finite.FinMap nat_cmp (List
 pages_from n bytes = pages_onto (length bytes) 16 0 finite.empty n (drop 8 (drop 8 bytes))
 
 -- the pages of a file, or its first fault
-unfoldable pub pages_read : List ℕ → Result (finite.FinMap nat_cmp (List ℕ)) MemFault
-pages_read bytes =
+unfoldable pub read_pages : List ℕ → Result (finite.FinMap nat_cmp (List ℕ)) MemFault
+read_pages bytes =
     if not (starts_with nat_eq bytes magic) then Err faults.BadMagic
     else if nat_lt (length bytes) 16 then Err (faults.Truncated (length bytes))
     else if nat_lt 131072 (field 8 8 bytes) then Err (faults.TooMany (field 8 8 bytes))
@@ -77,7 +77,7 @@ pages_read bytes =
 
 -- what a file reads as
 abbrev pub reading : List ℕ → Result Contents MemFault
-reading bytes = pages_read bytes >>= λ m. Ok (record { pages = m; sets = 0 })
+reading bytes = read_pages bytes >>= λ m. Ok (record { pages = m; sets = 0 })
 
 -- a file of a memory is read as a memory that agrees with it at every page
 abbrev pub IsReadAgain : Contents → Type 0

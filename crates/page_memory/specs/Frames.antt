@@ -1,6 +1,6 @@
 -- A buffer with frames in it, and a table from pages to the places of their frames. This project's own: it is how a
 -- memory is kept, and no public clause speaks of it.
-use Rattle.std.specs.Prelude.{◌≡◌, ℕ, ◌+◌, ◌-◌, ◌*◌, ◌%◌, ◌<◌, ◌≤◌, ◌^◌, ◌++◌, List, length, take, drop, map, filter, IfSome, Some, cond}
+use Rattle.std.specs.Prelude.{◌≡◌, ℕ, ◌+◌, ◌-◌, ◌*◌, ◌%◌, ◌<◌, ◌≤◌, ◌^◌, ◌++◌, List, length, take, drop, map, filter, IfSome, Some, if◌then◌else◌}
 use Rattle.std.specs.Ordering.{nat_cmp}
 use Rattle.std.specs.BTreeMap as tree
 use Rattle.std.specs.BTreeMap.{is_at}
@@ -23,8 +23,8 @@ abbrev pub put_word_in : List ℕ → ℕ → ℕ → ℕ → List ℕ
 put_word_in xs i place v = put_frame xs i (page_with_word (frame_in xs i) place v)
 
 -- the buffer after two of its frames changed places
-abbrev pub traded : List ℕ → ℕ → ℕ → List ℕ
-traded xs low high = put_frame (put_frame xs high (frame_in xs low)) low (frame_in xs high)
+abbrev pub trade_frames : List ℕ → ℕ → ℕ → List ℕ
+trade_frames xs low high = put_frame (put_frame xs high (frame_in xs low)) low (frame_in xs high)
 
 -- the pages of a table over a buffer
 abbrev pub pages_in : List ℕ → tree.BTreeMap ℕ ℕ → finite.FinMap nat_cmp (List ℕ)
@@ -73,7 +73,7 @@ AreExchanged old new d s =
 -- n has v at k, and at each other key what m has
 abbrev pub Differs : {X : Type 0} → tree.BTreeMap ℕ X → tree.BTreeMap ℕ X → ℕ → X → Type 0
 Differs m n k v =
-    (q : ℕ) → tree.get nat_cmp n q ≡ cond (is_at (nat_cmp k) q) (Some v) (tree.get nat_cmp m q)
+    (q : ℕ) → tree.get nat_cmp n q ≡ (if is_at (nat_cmp k) q then Some v else tree.get nat_cmp m q)
 
 -- the entries with the bytes of their frames
 abbrev pub frame_entries : List ℕ → List (ℕ × ℕ) → List (ℕ × List ℕ)

@@ -1,5 +1,5 @@
 -- A memory file that is made in the buffer of its memory. This project's own, and no public clause speaks of it.
-use Rattle.std.specs.Prelude.{◌≡◌, ℕ, ◌+◌, ◌*◌, ◌/◌, ◌%◌, ◌<◌, ◌≤◌, List, [], ◌∷◌, length, map, slice_index, eqb}
+use Rattle.std.specs.Prelude.{◌≡◌, ℕ, ◌+◌, ◌*◌, ◌/◌, ◌%◌, ◌<◌, ◌≤◌, List, [], ◌∷◌, length, map, slice_index, ◌==◌}
 use Rattle.std.specs.List.{AllByRecursion, IsDistinct, flat_map}
 use Rattle.page_memory.specs.File.{page_text}
 use Rattle.page_memory.specs.Frames.{frame_in}
@@ -16,7 +16,7 @@ slots_of es = map (λ e. e.1 / 4104) es
 pub record AreInSlots (frames : List ℕ) (es : List (ℕ × ℕ)) : Type 0 where
   pub inside : AllByRecursion (λ e. e.1 + 4096 ≤ length frames) es
   pub slots : AllByRecursion (λ e. e.1 % 4104 ≡ 24) es
-  pub apart : IsDistinct eqb (slots_of es)
+  pub apart : IsDistinct ◌==◌ (slots_of es)
 
 -- `slots` has the slot of each page of the file, and `owners` the page of each slot: a number past the last page where the
 -- slot has none. The first k pages own the slots that they have in the file.

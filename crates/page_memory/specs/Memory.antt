@@ -1,6 +1,6 @@
 -- Memory as a function, and how it changes. The definitions of lists, loads and runs speak of memory so. This project's
 -- own.
-use Rattle.std.specs.Prelude.{◌≡◌, ℕ, ◌/◌, ◌%◌, List, drop, eqb, cond}
+use Rattle.std.specs.Prelude.{◌≡◌, ℕ, ◌/◌, ◌%◌, List, drop, if◌then◌else◌, ◌==◌}
 use Rattle.byteorder.specs.Endian.{little_number}
 use Rattle.kx_pages.specs.Bytes.{Mem}
 use Rattle.page_memory.specs.Contents.{page_with_word}
@@ -11,7 +11,7 @@ word M a = little_number 8 (drop (a % 4096) (M (a / 4096)))
 
 -- the memory with this page set to these bytes
 abbrev pub put : Mem → ℕ → List ℕ → Mem
-put M p bytes q = cond (eqb q p) bytes (M q)
+put M p bytes q = if q == p then bytes else M q
 
 -- the memory with this number as the word at this address
 abbrev pub set_word : Mem → ℕ → ℕ → Mem

@@ -9,7 +9,7 @@ ghost use Rattle.byteorder.specs.Endian.{little_bytes};
 ghost use Rattle.kx_fields.specs.Fields.{field};
 ghost use Rattle.kx_laws.specs.Results.{Gives};
 ghost use Rattle.page_memory.specs.Contents.{Contents, IsMemory, at};
-ghost use Rattle.page_memory.specs.File.{magic, text_of, page_text, file, pages_from, pages_read, entry_at, is_all_zeros, stored, HasNoFile, IsFileOf, IsReadAgain};
+ghost use Rattle.page_memory.specs.File.{magic, text_of, page_text, file, pages_from, read_pages, entry_at, is_all_zeros, stored_pages, HasNoFile, IsFileOf, IsReadAgain};
 ghost use Rattle.page_memory.specs.Memory.{Agree};
 ghost use Rattle.page_memory.specs.Frames.{pages_in, AreStored, IsTable, stored_in, frame_entries};
 ghost use Rattle.page_memory.specs.InPlace.{AreInSlots};
@@ -157,10 +157,10 @@ fn table_of(alloc: Global, count: u64, bytes: &[u8]) -> Result<Table, MemFault>
 }
 
 /// The table of the pages that a memory file spells, over the bytes of the file.
-#[tactic(auto, unfolding(crate::specs::File::pages_read))]
+#[tactic(auto, unfolding(crate::specs::File::read_pages))]
 pub(crate) fn file_table(alloc: Global, bytes: &[u8]) -> Result<Table, MemFault>
     ensures exact { Gives MemFault.Memory (λ t. pages_in bytes.now t.places) result
-        (pages_read bytes.now) }
+        (read_pages bytes.now) }
     ensures table { IfOk result (λ t. IsTable bytes.now t.places) }
 {
     if !bytes.starts_with(b"KXMEM001") {
@@ -267,11 +267,11 @@ pub(crate) fn file_of(alloc: Global, frames: &[u8], table: &Table) -> Result<Vec
 /// What `write` gives is read back: the file of a memory within the limit reads as a memory that agrees with it at
 /// every page.
 pub fn reads_back()
-    ensures { (m : Contents) → IsMemory m → length (stored m) ≤ 131072 → IsReadAgain m }
+    ensures { (m : Contents) → IsMemory m → length (stored_pages m) ≤ 131072 → IsReadAgain m }
 {}
 
 /// Each memory has one file: memories that agree at every page store the same pages, and have the same file.
 pub fn agreeing_have_one_file()
-    ensures stored { (m n : Contents) → Agree (at m) (at n) → stored m ≡ stored n }
+    ensures stored { (m n : Contents) → Agree (at m) (at n) → stored_pages m ≡ stored_pages n }
     ensures file { (m n : Contents) → Agree (at m) (at n) → file m ≡ file n }
 {}

@@ -7,12 +7,12 @@
 //! While frames are exchanged, `slots` says in which slot the frame of each page lies, and `owners` says of each slot
 //! whose frame it has: both are kept, so that an exchange is never preceded by a search.
 
-ghost use Rattle.std.specs.Prelude.{◌≡◌, ◌≢◌, ◌≤◌, ◌<◌, ◌+◌, ◌-◌, ◌*◌, ◌++◌, ℕ, List, length, take, drop, set, eqb, slice_index, IfOk, IfErr, OnOk};
+ghost use Rattle.std.specs.Prelude.{◌≡◌, ◌≢◌, ◌≤◌, ◌<◌, ◌+◌, ◌-◌, ◌*◌, ◌++◌, ℕ, List, length, take, drop, set, slice_index, IfOk, IfErr, OnOk, ◌==◌};
 ghost use Rattle.std.specs.BTreeMap.{IsOrdered};
 ghost use Rattle.std.specs.List.{flat_map, IsDistinct};
 ghost use Rattle.std.specs.Ordering.{nat_cmp};
 ghost use Rattle.page_memory.specs.File.{text_of, HasNoFile, IsFileOf};
-ghost use Rattle.page_memory.specs.Frames.{IsTable, frame_in, put_frame, stored_in, traded};
+ghost use Rattle.page_memory.specs.Frames.{IsTable, frame_in, put_frame, stored_in, trade_frames};
 ghost use Rattle.page_memory.specs.InPlace.{AreArranged, AreGathered, AreInSlots, AreOwned, AreSlotsOf, StillHold, slot_entries, slot_texts, slots_of};
 
 use crate::buffer::put_word;
@@ -40,7 +40,7 @@ fn trade(frames: &mut [u8], place: usize, other: &mut [u8])
 fn exchange(frames: &mut [u8], low: usize, high: usize)
     requires apart { low + 4096 ≤ high }
     requires inside { high + 4096 ≤ length frames.old }
-    ensures { frames.new ≡ traded frames.old low high }
+    ensures { frames.new ≡ trade_frames frames.old low high }
 {
     let (front, back) = frames.split_at_mut(high);
     let (frame, _) = back.split_at_mut(FRAME_SIZE);
@@ -101,7 +101,7 @@ fn slots_of(alloc: Global, pages: &[(Page, usize)]) -> Result<Vec<usize>, AllocE
 // Whose frame lies in each slot: the number of pages, where none of theirs does.
 fn owners_of(alloc: Global, slots: &[usize], count: usize) -> Result<Vec<usize>, AllocError>
     requires inside { (j : ℕ) → j < length slots.now → slice_index slots.now j < count }
-    requires apart { IsDistinct eqb slots.now }
+    requires apart { IsDistinct ◌==◌ slots.now }
     ensures owned { IfOk result (λ v. AreOwned slots.now v.items 0) }
     ensures back { IfOk result (λ v. AreSlotsOf slots.now v.items) }
     ensures length { IfOk result (λ v. length v.items ≡ count) }

@@ -6,9 +6,9 @@ ghost use Rattle.std.specs.Option.{option_map};
 ghost use Rattle.kx_fields.specs.Fields.{IsBlock};
 ghost use Rattle.kx_laws.specs.Results.{Gives};
 ghost use Rattle.kx_pages.specs.Lists.{Has};
-ghost use Rattle.page_memory.specs.File.{HasNoFile, IsFileOf, reading, stored, file};
+ghost use Rattle.page_memory.specs.File.{HasNoFile, IsFileOf, reading, stored_pages, file};
 ghost use Rattle.kx_pages.specs.Bytes.{page_of};
-ghost use Rattle.page_memory.specs.Contents.{IsMemory, Contents, at, IsHeld, with_page, with_word, after_set, swapped};
+ghost use Rattle.page_memory.specs.Contents.{IsMemory, Contents, at, IsHeld, with_page, with_word, after_set, swap_pages};
 ghost use Rattle.page_memory.specs.Memory.{word};
 ghost use Rattle.page_memory.specs.Frames.{frame_in, put_frame, pages_in, IsTable};
 
@@ -190,7 +190,7 @@ impl Memory {
         requires d { IsHeld self.old d }
         requires s { IsHeld self.old s }
         requires w { IsHeld self.old w }
-        ensures value { self.new ≡ swapped self.old d s w }
+        ensures value { self.new ≡ swap_pages self.old d s w }
         ensures stay { (q : ℕ) → IsHeld self.old q → IsHeld self.new q }
     {
         if d == s || d == w || s == w {
@@ -207,7 +207,7 @@ impl Memory {
         requires s { IsHeld self.old s }
         requires w { IsHeld self.old w }
         requires apart { (d ≢ s) × (d ≢ w) × (s ≢ w) }
-        ensures value { self.new ≡ swapped self.old d s w }
+        ensures value { self.new ≡ swap_pages self.old d s w }
         ensures stay { (q : ℕ) → IsHeld self.old q → IsHeld self.new q }
     {
         copy_frame(&mut self.frames, &self.table, w, s);
@@ -309,8 +309,8 @@ impl Memory {
 
     /// The file of the pages that are not all zeros.
     pub fn write(&self) -> Result<Vec<u8>, HeavyFault>
-        ensures file { IfOk result (λ v. IsFileOf (stored self.now) v.items) }
-        ensures heavy { IfErr result (λ e. HasNoFile (stored self.now) e) }
+        ensures file { IfOk result (λ v. IsFileOf (stored_pages self.now) v.items) }
+        ensures heavy { IfErr result (λ e. HasNoFile (stored_pages self.now) e) }
     {
         file_of(self.alloc, &self.frames, &self.table)
     }
@@ -318,8 +318,8 @@ impl Memory {
     /// As `write`, of a memory that is given up: the file is made in the memory's own buffer, so that the bytes of the
     /// pages never lie in memory twice. After a refusal the memory is gone. This project's own.
     pub fn into_file(self) -> Result<Vec<u8>, HeavyFault>
-        ensures file { IfOk result (λ v. IsFileOf (stored self) v.items) }
-        ensures heavy { IfErr result (λ e. HasNoFile (stored self) e) }
+        ensures file { IfOk result (λ v. IsFileOf (stored_pages self) v.items) }
+        ensures heavy { IfErr result (λ e. HasNoFile (stored_pages self) e) }
     {
         let Memory {
             frames,

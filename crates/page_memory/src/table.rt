@@ -106,14 +106,14 @@ impl Table {
     pub fn get(&self, p: Page) -> Option<usize>
         ensures value { result ≡ tree.get nat_cmp self.now.places p }
     {
-        match self.noted(p) {
+        match self.shortcut(p) {
             Some(place) => Some(place),
             None => self.places.get(&p).copied(),
         }
     }
 
     // What a shortcut says of a page.
-    fn noted(&self, p: Page) -> Option<usize>
+    fn shortcut(&self, p: Page) -> Option<usize>
         ensures { IfSome result (λ place. tree.get nat_cmp self.now.places p ≡ Some place) }
     {
         match self.shortcuts.get(place_in_row(self.shortcuts.len(), p)) {

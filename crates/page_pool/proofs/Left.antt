@@ -1,14 +1,14 @@
 -- The pages left, and the usable ones among them.
 use Rattle.std.proofs.Common.{◌≡◌, ℕ, ◌+◌, ◌≤◌, ◌^◌, ◌++◌, ◌&&◌, ◌||◌, List, [], ◌∷◌, take, drop, length, cond, Bool, true, false, refl, sym, ap, ◌∙◌, subst, arith, inl, inr, length-append}
 use Rattle.std.specs.Prelude.{not, eqb}
-use Rattle.std.specs.List.{filter}
+use Rattle.std.specs.List.{filter, AllByRecursion}
 use Rattle.std.proofs.lemmas.Bool.{ne_eqb}
 use Rattle.std.proofs.lemmas.Bool.Decides.{nat_tests, eqb_tells}
 use Rattle.std.proofs.lemmas.List.{take-append-drop}
 use Rattle.std.proofs.lemmas.List.Elements.{filter-append}
 use Rattle.std.proofs.lemmas.List.Filters.{length-filter_both}
 use Rattle.kx_laws.proofs.Booleans.{and_parts, not_true, true_false}
-use Rattle.kx_pages.specs.Lists.{Each, Has, has, Distinct}
+use Rattle.kx_pages.specs.Lists.{Has, has, Distinct}
 use Rattle.kx_pages.specs.Numbers.{IsPage}
 use Rattle.kx_pages.proofs.Lists.{Each-map, Each-at, Each-from_Has, Has-from_has, has-from_Has, has-push}
 use Rattle.kx_pages.proofs.Counting.{no_longer, Distinct-append, Distinct-filter}
@@ -17,7 +17,7 @@ use Rattle.page_pool.specs.Queue.{is_waiting}
 
 -- ---- filters
 
-filter_all : (f : ℕ → Bool) (xs : List ℕ) → Each (λ x. f x ≡ true) xs → filter f xs ≡ xs
+filter_all : (f : ℕ → Bool) (xs : List ℕ) → AllByRecursion (λ x. f x ≡ true) xs → filter f xs ≡ xs
 filter_all f [] h = refl
 filter_all f (x ∷ xs) h = rw h.0 (ap (λ (ys : List ℕ). x ∷ ys) (filter_all f xs h.1))
 
@@ -82,7 +82,7 @@ usable_undrawn limit made = usable_waiting limit made []
 page_usable : (q : ℕ) → IsPage q → is_usable (2 ^ 46) q ≡ true
 page_usable q h = grind (arith, nat_tests)
 
-pub usable_all : (made : List ℕ) → Each IsPage made → usable_among (2 ^ 46) made [] ≡ made
+pub usable_all : (made : List ℕ) → AllByRecursion IsPage made → usable_among (2 ^ 46) made [] ≡ made
 usable_all made low = usable_undrawn (2 ^ 46) made ∙ filter_all (is_usable (2 ^ 46)) made (Each-map made page_usable low)
 
 none_usable : (q : ℕ) → is_usable 0 q ≡ false
@@ -129,7 +129,7 @@ usable_drawn limit xs d q rest once first =
     ∙ (rw (eqb_same q) (filter_all other rest (Each-map rest (λ y n. ap not (ne_eqb q y n)) apart.0)))
 
 -- the pages drawn and those left are all pages
-pub left_length : (xs d : List ℕ) → Distinct xs → Distinct d → Each (λ q. Has q xs) d → length d + length (left_among xs d) ≡ length xs
+pub left_length : (xs d : List ℕ) → Distinct xs → Distinct d → AllByRecursion (λ q. Has q xs) d → length d + length (left_among xs d) ≡ length xs
 unfolding left_among
 left_length xs d once apart among =
     let f : ℕ → Bool = λ q. has q d in

@@ -1,10 +1,11 @@
 -- Each change of a queue leaves a queue.
 use Rattle.std.proofs.Common.{◌≡◌, ℕ, zero, suc, ◌+◌, ◌-◌, ◌<◌, ◌≤◌, ◌++◌, ◌||◌, List, [], ◌∷◌, take, drop, length, get_or, cond, Bool, true, false, refl, sym, ap, ◌∙◌, subst, arith, inl, inr, length-append, append_assoc, append-nil, replicate}
+use Rattle.std.specs.List.{AllByRecursion}
 use Rattle.std.specs.Prelude.{◌≢◌, ◌⊎◌, eqb, set}
 use Rattle.std.proofs.lemmas.Bool.{ne_eqb, cases_eq, cases_Bool}
 use Rattle.std.proofs.lemmas.List.{take-append-drop, take-take, take_more, take_more_set, take-set-le, drop_more, map-append, length-map, length-take-le, length-drop, length-set, length-replicate, get_or-replicate, get_or-take, get_or-drop, get_or-map, get_or-set_same, get_or-set_other, append_cancel_left, nil_from_length}
 use Rattle.kx_laws.proofs.Booleans.{or_true, or_false}
-use Rattle.kx_pages.specs.Lists.{Each, Has, has, Distinct, count}
+use Rattle.kx_pages.specs.Lists.{Has, has, Distinct, count}
 use Rattle.kx_pages.proofs.Lists.{Each-at, Each-append, Each-take, Each-from_has_not, Has-from_has, Has-get_or, has-push}
 use Rattle.kx_pages.proofs.Counting.{Distinct-push, count-from_Has, count-from_has_not}
 use Rattle.page_pool.specs.Pages.{left_among, usable_among}
@@ -36,7 +37,7 @@ unfolding pages_at
 get_or-pages_at xs ps i h = get_or-map (λ j. get_or xs j 0) ps i 0 0 h
 
 -- the pages at places of a list are of the list
-pub pages_among : (xs ps : List ℕ) → Each (λ i. i < length xs) ps → Each (λ q. Has q xs) (pages_at xs ps)
+pub pages_among : (xs ps : List ℕ) → AllByRecursion (λ i. i < length xs) ps → AllByRecursion (λ q. Has q xs) (pages_at xs ps)
 unfolding pages_at
 pages_among xs [] h = tt
 pages_among xs (i ∷ ps) h = (Has-get_or xs i h.0, pages_among xs ps h.1)
@@ -64,10 +65,10 @@ module _ (xs queue : List ℕ) (flags : List Bool) (next stop limit : ℕ) where
     front : take next (take stop queue) ≡ take next queue
     front = take-take next stop queue h.order
 
-    gone_places : Each (λ i. i < length xs) (take next queue)
-    gone_places = subst (Each (λ i. i < length xs)) front (Each-take (λ i. i < length xs) next (take stop queue) h.places)
+    gone_places : AllByRecursion (λ i. i < length xs) (take next queue)
+    gone_places = subst (AllByRecursion (λ i. i < length xs)) front (Each-take (λ i. i < length xs) next (take stop queue) h.places)
 
-    pub gone_among : Each (λ q. Has q xs) gone
+    pub gone_among : AllByRecursion (λ q. Has q xs) gone
     gone_among = pages_among xs (take next queue) gone_places
 
     -- the usable pages are at the places behind those
@@ -133,7 +134,7 @@ module _ (xs queue : List ℕ) (flags : List Bool) (next stop limit : ℕ) where
           flagged = h.flagged;
           order = omega (arith, h.order);
           within = omega (arith, queue_room e);
-          places = subst (Each (λ j. j < length xs)) (sym grown) (Each-append (λ j. j < length xs) (take stop queue) (i ∷ []) h.places (inside, tt));
+          places = subst (AllByRecursion (λ j. j < length xs)) (sym grown) (Each-append (λ j. j < length xs) (take stop queue) (i ∷ []) h.places (inside, tt));
           once = subst Distinct (sym same) h.once;
           drawn = λ j k. h.drawn j k ∙ ap (has (get_or xs j 0)) (sym same);
           usable = ap (pages_at xs) grown ∙ pages_at-append xs (take stop queue) (i ∷ []) ∙ ap (λ ys. ys ++ pages_at xs (i ∷ [])) h.usable
@@ -250,7 +251,7 @@ queue_fresh xs queue flags limit room unset none = record {
   usable = sym none;
 }
 
-pub count_among : (xs d : List ℕ) (p : ℕ) → Each (λ q. Has q xs) d → 1 ≤ count p d → 1 ≤ count p xs
+pub count_among : (xs d : List ℕ) (p : ℕ) → AllByRecursion (λ q. Has q xs) d → 1 ≤ count p d → 1 ≤ count p xs
 count_among xs d p among c =
     elim (cases_Bool (has p d)) [
       | inl e ↦ count-from_Has p xs (Each-at (λ q. Has q xs) d p among (Has-from_has p d e))

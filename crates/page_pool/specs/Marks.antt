@@ -1,10 +1,10 @@
 -- The table of marks (this project's own).
-use Rattle.std.specs.Prelude.{◌≡◌, ℕ, ◌≤◌, List, Bool, true, false, IsSome, length, take, cond, nat_eq, unwrap_or, Some, None}
-use Rattle.std.specs.List.{list_any}
+use Rattle.std.specs.Prelude.{◌≡◌, ℕ, ◌≤◌, List, Bool, true, false, IsSome, length, take, nat_eq, unwrap_or, Some, None, if◌then◌else◌}
+use Rattle.std.specs.List.{list_any, AllByRecursion}
 use Rattle.std.specs.Ordering.{nat_cmp}
 use Rattle.std.specs.FinMap as finite
 use Rattle.std.specs.BTreeMap as tree
-use Rattle.kx_pages.specs.Lists.{Each, Distinct, count}
+use Rattle.kx_pages.specs.Lists.{Distinct, count}
 use Rattle.kx_pages.specs.Numbers.{IsPage}
 use Rattle.page_pool.specs.Queue.{IsQueue, pages_at}
 
@@ -23,7 +23,7 @@ pub record FiledAreAmong (xs : List ℕ) (m : tree.BTreeMap ℕ Bool) : Type 0 w
 pub record IsPool (xs queue : List ℕ) (flags : List Bool) (next stop limit : ℕ)
     (m : tree.BTreeMap ℕ Bool) : Type 0 where
   pub once : Distinct xs
-  pub low : Each IsPage xs
+  pub low : AllByRecursion IsPage xs
   pub few : length xs ≤ 262144
   pub queued : IsQueue xs queue flags next stop limit xs
   pub have : HaveMarks xs m
@@ -31,6 +31,6 @@ pub record IsPool (xs queue : List ℕ) (flags : List Bool) (next stop limit : �
 
 -- a table of these pages, none of them filed
 pub record AreMarks (xs : List ℕ) (m : tree.BTreeMap ℕ Bool) : Type 0 where
-  pub each : (q : ℕ) → tree.get nat_cmp m q ≡ cond (list_any (nat_eq q) xs) (Some false) None
+  pub each : (q : ℕ) → tree.get nat_cmp m q ≡ (if list_any (nat_eq q) xs then Some false else None)
   pub once : Distinct xs
-  pub low : Each IsPage xs
+  pub low : AllByRecursion IsPage xs

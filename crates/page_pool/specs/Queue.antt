@@ -1,6 +1,7 @@
 -- The queue of a pool (this project's own).
 use Rattle.std.specs.Prelude.{◌≡◌, ℕ, ◌<◌, ◌≤◌, ◌++◌, ◌&&◌, Bool, not, false, List, length, take, map, get_or}
-use Rattle.kx_pages.specs.Lists.{Each, Distinct, has}
+use Rattle.std.specs.List.{AllByRecursion}
+use Rattle.kx_pages.specs.Lists.{Distinct, has}
 use Rattle.page_pool.specs.Pages.{is_usable, usable_among}
 
 -- the pages at these places
@@ -19,7 +20,7 @@ pub record IsQueue (pages queue : List ℕ) (flags : List Bool) (next stop limit
   pub flagged : length flags ≡ length pages
   pub order : next ≤ stop
   pub within : stop ≤ length pages
-  pub places : Each (λ i. i < length pages) (take stop queue)
+  pub places : AllByRecursion (λ i. i < length pages) (take stop queue)
   pub once : Distinct (pages_at pages (take next queue))
   pub drawn : (i : ℕ) → i < length pages
       → get_or flags i false ≡ has (get_or pages i 0) (pages_at pages (take next queue))

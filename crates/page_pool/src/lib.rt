@@ -14,7 +14,7 @@ ghost use Rattle.std.specs.FinMap as finite;
 ghost use Rattle.std.specs.BTreeMap as tree;
 ghost use Rattle.kx_laws.specs.Results.{Gives};
 ghost use Rattle.kx_pages.specs.Lists.{Distinct, count};
-ghost use Rattle.page_pool.specs.Pages.{is_filed, marked, left_of, usable_of};
+ghost use Rattle.page_pool.specs.Pages.{is_filed, mark, left_of, usable_of};
 ghost use Rattle.page_pool.specs.Queue.{is_waiting};
 ghost use Rattle.page_pool.specs.Marks.{marks_of};
 ghost use Rattle.page_pool.specs.declared.fault.PoolFault.TheVariants as faults;
@@ -216,7 +216,7 @@ impl Pool {
     /// Files a drawn page: it is kept for its own request. A page that is filed already stays so.
     pub fn file(&mut self, p: Page)
         requires { 1 ≤ count p self.old.drawn }
-        ensures { self.new ≡ marked self.old p true }
+        ensures { self.new ≡ mark self.old p true }
     {
         mark(&mut self.marks, p, true);
     }
@@ -226,7 +226,7 @@ impl Pool {
         ensures drawn { IfSome result (λ p. 1 ≤ count p self.old.drawn) }
         ensures some { IfSome result (λ p. (p ≡ d)
             × (is_filed self.old d ≡ true)
-            × (self.new ≡ marked self.old d false)) }
+            × (self.new ≡ mark self.old d false)) }
         ensures none { IfNone result ((is_filed self.old d ≡ false) × (self.new ≡ self.old)) }
     {
         if is_marked(&self.marks, d) {

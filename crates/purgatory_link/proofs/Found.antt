@@ -11,7 +11,7 @@ use Rattle.purgatory_link.specs.declared.fault.LinkFault.{LinkFault}
 use Rattle.kx_laws.specs.Results.{◌>>=◌}
 use Rattle.purgatory_link.specs.Symbols.{start_at, symbol_value}
 use Rattle.purgatory_link.specs.Formulas.{form_of, wide, formula, fits, modulo}
-use Rattle.purgatory_link.specs.Relocs.{size_at, meets, placed, put_value, put_form, put_in, put_of, HasRoom, IsPut}
+use Rattle.purgatory_link.specs.Relocs.{size_at, meets, test_place, put_value, put_form, put_in, put_of, HasRoom, IsPut}
 
 pub bind_ok : {A B : Type 0} (r : Result A LinkFault) (f : A → Result B LinkFault) (y : B) → (r >>= f) ≡ Ok y → (x : A) × (r ≡ Ok x) × (f x ≡ Ok y)
 bind_ok (Ok x) f y h = (x, refl, h)
@@ -65,8 +65,8 @@ pub record Stands (o : Relocatable) (puts : List Put) (r : Reloc) (at w : ℕ) :
 within_by : (w off size : ℕ) → (not (w == 0) && nat_lt size (off + w)) ≡ false → 0 < w → off + w ≤ size
 within_by w off size h some = grind (arith, nat_tests)
 
-pub stands : (base : ℕ) (o : Relocatable) (puts : List Put) (r : Reloc) (at w : ℕ) (x : Unit {0}) → placed base o puts r at w ≡ Ok x → Stands o puts r at w
-unfolding placed
+pub stands : (base : ℕ) (o : Relocatable) (puts : List Put) (r : Reloc) (at w : ℕ) (x : Unit {0}) → test_place base o puts r at w ≡ Ok x → Stands o puts r at w
+unfolding test_place
 stands base o puts r at w x h =
     let a = guard_ok (not (w == 0) && nat_lt (size_at o r.target) (r.offset + w)) _ _ x h in
     let b = guard_ok (meets at w puts) _ _ x a.1 in
@@ -87,7 +87,7 @@ found_form : (base : ℕ) (o : Relocatable) (starts : List (Option ℕ)) (puts :
 found_form base o starts puts r p start None s e h = cc
 found_form base o starts puts r p start (Some form) s e h =
     let at = start + r.offset in
-    let a = bind_ok (placed base o puts r at (wide form)) (λ _. symbol_value base starts o.symbols r.symbol >>= λ s. put_value base at form (formula form s r.addend (base + at))) (Some p) h in
+    let a = bind_ok (test_place base o puts r at (wide form)) (λ _. symbol_value base starts o.symbols r.symbol >>= λ s. put_value base at form (formula form s r.addend (base + at))) (Some p) h in
     let b = bind_ok (symbol_value base starts o.symbols r.symbol) (λ s. put_value base at form (formula form s r.addend (base + at))) (Some p) a.2 in
     record {
       start = start;

@@ -17,8 +17,8 @@ use Rattle.purgatory_link.specs.declared.fault.LinkFault.TheVariants as faults
 use Rattle.kx_laws.specs.Results.{◌>>=◌}
 use Rattle.purgatory_link.specs.Symbols.{start_at, symbol_value}
 use Rattle.purgatory_link.specs.Formulas.{form_of, wide, formula, fits, modulo}
-use Rattle.purgatory_link.specs.Relocs.{meets_one, meets, placed, put_value, put_of, puts_of, with_one, with_put, with_puts, relocated, HasRoom, IsPut}
-use Rattle.purgatory_link.specs.Link.{starts_of, unlinked}
+use Rattle.purgatory_link.specs.Relocs.{meets_one, meets, test_place, put_value, put_of, puts_of, with_one, with_put, with_puts, relocate, HasRoom, IsPut}
+use Rattle.purgatory_link.specs.Link.{starts_of, unlinked_bytes}
 use Rattle.std.specs.List.{All}
 use Rattle.elf_image.specs.Section.{IsInside}
 use Rattle.purgatory_link.proofs.Bytes.{unlinked_byte}
@@ -150,7 +150,7 @@ one_holds base o sts ps r rs (Some p) all n old room s h e at form v g =
 placed_too : (base : ℕ) (o : Relocatable) (sts : List (Option ℕ)) (ps : List Put) (r : Reloc) (x : Option Put) (start : ℕ) (form : Form) (s : ℕ) → start_at sts r.target ≡ Some start → form_of r.kind ≡ Some form → symbol_value base sts o.symbols r.symbol ≡ Ok s → put_of base o sts ps r ≡ Ok x → put_value base (start + r.offset) form (formula form s r.addend (base + (start + r.offset))) ≡ Ok x
 placed_too base o sts ps r x start form s a b c h =
     let at = start + r.offset in
-    let k = bind_ok (placed base o ps r at (wide form)) (λ _. symbol_value base sts o.symbols r.symbol >>= λ s. put_value base at form (formula form s r.addend (base + at))) x (put_known base o sts ps r start form (sym a) (sym b) ∙ h) in
+    let k = bind_ok (test_place base o ps r at (wide form)) (λ _. symbol_value base sts o.symbols r.symbol >>= λ s. put_value base at form (formula form s r.addend (base + at))) x (put_known base o sts ps r start form (sym a) (sym b) ∙ h) in
     let v = bind_ok (symbol_value base sts o.symbols r.symbol) (λ s. put_value base at form (formula form s r.addend (base + at))) x k.2 in
     ap (λ s. put_value base at form (formula form s r.addend (base + at))) (value_same s v.0 (sym c ∙ v.1)) ∙ v.2
   where
@@ -221,8 +221,8 @@ record Relocated (base : ℕ) (o : Relocatable) (file old new : List ℕ) : Type
   given : puts_of base o (starts_of o) [] (relocs_of file o) ≡ Ok puts
   same : with_puts puts old ≡ new
 
-relocated_by : (base : ℕ) (o : Relocatable) (file old new : List ℕ) → relocated base o file (starts_of o) old ≡ Ok new → Relocated base o file old new
-unfolding relocated
+relocated_by : (base : ℕ) (o : Relocatable) (file old new : List ℕ) → relocate base o file (starts_of o) old ≡ Ok new → Relocated base o file old new
+unfolding relocate
 relocated_by base o file old new h =
     let a = bind_ok (puts_of base o (starts_of o) [] (relocs_of file o)) (λ ps. Ok (with_puts ps old)) new h in
     record { puts = a.0; given = a.1; same = bytes_same (with_puts a.0 old) new a.2 }
@@ -234,15 +234,15 @@ sofar_none : (n : ℕ) (old : List ℕ) → length old ≡ n → Sofar n [] old
 unfolding with_puts
 sofar_none n old long = record { long = long }
 
-pub fields_by : (base : ℕ) (o : Relocatable) (file : List ℕ) (n : ℕ) (old new : List ℕ) → HasRoom o (starts_of o) n → length old ≡ n → relocated base o file (starts_of o) old ≡ Ok new → AllHold base o file new
+pub fields_by : (base : ℕ) (o : Relocatable) (file : List ℕ) (n : ℕ) (old new : List ℕ) → HasRoom o (starts_of o) n → length old ≡ n → relocate base o file (starts_of o) old ≡ Ok new → AllHold base o file new
 fields_by base o file n old new room long h =
     let r = relocated_by base o file old new h in
     subst (AllHold base o file) r.same (all_hold base o [] (relocs_of file o) r.puts n old room (sofar_none n old long) r.given)
 
-pub others_by : (base : ℕ) (o : Relocatable) (file : List ℕ) (n : ℕ) (new : List ℕ) → All (IsInside file) o.sections → HasRoom o (starts_of o) n → length (unlinked o file n) ≡ n → relocated base o file (starts_of o) (unlinked o file n) ≡ Ok new → KeepsOthers o file new
+pub others_by : (base : ℕ) (o : Relocatable) (file : List ℕ) (n : ℕ) (new : List ℕ) → All (IsInside file) o.sections → HasRoom o (starts_of o) n → length (unlinked_bytes o file n) ≡ n → relocate base o file (starts_of o) (unlinked_bytes o file n) ≡ Ok new → KeepsOthers o file new
 unfolding with_puts
 others_by base o file n new inside room long h =
-    let old = unlinked o file n in
+    let old = unlinked_bytes o file n in
     let r = relocated_by base o file old new h in
     record {
       others = λ k away. ap (λ l. get_or l k 0) (sym r.same) ∙ all_other base o [] (relocs_of file o) r.puts n k old room (sofar_none n old long) r.given away ∙ unlinked_byte file o.sections n k inside;

@@ -12,7 +12,7 @@ use Rattle.purgatory_link.specs.declared.put.Put.{Put}
 use Rattle.purgatory_link.specs.declared.relocate.LinkBuffer.{LinkBuffer}
 use Rattle.purgatory_link.specs.declared.fault.LinkFault.{LinkFault}
 use Rattle.kx_laws.specs.Results.{◌>>=◌}
-use Rattle.purgatory_link.specs.Relocs.{HasRoom, with_one, with_put, with_puts, put_of, puts_of, relocated}
+use Rattle.purgatory_link.specs.Relocs.{HasRoom, with_one, with_put, with_puts, put_of, puts_of, relocate}
 use Rattle.purgatory_link.specs.Taken.{AreTaken}
 use Rattle.purgatory_link.specs.Progress.{PutSo, ArePut, Refuses}
 
@@ -97,14 +97,14 @@ section_put base o file starts old new before i d below are so =
     let e = at_drop_more (flat_map (entries_of file)) o.reloc_sections i d below in
     are before (all_of base o file starts) next (subst (PutSo base o starts old before (all_of base o file starts)) e so)
 
-pub section_refused : (base : ℕ) (o : Relocatable) (file : List ℕ) (starts : List (Option ℕ)) (old : LinkBuffer) (before : List ℕ) (i : ℕ) (d : RelocSection) (f : LinkFault) → i < length o.reloc_sections → Refuses base o starts old (entries_of file (get_or o.reloc_sections i d)) f → PutSo base o starts old before (all_of base o file starts) (flat_map (entries_of file) (drop i o.reloc_sections)) → relocated base o file starts before ≡ Err f
-unfolding relocated
+pub section_refused : (base : ℕ) (o : Relocatable) (file : List ℕ) (starts : List (Option ℕ)) (old : LinkBuffer) (before : List ℕ) (i : ℕ) (d : RelocSection) (f : LinkFault) → i < length o.reloc_sections → Refuses base o starts old (entries_of file (get_or o.reloc_sections i d)) f → PutSo base o starts old before (all_of base o file starts) (flat_map (entries_of file) (drop i o.reloc_sections)) → relocate base o file starts before ≡ Err f
+unfolding relocate
 section_refused base o file starts old before i d f below refused so =
     let next = flat_map (entries_of file) (drop (i + 1) o.reloc_sections) in
     let e = at_drop_more (flat_map (entries_of file)) o.reloc_sections i d below in
     ap (λ y. y >>= λ ps. Ok (with_puts ps before)) (refused before (all_of base o file starts) next (subst (PutSo base o starts old before (all_of base o file starts)) e so))
 
-pub all_put : (base : ℕ) (o : Relocatable) (file : List ℕ) (starts : List (Option ℕ)) (b : LinkBuffer) (before : List ℕ) (i : ℕ) → length o.reloc_sections ≤ i → PutSo base o starts b before (all_of base o file starts) (flat_map (entries_of file) (drop i o.reloc_sections)) → relocated base o file starts before ≡ Ok b.bytes.items
-unfolding relocated puts_of
+pub all_put : (base : ℕ) (o : Relocatable) (file : List ℕ) (starts : List (Option ℕ)) (b : LinkBuffer) (before : List ℕ) (i : ℕ) → length o.reloc_sections ≤ i → PutSo base o starts b before (all_of base o file starts) (flat_map (entries_of file) (drop i o.reloc_sections)) → relocate base o file starts before ≡ Ok b.bytes.items
+unfolding relocate puts_of
 all_put base o file starts b before i past so =
     ap (λ y. y >>= λ ps. Ok (with_puts ps before)) (sym so.same ∙ at_drop_all (λ l. puts_of base o starts so.puts (flat_map (entries_of file) l)) o.reloc_sections i past) ∙ ap (λ l. Ok l) (sym so.bytes)

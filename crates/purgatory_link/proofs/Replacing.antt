@@ -1,9 +1,10 @@
 -- A segment whose bytes are replaced: the other segments, their table and their digest stay.
 use Rattle.std.proofs.Common.{◌≡◌, ℕ, zero, suc, ◌+◌, ◌*◌, ◌++◌, List, [], ◌∷◌, true, false, cond, Some, refl, sym, ap, ◌∙◌, subst, inl, inr, arith, take, drop, set}
+use Rattle.std.specs.List.{AllByRecursion}
 use Rattle.std.specs.Prelude.{slice_get, ◌&&◌, ◌||◌, nat_le, nat_lt, unwrap_or}
 use Rattle.std.proofs.lemmas.Bool.{false_from_ne_true, false≢true, or_cases}
 use Rattle.sha2.specs.Sha256.{sha256}
-use Rattle.kx_pages.specs.Lists.{Each, Has}
+use Rattle.kx_pages.specs.Lists.{Has}
 use Rattle.kx_pages.specs.Bytes.{Wants, page_of}
 use Rattle.segments.specs.Values.{SegmentValue, is_page_of_segment, is_destination, bytes_from, want, pages, pages_of_segment}
 use Rattle.segments.specs.Rules.{IsBare, overlap_each_other}
@@ -39,7 +40,7 @@ wanted_same W V [] h = refl
 wanted_same W V (p ∷ ps) h = ap (λ o. unwrap_or o [] ++ wanted_bytes W ps) (h p (inl refl)) ∙ ap (λ ys. unwrap_or (V p) [] ++ ys) (wanted_same W V ps (λ q i. h q (inr i)))
 
 -- a page of another segment is none of the segment
-meets_none : (rs : List SegmentValue) (s : SegmentValue) (p : ℕ) → Each (λ r. overlap_each_other r s ≡ false) rs → is_page_of_segment s p ≡ true → is_destination rs p ≡ true → ⊥
+meets_none : (rs : List SegmentValue) (s : SegmentValue) (p : ℕ) → AllByRecursion (λ r. overlap_each_other r s ≡ false) rs → is_page_of_segment s p ≡ true → is_destination rs p ≡ true → ⊥
 meets_none [] s p o e f = absurd (false≢true f)
 meets_none (r ∷ rs) s p o e f = elim (or_cases (is_page_of_segment r p) (is_destination rs p) f) [ inl t ↦ one_page r s p o.0 e t | inr t ↦ meets_none rs s p o.1 e t ]
 
@@ -54,7 +55,7 @@ page_is s p k i = is_destination_one (is_destination-from_Has (s ∷ []) p (k, t
     is_destination_one : (is_page_of_segment s p || false) ≡ true → is_page_of_segment s p ≡ true
     is_destination_one h = elim (or_cases (is_page_of_segment s p) false h) [ inl t ↦ t | inr t ↦ absurd (false≢true t) ]
 
-not_other : (ss : List SegmentValue) (g : ℕ) (s : SegmentValue) (p : ℕ) → Each IsPlaced ss → Apart ss → slice_get ss g ≡ Some s → Has p (pages (others ss g)) → is_page_of_segment s p ≡ true → ⊥
+not_other : (ss : List SegmentValue) (g : ℕ) (s : SegmentValue) (p : ℕ) → AllByRecursion IsPlaced ss → Apart ss → slice_get ss g ≡ Some s → Has p (pages (others ss g)) → is_page_of_segment s p ≡ true → ⊥
 not_other [] g s p k a e i h = cc
 not_other (t ∷ ss) zero s p k a e i h =
     let same : s ≡ t = cc in

@@ -1,7 +1,7 @@
 -- A memory that holds what was digested passes the test.
 use Rattle.std.proofs.Common.{◌≡◌, ℕ, zero, suc, ◌+◌, ◌-◌, ◌*◌, ◌/◌, ◌%◌, ◌^◌, ◌<◌, ◌≤◌, ◌++◌, List, [], ◌∷◌, Bool, true, false, Some, None, refl, sym, ap, ◌∙◌, subst, inl, inr, arith, length, take, drop, map, get_or, append_assoc, length-append}
 use Rattle.std.specs.Prelude.{◌||◌, nat_lt, unwrap_or, replicate}
-use Rattle.std.specs.List.{flat_map, range_with_len, sum_by}
+use Rattle.std.specs.List.{flat_map, range_with_len, sum_by, AllByRecursion}
 use Rattle.std.proofs.lemmas.Bool.Decides.{nat_tests}
 use Rattle.std.proofs.lemmas.List.{append-nil, take-append-drop, drop-drop, length-drop, length-take, length-replicate, replicate-append-replicate, take_all}
 use Rattle.std.proofs.lemmas.List.FromFn.{length-range_with_len}
@@ -11,7 +11,7 @@ use Rattle.std.proofs.lemmas.Slice.Eq.{bytes_eq-Decides}
 use Rattle.byteorder.specs.Endian.{little_bytes}
 use Rattle.byteorder.specs.Numbers.{little_number-reads_back, length-bytes_low_first}
 use Rattle.sha2.specs.Sha256.{sha256}
-use Rattle.kx_pages.specs.Lists.{Each, Has}
+use Rattle.kx_pages.specs.Lists.{Has}
 use Rattle.kx_fields.specs.Fields.{zeros, field}
 use Rattle.kx_fields.proofs.Fields.{field_behind}
 use Rattle.kx_pages.specs.Bytes.{Mem, Wants}
@@ -24,7 +24,7 @@ use Rattle.purgatory_link.proofs.Wanted.{length-want}
 use Rattle.purgatory_link.specs.declared.region_test.RegionTest.TheVariants as answers
 use Rattle.purgatory_link.specs.Regions.{others, wanted_bytes, digest, row, region_table}
 use Rattle.page_memory.specs.Addresses.{bytes_in}
-use Rattle.purgatory_link.specs.RegionTest.{Region, nowhere, region, regions, regions_in, passes, is_wild, first_wild, verdict, unless_wild, test_table, test}
+use Rattle.purgatory_link.specs.RegionTest.{Region, nowhere, region, regions, regions_in, passes, is_wild, first_wild_region, verdict, unless_wild, test_table, test}
 use Rattle.purgatory_link.specs.Tie.{HoldsDigested}
 use Rattle.purgatory_link.proofs.Digesting.{length-row, wanted_both}
 use Rattle.page_memory.proofs.Addresses.{bytes_in-both, bytes_in-page}
@@ -53,7 +53,7 @@ row_read s rest front table k p long e =
     let G : ℕ → Region = λ y. record { start = s.mem; size = y } in
     ap F one ∙ ap G two
 
-rows_read : (us : List SegmentValue) (front table : List ℕ) (k : ℕ) → Each IsPlaced us → length front ≡ 16 * k → table ≡ front ++ flat_map row us → map (region table) (range_with_len k (length us)) ≡ map region_of us
+rows_read : (us : List SegmentValue) (front table : List ℕ) (k : ℕ) → AllByRecursion IsPlaced us → length front ≡ 16 * k → table ≡ front ++ flat_map row us → map (region table) (range_with_len k (length us)) ≡ map region_of us
 rows_read [] front table k h long e = refl
 rows_read (s ∷ us) front table k h long e =
     let rest = flat_map row us in
@@ -84,11 +84,11 @@ length-padded : (ts : List SegmentValue) → length ts ≤ 16 → length (padded
 unfolding padded
 length-padded ts few = omega (arith, length-append ts (replicate (16 - length ts) nothing), length-replicate {A = SegmentValue} (16 - length ts) nothing)
 
-placed_nothing : (n : ℕ) → Each IsPlaced (replicate n nothing)
+placed_nothing : (n : ℕ) → AllByRecursion IsPlaced (replicate n nothing)
 placed_nothing zero = tt
 placed_nothing (suc n) = (record { starts = refl; whole = refl; below = omega arith }, placed_nothing n)
 
-placed_padded : (ts : List SegmentValue) → Each IsPlaced ts → Each IsPlaced (padded ts)
+placed_padded : (ts : List SegmentValue) → AllByRecursion IsPlaced ts → AllByRecursion IsPlaced (padded ts)
 unfolding padded
 placed_padded ts h = Each-append IsPlaced ts (replicate (16 - length ts) nothing) h (placed_nothing (16 - length ts))
 
@@ -100,25 +100,25 @@ pages_padded : (ts : List SegmentValue) → pages (padded ts) ≡ pages ts
 unfolding padded
 pages_padded ts = pages-append ts (replicate (16 - length ts) nothing) ∙ ap (λ ps. pages ts ++ ps) (pages_nothing (16 - length ts)) ∙ append-nil (pages ts)
 
-regions_are : (ts : List SegmentValue) → length ts ≤ 16 → Each IsPlaced ts → regions (region_table ts) ≡ map region_of (padded ts)
+regions_are : (ts : List SegmentValue) → length ts ≤ 16 → AllByRecursion IsPlaced ts → regions (region_table ts) ≡ map region_of (padded ts)
 unfolding regions
 regions_are ts few h =
     ap (λ n. map (region (region_table ts)) (range_with_len 0 n)) (sym (length-padded ts few)) ∙ rows_read (padded ts) [] (region_table ts) 0 (placed_padded ts h) refl (table_rows ts few)
 
 -- none of them is wild
-sizes_are : (us : List SegmentValue) → Each IsPlaced us → sum_by (λ (r : Region). r.size) (map region_of us) ≡ 4096 * length (pages us)
+sizes_are : (us : List SegmentValue) → AllByRecursion IsPlaced us → sum_by (λ (r : Region). r.size) (map region_of us) ≡ 4096 * length (pages us)
 sizes_are [] h = refl
 sizes_are (s ∷ us) h =
     let first = sum_by-cons (λ (r : Region). r.size) (region_of s) (map region_of us) in
     omega (arith, first, sizes_are us h.1, length-append (pages_of_segment s) (pages us), length-range_with_len (s.mem / 4096) (s.memsz / 4096), h.0.whole)
 
-ends_inside : (us : List SegmentValue) (i : ℕ) → Each IsPlaced us → (get_or (map region_of us) i nowhere).start + (get_or (map region_of us) i nowhere).size ≤ 2 ^ 46
+ends_inside : (us : List SegmentValue) (i : ℕ) → AllByRecursion IsPlaced us → (get_or (map region_of us) i nowhere).start + (get_or (map region_of us) i nowhere).size ≤ 2 ^ 46
 ends_inside [] zero h = omega arith
 ends_inside [] (suc i) h = omega arith
 ends_inside (s ∷ us) zero h = omega (arith, h.0.below)
 ends_inside (s ∷ us) (suc i) h = ends_inside us i h.1
 
-none_is_wild : (us : List SegmentValue) (i : ℕ) → Each IsPlaced us → length (pages us) ≤ 65536 → is_wild (map region_of us) i ≡ false
+none_is_wild : (us : List SegmentValue) (i : ℕ) → AllByRecursion IsPlaced us → length (pages us) ≤ 65536 → is_wild (map region_of us) i ≡ false
 none_is_wild us i h few =
     let rs = map region_of us in
     let ends = ends_inside us i h in
@@ -165,7 +165,7 @@ part_bytes W M s k h =
     let z : s.memsz ≡ 4096 * (s.memsz / 4096) = omega (arith, k.whole) in
     ap (λ a. bytes_in M a s.memsz) m ∙ ap (bytes_in M (4096 * (s.mem / 4096))) z ∙ run_bytes W M (s.memsz / 4096) (s.mem / 4096) h
 
-parts_bytes : (W : Wants) (M : Mem) (us : List SegmentValue) → Each IsPlaced us → ((p : ℕ) → Has p (pages us) → Right W M p) → regions_in M (map region_of us) ≡ wanted_bytes W (pages us)
+parts_bytes : (W : Wants) (M : Mem) (us : List SegmentValue) → AllByRecursion IsPlaced us → ((p : ℕ) → Has p (pages us) → Right W M p) → regions_in M (map region_of us) ≡ wanted_bytes W (pages us)
 unfolding regions_in wanted_bytes
 parts_bytes W M [] k h = refl
 parts_bytes W M (s ∷ us) k h =
@@ -174,11 +174,11 @@ parts_bytes W M (s ∷ us) k h =
     ∙ sym (wanted_both W (pages_of_segment s) (pages us))
 
 -- all segments but one are segments
-placed_others : (ss : List SegmentValue) (g : ℕ) → Each IsPlaced ss → Each IsPlaced (others ss g)
+placed_others : (ss : List SegmentValue) (g : ℕ) → AllByRecursion IsPlaced ss → AllByRecursion IsPlaced (others ss g)
 placed_others ss g h =
     Each-append IsPlaced (take g ss) (drop (g + 1) ss)
-    (Each-left IsPlaced (take g ss) (drop g ss) (subst (Each IsPlaced) (sym (take-append-drop g ss)) h))
-    (Each-right IsPlaced (take (g + 1) ss) (drop (g + 1) ss) (subst (Each IsPlaced) (sym (take-append-drop (g + 1) ss)) h))
+    (Each-left IsPlaced (take g ss) (drop g ss) (subst (AllByRecursion IsPlaced) (sym (take-append-drop g ss)) h))
+    (Each-right IsPlaced (take (g + 1) ss) (drop (g + 1) ss) (subst (AllByRecursion IsPlaced) (sym (take-append-drop (g + 1) ss)) h))
 
 pub few_others : (ss : List SegmentValue) (g : ℕ) → length ss ≤ 16 → length (others ss g) ≤ 16
 few_others ss g h = omega (arith, length-append (take g ss) (drop (g + 1) ss), length-take g ss, length-drop (g + 1) ss)
@@ -201,7 +201,7 @@ pages_others ss g =
 same_digest : (d : List ℕ) → verdict d d ≡ answers.Same
 same_digest d = rw ((bytes_eq-Decides d d).1 refl) refl
 
-table_same : (M : Mem) (rs : List Region) (d : List ℕ) → None ≡ first_wild rs → sha256 (regions_in M rs) ≡ d → unless_wild (first_wild rs) (sha256 (regions_in M rs)) d ≡ answers.Same
+table_same : (M : Mem) (rs : List Region) (d : List ℕ) → None ≡ first_wild_region rs → sha256 (regions_in M rs) ≡ d → unless_wild (first_wild_region rs) (sha256 (regions_in M rs)) d ≡ answers.Same
 table_same M rs d none e =
     ap (λ o. unless_wild o (sha256 (regions_in M rs)) d) (sym none) ∙ ap (λ x. verdict x d) e ∙ same_digest d
 
@@ -222,8 +222,8 @@ digested M ss g bare h =
     let e = h p (subst (Has p) (pages_padded ts) i) in
     record { is = e; whole = length-want ss p (M p) e } in
     let bytes : regions_in M rs ≡ wanted_bytes W (pages ts) = parts_bytes W M us placed_us right ∙ ap (wanted_bytes W) (pages_padded ts) in
-    let none : None ≡ first_wild rs = first_none rs (λ k _. none_is_wild us k placed_us small) in
-    ap (λ (qs : List Region). unless_wild (first_wild qs) (sha256 (regions_in M qs)) (sha256 (wanted_bytes W (pages ts)))) (regions_are ts few placed)
+    let none : None ≡ first_wild_region rs = first_none rs (λ k _. none_is_wild us k placed_us small) in
+    ap (λ (qs : List Region). unless_wild (first_wild_region qs) (sha256 (regions_in M qs)) (sha256 (wanted_bytes W (pages ts)))) (regions_are ts few placed)
     ∙ table_same M rs (sha256 (wanted_bytes W (pages ts))) none (ap sha256 bytes)
 
 not_past : (a n : ℕ) → a + n ≤ 2 ^ 46 → passes a n ≡ false

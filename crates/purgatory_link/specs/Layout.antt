@@ -47,13 +47,13 @@ contents file s = if s.kind == sht_nobits then replicate s.size 0 else bytes_at 
 abbrev pub laid_behind : List ℕ → ℕ → Section → List ℕ
 laid_behind file n s = if is_loaded s then replicate (padding s n) 0 ++ contents file s else []
 
-unfoldable pub laid : List ℕ → ℕ → List Section → List ℕ
-laid file n [] = []
-laid file n (s ∷ ss) = laid_behind file n s ++ laid file (end_behind n s) ss
+unfoldable pub lay : List ℕ → ℕ → List Section → List ℕ
+lay file n [] = []
+lay file n (s ∷ ss) = laid_behind file n s ++ lay file (end_behind n s) ss
 
 -- with zeros behind them, n bytes
-abbrev pub filled : ℕ → List ℕ → List ℕ
-filled n bytes = bytes ++ replicate (n - length bytes) 0
+abbrev pub fill_up : ℕ → List ℕ → List ℕ
+fill_up n bytes = bytes ++ replicate (n - length bytes) 0
 
 -- whole pages, at least one
 abbrev pub in_pages : ℕ → ℕ

@@ -33,8 +33,8 @@ meets at w puts = list_any (meets_one at w) puts
 
 -- a field of w bytes at this place from the base on: it lies in the section that it is of, and meets none of the
 -- earlier ones
-unfoldable pub placed : ℕ → Relocatable → List Put → Reloc → ℕ → ℕ → Result (Unit {0}) LinkFault
-placed base o earlier r at w =
+unfoldable pub test_place : ℕ → Relocatable → List Put → Reloc → ℕ → ℕ → Result (Unit {0}) LinkFault
+test_place base o earlier r at w =
     if not (w == 0) && nat_lt (size_at o r.target) (r.offset + w)
     then Err (faults.OutsideSection r.section r.entry)
     else if meets at w earlier then Err (faults.RelocsMeet (base + at))
@@ -53,7 +53,7 @@ abbrev pub put_form : ℕ → Relocatable → List (Option ℕ) → List Put →
     → Result (Option Put) LinkFault
 put_form base o starts earlier r at None = Err (faults.UnknownReloc r.kind)
 put_form base o starts earlier r at (Some form) = do
-  _ ← placed base o earlier r at (wide form)
+  _ ← test_place base o earlier r at (wide form)
   s ← symbol_value base starts o.symbols r.symbol
   put_value base at form (formula form s r.addend (base + at))
 
@@ -97,9 +97,9 @@ with_put None bytes = bytes
 with_put (Some p) bytes = with_field p.at p.wide p.value bytes
 
 -- the bytes with what all relocations of the object in this file put, or the first fault
-unfoldable pub relocated : ℕ → Relocatable → List ℕ → List (Option ℕ) → List ℕ
+unfoldable pub relocate : ℕ → Relocatable → List ℕ → List (Option ℕ) → List ℕ
     → Result (List ℕ) LinkFault
-relocated base o file starts bytes = do
+relocate base o file starts bytes = do
   ps ← puts_of base o starts [] (relocs_of file o)
   Ok (with_puts ps bytes)
 

@@ -8,12 +8,12 @@ use Rattle.elf_image.specs.Sym.{Sym}
 use Rattle.purgatory_link.specs.Sym.{Named}
 
 -- where the section of this index starts, if it is there and loaded
-abbrev pub known : Option (Option ℕ) → Option ℕ
-known None = None
-known (Some start) = start
+abbrev pub known_start : Option (Option ℕ) → Option ℕ
+known_start None = None
+known_start (Some start) = start
 
 abbrev pub start_at : List (Option ℕ) → ℕ → Option ℕ
-start_at starts i = known (slice_get starts i)
+start_at starts i = known_start (slice_get starts i)
 
 -- no section's index: SHN_UNDEF, SHN_ABS or SHN_COMMON
 abbrev pub is_special : ℕ → Bool
@@ -54,19 +54,19 @@ abbrev pub named_at : ℕ → Sym → Option ℕ → List Named
 named_at base s None = []
 named_at base s (Some start) = name_at (address base start s) s ∷ []
 
-abbrev pub named : ℕ → List (Option ℕ) → Sym → List Named
-named base starts s = named_at base s (home starts s)
+abbrev pub named_symbols : ℕ → List (Option ℕ) → Sym → List Named
+named_symbols base starts s = named_at base s (home starts s)
 
 -- symbol 0 has the value 0 as an address too, where its entry names a loaded section
 abbrev pub null_at : Sym → Option ℕ → List Named
 null_at s None = []
 null_at s (Some start) = name_at 0 s ∷ []
 
-abbrev pub null_named : List (Option ℕ) → Sym → List Named
-null_named starts s = null_at s (home starts s)
+abbrev pub null_symbols : List (Option ℕ) → Sym → List Named
+null_symbols starts s = null_at s (home starts s)
 
 -- of all of them, in the order of their indexes
 abbrev pub names_of : ℕ → List (Option ℕ) → List Sym → List Named
 names_of base starts [] = []
 names_of base starts (null ∷ symbols) =
-    null_named starts null ++ flat_map (named base starts) symbols
+    null_symbols starts null ++ flat_map (named_symbols base starts) symbols

@@ -3,7 +3,7 @@
 ghost use Rattle.std.specs.Prelude.{◌≡◌, ℕ, ◌+◌, ◌-◌, ◌^◌, ◌<◌, ◌≤◌, ◌++◌, length, min, IfOk, OnOk};
 ghost use Rattle.elf_image.specs.Section.{IsInside};
 ghost use Rattle.std.specs.List.{All};
-ghost use Rattle.purgatory_link.specs.Layout.{is_loaded, padding, start_behind, end_behind, starts, end, laid_behind, laid, filled, in_pages, has_bad_align, is_loaded_at, is_rel, linked_size};
+ghost use Rattle.purgatory_link.specs.Layout.{is_loaded, padding, start_behind, end_behind, starts, end, laid_behind, lay, fill_up, in_pages, has_bad_align, is_loaded_at, is_rel, linked_size};
 ghost use Rattle.purgatory_link.specs.declared.fault.LinkFault.TheVariants as faults;
 ghost use Rattle.kx_laws.specs.Results.{unless_at};
 ghost use Rattle.std.specs.Prelude.{position};
@@ -186,7 +186,7 @@ fn put_section(out: &mut Vec<u8>, section: &Section, file: &[u8]) -> Result<(), 
 }
 
 /// The bytes of the loaded sections at their places, filled up to `size` bytes.
-pub(crate) fn laid(
+pub(crate) fn lay(
     alloc: Global,
     sections: &[Section],
     file: &[u8],
@@ -195,7 +195,7 @@ pub(crate) fn laid(
     requires small { end 0 sections.now ≤ 16777216 }
     requires inside { All (IsInside file.now) sections.now }
     requires size { size ≡ in_pages (end 0 sections.now) }
-    ensures bytes { IfOk result (λ v. v.items ≡ filled size (laid file.now 0 sections.now)) }
+    ensures bytes { IfOk result (λ v. v.items ≡ fill_up size (lay file.now 0 sections.now)) }
     ensures length { IfOk result (λ v. length v.items ≡ size) }
 {
     let mut out = Vec::new(alloc);

@@ -6,7 +6,7 @@ ghost use Rattle.kx_fields.specs.Fields.{with_bytes};
 ghost use Rattle.elf_image.specs.Object.{IsObject};
 ghost use Rattle.purgatory_link.specs.declared.fault.LinkFault.TheVariants.{Memory};
 ghost use Rattle.purgatory_link.specs.Layout.{end, in_pages, linked_size};
-ghost use Rattle.purgatory_link.specs.Link.{linked, linking};
+ghost use Rattle.purgatory_link.specs.Link.{link_at, linking};
 ghost use Rattle.purgatory_link.specs.Meaning.{AllHold, KeepsOthers};
 ghost use Rattle.purgatory_link.specs.Set.{symbol_of, is_inside, setting};
 
@@ -107,12 +107,12 @@ fn link_sized(
     requires base { base < 2 ^ 46 }
     requires size { size ≡ in_pages (end 0 object.now.sections) }
     requires small { end 0 object.now.sections ≤ 16777216 }
-    ensures exact { Gives Memory (λ l. l) result (linked base object.now file.now size) }
+    ensures exact { Gives Memory (λ l. l) result (link_at base object.now file.now size) }
     ensures fields { IfOk result (λ l. AllHold base object.now file.now l.bytes) }
     ensures others { IfOk result (λ l. KeepsOthers object.now file.now l.bytes) }
 {
     let starts = layout::starts(alloc, &object.sections)?;
-    let bytes = layout::laid(alloc, &object.sections, file, size)?;
+    let bytes = layout::lay(alloc, &object.sections, file, size)?;
     let bytes = match relocate::relocate(alloc, base, object, file, &starts, bytes) {
         Ok(bytes) => bytes,
         Err(fault) => return Err(fault),

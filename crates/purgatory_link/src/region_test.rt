@@ -10,7 +10,7 @@ ghost use Rattle.segments.specs.Values.{SegmentValue};
 ghost use Rattle.segments.specs.Rules.{IsBare};
 ghost use Rattle.purgatory_link.specs.Regions.{others, digest};
 ghost use Rattle.purgatory_link.specs.Tie.{HoldsDigested, HasRegions, HasWanted, HasPlaces, with_regions};
-ghost use Rattle.purgatory_link.specs.RegionTest.{regions, regions_in, passes, is_wild, first_wild, verdict, test_table, test};
+ghost use Rattle.purgatory_link.specs.RegionTest.{regions, regions_in, passes, is_wild, first_wild_region, verdict, test_table, test};
 
 use crate::digests::digest_block;
 use kx_fields::Block;
@@ -52,7 +52,7 @@ fn passes(start: u64, size: u64) -> bool
 
 // The least region that passes 2^46, or with which the lengths so far pass 2^28.
 fn first_wild(table: &Block<256>) -> Option<usize>
-    ensures { result ≡ first_wild (regions table.now) }
+    ensures { result ≡ first_wild_region (regions table.now) }
 {
     let mut sum = 0;
     for i in 0..ROWS {

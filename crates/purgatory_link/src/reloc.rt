@@ -4,7 +4,7 @@ ghost use Rattle.std.specs.Prelude.{◌≡◌, ℕ, List, ◌+◌, ◌<◌, ◌�
 ghost use Rattle.purgatory_link.specs.declared.put.Put.{Put};
 ghost use Rattle.purgatory_link.specs.Formulas.{formula, wide};
 ghost use Rattle.purgatory_link.specs.Symbols.{start_at};
-ghost use Rattle.purgatory_link.specs.Relocs.{HasRoom, size_at, placed, put_value, put_of};
+ghost use Rattle.purgatory_link.specs.Relocs.{HasRoom, size_at, test_place, put_value, put_of};
 ghost use Rattle.purgatory_link.specs.Taken.{AreTaken};
 
 use crate::fault::LinkFault;
@@ -26,8 +26,8 @@ fn size_at(object: &Object, index: usize) -> u64
 
 // Refuses a field of `wide` bytes in the section that starts at this place, where it does not lie in the section or
 // meets an earlier one.
-#[tactic(auto, unfolding(crate::specs::Relocs::placed))]
-fn placed(
+#[tactic(auto, unfolding(crate::specs::Relocs::test_place))]
+fn test_place(
     base: u64,
     object: &Object,
     taken: &Taken,
@@ -39,7 +39,7 @@ fn placed(
     requires wide { wide ≤ 8 }
     requires room { start + size_at object.now reloc.now.target ≤ 16777216 }
     ensures exact { (puts : List Put) → AreTaken puts taken.now
-        → result ≡ placed base object.now puts reloc.now (start + reloc.now.offset) wide }
+        → result ≡ test_place base object.now puts reloc.now (start + reloc.now.offset) wide }
     ensures within { IfOk result (λ _. 0 < wide
         → reloc.now.offset + wide ≤ size_at object.now reloc.now.target) }
 {
@@ -109,7 +109,7 @@ pub(crate) fn put_of(
         Some(form) => form,
         None => return Err(LinkFault::UnknownReloc { kind: kind as u64 }),
     };
-    match placed(base, object, taken, reloc, start, form.wide()) {
+    match test_place(base, object, taken, reloc, start, form.wide()) {
         Ok(()) => (),
         Err(fault) => return Err(fault),
     }

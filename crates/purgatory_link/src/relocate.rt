@@ -6,7 +6,7 @@ ghost use Rattle.elf_image.specs.Reloc.{AreInside, entries_of};
 ghost use Rattle.kx_laws.specs.Results.{Gives};
 ghost use Rattle.purgatory_link.specs.declared.put.Put.{Put};
 ghost use Rattle.purgatory_link.specs.declared.fault.LinkFault.TheVariants.{Memory};
-ghost use Rattle.purgatory_link.specs.Relocs.{HasRoom, IsPut, with_one, with_put, relocated};
+ghost use Rattle.purgatory_link.specs.Relocs.{HasRoom, IsPut, with_one, with_put, relocate};
 ghost use Rattle.purgatory_link.specs.Taken.{room, AreTaken, IsRow};
 ghost use Rattle.purgatory_link.specs.Progress.{ArePut, Refuses};
 
@@ -99,7 +99,7 @@ pub(crate) fn relocate(
     requires room { HasRoom object.now starts.now (length bytes.items) }
     requires small { length bytes.items ≤ 16777216 }
     ensures { Gives Memory (λ v. v.items) result
-        (relocated base object.now file.now starts.now bytes.items) }
+        (relocate base object.now file.now starts.now bytes.items) }
 {
     let mut buffer = LinkBuffer::new(alloc, bytes)?;
     for section in &object.reloc_sections {

@@ -3,7 +3,7 @@
 ghost use Rattle.std.specs.Prelude.{◌≡◌, ℕ, [], ◌∷◌, ◌++◌, IfOk, OnOk};
 ghost use Rattle.std.specs.List.{flat_map};
 ghost use Rattle.purgatory_link.specs.Symbols.{start_at, home, address, symbol_value};
-ghost use Rattle.purgatory_link.specs.Symbols.{name_at, null_named, named, names_of};
+ghost use Rattle.purgatory_link.specs.Symbols.{name_at, null_symbols, named_symbols, names_of};
 
 use crate::fault::LinkFault;
 use crate::names::Name;
@@ -92,7 +92,7 @@ fn push_null(
     starts: &[Option<u64>],
     symbol: &Symbol,
 ) -> Result<(), AllocError>
-    ensures { OnOk result (names.new.items ≡ names.old.items ++ null_named starts.now symbol.now) }
+    ensures { OnOk result (names.new.items ≡ names.old.items ++ null_symbols starts.now symbol.now) }
 {
     match home(starts, symbol) {
         Some(_) => push_name(alloc, names, 0, symbol),
@@ -108,7 +108,7 @@ fn push_defined(
     starts: &[Option<u64>],
     symbol: &Symbol,
 ) -> Result<(), AllocError>
-    ensures { OnOk result (names.new.items ≡ names.old.items ++ named base starts.now symbol.now) }
+    ensures { OnOk result (names.new.items ≡ names.old.items ++ named_symbols base starts.now symbol.now) }
 {
     match home(starts, symbol) {
         Some(start) => push_name(alloc, names, address(base, start, symbol), symbol),
@@ -125,7 +125,7 @@ fn push_all(
     symbols: &[Symbol],
 ) -> Result<(), AllocError>
     ensures { OnOk result
-        (names.new.items ≡ names.old.items ++ flat_map (named base starts.now) symbols.now) }
+        (names.new.items ≡ names.old.items ++ flat_map (named_symbols base starts.now) symbols.now) }
 {
     for symbol in symbols {
         push_defined(alloc, names, base, starts, symbol)?;

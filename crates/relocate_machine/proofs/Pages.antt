@@ -4,7 +4,7 @@ use Rattle.std.specs.Prelude.{◌⊎◌, nat_le}
 use Rattle.kx_laws.proofs.Options.{some_same, none_some}
 use Rattle.kx_pages.specs.declared.image.Mode.{Mode}
 use Rattle.kx_pages.specs.declared.image.Mode.TheVariants.{Plain, Kept}
-use Rattle.page_memory.specs.Contents.{Contents, at, copied, IsHeld}
+use Rattle.page_memory.specs.Contents.{Contents, at, copy_page, IsHeld}
 use Rattle.page_memory.proofs.Laws.{get-insert_other, held-insert, held-insert_same, held-insert_only}
 use Rattle.relocate_machine.specs.declared.step.Step.{Step}
 use Rattle.relocate_machine.specs.declared.step.Step.TheVariants as steps
@@ -38,13 +38,13 @@ wrote_move Plain m d s = record {
   written = written;
 }
   where
-    written : (q : ℕ) → IsWritten (move_writes Plain d s) q → IsHeld (copied m d s) q
-    written q (inl e) = subst (IsHeld (copied m d s)) (some_same d q e) (held-insert_same m.pages d (at m s))
+    written : (q : ℕ) → IsWritten (move_writes Plain d s) q → IsHeld (copy_page m d s) q
+    written q (inl e) = subst (IsHeld (copy_page m d s)) (some_same d q e) (held-insert_same m.pages d (at m s))
     written q (inr (inl e)) = absurd (none_some None q refl e)
     written q (inr (inr e)) = absurd (none_some None q refl e)
 wrote_move (Kept w) m d s =
-    let m1 = copied m w s in
-    let m2 = copied m1 s d in
+    let m1 = copy_page m w s in
+    let m2 = copy_page m1 s d in
     record {
       others = λ q off. get-insert_other m2.pages d (at m2 w) q (λ e. off (inl (ap Some (sym e))))
           ∙ get-insert_other m1.pages s (at m1 d) q (λ e. off (inr (inl (ap Some (sym e)))))
@@ -61,14 +61,14 @@ wrote_move (Kept w) m d s =
     last = after_move (Kept w) m d s
 
     written : (q : ℕ) → IsWritten (move_writes (Kept w) d s) q → IsHeld last q
-    written q (inl e) = subst (IsHeld last) (some_same d q e) (held-insert_same (copied (copied m w s) s d).pages d (at (copied (copied m w s) s d) w))
+    written q (inl e) = subst (IsHeld last) (some_same d q e) (held-insert_same (copy_page (copy_page m w s) s d).pages d (at (copy_page (copy_page m w s) s d) w))
     written q (inr (inl e)) =
         subst (IsHeld last) (some_same s q e)
-        (held-insert (copied (copied m w s) s d).pages d (at (copied (copied m w s) s d) w) s (held-insert_same (copied m w s).pages s (at (copied m w s) d)))
+        (held-insert (copy_page (copy_page m w s) s d).pages d (at (copy_page (copy_page m w s) s d) w) s (held-insert_same (copy_page m w s).pages s (at (copy_page m w s) d)))
     written q (inr (inr e)) =
         subst (IsHeld last) (some_same w q e)
-        (held-insert (copied (copied m w s) s d).pages d (at (copied (copied m w s) s d) w) w
-        (held-insert (copied m w s).pages s (at (copied m w s) d) w (held-insert_same m.pages w (at m s))))
+        (held-insert (copy_page (copy_page m w s) s d).pages d (at (copy_page (copy_page m w s) s d) w) w
+        (held-insert (copy_page m w s).pages s (at (copy_page m w s) d) w (held-insert_same m.pages w (at m s))))
 
 source_wrote : (s : State) (r : Registers) (a : ℕ) (far far_to : Bool)
     → Wrote (cond far no_writes (cond far_to no_writes (move_writes s.machine.mode (s.machine.destination / 4096) (a / 4096)))) s.memory

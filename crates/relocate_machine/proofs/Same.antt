@@ -8,7 +8,7 @@ use Rattle.std.proofs.lemmas.Bool.{cases_eq, false≢true}
 use Rattle.kx_laws.proofs.Options.{some_same, none_some}
 use Rattle.kx_pages.specs.declared.image.Mode.{Mode}
 use Rattle.kx_pages.specs.declared.image.Mode.TheVariants.{Plain, Kept}
-use Rattle.page_memory.specs.Contents.{Contents, at, copied}
+use Rattle.page_memory.specs.Contents.{Contents, at, copy_page}
 use Rattle.page_memory.specs.Memory.{Agree}
 use Rattle.page_memory.proofs.Laws.{word-same_page, frame_at-found, get-insert_same, get-insert_other, frame_at-insert_same, frame_at-insert_other}
 use Rattle.relocate_machine.specs.declared.step.Step.{Step}
@@ -50,23 +50,23 @@ same_contents m n h =
     (same_map nat_cmp_total nat_cmp-IsAntisymmetric n.pages m.pages (λ q. h.pages q (λ x. x))) h.sets
 
 -- a page that is copied to is held and reads alike
-off_copied : (P : ℕ → Type 0) (m n : Contents) (d s : ℕ) → IsSameOff (λ q. (q ≡ d) ⊎ P q) m n → IsSameOff P (copied m d s) (copied n d s)
+off_copied : (P : ℕ → Type 0) (m n : Contents) (d s : ℕ) → IsSameOff (λ q. (q ≡ d) ⊎ P q) m n → IsSameOff P (copy_page m d s) (copy_page n d s)
 off_copied P m n d s h = record {
   sets = h.sets;
   reads = λ q. reads q (cases_eq q d);
   pages = λ q off. pages q off (cases_eq q d);
 }
   where
-    reads : (q : ℕ) → (q ≡ d) ⊎ (q ≢ d) → at (copied m d s) q ≡ at (copied n d s) q
+    reads : (q : ℕ) → (q ≡ d) ⊎ (q ≢ d) → at (copy_page m d s) q ≡ at (copy_page n d s) q
     reads q (inl e) =
-        subst (λ q. at (copied m d s) q ≡ at (copied n d s) q) (sym e)
+        subst (λ q. at (copy_page m d s) q ≡ at (copy_page n d s) q) (sym e)
         (frame_at-insert_same m.pages d (at m s) ∙ h.reads s ∙ sym (frame_at-insert_same n.pages d (at n s)))
     reads q (inr ne) =
         frame_at-insert_other m.pages d (at m s) q ne ∙ h.reads q ∙ sym (frame_at-insert_other n.pages d (at n s) q ne)
 
-    pages : (q : ℕ) → (P q → ⊥) → (q ≡ d) ⊎ (q ≢ d) → get (copied n d s).pages q ≡ get (copied m d s).pages q
+    pages : (q : ℕ) → (P q → ⊥) → (q ≡ d) ⊎ (q ≢ d) → get (copy_page n d s).pages q ≡ get (copy_page m d s).pages q
     pages q off (inl e) =
-        subst (λ q. get (copied n d s).pages q ≡ get (copied m d s).pages q) (sym e)
+        subst (λ q. get (copy_page n d s).pages q ≡ get (copy_page m d s).pages q) (sym e)
         (get-insert_same n.pages d (at n s) ∙ ap Some (sym (h.reads s)) ∙ sym (get-insert_same m.pages d (at m s)))
     pages q off (inr ne) =
         get-insert_other n.pages d (at n s) q ne ∙ h.pages q (⊎_elim ne off) ∙ sym (get-insert_other m.pages d (at m s) q ne)
@@ -82,7 +82,7 @@ same_unwritten m n h = same_contents m n (off_as (IsWritten no_writes) (λ q. �
 move-same : (mode : Mode) (m n : Contents) (d s : ℕ) → IsSameOff (IsWritten (move_writes mode d s)) m n
     → after_move mode n d s ≡ after_move mode m d s
 move-same Plain m n d s h =
-    same_contents (copied m d s) (copied n d s)
+    same_contents (copy_page m d s) (copy_page n d s)
     (off_copied (λ q. ⊥) m n d s (off_as (IsWritten (move_writes Plain d s)) (λ q. (q ≡ d) ⊎ ⊥) m n narrow h))
   where
     narrow : (q : ℕ) → IsWritten (move_writes Plain d s) q → (q ≡ d) ⊎ ⊥
@@ -92,8 +92,8 @@ move-same Plain m n d s h =
 move-same (Kept w) m n d s h =
     let one = off_copied (λ q. (q ≡ s) ⊎ ((q ≡ d) ⊎ ⊥)) m n w s
     (off_as (IsWritten (move_writes (Kept w) d s)) (λ q. (q ≡ w) ⊎ ((q ≡ s) ⊎ ((q ≡ d) ⊎ ⊥))) m n narrow h) in
-    let two = off_copied (λ q. (q ≡ d) ⊎ ⊥) (copied m w s) (copied n w s) s d one in
-    same_contents _ _ (off_copied (λ q. ⊥) (copied (copied m w s) s d) (copied (copied n w s) s d) d w two)
+    let two = off_copied (λ q. (q ≡ d) ⊎ ⊥) (copy_page m w s) (copy_page n w s) s d one in
+    same_contents _ _ (off_copied (λ q. ⊥) (copy_page (copy_page m w s) s d) (copy_page (copy_page n w s) s d) d w two)
   where
     narrow : (q : ℕ) → IsWritten (move_writes (Kept w) d s) q → (q ≡ w) ⊎ ((q ≡ s) ⊎ ((q ≡ d) ⊎ ⊥))
     narrow q (inl e) = inr (inr (inl (sym (some_same d q e))))

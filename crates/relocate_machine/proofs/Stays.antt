@@ -3,7 +3,7 @@ use Rattle.std.proofs.Common.{◌≡◌, ℕ, zero, suc, ◌+◌, ◌/◌, ◌^�
 use Rattle.std.specs.Prelude.{nat_le}
 use Rattle.kx_pages.specs.declared.image.Mode.{Mode}
 use Rattle.kx_pages.specs.declared.image.Mode.TheVariants.{Plain, Kept}
-use Rattle.page_memory.specs.Contents.{Contents, at, copied}
+use Rattle.page_memory.specs.Contents.{Contents, at, copy_page}
 use Rattle.page_memory.proofs.Laws.{held-insert}
 use Rattle.relocate_machine.specs.declared.step.Step.{Step}
 use Rattle.relocate_machine.specs.declared.step.Step.TheVariants as steps
@@ -20,15 +20,15 @@ stays_same m = record { sets = refl; held = λ q h. h }
 pub stays_then : (l m n : Contents) → Stays l m → Stays m n → Stays l n
 stays_then l m n h k = record { sets = k.sets ∙ h.sets; held = λ q x. k.held q (h.held q x) }
 
-stays_copied : (m : Contents) (d s : ℕ) → Stays m (copied m d s)
+stays_copied : (m : Contents) (d s : ℕ) → Stays m (copy_page m d s)
 stays_copied m d s = record { sets = refl; held = held-insert m.pages d (at m s) }
 
 stays_moved : (mode : Mode) (m : Contents) (d s : ℕ) → Stays m (after_move mode m d s)
 stays_moved Plain m d s = stays_copied m d s
 stays_moved (Kept w) m d s =
-    let one = copied m w s in
-    let two = copied one s d in
-    stays_then m one (copied two d w) (stays_copied m w s) (stays_then one two (copied two d w) (stays_copied one s d) (stays_copied two d w))
+    let one = copy_page m w s in
+    let two = copy_page one s d in
+    stays_then m one (copy_page two d w) (stays_copied m w s) (stays_then one two (copy_page two d w) (stays_copied one s d) (stays_copied two d w))
 
 source_stays : (s : State) (r : Registers) (a : ℕ) (far far_to : Bool) → Stays s.memory (cond {A = State × Step} far (s, steps.Off a) (cond far_to (s, steps.Off s.machine.destination) (record { machine = r; memory = after_move s.machine.mode s.memory (s.machine.destination / 4096) (a / 4096) }, steps.Went))).0.memory
 source_stays s r a true far_to = stays_same s.memory

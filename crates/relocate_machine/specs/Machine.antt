@@ -3,7 +3,7 @@
 use Rattle.std.specs.Prelude.{ℕ, ◌+◌, ◌-◌, ◌/◌, ◌%◌, ◌^◌, Bool, true, false, Option, Some, None, Result, Ok, Err, nat_le, ◌==◌, if◌then◌else◌, bit_and}
 use Rattle.kx_pages.specs.declared.image.Mode.{Mode}
 use Rattle.kx_pages.specs.declared.image.Mode.TheVariants.{Plain, Kept}
-use Rattle.page_memory.specs.Contents.{Contents, at, copied, swapped}
+use Rattle.page_memory.specs.Contents.{Contents, at, copy_page, swap_pages}
 use Rattle.page_memory.specs.Memory.{word}
 use Rattle.relocate_machine.specs.declared.word.WordKind.{WordKind}
 use Rattle.relocate_machine.specs.declared.word.WordKind.TheVariants as kinds
@@ -49,8 +49,8 @@ past_word None r = record r { cursor = r.cursor + 8 }
 
 -- a move of page s to page d: plain a copy, kept three copies by way of the swap page w
 abbrev pub after_move : Mode → Contents → ℕ → ℕ → Contents
-after_move Plain m d s = copied m d s
-after_move (Kept w) m d s = swapped m d s w
+after_move Plain m d s = copy_page m d s
+after_move (Kept w) m d s = swap_pages m d s w
 
 -- handling a word: s is the state, r the registers once the word was fetched, a the word's address
 abbrev pub after_word : State → Registers → WordKind → ℕ → State × Step

@@ -2,11 +2,10 @@
 use Rattle.std.proofs.Common.{◌≡◌, ℕ, zero, suc, ◌+◌, ◌-◌, ◌*◌, ◌/◌, ◌%◌, ◌^◌, ◌<◌, ◌≤◌, ◌++◌, List, [], ◌∷◌, length, Option, Some, None, Bool, false, refl, sym, ap, ◌∙◌, subst, arith, inl, inr, length-append, append_assoc}
 use Rattle.std.specs.Prelude.{◌==◌, cond, nat_lt}
 use Rattle.std.specs.Option.{option_map}
-use Rattle.std.specs.List.{position_or_len}
+use Rattle.std.specs.List.{position_or_len, AllByRecursion}
 use Rattle.std.proofs.lemmas.Bool.Decides.{nat_tests}
 use Rattle.std.proofs.lemmas.List.FromFn.{length-range_with_len, length-map-range_with_len, map-range_with_len_more}
 use Rattle.std.proofs.lemmas.Option.{none-some}
-use Rattle.kx_pages.specs.Lists.{Each}
 use Rattle.kx_pages.proofs.Lists.{Each-map, Each-append}
 use Rattle.kx_pages.specs.declared.image.Wish.TheVariants.{Plain}
 use Rattle.segments.specs.declared.fault.SegFault.{SegFault}
@@ -14,7 +13,7 @@ use Rattle.segments.specs.declared.fault.SegFault.TheVariants as faults
 use Rattle.segments.specs.Values.{SegmentValue, stop, page_count, pages_of_segment, pages, need}
 use Rattle.segments.specs.Rules.{where_true, at_first, is_bad_address, bad_address, overlap_each_other, overlap_after, overlap, is_too_full, too_full, bad_count, too_large, shape_refusal, bare_refusal, IsBare, Refuses}
 use Rattle.sample_load.specs.declared.drawn_segments.Shape.{Shape}
-use Rattle.sample_load.specs.Draws.{next_state, drawn}
+use Rattle.sample_load.specs.Draws.{next_state, draw_from}
 use Rattle.sample_load.specs.DrawnSegments.{shape_of, second_state, third_state, byte_of, bytes_of, segment_of, page_behind, segments_from}
 use Rattle.sample_load.specs.Samples.{sample_segments}
 
@@ -33,12 +32,12 @@ AreRising low [] = Unit {0}
 AreRising low (s ∷ ss) = IsNext low s × AreRising (stop s) ss
 
 -- what is true of each is true of each in its place
-each_of : (P : SegmentValue → Type 0) (low : ℕ) (ss : List SegmentValue) → ((low : ℕ) (s : SegmentValue) → IsNext low s → P s) → AreRising low ss → Each P ss
+each_of : (P : SegmentValue → Type 0) (low : ℕ) (ss : List SegmentValue) → ((low : ℕ) (s : SegmentValue) → IsNext low s → P s) → AreRising low ss → AllByRecursion P ss
 each_of P low [] f h = tt
 each_of P low (s ∷ ss) f h = (f low s h.0, each_of P (stop s) ss f h.1)
 
 -- where they end
-ends : (low : ℕ) (ss : List SegmentValue) → AreRising low ss → Each (λ s. stop s ≤ low + 2355200 * length ss) ss
+ends : (low : ℕ) (ss : List SegmentValue) → AreRising low ss → AllByRecursion (λ s. stop s ≤ low + 2355200 * length ss) ss
 ends low [] h = tt
 ends low (s ∷ ss) h =
     let here : stop s ≤ low + 2355200 = omega (arith, h.0.near, h.0.small) in
@@ -50,7 +49,7 @@ ends low (s ∷ ss) h =
 where_false : (b : Bool) (f : SegFault) → b ≡ false → where_true b f ≡ None
 where_false b f e = rw e refl
 
-none_passes : (p : SegmentValue → Bool) (ss : List SegmentValue) → Each (λ s. p s ≡ false) ss → position_or_len p ss ≡ length ss
+none_passes : (p : SegmentValue → Bool) (ss : List SegmentValue) → AllByRecursion (λ s. p s ≡ false) ss → position_or_len p ss ≡ length ss
 none_passes p [] h = refl
 none_passes p (s ∷ ss) h =
     let one : 1 + length ss ≡ suc (length ss) = omega arith in
@@ -61,7 +60,7 @@ no_position n m e =
     let past : nat_lt n m ≡ false = grind (arith, nat_tests) in
     rw past refl
 
-none_found : (test : SegmentValue → Bool) (fault : ℕ → SegFault) (ss : List SegmentValue) → Each (λ s. test s ≡ false) ss → at_first test fault ss ≡ None
+none_found : (test : SegmentValue → Bool) (fault : ℕ → SegFault) (ss : List SegmentValue) → AllByRecursion (λ s. test s ≡ false) ss → at_first test fault ss ≡ None
 none_found test fault ss h = ap (option_map fault) (no_position _ _ (none_passes test ss h))
 
 good_address : (s : SegmentValue) (low : ℕ) → IsNext low s → stop s < 2 ^ 46 → is_bad_address s ≡ false
@@ -73,11 +72,11 @@ good_address s low h below =
 apart : (s r : SegmentValue) → stop r ≤ s.mem → overlap_each_other s r ≡ false
 apart s r behind = grind (arith, nat_tests)
 
-no_overlap : (earlier : List SegmentValue) (low : ℕ) (ss : List SegmentValue) → Each (λ r. stop r ≤ low) earlier → AreRising low ss → overlap_after earlier ss ≡ None
+no_overlap : (earlier : List SegmentValue) (low : ℕ) (ss : List SegmentValue) → AllByRecursion (λ r. stop r ≤ low) earlier → AreRising low ss → overlap_after earlier ss ≡ None
 no_overlap earlier low [] b h = refl
 no_overlap earlier low (s ∷ ss) b h =
     let here = none_found (overlap_each_other s) (faults.Overlap (length earlier)) earlier (Each-map earlier (λ r l. apart s r (omega (arith, l, h.0.above))) b) in
-    let behind : Each (λ r. stop r ≤ stop s) earlier = Each-map earlier (λ r l. omega (arith, l, h.0.above)) b in
+    let behind : AllByRecursion (λ r. stop r ≤ stop s) earlier = Each-map earlier (λ r l. omega (arith, l, h.0.above)) b in
     let later = no_overlap (earlier ++ s ∷ []) (stop s) ss (Each-append (λ r. stop r ≤ stop s) earlier (s ∷ []) behind (omega arith, tt)) h.1 in
     rw here later
 
@@ -92,7 +91,7 @@ few_pages low (s ∷ ss) h =
     let here : page_count s ≤ 512 = omega (arith, h.0.small) in
     omega (arith, length-append (pages_of_segment s) (pages ss), length-range_with_len (s.mem / 4096) (page_count s), here, few_pages (stop s) ss h.1)
 
-addresses : (low : ℕ) (ss : List SegmentValue) → AreRising low ss → Each (λ s. stop s < 2 ^ 46) ss → Each (λ s. is_bad_address s ≡ false) ss
+addresses : (low : ℕ) (ss : List SegmentValue) → AreRising low ss → AllByRecursion (λ s. stop s < 2 ^ 46) ss → AllByRecursion (λ s. is_bad_address s ≡ false) ss
 addresses low [] h b = tt
 addresses low (s ∷ ss) h b = (good_address s low h.0 b.0, addresses (stop s) ss h.1 b.1)
 
@@ -105,7 +104,7 @@ bare low ss start some few h =
     let not_many : nat_lt 16 n ≡ false = grind (arith, nat_tests) in
     let pages_few = few_pages low ss h in
     let not_large : nat_lt 65536 (length (pages ss)) ≡ false = grind (arith, nat_tests) in
-    let below : Each (λ s. stop s < 2 ^ 46) ss = Each-map ss (λ s l. omega (arith, l, start, few)) (ends low ss h) in
+    let below : AllByRecursion (λ s. stop s < 2 ^ 46) ss = Each-map ss (λ s l. omega (arith, l, start, few)) (ends low ss h) in
     let counted : bad_count ss ≡ None = rw (filled, not_many) refl in
     let address : bad_address ss ≡ None = none_found is_bad_address faults.BadAddress ss (addresses low ss h below) in
     let over : overlap ss ≡ None = no_overlap [] low ss tt h in
@@ -126,13 +125,13 @@ next_of i next s gap count = record {
 }
 
 pub small_gap : (x : ℕ) → (shape_of x).gap < 64
-small_gap x = below (drawn (next_state x))
+small_gap x = below (draw_from (next_state x))
   where
     below : (a : ℕ) → a % 64 < 64
     below a = omega arith
 
 pub small_count : (x : ℕ) → (shape_of x).count ≤ 512
-small_count x = below (drawn (second_state x))
+small_count x = below (draw_from (second_state x))
   where
     below : (a : ℕ) → 1 + a % 512 ≤ 512
     below a = omega arith
@@ -176,10 +175,10 @@ only_memory number ss e same (inl h) = absurd (none-some e (sym (ap bare_refusal
 only_memory number ss e same (inr h) = h.0
 
 -- one segment more is drawn
-pub drawn_more : (drawn : List SegmentValue) (k left i x next y : ℕ) (shape : Shape) (s : SegmentValue) → left ≡ suc k → y ≡ third_state x → shape ≡ shape_of x → s ≡ segment_of i next shape
-    → (drawn ++ s ∷ []) ++ segments_from k (i + 1) y (next + (shape.gap + shape.count)) ≡ drawn ++ segments_from left i x next
-drawn_more drawn k left i x next y shape s last state is made =
-    rw (made, is, state, segments_step k left i x next last) (append_assoc drawn (segment_of i next (shape_of x) ∷ []) (segments_from k (i + 1) (third_state x) (page_behind next (shape_of x))))
+pub drawn_more : (draw_from : List SegmentValue) (k left i x next y : ℕ) (shape : Shape) (s : SegmentValue) → left ≡ suc k → y ≡ third_state x → shape ≡ shape_of x → s ≡ segment_of i next shape
+    → (draw_from ++ s ∷ []) ++ segments_from k (i + 1) y (next + (shape.gap + shape.count)) ≡ draw_from ++ segments_from left i x next
+drawn_more draw_from k left i x next y shape s last state is made =
+    rw (made, is, state, segments_step k left i x next last) (append_assoc draw_from (segment_of i next (shape_of x) ∷ []) (segments_from k (i + 1) (third_state x) (page_behind next (shape_of x))))
 
 -- one byte more
 pub byte_more : (bytes more : List ℕ) (i j b : ℕ) → bytes ≡ bytes_of i j → b ≡ byte_of i j → more ≡ bytes ++ b ∷ [] → more ≡ bytes_of i (j + 1)

@@ -3,7 +3,7 @@ use Rattle.std.specs.Prelude.{ℕ, zero, suc, ◌+◌, ◌-◌, ◌*◌, ◌/◌
 use Rattle.std.specs.List.{range_with_len}
 use Rattle.segments.specs.Values.{SegmentValue}
 use Rattle.sample_load.specs.declared.drawn_segments.Shape.{Shape}
-use Rattle.sample_load.specs.Draws.{next_state, drawn}
+use Rattle.sample_load.specs.Draws.{next_state, draw_from}
 
 -- the states after the first, the second and the third draw
 abbrev pub second_state : ℕ → ℕ
@@ -16,9 +16,9 @@ third_state x = next_state (second_state x)
 -- bytes are missing
 abbrev pub shape_of : ℕ → Shape
 shape_of x = record {
-  gap = drawn (next_state x) % 64;
-  count = 1 + drawn (second_state x) % 512;
-  short = drawn (third_state x) % 4096;
+  gap = draw_from (next_state x) % 64;
+  count = 1 + draw_from (second_state x) % 512;
+  short = draw_from (third_state x) % 4096;
 }
 
 -- byte j of segment i

@@ -8,5 +8,5 @@ abbrev pub next_state : ℕ → ℕ
 next_state x = (x * 6364136223846793005 + 1442695040888963407) % 2 ^ 64
 
 -- what the draw gives that leaves this state
-abbrev pub drawn : ℕ → ℕ
-drawn x = x / 2 ^ 33
+abbrev pub draw_from : ℕ → ℕ
+draw_from x = x / 2 ^ 33

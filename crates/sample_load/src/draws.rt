@@ -1,7 +1,7 @@
 //! Draws from a number.
 
 ghost use Rattle.std.specs.Prelude.{◌≡◌, ◌<◌, ◌^◌};
-ghost use Rattle.sample_load.specs.Draws.{drawn, next_state};
+ghost use Rattle.sample_load.specs.Draws.{draw_from, next_state};
 
 /// The multiplier of Knuth's MMIX.
 const MULTIPLIER: u64 = 6364136223846793005;
@@ -20,7 +20,7 @@ impl Generator {
     /// repeat soon.
     pub(crate) fn draw(&mut self) -> u64
         ensures state { self.new.state ≡ next_state self.old.state }
-        ensures value { result ≡ drawn self.new.state }
+        ensures value { result ≡ draw_from self.new.state }
         ensures small { result < 2 ^ 31 }
     {
         self.state = self.state.wrapping_mul(MULTIPLIER).wrapping_add(INCREMENT);

@@ -2,12 +2,12 @@
 use Rattle.std.proofs.Common.{◌≡◌, ℕ, ◌+◌, ◌*◌, ◌/◌, ◌%◌, ◌^◌, ◌<◌, ◌≤◌, ◌++◌, List, [], ◌∷◌, length, Some, None, Bool, true, false, refl, sym, ap, ◌∙◌, ⊎_elim, arith}
 use Rattle.std.specs.Prelude.{◌||◌, ◌==◌, not, nat_le, nat_lt}
 use Rattle.std.specs.Option.{option_map, is_some}
-use Rattle.std.specs.List.{position}
+use Rattle.std.specs.List.{position, AllByRecursion}
 use Rattle.std.proofs.lemmas.Bool.{false≢true, or_parts, or_cases}
 use Rattle.std.proofs.lemmas.Bool.Decides.{nat_tests}
 use Rattle.std.proofs.lemmas.Option.{none-some}
 use Rattle.kx_laws.proofs.Options.{some_of, none_left, none_right, map_none}
-use Rattle.kx_pages.specs.Lists.{Each, Has, Distinct}
+use Rattle.kx_pages.specs.Lists.{Has, Distinct}
 use Rattle.kx_pages.specs.Bytes.{page_of}
 use Rattle.kx_pages.proofs.Bytes.{page_of-take}
 use Rattle.segments.specs.declared.fault.SegFault.{SegFault}
@@ -25,7 +25,7 @@ not_true : (b : Bool) (f : SegFault) → where_true b f ≡ None → b ≡ false
 not_true true f e = absurd (none-some f (sym e))
 not_true false f e = refl
 
-none_fails : (test : SegmentValue → Bool) (fault : ℕ → SegFault) (ss : List SegmentValue) → at_first test fault ss ≡ None → Each (λ s. test s ≡ false) ss
+none_fails : (test : SegmentValue → Bool) (fault : ℕ → SegFault) (ss : List SegmentValue) → at_first test fault ss ≡ None → AllByRecursion (λ s. test s ≡ false) ss
 none_fails test fault ss e = Each-from_no_first test ss (map_none fault (position test ss) e)
 
 good_address : (s : SegmentValue) → is_bad_address s ≡ false → IsPlaced s
@@ -37,7 +37,7 @@ good_address s e =
     record { starts = starts; whole = omega (arith, starts, ends); below = grind (arith, nat_tests) }
 
 -- no later segment overlaps one of the earlier ones
-no_overlap : (earlier ss : List SegmentValue) → overlap_after earlier ss ≡ None → Each (λ s. Each (λ r. overlap_each_other s r ≡ false) earlier) ss × Apart ss
+no_overlap : (earlier ss : List SegmentValue) → overlap_after earlier ss ≡ None → AllByRecursion (λ s. AllByRecursion (λ r. overlap_each_other s r ≡ false) earlier) ss × Apart ss
 no_overlap earlier [] e = (tt, tt)
 no_overlap earlier (s ∷ ss) e =
     let here = none_fails (overlap_each_other s) _ earlier (none_left _ (overlap_after (earlier ++ s ∷ []) ss) e) in
@@ -95,7 +95,7 @@ part_has_page s p k a b =
     grind (arith, nat_tests)
 
 -- a page of the list is a destination, and the other way round
-pub is_destination-from_Has : (ss : List SegmentValue) (p : ℕ) → Each IsPlaced ss → Has p (pages ss) → is_destination ss p ≡ true
+pub is_destination-from_Has : (ss : List SegmentValue) (p : ℕ) → AllByRecursion IsPlaced ss → Has p (pages ss) → is_destination ss p ≡ true
 is_destination-from_Has [] p k h = absurd h
 is_destination-from_Has (s ∷ ss) p k h = ⊎_elim
     (λ i. let r = Has-range (page_count s) (s.mem / 4096) p i in ap (λ b. b || is_destination ss p) (part_has_page s p k.0 r.0 r.1))
@@ -106,7 +106,7 @@ is_destination-from_Has (s ∷ ss) p k h = ⊎_elim
     or_second true b e = refl
     or_second false b e = e
 
-pub Has-from_is_destination : (ss : List SegmentValue) (p : ℕ) → Each IsPlaced ss → is_destination ss p ≡ true → Has p (pages ss)
+pub Has-from_is_destination : (ss : List SegmentValue) (p : ℕ) → AllByRecursion IsPlaced ss → is_destination ss p ≡ true → Has p (pages ss)
 Has-from_is_destination [] p k e = absurd (false≢true e)
 Has-from_is_destination (s ∷ ss) p k e = ⊎_elim
     (λ t. let r = page_in_part s p k.0 t in Has-left p (pages_of_segment s) (pages ss) (range-Has (page_count s) (s.mem / 4096) p r.0 r.1))
@@ -132,14 +132,14 @@ want-wanted (s ∷ ss) p = go (is_page_of_segment s p) refl (want-wanted ss p)
     go false e ih = rw e ih
 
 -- a page of the list is to have something, and the other way round
-pub want-from_Has : (ss : List SegmentValue) (p : ℕ) → Each IsPlaced ss → Has p (pages ss) → (bytes : List ℕ) × (want ss p ≡ Some bytes)
+pub want-from_Has : (ss : List SegmentValue) (p : ℕ) → AllByRecursion IsPlaced ss → Has p (pages ss) → (bytes : List ℕ) × (want ss p ≡ Some bytes)
 want-from_Has ss p k h = some_of (want ss p) (is_some-want ss p ∙ is_destination-from_Has ss p k h)
 
-pub Has-from_want : (ss : List SegmentValue) (p : ℕ) (bytes : List ℕ) → Each IsPlaced ss → want ss p ≡ Some bytes → Has p (pages ss)
+pub Has-from_want : (ss : List SegmentValue) (p : ℕ) (bytes : List ℕ) → AllByRecursion IsPlaced ss → want ss p ≡ Some bytes → Has p (pages ss)
 Has-from_want ss p bytes k e = Has-from_is_destination ss p k (sym (is_some-want ss p) ∙ ap is_some e)
 
 -- each page is one
-pub pages_below : (ss : List SegmentValue) (p : ℕ) → Each IsPlaced ss → Has p (pages ss) → p < 2 ^ 34
+pub pages_below : (ss : List SegmentValue) (p : ℕ) → AllByRecursion IsPlaced ss → Has p (pages ss) → p < 2 ^ 34
 pages_below [] p k h = absurd h
 pages_below (s ∷ ss) p k h = ⊎_elim
     (λ i. let r = Has-range (page_count s) (s.mem / 4096) p i in omega (arith, r.1, k.0.starts, k.0.whole, k.0.below))
@@ -147,7 +147,7 @@ pages_below (s ∷ ss) p k h = ⊎_elim
     (Has-either p (pages_of_segment s) (pages ss) h)
 
 -- no page stands twice
-pub Distinct-pages : (ss : List SegmentValue) → Each IsPlaced ss → Apart ss → Distinct (pages ss)
+pub Distinct-pages : (ss : List SegmentValue) → AllByRecursion IsPlaced ss → Apart ss → Distinct (pages ss)
 Distinct-pages [] k a = tt
 Distinct-pages (s ∷ ss) k a =
     Distinct-append (pages_of_segment s) (pages ss) (Distinct-range (page_count s) (s.mem / 4096)) (Distinct-pages ss k.1 a.1)
@@ -156,12 +156,12 @@ Distinct-pages (s ∷ ss) k a =
     both : (r : SegmentValue) (p : ℕ) → overlap_each_other r s ≡ false → is_page_of_segment s p ≡ true → is_page_of_segment r p ≡ true → ⊥
     both r p o e f = grind (arith, nat_tests)
 
-    meet : (rs : List SegmentValue) (p : ℕ) → Each IsPlaced rs → Each (λ r. overlap_each_other r s ≡ false) rs → is_page_of_segment s p ≡ true → is_destination rs p ≡ true → ⊥
+    meet : (rs : List SegmentValue) (p : ℕ) → AllByRecursion IsPlaced rs → AllByRecursion (λ r. overlap_each_other r s ≡ false) rs → is_page_of_segment s p ≡ true → is_destination rs p ≡ true → ⊥
     meet [] p k o e f = absurd (false≢true f)
     meet (r ∷ rs) p k o e f = ⊎_elim (λ t. both r p o.0 e t) (λ t. meet rs p k.1 o.1 e t) (or_cases (is_page_of_segment r p) (is_destination rs p) f)
 
 -- each address passes its test
-pub addresses-from_IsBare : (ss : List SegmentValue) → IsBare ss → Each (λ s. is_bad_address s ≡ false) ss
+pub addresses-from_IsBare : (ss : List SegmentValue) → IsBare ss → AllByRecursion (λ s. is_bad_address s ≡ false) ss
 unfolding bare_refusal shape_refusal
 addresses-from_IsBare ss e =
     let shape = none_left (shape_refusal ss) _ e in

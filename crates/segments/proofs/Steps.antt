@@ -1,14 +1,13 @@
 -- Steps of loops over segments and spans.
 use Rattle.std.proofs.Common.{◌≡◌, ℕ, zero, suc, ◌+◌, ◌<◌, ◌≤◌, ◌++◌, List, [], ◌∷◌, Option, Some, None, Ok, Err, Result, Bool, true, false, refl, sym, ap, ◌∙◌, subst, inl, inr, ⊎_elim, arith, length, take, drop, get_or, length-append}
 use Rattle.std.specs.Prelude.{IsTrue, ◌⊎◌, ◌||◌, ◌&&◌, cond, slice_get, nat_le, MatchResult}
-use Rattle.std.specs.List.{list_all, range_with_len, position}
+use Rattle.std.specs.List.{list_all, range_with_len, position, AllByRecursion}
 use Rattle.std.specs.Option.{option_map, option_or}
 use Rattle.std.proofs.lemmas.Bool.{false≢true, and_parts}
 use Rattle.std.proofs.lemmas.Bool.Decides.{nat_tests}
 use Rattle.std.proofs.lemmas.List.Folds.{Any-from_list_any}
 use Rattle.std.proofs.lemmas.List.FromFn.{length-range_with_len}
 use Rattle.std.proofs.lemmas.Grind.{common_steps}
-use Rattle.kx_pages.specs.Lists.{Each}
 use Rattle.kx_pages.specs.Spans.{Run, end, in_span, in_spans, IsMaximal}
 use Rattle.segments.specs.declared.fault.SegFault.{SegFault}
 use Rattle.segments.specs.declared.fault.SegFault.TheVariants as faults
@@ -126,8 +125,8 @@ pages_more a b c r ss i s l e same grown before q =
     assoc false b c = refl
 
 -- a fact of each segment from place i on
-pub each_here : (P : SegmentValue → Type 0) (ss : List SegmentValue) (i : ℕ) (s : SegmentValue) → i < length ss → s ≡ get_or ss i s → Each P (drop i ss) → P s × Each P (drop (i + 1) ss)
-each_here P ss i s l e h = subst (Each P) (drop_read ss i s l e) h
+pub each_here : (P : SegmentValue → Type 0) (ss : List SegmentValue) (i : ℕ) (s : SegmentValue) → i < length ss → s ≡ get_or ss i s → AllByRecursion P (drop i ss) → P s × AllByRecursion P (drop (i + 1) ss)
+each_here P ss i s l e h = subst (AllByRecursion P) (drop_read ss i s l e) h
 
 pub drop_all : {X : Type 0} (xs : List X) (i : ℕ) → length xs ≤ i → drop i xs ≡ []
 drop_all xs i l = grind (arith, common_steps)

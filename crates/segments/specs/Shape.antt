@@ -1,6 +1,6 @@
 -- What segments are that no rule refuses (this project's own).
 use Rattle.std.specs.Prelude.{◌≡◌, ◌+◌, ◌%◌, ◌^◌, ◌<◌, ◌≤◌, List, [], ◌∷◌, length, false}
-use Rattle.kx_pages.specs.Lists.{Each}
+use Rattle.std.specs.List.{AllByRecursion}
 use Rattle.segments.specs.Values.{SegmentValue, pages}
 use Rattle.segments.specs.Rules.{overlap_each_other}
 
@@ -13,13 +13,13 @@ pub record IsPlaced (s : SegmentValue) : Type 0 where
 -- no two overlap
 abbrev pub Apart : List SegmentValue → Type 0
 Apart [] = Unit {0}
-Apart (s ∷ ss) = Each (λ r. overlap_each_other r s ≡ false) ss × Apart ss
+Apart (s ∷ ss) = AllByRecursion (λ r. overlap_each_other r s ≡ false) ss × Apart ss
 
 -- what the rules leave
 pub record AreSegments (ss : List SegmentValue) : Type 0 where
   pub some : 0 < length ss
   pub few : length ss ≤ 16
-  pub placed : Each IsPlaced ss
+  pub placed : AllByRecursion IsPlaced ss
   pub apart : Apart ss
-  pub fit : Each (λ s. length s.bytes ≤ s.memsz) ss
+  pub fit : AllByRecursion (λ s. length s.bytes ≤ s.memsz) ss
   pub small : length (pages ss) ≤ 65536

@@ -1,14 +1,13 @@
 //! The rules that segments have to meet.
 
 ghost use Rattle.std.specs.Prelude.{◌≡◌, ℕ, ◌+◌, ◌/◌, ◌^◌, ◌<◌, ◌≤◌, ◌||◌, ◌&&◌, not, nat_le, nat_lt, [], ◌∷◌, None, Some, false, length, IfOk, OnOk};
-ghost use Rattle.std.specs.List.{list_any, list_all, range_with_len};
+ghost use Rattle.std.specs.List.{list_any, list_all, range_with_len, AllByRecursion};
 ghost use Rattle.std.specs.Option.{option_map};
 ghost use Rattle.std.specs.List as lists;
 ghost use Rattle.kx_pages.specs.Spans as spans;
 ghost use Rattle.segments.specs.Values.{page_count, pages, is_destination};
 ghost use Rattle.kx_laws.specs.Results.{unless};
 ghost use Rattle.segments.specs.Rules.{bad_count, bad_address, misplaced, is_bad_address, is_too_full, leaves, overlap, overlap_each_other, too_full, half_of_memory, outside_reserved, is_not_ram, not_ram, too_large, shape_refusal, bare_refusal, refusal};
-ghost use Rattle.kx_pages.specs.Lists.{Each};
 
 use crate::fault::{Kind, SegFault};
 use crate::segment::Segment;
@@ -216,7 +215,7 @@ pub(crate) fn test_all(list: &[Segment], ram: &PageSet, kind: Kind) -> Result<()
 
 /// The pages of the segments.
 pub(crate) fn page_set(alloc: Global, list: &[Segment]) -> Result<PageSet, AllocError>
-    requires { Each (λ s. is_bad_address s ≡ false) list.now }
+    requires { AllByRecursion (λ s. is_bad_address s ≡ false) list.now }
     ensures { IfOk result (λ set. (q : ℕ) → spans.in_spans set q ≡ is_destination list.now q) }
 {
     let mut set = PageSet::new(alloc);

@@ -29,7 +29,7 @@ pub(crate) fn row((kind, start, size): Plain) -> Row {
 }
 
 /// The numbers as bytes, the lowest first.
-pub(crate) fn spelled(alloc: Global, numbers: &[u64]) -> Result<Vec<u8>, AllocError> {
+pub(crate) fn spell(alloc: Global, numbers: &[u64]) -> Result<Vec<u8>, AllocError> {
     let mut bytes = Vec::new(alloc);
     for number in numbers {
         bytes.extend_from_slice(&number.to_le_bytes())?;
@@ -49,9 +49,9 @@ pub(crate) fn headers_of(alloc: Global, rows: &[Row]) -> Result<Vec<u8>, AllocEr
         0x0038_0040_0000_0000,
         rows.len() as u64,
     ];
-    let mut bytes = spelled(alloc, &head)?;
+    let mut bytes = spell(alloc, &head)?;
     for row in rows {
-        bytes.extend_from_slice(&spelled(alloc, row)?)?;
+        bytes.extend_from_slice(&spell(alloc, row)?)?;
     }
     Ok(bytes)
 }
@@ -97,11 +97,11 @@ pub(crate) fn put(
 pub(crate) fn told_at(alloc: Global, address: u64, headers: &[u8]) -> Result<Told, AllocError> {
     let mut memory = Memory::empty(alloc);
     put(alloc, &mut memory, address, headers)?;
-    Ok(told(make(alloc, &memory, address % ADDRESS_LIMIT)))
+    Ok(tell(make(alloc, &memory, address % ADDRESS_LIMIT)))
 }
 
 /// What is told of a core.
-pub(crate) fn told(core: Result<Core, CoreFault>) -> Told {
+pub(crate) fn tell(core: Result<Core, CoreFault>) -> Told {
     let core = core?;
     Ok((core.bytes.len(), core.loads, core.notes))
 }

@@ -10,7 +10,7 @@ use Rattle.relocate_machine.specs.declared.step.Step.TheVariants as steps
 use Rattle.relocate_machine.specs.declared.step.Outcome.{Outcome}
 use Rattle.relocate_machine.specs.declared.step.Outcome.TheVariants.{Done, Running, Off}
 use Rattle.relocate_machine.specs.Machine.{State, step_by, step_of}
-use Rattle.page_memory.specs.Contents.{copied}
+use Rattle.page_memory.specs.Contents.{copy_page}
 use Rattle.relocate_machine.specs.Run.{run_from, run_after, run_of}
 use Rattle.worked_examples.specs.Runs.{ComesOut}
 
@@ -44,7 +44,7 @@ unfolding run_from
 stops k s = refl
 
 -- a page that was copied
-pub at-copied : (m : Contents) (N : Mem) (d s : ℕ) → at m ≡ N → at (copied m d s) ≡ copied_page N s d
+pub at-copied : (m : Contents) (N : Mem) (d s : ℕ) → at m ≡ N → at (copy_page m d s) ≡ copied_page N s d
 at-copied m N d s e = at-with_page m d (at m s) ∙ ap (λ K. copied_page K s d) e
 
 pub comes_out : (m : Contents) (head : ℕ) (mode : Mode) (limit : ℕ) (how : Outcome) (left : Mem) (t : State) → run_of m head mode limit ≡ (t, how) → at t.memory ≡ left → ComesOut m head mode limit how left

@@ -4,7 +4,7 @@ ghost use Rattle.std.specs.Prelude.{◌≡◌, ◌++◌, ◌^◌, ◌∷◌, [],
 ghost use Rattle.std.specs.FinMap as finite;
 ghost use Rattle.byteorder.specs.Endian.{little_bytes};
 ghost use Rattle.kx_pages.specs.Bytes.{page_of};
-ghost use Rattle.page_memory.specs.File.{pages_read, text_of};
+ghost use Rattle.page_memory.specs.File.{read_pages, text_of};
 ghost use Rattle.page_memory.specs.declared.fault.MemFault.TheVariants as mem_faults;
 ghost use Rattle.page_pool.specs.File.{pool_reading};
 ghost use Rattle.page_pool.specs.declared.fault.PoolFault.TheVariants as pool_faults;
@@ -13,9 +13,9 @@ ghost use Rattle.page_pool.specs.declared.fault.PoolFault.TheVariants as pool_fa
 /// of one page is read as it was written.
 pub fn empty_memory_file()
     ensures bytes { text_of [] ≡ codes "KXMEM001" ++ (0 ∷ 0 ∷ 0 ∷ 0 ∷ 0 ∷ 0 ∷ 0 ∷ 0 ∷ []) }
-    ensures read { pages_read (codes "KXMEM001" ++ (0 ∷ 0 ∷ 0 ∷ 0 ∷ 0 ∷ 0 ∷ 0 ∷ 0 ∷ []))
+    ensures read { read_pages (codes "KXMEM001" ++ (0 ∷ 0 ∷ 0 ∷ 0 ∷ 0 ∷ 0 ∷ 0 ∷ 0 ∷ []))
         ≡ Ok finite.empty }
-    ensures one_page { pages_read (text_of ((2, page_of (codes "abc")) ∷ []))
+    ensures one_page { read_pages (text_of ((2, page_of (codes "abc")) ∷ []))
         ≡ Ok (finite.insert finite.empty 2 (page_of (codes "abc"))) }
     ensures three_pages { length
         (text_of
@@ -25,20 +25,20 @@ pub fn empty_memory_file()
 
 /// The first refusal of a memory file: its magic, its count, or its first page.
 pub fn spoiled_memory_files()
-    ensures no_magic { pages_read (codes "KXMEM002") ≡ Err mem_faults.BadMagic }
-    ensures no_count { pages_read (codes "KXMEM001") ≡ Err (mem_faults.Truncated 8) }
-    ensures too_many { pages_read (codes "KXMEM001" ++ little_bytes 8 131073)
+    ensures no_magic { read_pages (codes "KXMEM002") ≡ Err mem_faults.BadMagic }
+    ensures no_count { read_pages (codes "KXMEM001") ≡ Err (mem_faults.Truncated 8) }
+    ensures too_many { read_pages (codes "KXMEM001" ++ little_bytes 8 131073)
         ≡ Err (mem_faults.TooMany 131073) }
-    ensures no_page { pages_read (codes "KXMEM001" ++ little_bytes 8 1)
+    ensures no_page { read_pages (codes "KXMEM001" ++ little_bytes 8 1)
         ≡ Err (mem_faults.Truncated 16) }
-    ensures page_of_zeros { pages_read (text_of ((2, replicate 4096 0) ∷ []))
+    ensures page_of_zeros { read_pages (text_of ((2, replicate 4096 0) ∷ []))
         ≡ Err (mem_faults.ZeroPage 16) }
-    ensures not_rising { pages_read
+    ensures not_rising { read_pages
         (text_of ((3, page_of (codes "x")) ∷ (2, page_of (codes "y")) ∷ []))
         ≡ Err (mem_faults.NotRising 4120) }
-    ensures past_the_limit { pages_read (text_of ((2 ^ 34, page_of (codes "x")) ∷ []))
+    ensures past_the_limit { read_pages (text_of ((2 ^ 34, page_of (codes "x")) ∷ []))
         ≡ Err (mem_faults.PastLimit 16) }
-    ensures more { pages_read (codes "KXMEM001" ++ (little_bytes 8 0 ++ (7 ∷ [])))
+    ensures more { read_pages (codes "KXMEM001" ++ (little_bytes 8 0 ++ (7 ∷ [])))
         ≡ Err (mem_faults.Trailing 16) }
 {}
 

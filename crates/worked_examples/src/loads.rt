@@ -8,7 +8,7 @@ ghost use Rattle.kx_pages.specs.declared.image.Mode.TheVariants as mode;
 ghost use Rattle.kx_pages.specs.Bytes.{Mem};
 ghost use Rattle.page_pool.specs.Pages.{left_among, usable_among};
 ghost use Rattle.segments.specs.Values.{is_destination};
-ghost use Rattle.kimage_list.specs.Load.{Start, Move, begun, requests, taken};
+ghost use Rattle.kimage_list.specs.Load.{Start, Move, begun, requests, take_page};
 ghost use Rattle.load_states.specs.Loads.{entries_of, loading_of};
 ghost use Rattle.worked_examples.specs.Kernels.{three_bytes, two_pages, no_bytes, pages_at, zeros};
 ghost use Rattle.worked_examples.specs.Loads.{words_of, image_laid, page_laid};
@@ -45,10 +45,10 @@ pub fn one_page_kernel()
 pub fn pool_pages_are_their_own_destinations()
     ensures requests { requests Plain (entries_of (two_pages 2))
         ≡ None ∷ None ∷ Some 2 ∷ Some 3 ∷ [] }
-    ensures control_page { taken (is_destination (two_pages 2)) None
+    ensures control_page { take_page (is_destination (two_pages 2)) None
         (begun (2 ∷ 3 ∷ 0x10 ∷ 0x11 ∷ []))
         ≡ Some (0x10, record { left = 0x11 ∷ []; filed = 3 ∷ 2 ∷ []; pairs = []; spare = [] }) }
-    ensures filed_page { taken (is_destination (two_pages 2)) (Some 2)
+    ensures filed_page { take_page (is_destination (two_pages 2)) (Some 2)
         (record { left = []; filed = 3 ∷ 2 ∷ []; pairs = []; spare = 0x10 ∷ 0x11 ∷ [] })
         ≡ Some (2, record { left = []; filed = 3 ∷ []; pairs = []; spare = 0x10 ∷ 0x11 ∷ [] }) }
     ensures loading { loading_of Plain (two_pages 2) (2 ∷ 3 ∷ 0x10 ∷ 0x11 ∷ [])
@@ -67,7 +67,7 @@ pub fn pool_pages_are_their_own_destinations()
 /// Page 2 is drawn for page 3 when page 2 is already loaded from page 12: the bytes of page 12 move into page 2, whose
 /// entry becomes its own, and page 12 is used for page 3.
 pub fn loaded_page_is_exchanged()
-    ensures exchanged { taken (is_destination (two_pages 2)) (Some 3)
+    ensures exchanged { take_page (is_destination (two_pages 2)) (Some 3)
         (record { left = 2 ∷ []; filed = []; pairs = (2, 0x12) ∷ []; spare = 0x10 ∷ 0x11 ∷ [] })
         ≡ Some (
           0x12,

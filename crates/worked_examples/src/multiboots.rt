@@ -2,7 +2,7 @@
 
 ghost use Rattle.std.specs.Prelude.{◌≡◌, ◌++◌, ◌∷◌, [], None, Ok, Err, codes, replicate};
 ghost use Rattle.byteorder.specs.Endian.{little_bytes};
-ghost use Rattle.multiboot_image.specs.Header.{header_found};
+ghost use Rattle.multiboot_image.specs.Header.{find_header};
 ghost use Rattle.multiboot_image.specs.Info.{info, info_size, places_of};
 ghost use Rattle.multiboot_image.specs.MapRows.{mem_lower, mem_upper};
 ghost use Rattle.multiboot_image.specs.Modules.{module_table, texts};
@@ -13,7 +13,7 @@ ghost use Rattle.worked_examples.specs.Multiboots.{header_read, information, ker
 
 /// A header with addresses: its file is loaded from the header on. A header without addresses needs an ELF file.
 pub fn kernel_with_addresses()
-    ensures header { header_found (kernel_with 0x1_0000 0xe451_4ffe 0) ≡ Ok (header_read 0) }
+    ensures header { find_header (kernel_with 0x1_0000 0xe451_4ffe 0) ≡ Ok (header_read 0) }
     ensures whole_file { parts (header_read 0) (kernel_with 0x1_0000 0xe451_4ffe 0)
         ≡ Ok (record {
           list = record {
@@ -40,15 +40,15 @@ pub fn kernel_with_addresses()
 /// The first refusals of a header: another sum, a flag that asks for more, addresses that are cut off, and a place that is
 /// no multiple of 4.
 pub fn spoiled_headers()
-    ensures sum { header_found (kernel_with 0x1_0000 0xe451_4ffd 0) ≡ Err faults.NoHeader }
-    ensures flag { header_found (kernel_with 0x1_0004 0xe451_4ffa 0) ≡ Err (faults.UnknownFlag 2) }
-    ensures cut { header_found
+    ensures sum { find_header (kernel_with 0x1_0000 0xe451_4ffd 0) ≡ Err faults.NoHeader }
+    ensures flag { find_header (kernel_with 0x1_0004 0xe451_4ffa 0) ≡ Err (faults.UnknownFlag 2) }
+    ensures cut { find_header
         (little_bytes 4 0x1bad_b002
         ++ (little_bytes 4 0x1_0000 ++ (little_bytes 4 0xe451_4ffe ++ replicate 19 0)))
         ≡ Err faults.BadKludge }
-    ensures aligned { header_found (replicate 2 0 ++ kernel_with 0x1_0000 0xe451_4ffe 0)
+    ensures aligned { find_header (replicate 2 0 ++ kernel_with 0x1_0000 0xe451_4ffe 0)
         ≡ Err faults.NoHeader }
-    ensures further { header_found
+    ensures further { find_header
         (replicate 12 0
         ++ (little_bytes 4 0x1bad_b002 ++ (replicate 4 0 ++ little_bytes 4 0xe452_4ffe)))
         ≡ Ok (record { at = 12; flags = 0; kludge = None }) }

@@ -5,7 +5,7 @@ ghost use Rattle.kx_pages.specs.Bytes.{page_of};
 ghost use Rattle.kx_pages.specs.declared.item.Item.TheVariants.{Link, Destination, Source, Done};
 ghost use Rattle.segments.specs.Values.{is_destination, want};
 ghost use Rattle.resident_planner.specs.Cycles.{cycles, deviating};
-ghost use Rattle.resident_planner.specs.Laid.{given, plan_head, plan_items};
+ghost use Rattle.resident_planner.specs.Laid.{given_sources, plan_head, plan_items};
 ghost use Rattle.resident_planner.specs.Pairs.{pairs_reading};
 ghost use Rattle.resident_planner.specs.Plan.{is_fresh, rank, source};
 ghost use Rattle.resident_planner.specs.Refusals.{need_of, pairs_refusal, resident_of, usable};
@@ -33,7 +33,7 @@ pub fn pages_that_changed_places()
         ≡ 0 ∷ 1 ∷ [] }
     ensures sources { map (source (resident_of ((2, 3) ∷ (3, 2) ∷ [])) (2 ∷ 3 ∷ []) (0x12 ∷ []))
         (2 ∷ 3 ∷ []) ≡ Some 0x12 ∷ Some 2 ∷ [] }
-    ensures given { given (resident_of ((2, 3) ∷ (3, 2) ∷ [])) (2 ∷ 3 ∷ []) (0x12 ∷ [])
+    ensures given { given_sources (resident_of ((2, 3) ∷ (3, 2) ∷ [])) (2 ∷ 3 ∷ []) (0x12 ∷ [])
         ≡ (2, 0x12) ∷ [] }
     ensures list { plan_items (0x11 ∷ []) ((3, 2) ∷ (2, 0x12) ∷ [])
         ≡ Link 0x11 ∷ Destination 3 ∷ Source 2 ∷ Destination 2 ∷ Source 0x12 ∷ Done 0 ∷ [] }

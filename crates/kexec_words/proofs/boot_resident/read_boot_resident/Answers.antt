@@ -10,5 +10,5 @@ returns-in_err-matches c = exits boot_resident_value _ _ _ c.from_residual.ensur
     (answers_refused boot_resident_value boot_resident_app boot_resident_in (map string_bytes c.args.words.now) _ c.in_err-matches.ensures)
 
 pub returns : goal.returns
-returns c = answers_taken boot_resident_value boot_resident_app boot_resident_in (map string_bytes c.args.words.now) c.in_ok-matches.matches c.boot_resident_found.result
-    c.in_ok-matches.ensures c.boot_resident_found.ensures
+returns c = answers_taken boot_resident_value boot_resident_app boot_resident_in (map string_bytes c.args.words.now) c.in_ok-matches.matches c.boot_resident_in.result
+    c.in_ok-matches.ensures c.boot_resident_in.ensures

@@ -10,5 +10,5 @@ returns-in_err-matches c = exits drill_value _ _ _ c.from_residual.ensures.1
     (answers_refused drill_value drill_app drill_in (map string_bytes c.args.words.now) _ c.in_err-matches.ensures)
 
 pub returns : goal.returns
-returns c = answers_taken drill_value drill_app drill_in (map string_bytes c.args.words.now) c.in_ok-matches.matches c.drill_found.result
-    c.in_ok-matches.ensures c.drill_found.ensures
+returns c = answers_taken drill_value drill_app drill_in (map string_bytes c.args.words.now) c.in_ok-matches.matches c.drill_in.result
+    c.in_ok-matches.ensures c.drill_in.ensures

@@ -5,7 +5,7 @@ use Rattle.clap.proofs.WalkLemmas.{raw_values-rows}
 use Rattle.kexec_words.proofs.parsing.names_in.Goals as goal
 
 pub returns-in-Some : goal.returns-in-Some
-returns-in-Some c = IfOk-weaker c.all_owned.result _ _ (λ v h. h ∙ ap (λ o. unwrap_or o []) (c.in-Some.ensures ∙ raw_values-rows (found_of c.args.matches.now) c.args.id.now)) c.all_owned.ensures
+returns-in-Some c = IfOk-weaker c.own_all.result _ _ (λ v h. h ∙ ap (λ o. unwrap_or o []) (c.in-Some.ensures ∙ raw_values-rows (found_of c.args.matches.now) c.args.id.now)) c.own_all.ensures
 
 pub returns-in-None : goal.returns-in-None
 returns-in-None c = rw c.new.ensures.items (ap (λ o. unwrap_or o []) (c.in-None.ensures ∙ raw_values-rows (found_of c.args.matches.now) c.args.id.now))

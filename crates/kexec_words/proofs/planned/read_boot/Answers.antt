@@ -10,5 +10,5 @@ returns-in_err-matches c = exits boot_value _ _ _ c.from_residual.ensures.1
     (answers_refused boot_value boot_app boot_in (map string_bytes c.args.words.now) _ c.in_err-matches.ensures)
 
 pub returns : goal.returns
-returns c = answers_taken boot_value boot_app boot_in (map string_bytes c.args.words.now) c.in_ok-matches.matches c.boot_found.result
-    c.in_ok-matches.ensures c.boot_found.ensures
+returns c = answers_taken boot_value boot_app boot_in (map string_bytes c.args.words.now) c.in_ok-matches.matches c.boot_in.result
+    c.in_ok-matches.ensures c.boot_in.ensures

@@ -10,5 +10,5 @@ returns-in_err-matches c = exits load_value _ _ _ c.from_residual.ensures.1
     (answers_refused load_value load_app load_in (map string_bytes c.args.words.now) _ c.in_err-matches.ensures)
 
 pub returns : goal.returns
-returns c = answers_taken load_value load_app load_in (map string_bytes c.args.words.now) c.in_ok-matches.matches c.load_found.result
-    c.in_ok-matches.ensures c.load_found.ensures
+returns c = answers_taken load_value load_app load_in (map string_bytes c.args.words.now) c.in_ok-matches.matches c.load_in.result
+    c.in_ok-matches.ensures c.load_in.ensures

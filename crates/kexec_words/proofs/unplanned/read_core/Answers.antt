@@ -10,5 +10,5 @@ returns-in_err-matches c = exits core_value _ _ _ c.from_residual.ensures.1
     (answers_refused core_value core_app core_in (map string_bytes c.args.words.now) _ c.in_err-matches.ensures)
 
 pub returns : goal.returns
-returns c = answers_taken core_value core_app core_in (map string_bytes c.args.words.now) c.in_ok-matches.matches c.core_found.result
-    c.in_ok-matches.ensures c.core_found.ensures
+returns c = answers_taken core_value core_app core_in (map string_bytes c.args.words.now) c.in_ok-matches.matches c.core_in.result
+    c.in_ok-matches.ensures c.core_in.ensures

@@ -10,5 +10,5 @@ returns-in_err-matches c = exits load_names_value _ _ _ c.from_residual.ensures.
     (answers_refused load_names_value dump_app load_names_in (map string_bytes c.args.words.now) _ c.in_err-matches.ensures)
 
 pub returns : goal.returns
-returns c = answers_taken load_names_value dump_app load_names_in (map string_bytes c.args.words.now) c.in_ok-matches.matches c.loaded_found.result
-    c.in_ok-matches.ensures c.loaded_found.ensures
+returns c = answers_taken load_names_value dump_app load_names_in (map string_bytes c.args.words.now) c.in_ok-matches.matches c.loaded_in.result
+    c.in_ok-matches.ensures c.loaded_in.ensures

@@ -10,5 +10,5 @@ returns-in_err-matches c = exits exec_value _ _ _ c.from_residual.ensures.1
     (answers_refused exec_value exec_app exec_in (map string_bytes c.args.words.now) _ c.in_err-matches.ensures)
 
 pub returns : goal.returns
-returns c = answers_taken exec_value exec_app exec_in (map string_bytes c.args.words.now) c.in_ok-matches.matches c.exec_found.result
-    c.in_ok-matches.ensures c.exec_found.ensures
+returns c = answers_taken exec_value exec_app exec_in (map string_bytes c.args.words.now) c.in_ok-matches.matches c.exec_in.result
+    c.in_ok-matches.ensures c.exec_in.ensures

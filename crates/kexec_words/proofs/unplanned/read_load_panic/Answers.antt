@@ -10,5 +10,5 @@ returns-in_err-matches c = exits load_panic_value _ _ _ c.from_residual.ensures.
     (answers_refused load_panic_value load_panic_app load_panic_in (map string_bytes c.args.words.now) _ c.in_err-matches.ensures)
 
 pub returns : goal.returns
-returns c = answers_taken load_panic_value load_panic_app load_panic_in (map string_bytes c.args.words.now) c.in_ok-matches.matches c.load_panic_found.result
-    c.in_ok-matches.ensures c.load_panic_found.ensures
+returns c = answers_taken load_panic_value load_panic_app load_panic_in (map string_bytes c.args.words.now) c.in_ok-matches.matches c.load_panic_in.result
+    c.in_ok-matches.ensures c.load_panic_in.ensures

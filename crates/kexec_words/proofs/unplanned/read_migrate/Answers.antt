@@ -10,5 +10,5 @@ returns-in_err-matches c = exits migrate_value _ _ _ c.from_residual.ensures.1
     (answers_refused migrate_value migrate_app migrate_in (map string_bytes c.args.words.now) _ c.in_err-matches.ensures)
 
 pub returns : goal.returns
-returns c = answers_taken migrate_value migrate_app migrate_in (map string_bytes c.args.words.now) c.in_ok-matches.matches c.migrate_found.result
-    c.in_ok-matches.ensures c.migrate_found.ensures
+returns c = answers_taken migrate_value migrate_app migrate_in (map string_bytes c.args.words.now) c.in_ok-matches.matches c.migrate_in.result
+    c.in_ok-matches.ensures c.migrate_in.ensures

@@ -10,5 +10,5 @@ returns-in_err-matches c = exits number_value _ _ _ c.from_residual.ensures.1
     (answers_refused number_value sample_app sample_in (map string_bytes c.args.words.now) _ c.in_err-matches.ensures)
 
 pub returns : goal.returns
-returns c = answers_taken number_value sample_app sample_in (map string_bytes c.args.words.now) c.in_ok-matches.matches c.sample_found.result
-    c.in_ok-matches.ensures c.sample_found.ensures
+returns c = answers_taken number_value sample_app sample_in (map string_bytes c.args.words.now) c.in_ok-matches.matches c.sample_in.result
+    c.in_ok-matches.ensures c.sample_in.ensures

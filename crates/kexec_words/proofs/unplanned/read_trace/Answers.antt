@@ -10,5 +10,5 @@ returns-in_err-matches c = exits trace_value _ _ _ c.from_residual.ensures.1
     (answers_refused trace_value trace_app trace_in (map string_bytes c.args.words.now) _ c.in_err-matches.ensures)
 
 pub returns : goal.returns
-returns c = answers_taken trace_value trace_app trace_in (map string_bytes c.args.words.now) c.in_ok-matches.matches c.trace_found.result
-    c.in_ok-matches.ensures c.trace_found.ensures
+returns c = answers_taken trace_value trace_app trace_in (map string_bytes c.args.words.now) c.in_ok-matches.matches c.trace_in.result
+    c.in_ok-matches.ensures c.trace_in.ensures

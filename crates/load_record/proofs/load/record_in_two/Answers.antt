@@ -3,7 +3,7 @@ use Rattle.std.proofs.lemmas.List.{length-append, length-drop}
 use Rattle.load_record.specs.declared.fault.RecFault.TheVariants.{Memory}
 use Rattle.load_record.specs.declared.version.Version.{Version}
 use Rattle.load_record.specs.declared.version.Version.TheVariants.{First, Second}
-use Rattle.load_record.specs.File.{digest_size, head_tested}
+use Rattle.load_record.specs.File.{digest_size, tested_head}
 use Rattle.load_record.proofs.Heads.{good_head, head_found}
 use Rattle.load_record.proofs.InTwo.{head_in_two, version_in_two, behind_in_two, cut_in_two}
 use Rattle.load_record.proofs.Reading.{head_fails, segments_fail, reading_ruled}
@@ -49,7 +49,7 @@ pub returns-in-Err-take_segments-clause-exact : goal.returns-in-Err-take_segment
 returns-in-Err-take_segments-clause-exact c =
     let file = c.args.front.now ++ c.args.rest.items in
     let long = (head_found c.args.front.now c.in-Ok.head (sym c.in-Ok.ensures.value)).long in
-    let head : Ok c.in-Ok.head ≡ head_tested file = c.in-Ok.ensures.value ∙ head_in_two c.args.front.now c.args.rest.items c.requires.apart in
+    let head : Ok c.in-Ok.head ≡ tested_head file = c.in-Ok.ensures.value ∙ head_in_two c.args.front.now c.args.rest.items c.requires.apart in
     let version = c.of-version.ensures ∙ version_in_two c.args.front.now c.args.rest.items long in
     let front_is = c.split_at.ensures.back in
     let body = behind_in_two c.args.front.now c.args.rest.items c.split_at-2.result.0.now c.split_at-2.result.1.now c.min.result long (rw front_is at c.split_at-2.ensures.front) (rw front_is at c.split_at-2.ensures.back) in
@@ -62,7 +62,7 @@ pub returns-in-Ok-record_with-clause-exact : goal.returns-in-Ok-record_with-clau
 returns-in-Ok-record_with-clause-exact c =
     let file = c.args.front.now ++ c.args.rest.items in
     let long = (head_found c.args.front.now c.in-Ok.head (sym c.in-Ok.ensures.value)).long in
-    let head : Ok c.in-Ok.head ≡ head_tested file = c.in-Ok.ensures.value ∙ head_in_two c.args.front.now c.args.rest.items c.requires.apart in
+    let head : Ok c.in-Ok.head ≡ tested_head file = c.in-Ok.ensures.value ∙ head_in_two c.args.front.now c.args.rest.items c.requires.apart in
     let version = c.of-version.ensures ∙ version_in_two c.args.front.now c.args.rest.items long in
     let front_is = c.split_at.ensures.back in
     let body = behind_in_two c.args.front.now c.args.rest.items c.split_at-2.result.0.now c.split_at-2.result.1.now c.min.result long (rw front_is at c.split_at-2.ensures.front) (rw front_is at c.split_at-2.ensures.back) in
@@ -81,7 +81,7 @@ pub returns-in-Err-record_with-clause-exact : goal.returns-in-Err-record_with-cl
 returns-in-Err-record_with-clause-exact c =
     let file = c.args.front.now ++ c.args.rest.items in
     let long = (head_found c.args.front.now c.in-Ok.head (sym c.in-Ok.ensures.value)).long in
-    let head : Ok c.in-Ok.head ≡ head_tested file = c.in-Ok.ensures.value ∙ head_in_two c.args.front.now c.args.rest.items c.requires.apart in
+    let head : Ok c.in-Ok.head ≡ tested_head file = c.in-Ok.ensures.value ∙ head_in_two c.args.front.now c.args.rest.items c.requires.apart in
     let version = c.of-version.ensures ∙ version_in_two c.args.front.now c.args.rest.items long in
     let front_is = c.split_at.ensures.back in
     let body = behind_in_two c.args.front.now c.args.rest.items c.split_at-2.result.0.now c.split_at-2.result.1.now c.min.result long (rw front_is at c.split_at-2.ensures.front) (rw front_is at c.split_at-2.ensures.back) in

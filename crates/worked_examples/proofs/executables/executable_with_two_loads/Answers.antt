@@ -1,13 +1,13 @@
 -- By computing.
 use Rattle.std.specs.Prelude.{refl}
-use Rattle.elf_image.specs.FileHeader.{class_read, exec_fault, exec_header, header_read}
+use Rattle.elf_image.specs.FileHeader.{read_class, exec_fault, exec_header, read_header}
 use Rattle.elf_image.specs.Image.{runs, up_to_last}
-use Rattle.elf_image.specs.Loads.{exec_reading, load_fault, load_onto, loads_onto, loads_read}
+use Rattle.elf_image.specs.Loads.{exec_reading, load_fault, load_onto, loads_onto, read_loads}
 use Rattle.kx_fields.specs.Fields.{field}
 use Rattle.worked_examples.proofs.executables.executable_with_two_loads.Goals as goal
 
 pub returns-clause-read : goal.returns-clause-read
-unfolding exec_reading exec_header loads_read header_read exec_fault loads_onto class_read load_onto load_fault field
+unfolding exec_reading exec_header read_loads read_header exec_fault loads_onto read_class load_onto load_fault field
 returns-clause-read c = refl
 
 pub returns-clause-pages : goal.returns-clause-pages

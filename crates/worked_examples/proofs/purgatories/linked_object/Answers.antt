@@ -2,9 +2,9 @@
 use Rattle.std.specs.Prelude.{refl}
 use Rattle.elf_image.specs.Reloc.{entry_of}
 use Rattle.kx_fields.specs.Fields.{field, with_field}
-use Rattle.purgatory_link.specs.Layout.{end, laid, linked_size, padding, starts}
-use Rattle.purgatory_link.specs.Link.{linked, linking}
-use Rattle.purgatory_link.specs.Relocs.{placed, put_of, puts_of, relocated, with_puts}
+use Rattle.purgatory_link.specs.Layout.{end, lay, linked_size, padding, starts}
+use Rattle.purgatory_link.specs.Link.{link_at, linking}
+use Rattle.purgatory_link.specs.Relocs.{test_place, put_of, puts_of, relocate, with_puts}
 use Rattle.purgatory_link.specs.Symbols.{symbol_value}
 use Rattle.worked_examples.proofs.purgatories.linked_object.Goals as goal
 
@@ -17,9 +17,9 @@ unfolding linked_size end padding
 returns-clause-size c = refl
 
 pub returns-clause-absolute : goal.returns-clause-absolute
-unfolding linking linked_size linked end relocated puts_of with_puts starts laid padding put_of with_field entry_of placed symbol_value field
+unfolding linking linked_size link_at end relocate puts_of with_puts starts lay padding put_of with_field entry_of test_place symbol_value field
 returns-clause-absolute c = refl
 
 pub returns-clause-relative : goal.returns-clause-relative
-unfolding linking linked_size linked end relocated puts_of with_puts starts laid padding put_of with_field entry_of placed symbol_value field
+unfolding linking linked_size link_at end relocate puts_of with_puts starts lay padding put_of with_field entry_of test_place symbol_value field
 returns-clause-relative c = refl

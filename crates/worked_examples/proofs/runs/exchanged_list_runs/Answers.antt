@@ -5,15 +5,15 @@ use Rattle.page_memory.specs.Contents.{at}
 use Rattle.page_memory.specs.Memory.{word, copied_page}
 use Rattle.relocate_machine.specs.declared.step.Outcome.TheVariants.{Done}
 use Rattle.relocate_machine.specs.Machine.{kind_of, step_of}
-use Rattle.page_memory.specs.Contents.{copied}
+use Rattle.page_memory.specs.Contents.{copy_page}
 use Rattle.worked_examples.proofs.Stepping.{standing, reads, goes, ends, at-copied, comes_out}
 use Rattle.worked_examples.proofs.runs.exchanged_list_runs.Goals as goal
 
 pub returns-clause-run : goal.returns-clause-run
 unfolding kind_of step_of word
 returns-clause-run c = λ m w.
-    let n = copied m 2 2 in
-    let o = copied n 3 0x12 in
+    let n = copy_page m 2 2 in
+    let o = copy_page n 3 0x12 in
     let N = copied_page (at m) 2 2 in
     let O = copied_page N 0x12 3 in
     let n-is : at n ≡ N = at-copied m (at m) 2 2 refl in

@@ -8,7 +8,7 @@ use Rattle.kx_pages.specs.Bytes.{Mem}
 use Rattle.page_memory.specs.Memory.{word, copied_page}
 use Rattle.relocate_machine.specs.declared.step.Outcome.TheVariants.{Done}
 use Rattle.relocate_machine.specs.Machine.{kind_of, step_of}
-use Rattle.page_memory.specs.Contents.{copied}
+use Rattle.page_memory.specs.Contents.{copy_page}
 use Rattle.load_states.specs.Exchange.{exchange}
 use Rattle.worked_examples.specs.Runs.{swapped_page, one_pair_at_home, moved_in_turn}
 use Rattle.worked_examples.proofs.Stepping.{standing, reads, goes, ends, at-copied, comes_out}
@@ -16,10 +16,10 @@ use Rattle.worked_examples.proofs.runs.kept_list_runs.Goals as goal
 
 -- a move of page s to page d by way of page 11
 abbrev moved : Contents → ℕ → ℕ → Contents
-moved m s d = copied (copied (copied m 0x11 s) s d) d 0x11
+moved m s d = copy_page (copy_page (copy_page m 0x11 s) s d) d 0x11
 
 at-moved : (m : Contents) (N : Mem) (s d : ℕ) → at m ≡ N → at (moved m s d) ≡ swapped_page N s d 0x11
-at-moved m N s d e = at-copied (copied (copied m 0x11 s) s d) (copied_page (copied_page N s 0x11) d s) d 0x11 (at-copied (copied m 0x11 s) (copied_page N s 0x11) s d (at-copied m N 0x11 s e))
+at-moved m N s d e = at-copied (copy_page (copy_page m 0x11 s) s d) (copied_page (copied_page N s 0x11) d s) d 0x11 (at-copied (copy_page m 0x11 s) (copied_page N s 0x11) s d (at-copied m N 0x11 s e))
 
 pub returns-clause-run : goal.returns-clause-run
 unfolding kind_of step_of word

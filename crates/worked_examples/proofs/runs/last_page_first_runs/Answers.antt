@@ -9,7 +9,7 @@ use Rattle.page_memory.specs.Memory.{word, copied_page}
 use Rattle.segments.specs.Values.{want, overlay, pages}
 use Rattle.relocate_machine.specs.declared.step.Outcome.TheVariants.{Done}
 use Rattle.relocate_machine.specs.Machine.{kind_of, step_of}
-use Rattle.page_memory.specs.Contents.{copied}
+use Rattle.page_memory.specs.Contents.{copy_page}
 use Rattle.worked_examples.specs.Kernels.{two_pages}
 use Rattle.worked_examples.specs.Lists.{HasWords}
 use Rattle.worked_examples.specs.Runs.{ComesOut}
@@ -21,8 +21,8 @@ use Rattle.worked_examples.proofs.runs.last_page_first_runs.Goals as goal
 run : (m : Contents) → HasWords (at m) 0x20000 (0x4001 ∷ 0x3008 ∷ 0x3001 ∷ 0x2008 ∷ 4 ∷ []) → ComesOut m 0x20002 Plain 10 (Done 6) (copied_page (copied_page (at m) 3 4) 2 3)
 unfolding kind_of step_of word
 run m w =
-    let n = copied m 4 3 in
-    let o = copied n 3 2 in
+    let n = copy_page m 4 3 in
+    let o = copy_page n 3 2 in
     let N = copied_page (at m) 3 4 in
     let O = copied_page N 2 3 in
     let n-is : at n ≡ N = at-copied m (at m) 4 3 refl in

@@ -9,7 +9,7 @@ use Rattle.page_memory.specs.Memory.{word, copied_page}
 use Rattle.segments.specs.Values.{want, overlay, pages}
 use Rattle.relocate_machine.specs.declared.step.Outcome.TheVariants.{Done}
 use Rattle.relocate_machine.specs.Machine.{kind_of, step_of}
-use Rattle.page_memory.specs.Contents.{copied}
+use Rattle.page_memory.specs.Contents.{copy_page}
 use Rattle.worked_examples.specs.Kernels.{three_bytes}
 use Rattle.worked_examples.specs.Lists.{HasWords}
 use Rattle.worked_examples.specs.Runs.{ComesOut}
@@ -21,7 +21,7 @@ use Rattle.worked_examples.proofs.runs.one_page_runs.Goals as goal
 run : (m : Contents) → HasWords (at m) 0x11000 (0x2001 ∷ 0x12008 ∷ 4 ∷ []) → ComesOut m 0x11002 Plain 10 (Done 4) (copied_page (at m) 0x12 2)
 unfolding kind_of step_of word
 run m w =
-    let n = copied m 2 0x12 in
+    let n = copy_page m 2 0x12 in
     let is : at n ≡ copied_page (at m) 0x12 2 = at-copied m (at m) 2 0x12 refl in
     comes_out m 0x11002 Plain 10 (Done 4) (copied_page (at m) 0x12 2) (record { machine = record { first = None; cursor = 0x11018; destination = 0x3000; ended = true; mode = Plain }; memory = n })
     (goes 9 0 _ (standing Plain m 0x11000 0) _ refl

@@ -4,7 +4,7 @@ use Rattle.page_memory.specs.Contents.{at, IsHeld}
 use Rattle.kimage_list.proofs.open_list.OpenList.load_page.Goals as goal
 use Rattle.kimage_list.proofs.Arriving.{arrived, has_slot, home_of, hand_held, in_hand}
 use Rattle.kimage_list.proofs.Entering.{filled_in, steady_more, same_writes}
-use Rattle.kimage_list.specs.Drafts.{loaded_from, HeadIs}
+use Rattle.kimage_list.specs.Drafts.{with_move, HeadIs}
 use Rattle.kimage_list.specs.Load.{Move}
 use Rattle.kimage_list.specs.Tables.{Slots, slot}
 use Rattle.kx_pages.specs.Items.{code}
@@ -66,7 +66,7 @@ returns-clause-written c = λ d e t h r can n.
     let new : slot c.set.new.self c.args.p ≡ Some (Some (record { source = t.0; place = s.next })) = subst Slot m.0 c.set.ensures.here in
     let T : Slots = c.set.new.self in
     let old = λ (y : ℕ) (g : c.args.p ≡ y → ⊥). c.set.ensures.others y g ∙ ap (λ v. slot v y) o.1 in (
-      same_writes (loaded_from e c.args.p t) [] z.memory s.pool z.pool T T (s.next + 8) z.next (s.entries + 1) z.entries (sym o.0) refl (sym x.0) (sym x.1)
+      same_writes (with_move e c.args.p t) [] z.memory s.pool z.pool T T (s.next + 8) z.next (s.entries + 1) z.entries (sym o.0) refl (sym x.0) (sym x.1)
           (arrived e t c.fill.new.memory s.pool s.table s.next s.entries w k.1 c.args.p c.args.bytes.now n home here z.memory T word c.write_entry.ensures.stay new old),
       steady_more (record e { loading = t.1 }) (t.0 ∷ []) c.fill.new.memory s.pool s.table s.next s.entries w k.1 (Move c.args.p),
     )

@@ -3,7 +3,7 @@ use Rattle.page_memory.specs.Contents.{at, IsHeld}
 use Rattle.kimage_list.proofs.open_list.OpenList.take_link.Goals as goal
 use Rattle.kimage_list.proofs.open_list.OpenList.take_link.Goals.{then-self-eq0, else-self-eq0}
 use Rattle.kimage_list.proofs.Linking.{link_held, next_held, next_low, next_aligned, first, later, head_first, head_later}
-use Rattle.kimage_list.specs.Drafts.{Renders, linked, HeadIs}
+use Rattle.kimage_list.specs.Drafts.{Renders, with_link, HeadIs}
 use Rattle.kx_pages.specs.Items.{code}
 use Rattle.kx_pages.specs.declared.item.Item.TheVariants.{Link}
 use Rattle.kx_pages.specs.Bytes.{page_of}
@@ -42,12 +42,12 @@ returns-clause-written c = λ d t h can full.
     let address : 4096 * t.0 ≡ c.address-self.result = sym (c.address-self.ensures.value ∙ ap (λ p. 4096 * p) k.0) in
     elim c.if-self-eq0.branch [
       | then-self-eq0 w ↦
-          subst (λ v. Renders (linked d t) [] v.memory v.pool v.table c.address-self.result v.entries) (sym w.self-is)
-          (subst (λ a. Renders (linked d t) [] c.fill.new.memory s.pool s.table a s.entries) address
+          subst (λ v. Renders (with_link d t) [] v.memory v.pool v.table c.address-self.result v.entries) (sym w.self-is)
+          (subst (λ a. Renders (with_link d t) [] c.fill.new.memory s.pool s.table a s.entries) address
           (first d t s.memory s.pool s.table s.next s.entries k.1 full c.fill.new.memory w.if-self-eq0.true cleared c.fill.ensures.stay))
       | else-self-eq0 w ↦
-          subst (λ v. Renders (linked d t) [] v.memory v.pool v.table c.address-self.result v.entries) (sym w.self-is)
-          (subst (λ a. Renders (linked d t) [] w.write_word.new.memory s.pool s.table a s.entries) address
+          subst (λ v. Renders (with_link d t) [] v.memory v.pool v.table c.address-self.result v.entries) (sym w.self-is)
+          (subst (λ a. Renders (with_link d t) [] w.write_word.new.memory s.pool s.table a s.entries) address
           (later d t s.memory s.pool s.table s.next s.entries k.1 full w.write_word.new.memory w.if-self-eq0.false
           (w.write_word.ensures.value ∙ ap (λ m. set_word m s.next w.link_word.result) cleared ∙ ap (set_word (put (at s.memory) t.0 (page_of [])) s.next) (w.link_word.ensures ∙ ap (λ p. code (Link p)) k.0))
           (λ q g. w.write_word.ensures.stay q (c.fill.ensures.stay q g))))

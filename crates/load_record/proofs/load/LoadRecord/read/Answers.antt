@@ -26,7 +26,7 @@ returns-clause-exact c =
     subst (λ d. Gives Memory (λ (r : Record). r) c.record_with.result d) (sym (reading_ruled c.args.bytes.now c.in-Ok.head c.in-Ok-read_segments.list.items c.in-Ok.ensures.value (rw c.of.ensures at c.in-Ok-read_segments.ensures))) c.record_with.ensures.exact
 
 pub returns-clause-found : goal.returns-clause-found
-returns-clause-found c = given_found c.args.bytes.now c.record_with.result c.read_tested.ensures.bytes (returns-clause-exact c)
+returns-clause-found c = given_found c.args.bytes.now c.record_with.result c.tested.ensures.bytes (returns-clause-exact c)
 
 pub returns-clause-writable : goal.returns-clause-writable
-returns-clause-writable c = given_writable c.args.bytes.now c.record_with.result c.read_tested.ensures.bytes (returns-clause-exact c)
+returns-clause-writable c = given_writable c.args.bytes.now c.record_with.result c.tested.ensures.bytes (returns-clause-exact c)

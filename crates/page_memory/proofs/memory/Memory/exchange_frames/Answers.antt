@@ -1,5 +1,5 @@
 use Rattle.std.proofs.Common.{ap}
-use Rattle.page_memory.specs.Contents.{Contents, swapped}
+use Rattle.page_memory.specs.Contents.{Contents, swap_pages}
 use Rattle.page_memory.proofs.Laws.{held-insert}
 use Rattle.page_memory.specs.Frames.{pages_in}
 use Rattle.page_memory.proofs.Changes.{exchange_is_swap, some_in}
@@ -17,7 +17,7 @@ returns-clause-value c =
     let t = c.self.inside.table.places in
     let ys = c.copy_frame.new.frames.items in
     let two = exchange_is_swap (pages_in xs t) (pages_in ys t) (pages_in ys c.exchange.new.table.places) c.args.d c.args.s c.args.w c.requires.apart.2 c.copy_frame.ensures.value (c.exchange.ensures.value ys) in
-    rw two (ap (λ (m : Contents). swapped m c.args.d c.args.s c.args.w) c.self.view_is)
+    rw two (ap (λ (m : Contents). swap_pages m c.args.d c.args.s c.args.w) c.self.view_is)
 
 pub returns-clause-stay : goal.returns-clause-stay
 returns-clause-stay c = λ q h.

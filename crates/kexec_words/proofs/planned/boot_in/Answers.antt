@@ -1,0 +1,24 @@
+use Rattle.std.proofs.Common.{◌≡◌, ◌∙◌, ap, subst, Ok, Result, List, Option, codes, string_bytes}
+use Rattle.clap.specs.Words.{Text, Row, first_of, rows_of, found_of}
+use Rattle.kexec_words.specs.Found.{word_of, text_in}
+use Rattle.kexec_words.specs.Meaning.{Answers, boot_in, boot_with, inputs_of, plan_numbers_by}
+use Rattle.kexec_words.specs.Values.{InputsValue, boot_value, inputs_value}
+use Rattle.kexec_words.specs.declared.commands.Boot.{Boot}
+use Rattle.kexec_words.specs.declared.numbers.PlanNumbers.{PlanNumbers}
+use Rattle.kexec_words.specs.declared.faults.WordsFault.{WordsFault}
+use Rattle.kexec_words.proofs.Taken.{goes_on}
+use Rattle.kexec_words.proofs.planned.boot_in.Goals as goal
+
+found : (rows : List Row) (k : Option Text) (n : PlanNumbers) (i : InputsValue) (o : Text) (r : Result Boot WordsFault)
+    → Ok n ≡ plan_numbers_by k rows → k ≡ first_of (codes "kept") rows → i ≡ inputs_of n.below rows → o ≡ word_of (codes "OUT") rows
+    → Answers boot_value (boot_with i o n) r → Answers boot_value (boot_in rows) r
+found rows k n i o r numbers kept inputs out h =
+    let first : Answers boot_value (boot_with (inputs_of n.below rows) o n) r = subst (λ x. Answers boot_value (boot_with x o n) r) inputs h in
+    let second : Answers boot_value (boot_with (inputs_of n.below rows) (word_of (codes "OUT") rows) n) r =
+    subst (λ x. Answers boot_value (boot_with (inputs_of n.below rows) x n) r) out first in
+    goes_on boot_value (λ n. boot_with (inputs_of n.below rows) (word_of (codes "OUT") rows) n) (plan_numbers_by (first_of (codes "kept") rows) rows) n r
+    (numbers ∙ ap (λ x. plan_numbers_by x rows) kept) second
+
+pub returns : goal.returns
+returns c = found (rows_of (found_of c.args.matches.now)) (text_in c.option_in.result) c.in_ok-numbers.numbers (inputs_value c.in_ok-inputs.inputs) (string_bytes c.in_ok-out.out) c.boot_from.result
+    c.in_ok-numbers.ensures c.option_in.ensures c.in_ok-inputs.ensures c.in_ok-out.ensures c.boot_from.ensures
