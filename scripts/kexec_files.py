@@ -254,7 +254,7 @@ def build():
     with subprocess.Popen([KEXEC], stdin=subprocess.DEVNULL, stderr=subprocess.PIPE, text=True) as run:
         for line in run.stderr:
             said.append(line)
-            if line.startswith("kexec: ") and "the first argument has to be a command" not in line:
+            if line.startswith("kexec: ") and "the first argument must be a command" not in line:
                 print(line, end="", file=sys.stderr, flush=True)
     if run.returncode != 2:
         raise Wrong("".join(said).strip() or f"{KEXEC} ended with status {run.returncode}")
@@ -269,7 +269,7 @@ def unknown(words):
 
 
 def tool(words, folder):
-    """Runs a tool, which has to end well."""
+    """Runs a tool, which must end well."""
     try:
         ended = subprocess.run(words, cwd=folder, stdin=subprocess.DEVNULL, capture_output=True, text=True)
     except OSError:

@@ -176,7 +176,7 @@ fn a_fault_says_what_was_wanted(rt: HostRuntime) -> Result<(), Fail> {
     let text = format!(in rt.alloc(); "{}", BzFault::OldVersion { found: 523 })?;
     assert_eq!(rt;
         text.as_str(),
-        "the boot protocol's version at byte 0x206 of the kernel file is 523, and has to be 524 (2.12) or more"
+        "the boot protocol's version at byte 0x206 of the kernel file is 523, and must be 524 (2.12) or more"
     );
     Ok(())
 }

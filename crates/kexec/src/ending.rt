@@ -39,7 +39,7 @@ impl Display for Notice<'_> {
     fn fmt<W: Write>(&self, f: &mut Formatter<W>) -> fmt::Result {
         match self {
             Notice::NoWords => f.write_str(
-                "kexec: no words: an argument is no text in UTF-8, or there is not enough memory for the arguments",
+                "kexec: no words: an argument is not text in UTF-8, or there is not enough memory for the arguments",
             ),
             Notice::Version => f.write_str(VERSION),
             Notice::Help { help } => write!(f, "{help}"),

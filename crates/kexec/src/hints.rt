@@ -60,7 +60,7 @@ fn memory_hint(front: &[u8]) -> Option<&'static str> {
     if front.starts_with(b"KXMEM001") {
         None
     } else {
-        Some("a raw dump of memory is no memory file")
+        Some("a raw dump of memory is not a memory file")
     }
 }
 

@@ -34,7 +34,7 @@ fn write_raw<W: Write>(
     match fault {
         SegFault::BadAddress { i: 0 } => write!(
             f,
-            "--at {at}: a raw kernel has to begin at a multiple of 1000 and to end below 400000000000, both in hexadecimal"
+            "--at {at}: a raw kernel must begin at a multiple of 1000 and end below 400000000000, both in hexadecimal"
         ),
         SegFault::NotRam { i: 0 } => {
             let map = map_of(given);
@@ -62,7 +62,7 @@ fn write_placed<W: Write>(
             let map = map_of(given);
             write!(
                 f,
-                "segment {i} of the kernel has a page that is no System RAM of the memory map {map:?}"
+                "segment {i} of the kernel has a page that is not System RAM in the memory map {map:?}"
             )
         }
         SegFault::TooLarge { pages } => write!(
@@ -126,7 +126,7 @@ pub(crate) fn write_plan<W: Write>(
             "there is no place for {part} in the reserved area of the memory map: boot the running kernel with a larger crashkernel="
         ),
         PlanFault::UnknownImage if is_crash => {
-            f.write_str("the kernel file is no bzImage, and a crash kernel has to be one")
+            f.write_str("the kernel file is not a bzImage, and a crash kernel must be one")
         }
         PlanFault::Unused { part } => write_unused(part, given, f),
         PlanFault::NoReserved => f.write_str(

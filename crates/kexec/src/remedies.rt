@@ -32,10 +32,10 @@ fn bzimage_remedy(fault: &BzFault) -> Option<&'static str> {
 fn link_remedy(fault: &LinkFault) -> Option<&'static str> {
     match fault {
         LinkFault::NoSymbol => Some(
-            "it has to define entry64_regs, purgatory_sha_regions, purgatory_sha256_digest and purgatory_start",
+            "it must define entry64_regs, purgatory_sha_regions, purgatory_sha256_digest and purgatory_start",
         ),
         LinkFault::WrongSize { .. } => Some(
-            "entry64_regs has to have 136 bytes, purgatory_sha_regions 256 and purgatory_sha256_digest 32",
+            "entry64_regs must have 136 bytes, purgatory_sha_regions 256 and purgatory_sha256_digest 32",
         ),
         LinkFault::UnknownReloc { .. } | LinkFault::DoesNotFit { .. } => {
             Some("compile it with -fno-pic -mcmodel=large")
@@ -62,11 +62,11 @@ fn plan_remedy(fault: &PlanFault, is_crash: bool) -> Option<&'static str> {
     match fault {
         PlanFault::Elf { fault } => elf_remedy(
             fault,
-            "a kernel has to be an executable (ET_EXEC), in ELF64 for x86-64",
+            "a kernel must be an executable (ET_EXEC), in ELF64 for x86-64",
         ),
         PlanFault::Object { fault } => elf_remedy(
             fault,
-            "a purgatory has to be an object (ET_REL), in ELF64 for x86-64",
+            "a purgatory must be an object (ET_REL), in ELF64 for x86-64",
         ),
         PlanFault::Bzimage { fault } => bzimage_remedy(fault),
         PlanFault::Link { fault } => link_remedy(fault),

@@ -74,7 +74,7 @@ fn each_answer_has_its_status_and_sentence(rt: HostRuntime) -> Result<(), Fail> 
             Status::Unsaid,
             (
                 5,
-                "kexec: standard output cannot be written: it has to be open and to have room",
+                "kexec: standard output cannot be written: it must be open and have room",
             ),
         ),
         (
@@ -228,7 +228,7 @@ fn a_request_without_a_plan_says_what_is_in_the_way(rt: HostRuntime) -> Result<(
             plan(PlanFault::Segments {
                 fault: SegFault::NotRam { i: 1 },
             }),
-            "kexec: segment 1 of the kernel has a page that is no System RAM of the memory map \"map\"",
+            "kexec: segment 1 of the kernel has a page that is not System RAM in the memory map \"map\"",
         ),
         (
             plan(PlanFault::Params {
@@ -260,7 +260,7 @@ fn without_words_there_is_a_sentence(rt: HostRuntime) -> Result<(), Fail> {
     let text = notice.to_string(rt.alloc())?;
     assert_eq!(rt;
         text.as_str(),
-        "kexec: no words: an argument is no text in UTF-8, or there is not enough memory for the arguments"
+        "kexec: no words: an argument is not text in UTF-8, or there is not enough memory for the arguments"
     );
     Ok(())
 }
@@ -296,7 +296,7 @@ fn the_front_of_a_file_tells_its_kind(rt: HostRuntime) {
         (
             &memory,
             b"\0\0\0\0",
-            Some("a raw dump of memory is no memory file"),
+            Some("a raw dump of memory is not a memory file"),
         ),
         (&memory, b"KXMEM001", None),
         (

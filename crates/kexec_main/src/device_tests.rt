@@ -69,7 +69,7 @@ fn left(alloc: Global, shelf: &mut MemoryShelf) -> Result<Left, AllocError> {
     Ok((memory, file_of(alloc, shelf, "r")?))
 }
 
-// What is left where the calls with these numbers fail. The command has to end like this.
+// What is left where the calls with these numbers fail. The command must end like this.
 fn left_by(
     rt: &impl Abort,
     alloc: Global,

@@ -1,4 +1,4 @@
-//! Each command is Done where it is in order, and leaves what it has to. Contracts leave want of memory free, so a test
+//! Each command is Done where it is in order, and leaves what it must. Contracts leave want of memory free, so a test
 //! shows that it does not come with ample memory.
 
 use crate::first_example::{

@@ -1,4 +1,4 @@
-//! Scenes, for tests: files in memory, commands that are run over them, and what has to come of each.
+//! Scenes, for tests: files in memory, commands that are run over them, and what must come of each.
 
 use crate::{Status, kexec};
 use kx_edge::{MemoryShelf, MemorySink, Shelf, ShelfFault};
@@ -43,7 +43,7 @@ const ROOM: usize = 10_000_000;
 /// The most bytes that a text can have.
 const TEXT_ROOM: usize = 20_000;
 
-/// A command of a scene, and what has to come of it.
+/// A command of a scene, and what must come of it.
 #[derive(Clone, Copy)]
 pub(crate) struct Step {
     /// Its words.
@@ -277,7 +277,7 @@ pub(crate) fn has_outputs(
     Ok(true)
 }
 
-/// Runs a command, which has to end with this exit status and this status, and to say this text.
+/// Runs a command, which must end with this exit status and this status, and say this text.
 pub(crate) fn expect(
     rt: &impl Abort,
     alloc: Global,

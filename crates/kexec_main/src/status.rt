@@ -83,13 +83,13 @@ pub enum Status {
     #[error("{why}")]
     Usage { why: UsageWhy },
     /// The file could not be read.
-    #[error("{name:?} cannot be read: it has to be a file that exists and is readable to its end")]
+    #[error("{name:?} cannot be read: it must exist and be readable to its end")]
     Unread { name: String },
     /// The file could not be written. The outputs before it are whole, and it has a prefix of its bytes.
-    #[error("{name:?} cannot be written: it has to be the name of a file, in a folder that exists, may be written to and has room")]
+    #[error("{name:?} cannot be written: it must name a file in a folder that exists, is writable and has room")]
     Unwritten { name: String },
     /// The text could not be written whole. The outputs are whole.
-    #[error("standard output cannot be written: it has to be open and to have room")]
+    #[error("standard output cannot be written: it must be open and have room")]
     Unsaid,
     /// The file is longer than such a file can be.
     #[error("{name:?} is longer than {limit} bytes, which is the most that it can have here")]

@@ -1,4 +1,4 @@
-//! Each status comes where it has to: contracts leave want of memory free, so tables show that no other cause is told as
+//! Each status comes where it must: contracts leave want of memory free, so tables show that no other cause is told as
 //! it.
 
 use crate::first_example::{ABC, ABC_DIGEST, MAP, NO_PAGES, RECORD_NUMBERS};

@@ -24,7 +24,7 @@ raw_kernel at entry bytes = record {
   entry = entry;
 }
 
--- an ELF executable, which has to be ELF64
+-- an ELF executable, which must be ELF64
 unfoldable pub elf_kernel : List ℕ → Result Kernel PlanFault
 elf_kernel file = do
   exec ← told_by of_elf (exec_reading file)

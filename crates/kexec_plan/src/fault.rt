@@ -49,7 +49,7 @@ pub enum PlanFault {
     #[error("out of memory")]
     Memory,
     /// The kernel's file is of no known type.
-    #[error("the kernel file is no bzImage, no Multiboot kernel and no ELF file: give its type, as --type raw and --at")]
+    #[error("the kernel file is not a bzImage, a Multiboot kernel or an ELF file: give its type, as --type raw and --at")]
     UnknownImage,
     /// There is no place for a part.
     #[error("there is no place for {part}: the memory map has no free run of pages where it may lie")]
@@ -85,7 +85,7 @@ pub enum PlanFault {
     #[error("{part} is given, and a kernel of this type takes none")]
     Unused { part: Part },
     /// A crash kernel of another type than bzImage.
-    #[error("a crash kernel has to be a bzImage")]
+    #[error("a crash kernel must be a bzImage")]
     CrashNeedsBzimage,
 }
 

@@ -56,7 +56,7 @@ pub(crate) fn raw_kernel(
     Ok(Kernel { list, entry })
 }
 
-/// The ELF executable of this file, which has to be ELF64. The file is let go when its segments are there.
+/// The ELF executable of this file, which must be ELF64. The file is let go when its segments are there.
 #[tactic(auto, unfolding(crate::specs::Kernels::elf_kernel))]
 pub(crate) fn read_elf(alloc: Global, file: Vec<u8>) -> Result<Kernel, PlanFault>
     ensures { Gives PlanFault.Memory (λ k. k) result (elf_kernel file.items) }

@@ -44,7 +44,7 @@ next_value n = (argument_value n.0.now, argument_values n.1.now)
 
 -- ---- what is read
 
--- what stood among the words, and what has to stand there
+-- what stood among the words, and what must stand there
 pub data MistakeValue : Type 0 where
   memory : MistakeValue
   unknown : Text → MistakeValue
@@ -144,7 +144,7 @@ abbrev pub option_step : ReadingValue → Text → Step
 option_step r word =
     option_where r (option_in r.arguments (split_value word).0) (split_value word)
 
--- a word behind an option that has to have a value
+-- a word behind an option that must have a value
 abbrev pub awaited_step : ReadingValue → ArgumentValue → Text → Step
 awaited_step r a word =
     if is_option word then (r, Some (no_value a (Some word)))

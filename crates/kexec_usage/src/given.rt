@@ -162,7 +162,7 @@ impl<'a> Reading<'a> {
         }
     }
 
-    // A word behind an option that has to have a value.
+    // A word behind an option that must have a value.
     fn read_value(
         &mut self,
         argument: &'static Argument,

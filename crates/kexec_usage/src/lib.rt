@@ -1,7 +1,7 @@
 //! The words behind a command, each with the name that the table gives it, and the sentence about words that are refused.
 //!
-//! kexec_words decides whether words are taken, and says of a refusal no more than its reason. For people a sentence has to
-//! name the word that stood there, and what has to stand there: so the words are read once more, by the same table, up to
+//! kexec_words decides whether words are taken, and says of a refusal no more than its reason. For people a sentence must
+//! name the word that stood there, and what must stand there: so the words are read once more, by the same table, up to
 //! the first that the command does not take.
 #![tactic(auto)]
 

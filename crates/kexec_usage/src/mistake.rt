@@ -2,7 +2,7 @@
 
 use kexec_words::Argument;
 
-/// What stood among the words, and what has to stand there.
+/// What stood among the words, and what must stand there.
 #[derive(Clone, Copy, Debug, PartialEq, Eq)]
 pub enum Mistake<'a> {
     /// There is not enough memory to read the words.
@@ -15,7 +15,7 @@ pub enum Mistake<'a> {
     Again {
         argument: &'static Argument,
     },
-    /// The option has to have a value, and this word stands in its place; none where no word does.
+    /// The option must have a value, and this word stands in its place; none where no word does.
     NoValue {
         argument: &'static Argument,
         next: Option<&'a str>,

@@ -12,7 +12,7 @@ use kexec_words::{Argument, UsageWhy, Which, arguments_of};
 use std::fmt::{self, Display, Formatter, Write};
 
 // The sign is no part of a number.
-const UNSIGNED: &str = "a number has to be without a sign";
+const UNSIGNED: &str = "a number must have no sign";
 
 fn write_command<W: Write>(
     why: &UsageWhy,
@@ -33,7 +33,7 @@ fn write_command<W: Write>(
             f,
             "{word} is an option of kexec(8), which is another program: the command here is {command}"
         ),
-        None => write!(f, "{word:?} is no command; {why}"),
+        None => write!(f, "{word:?} is not a command; {why}"),
     }
 }
 
@@ -61,16 +61,16 @@ fn write_unknown<W: Write>(
     if let Some(other) = counterpart_of(arguments, option) {
         return write!(
             f,
-            "{option} is no option of this command; {other} stands for it"
+            "{option} is not an option of this command; {other} stands for it"
         );
     }
     if has_no_counterpart(option) {
         return write!(
             f,
-            "{option} is no option of this command; that of kexec(8) has no counterpart here"
+            "{option} is not an option of this command; that of kexec(8) has no counterpart here"
         );
     }
-    write!(f, "{option:?} is no option of this command")?;
+    write!(f, "{option:?} is not an option of this command")?;
     if is_signed(option) {
         write!(f, "; {UNSIGNED}")?;
     }
@@ -89,7 +89,7 @@ fn write_no_value<W: Write>(
         }
         _ => {
             let value = argument.value;
-            write!(f, "{name} has to have a value: {name} {value}")
+            write!(f, "{name} needs a value: {name} {value}")
         }
     }
 }
@@ -104,12 +104,12 @@ fn write_mistake<W: Write>(
         Mistake::Unknown { option } => write_unknown(arguments, option, f),
         Mistake::Again { argument } => {
             let name = argument.name;
-            write!(f, "{name} is given twice, and has to be given once")
+            write!(f, "{name} is given twice, and may be given once")
         }
         Mistake::NoValue { argument, next } => write_no_value(argument, *next, f),
         Mistake::HasValue { argument } => {
             let name = argument.name;
-            write!(f, "{name} takes no value, and has to stand alone")
+            write!(f, "{name} takes no value, and must stand alone")
         }
         Mistake::Surplus { word } => write!(f, "{word:?} is an argument too many"),
         Mistake::Missing { argument } => {
@@ -151,7 +151,7 @@ fn write_same_name<W: Write>(given: &[Given<'_>], f: &mut Formatter<W>) -> fmt::
     let text = file.text;
     write!(
         f,
-        "{name} and {other} are both {text:?}: a file that is written has to have a name of its own"
+        "{name} and {other} are both {text:?}: a file that is written must have a name of its own"
     )
 }
 

@@ -47,41 +47,41 @@ fn names_the_word_that_is_refused(rt: HostRuntime) -> Result<(), Fail> {
         ("check m r more", "\"more\" is an argument too many"),
         (
             "boot --reset m p o k",
-            "\"--reset\" is no option of this command",
+            "\"--reset\" is not an option of this command",
         ),
         (
             "check --append=q m r",
-            "\"--append\" is no option of this command",
+            "\"--append\" is not an option of this command",
         ),
         (
             "boot --append=q m p o k",
-            "--append is no option of this command; --command stands for it",
+            "--append is not an option of this command; --command stands for it",
         ),
         (
             "load --load-preserve-context m p o r k",
-            "--load-preserve-context is no option of this command; --kept stands for it",
+            "--load-preserve-context is not an option of this command; --kept stands for it",
         ),
         (
             "boot --at 1000 --at=2000 m p o k",
-            "--at is given twice, and has to be given once",
+            "--at is given twice, and may be given once",
         ),
         (
             "boot m p o k --map",
-            "--map has to have a value: --map FILE",
+            "--map needs a value: --map FILE",
         ),
         (
             "boot --kept --map f m p o k",
-            "--kept has to have a value: --kept RUNS",
+            "--kept needs a value: --kept RUNS",
         ),
         (
             "load --kept=1 m p o r k",
-            "--kept takes no value, and has to stand alone",
+            "--kept takes no value, and must stand alone",
         ),
         ("exec -- --twice m", "OUT is missing"),
         ("boot-resident m p o k", "PAIRS is missing"),
         (
             "drill m p o v --at 2000",
-            "\"--at\" is no option of this command",
+            "\"--at\" is not an option of this command",
         ),
         (
             "trace - o 4 ten",
@@ -93,19 +93,19 @@ fn names_the_word_that_is_refused(rt: HostRuntime) -> Result<(), Fail> {
         ),
         (
             "boot --type raw --at=-1 m p o k",
-            "--at is not a hexadecimal number of 1 to 16 digits: \"-1\" is given; a number has to be without a sign",
+            "--at is not a hexadecimal number of 1 to 16 digits: \"-1\" is given; a number must have no sign",
         ),
         (
             "boot --type raw --at -1 m p o k",
-            "--at: \"-1\" is given, and a number has to be without a sign",
+            "--at: \"-1\" is given, and a number must have no sign",
         ),
         (
             "trace m o 4 -1",
-            "\"-1\" is no option of this command; a number has to be without a sign",
+            "\"-1\" is not an option of this command; a number must have no sign",
         ),
         (
             "boot --reuse-cmdline m p o k",
-            "--reuse-cmdline is no option of this command; that of kexec(8) has no counterpart here",
+            "--reuse-cmdline is not an option of this command; that of kexec(8) has no counterpart here",
         ),
         (
             "sample 0x10",
@@ -132,7 +132,7 @@ fn tells_what_has_to_be_given(rt: HostRuntime) -> Result<(), Fail> {
         ),
         (
             "reboot",
-            "\"reboot\" is no command; the first argument has to be a command: boot, load, load-panic, check, dump, exec, trace, migrate, sample, boot-resident, drill or core",
+            "\"reboot\" is not a command; the first argument must be a command: boot, load, load-panic, check, dump, exec, trace, migrate, sample, boot-resident, drill or core",
         ),
         (
             "boot --map f m p o k 1 2 3 4 5 6 7 8 9 10 11 12 13 14",
@@ -140,11 +140,11 @@ fn tells_what_has_to_be_given(rt: HostRuntime) -> Result<(), Fail> {
         ),
         (
             "boot --map f m p f k",
-            "OUT and --map are both \"f\": a file that is written has to have a name of its own",
+            "OUT and --map are both \"f\": a file that is written must have a name of its own",
         ),
         (
             "load --map f m p o o k",
-            "OUT and RECORD are both \"o\": a file that is written has to have a name of its own",
+            "OUT and RECORD are both \"o\": a file that is written must have a name of its own",
         ),
         (
             "boot --type raw m p o k",
@@ -156,7 +156,7 @@ fn tells_what_has_to_be_given(rt: HostRuntime) -> Result<(), Fail> {
         ),
         (
             "drill m p o o",
-            "OUT and EVENTS are both \"o\": a file that is written has to have a name of its own",
+            "OUT and EVENTS are both \"o\": a file that is written must have a name of its own",
         ),
         ("core m 2000 2000", ""),
         (

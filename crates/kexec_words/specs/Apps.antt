@@ -11,7 +11,7 @@ use Rattle.kexec_words.specs.declared.table.Kind.TheVariants as kind
 
 -- ---- arguments
 
--- a positional word that has to be there
+-- a positional word that must be there
 abbrev pub word : Text → Kind → ArgumentValue
 word id kind =
     record { id = id; name = id; value = []; form = form.Word; kind = kind }

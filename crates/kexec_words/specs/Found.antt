@@ -19,7 +19,7 @@ Parses app words (Err Memory) = Unit {0}
 Parses app words (Err (Usage why.Parse)) = IsTaken app words → ⊥
 Parses app words (Err (Usage other)) = ⊥
 
--- a positional word that has to be there; it is there wherever the words are taken
+-- a positional word that must be there; it is there wherever the words are taken
 abbrev pub word_of : Text → List Row → Text
 word_of id rows = unwrap_or (first_of id rows) []
 

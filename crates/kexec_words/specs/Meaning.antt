@@ -73,7 +73,7 @@ image_from kind.Elf at entry = Some image.Elf
 image_from kind.Bzimage at entry = Some image.Bzimage
 image_from kind.Multiboot at entry = Some image.Multiboot
 
--- a map has to be given: for each type but raw, and for a purgatory
+-- a map must be given: for each type but raw, and for a purgatory
 abbrev pub needs_map : ImageType → InputsValue → Bool
 needs_map (image.Raw at entry) i = is_some i.purgatory
 needs_map other i = true
@@ -218,7 +218,7 @@ sample_by rows = sample_of (word_of (codes "NUMBER") rows)
 abbrev pub sample_in : List Row → Result ℕ UsageWhy
 sample_in rows = with_numbers (sample_by rows) (λ n. Ok n)
 
--- --at has to be given
+-- --at must be given
 abbrev pub boot_resident_at : Text → Text → Text → Text → Text → Option ℕ
     → Result BootResidentValue UsageWhy
 boot_resident_at memory pool out kernel pairs None = Err why.NeedsAt
@@ -247,7 +247,7 @@ boot_resident_in rows =
     (boot_resident_with (word_of (codes "MEMORY") rows) (word_of (codes "POOL") rows)
     (word_of (codes "OUT") rows) (word_of (codes "KERNEL") rows) (word_of (codes "PAIRS") rows))
 
--- --map has to be given
+-- --map must be given
 abbrev pub drill_by : Text → Text → Text → Text → Option Text → Result DrillValue UsageWhy
 drill_by memory pool out events None = Err why.NeedsMap
 drill_by memory pool out events (Some map) =

@@ -39,7 +39,7 @@ pub enum Which {
 #[derive(Clone, Copy, Debug, PartialEq, Eq, Error)]
 pub enum UsageWhy {
     /// There is no word, or the first one names no command.
-    #[error("the first argument has to be a command: boot, load, load-panic, check, dump, exec, trace, migrate, sample, boot-resident, drill or core")]
+    #[error("the first argument must be a command: boot, load, load-panic, check, dump, exec, trace, migrate, sample, boot-resident, drill or core")]
     Command,
     /// The words after the first are not those that the command takes; asking for help is such a refusal.
     #[error("the arguments after the command are not those that it takes")]

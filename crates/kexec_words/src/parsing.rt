@@ -69,7 +69,7 @@ pub(crate) fn option_in<'a>(matches: &ArgMatches<'a>, id: &str) -> Option<&'a st
     matches.get_str(id)
 }
 
-// A positional word that has to be there.
+// A positional word that must be there.
 pub(crate) fn word_in<'a>(matches: &ArgMatches<'a>, id: &str) -> &'a str
     ensures { result.now ≡ word_of id.now (rows_of (found_of matches.now)) }
 {

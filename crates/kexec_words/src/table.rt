@@ -6,7 +6,7 @@ ghost use Rattle.kexec_words.specs.Table.{is_file, is_hexadecimal, is_number, is
 /// How an argument is given.
 #[derive(Clone, Copy, Debug, PartialEq, Eq)]
 pub enum Form {
-    /// A positional word that has to be there.
+    /// A positional word that must be there.
     Word,
     /// No positional word, one or several; the last one of a command alone.
     Words,

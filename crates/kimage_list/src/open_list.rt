@@ -168,7 +168,7 @@ impl OpenList {
 
     // Loads page p with these bytes, then zeros. Room comes first: a link page that is taken may itself be an exchange,
     // and so change the table. The source is entered into the table with the place of its word, so that an exchange
-    // later finds the word that it has to change.
+    // later finds the word that it must change.
     pub(crate) fn load_page(&mut self, p: Page, bytes: &[u8])
         requires fits { length bytes.now ≤ 4096 }
         requires ready { (d : Draft) × (e : Draft) × (t : ℕ × Loading)

@@ -31,7 +31,7 @@ abbrev pub cause_text : Why → List ℕ
 cause_text Flags = codes "its low twelve bits are not exactly one of the flags 1, 2, 4 and 8"
 cause_text HeadKind = codes "a head links to a page or is done, and a crash kernel's head is done"
 cause_text LinkAgain = codes "it links to a page that is already a link page"
-cause_text RunsOff = codes "the last slot of a page has to link on or to end the list"
+cause_text RunsOff = codes "the last slot of a page must link on or to end the list"
 cause_text NoDestination = codes "no destination word comes before it"
 cause_text NotWanted = codes "its destination is no page of the segments"
 cause_text TwiceWritten = codes "its destination was written by an earlier word"

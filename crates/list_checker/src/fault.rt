@@ -104,7 +104,7 @@ impl ListFault {
             Why::Flags => "its low twelve bits are not exactly one of the flags 1, 2, 4 and 8",
             Why::HeadKind => "a head links to a page or is done, and a crash kernel's head is done",
             Why::LinkAgain => "it links to a page that is already a link page",
-            Why::RunsOff => "the last slot of a page has to link on or to end the list",
+            Why::RunsOff => "the last slot of a page must link on or to end the list",
             Why::NoDestination => "no destination word comes before it",
             Why::NotWanted => "its destination is no page of the segments",
             Why::TwiceWritten => "its destination was written by an earlier word",

@@ -137,7 +137,7 @@ impl AcceptedCrash {
 }
 
 // A crash kernel has no list to run, as nothing can be relied on when it starts: its pages lie in an area that the running
-// kernel never uses, from the load on, and the head is a done word. So what a run has to bring about elsewhere has to
+// kernel never uses, from the load on, and the head is a done word. So what a run must bring about elsewhere must
 // stand here already, and what is tested is that it does.
 //
 // All pages are held before the first is written: a refusal has changed nothing that is read.

@@ -24,7 +24,7 @@ pub enum MbFault {
     #[error("the addresses in the Multiboot header of the kernel file are cut off, or do not fit the file or one another")]
     BadKludge,
     /// The file has no addresses in its header, and is no ELF32 executable.
-    #[error("the Multiboot header of the kernel file has no addresses, and the file is no ELF32 executable: {fault}")]
+    #[error("the Multiboot header of the kernel file has no addresses, and the file is not an ELF32 executable: {fault}")]
     Elf { fault: ElfFault },
     /// The file takes so many pages, more than 65,536.
     #[error("the Multiboot kernel takes {pages} pages, and can take 65536 or fewer")]

@@ -25,7 +25,7 @@ pub enum MemFault {
     #[error("the page number at byte {at} of the memory file is not above the one before it")]
     NotRising { at: u64 },
     /// A page is all zeros; `at` is the place of its number.
-    #[error("the page at byte {at} of the memory file is all zeros: such a page has to be left out")]
+    #[error("the page at byte {at} of the memory file is all zeros: such a page must be left out")]
     ZeroPage { at: u64 },
     /// The file counts more than 131,072 pages.
     #[error("the memory file counts {count} pages, and at most 131072 are allowed")]

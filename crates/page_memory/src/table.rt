@@ -2,7 +2,7 @@
 //!
 //! An ordered map has the place of each page's frame. In front of it lies a row of shortcuts, entries of the map once more,
 //! so that most look-ups walk no tree: a page's shortcut stands where the low bits of its number say, and the page that was
-//! noted there last has it. What a shortcut says the map says too, and none has to be there: for want of memory the row is
+//! noted there last has it. What a shortcut says the map says too, and none must be there: for want of memory the row is
 //! shorter, or there is none, and nothing is refused. No contract tells of it: a table is seen as its map.
 
 ghost use Rattle.std.specs.Prelude.{◌≡◌, ◌+◌, length, set, Some, None, IsSome, IfSome, IfOk, OnOk, OnErr};

@@ -141,7 +141,7 @@ pub fn test_regions(memory: &Memory, regions: u64, digest: u64) -> RegionTest
 }
 
 /// What was digested is found: where memory holds at each page of the segments but the purgatory what is wanted of it,
-/// and their table and digest stand at two addresses, the test of these is `Same`. No limit on the lengths has to be
+/// and their table and digest stand at two addresses, the test of these is `Same`. No limit on the lengths must be
 /// asked for: segments that no rule refuses keep it.
 pub fn digested_regions_are_same()
     ensures { (M : Mem) (ss : List SegmentValue) (g r t : ℕ) → IsBare ss → HoldsDigested M ss g r t

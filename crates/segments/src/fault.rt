@@ -45,7 +45,7 @@ pub enum SegFault {
     #[error("segment {i} of the crash kernel leaves the reserved area")]
     OutsideReserved { i: usize },
     /// A page of a segment is no memory.
-    #[error("segment {i} has a page that is no System RAM of the memory map")]
+    #[error("segment {i} has a page that is not System RAM in the memory map")]
     NotRam { i: usize },
     /// More than 65,536 pages.
     #[error("the segments have {pages} pages together, and at most 65536 are allowed")]
