@@ -6,7 +6,8 @@ use Rattle.std.proofs.Math.Seq.{drop-append-add}
 use Rattle.std.proofs.lemmas.Bool.Decides.{nat_tests}
 use Rattle.std.proofs.lemmas.List.{take-replicate, take_at, drop_at, drop-drop, drop_all, get_or-drop, get_or-append_right, get_or_append_left}
 use Rattle.kx_fields.specs.Fields.{zeros, bytes_at}
-use Rattle.kx_fields.specs.Formats.{IsFormat, read, Fits}
+use Rattle.kx_fields.specs.Formats.{read}
+use Rattle.kx_fields.specs.inner.Formats.{IsFormat, Fits}
 use Rattle.kx_fields.proofs.Bytes.{length-zeros, AreBytes-zeros}
 use Rattle.kx_fields.proofs.Formats.{length-written, read_written}
 use Rattle.memory_map.specs.declared.row.Row.{Row}
@@ -14,7 +15,8 @@ use Rattle.boot_params.specs.declared.setup_data.SetupHead.{SetupHead}
 use Rattle.boot_params.specs.declared.zero_page.ZeroPage.{ZeroPage}
 use Rattle.boot_params.specs.ZeroPage.{row_text, page_text}
 use Rattle.boot_params.specs.SetupData.{setup_head, head_text, head_of, record_text, nul_end, record_place, extension}
-use Rattle.boot_params.specs.Params.{params_length, IsFilled}
+use Rattle.boot_params.specs.Params.{params_length}
+use Rattle.boot_params.specs.inner.Params.{IsFilled}
 use Rattle.boot_params.proofs.Rows.{rows_size}
 use Rattle.boot_params.proofs.Segment.{IsSegment, first_page, one_row, zero_there}
 

@@ -1,11 +1,12 @@
 //! The parameter segment: the zero page, the command and a NUL, and behind them the rows that the page has no room for.
 
 ghost use Rattle.std.specs.Prelude.{◌≡◌, ◌≤◌, ◌<◌, ◌+◌, ◌^◌, ◌==◌, ◌∷◌, ◌++◌, length, take, drop, position, IfOk};
-ghost use Rattle.kx_laws.specs.Results.{unless, Gives};
+ghost use Rattle.kx_laws.specs.Results.{unless};
+ghost use Rattle.kx_laws.specs.inner.Results.{Gives};
 ghost use Rattle.boot_params.specs.declared.fault.ParamsFault.TheVariants.{Memory};
 ghost use Rattle.boot_params.specs.SetupData.{extension};
 ghost use Rattle.boot_params.specs.Params.{params_fault, params, params_length};
-ghost use Rattle.boot_params.specs.Params.{HasNumbers, HasRows, HasHeader, IsZeroElsewhere, HasCommand, HasFill, HasRecord, HasMoreRows};
+ghost use Rattle.boot_params.specs.inner.Params.{HasNumbers, HasRows, HasHeader, IsZeroElsewhere, HasCommand, HasFill, HasRecord, HasMoreRows};
 
 use crate::fault::ParamsFault;
 use crate::setup_data::{length, put_extension};

@@ -9,7 +9,8 @@ use Rattle.bzimage.proofs.Powers.{power_of_two}
 use Rattle.bzimage.specs.declared.fault.BzFault.{BzFault}
 use Rattle.bzimage.specs.declared.setup_header.SetupHeader.{SetupHeader}
 use Rattle.kx_laws.specs.Results.{◌>>=◌, unless}
-use Rattle.bzimage.specs.Kernel.{Kernel, has_bit, header_end, is_header_end, kernel_start, is_alignment, is_cut, header_fault, tested_header, header_bytes, kernel_of, kernel_reading, HasSmallNumbers, IsTested, IsSound}
+use Rattle.bzimage.specs.Kernel.{Kernel, has_bit, header_end, is_header_end, kernel_start, is_alignment, is_cut, header_fault, tested_header, header_bytes, kernel_of, kernel_reading}
+use Rattle.bzimage.specs.inner.Kernel.{HasSmallNumbers, IsTested, IsSound}
 
 peel : (b : Bool) (x : BzFault) (rest : Option BzFault) → unless (cond b (Some x) rest) ≡ Ok tt → (b ≡ false) × (unless rest ≡ Ok tt)
 peel true x rest h = cc

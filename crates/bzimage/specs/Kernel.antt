@@ -1,9 +1,9 @@
 -- What a bzImage reads as, or its first fault (Linux/x86 boot protocol, "The Real-Mode Kernel Header" and "Loading The
 -- Rest of The Kernel"; the order of faults, and the limits of the header's end and of the alignment, are this project's
 -- own).
-use Rattle.std.specs.Prelude.{ℕ, ◌+◌, ◌-◌, ◌*◌, ◌^◌, ◌<◌, ◌≤◌, ◌==◌, ◌&&◌, ◌||◌, not, Bool, IsTrue, List, length, take, nat_lt, nat_le, bit_and, if◌then◌else◌, Option, Some, None, Result, Ok, Err}
-use Rattle.std.specs.Int.{is_power_of_two, IsPowerOfTwo}
-use Rattle.kx_laws.specs.Results.{◌>>=◌, unless}
+use Rattle.std.specs.Prelude.{ℕ, ◌+◌, ◌-◌, ◌*◌, ◌^◌, ◌==◌, ◌&&◌, ◌||◌, not, Bool, List, length, take, nat_lt, nat_le, bit_and, if◌then◌else◌, Option, Some, None, Result, Ok, Err}
+use Rattle.std.specs.Int.{is_power_of_two}
+use Rattle.kx_laws.specs.Results.{unless}
 use Rattle.kx_fields.specs.Fields.{bytes_at}
 use Rattle.kx_fields.specs.Formats.{read}
 use Rattle.bzimage.specs.declared.fault.BzFault.{BzFault}
@@ -74,14 +74,6 @@ tested_header file = do
   _ ← unless (header_fault (length file) h)
   Ok h
 
--- what is so of the setup header of a file of n bytes that passed the tests
-pub record IsTested (n : ℕ) (h : SetupHeader) : Type 0 where
-  pub least_end : 0x264 ≤ header_end h
-  pub most_end : header_end h ≤ 0x290
-  pub align : IsTrue (is_alignment h.kernel_alignment)
-  pub whole : header_end h ≤ n
-  pub start : kernel_start h < n
-
 -- the header's bytes: from setup_sects to its end
 abbrev pub header_bytes : SetupHeader → List ℕ → List ℕ
 header_bytes h file = bytes_at 0x1f1 (header_end h - 0x1f1) file
@@ -105,19 +97,3 @@ unfoldable pub kernel_reading : List ℕ → Result Kernel BzFault
 kernel_reading file = do
   h ← tested_header file
   Ok (kernel_of h (header_bytes h file))
-
--- these numbers have 32 bits in the file
-pub record HasSmallNumbers (k : Kernel) : Type 0 where
-  pub init_size : k.init_size < 2 ^ 32
-  pub command_most : k.command_most < 2 ^ 32
-  pub initrd_max : k.initrd_max < 2 ^ 32
-
--- what is so of each kernel that is read from a file of n bytes
-pub record IsSound (n : ℕ) (k : Kernel) : Type 0 where
-  pub least_header : 0x264 - 0x1f1 ≤ length k.header
-  pub most_header : length k.header ≤ 0x290 - 0x1f1
-  pub align : IsPowerOfTwo k.align
-  pub least_align : 4096 ≤ k.align
-  pub most_align : k.align ≤ 2 ^ 30
-  pub start : k.start < n
-  pub numbers : HasSmallNumbers k

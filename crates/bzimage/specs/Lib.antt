@@ -1,3 +1,4 @@
 pub mod Signature
 pub mod SetupHeader
 pub mod Kernel
+pub mod inner

@@ -14,7 +14,7 @@ use Rattle.memory_map.specs.declared.row.Row.{Row}
 use Rattle.memory_map.specs.Rows.{row_end}
 use Rattle.crash_headers.specs.declared.note.Note.{Note}
 use Rattle.crash_headers.specs.Notes.{lies_in}
-use Rattle.crash_headers.specs.Ranges.{AreSorted, AreRising, HoldSameNotes, IsBehind, IsNotBehind}
+use Rattle.crash_headers.specs.inner.Ranges.{AreSorted, AreRising, HoldSameNotes, IsBehind, IsNotBehind}
 
 -- the first that passes, by tests that agree
 places_same : {X : Type 0} (f g : X → Bool) → ((x : X) → f x ≡ g x) → (xs : List X) → position_or_len f xs ≡ position_or_len g xs

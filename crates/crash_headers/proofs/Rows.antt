@@ -5,15 +5,19 @@ use Rattle.std.proofs.lemmas.List.{take_all, take-append-le, map_more, flat_map_
 use Rattle.std.proofs.Math.Seq.{drop-append-add}
 use Rattle.kx_laws.proofs.Lists.{take_front}
 use Rattle.kx_fields.specs.Fields.{bytes_at}
-use Rattle.kx_fields.specs.Formats.{Fits, read}
+use Rattle.kx_fields.specs.Formats.{read}
+use Rattle.kx_fields.specs.inner.Formats.{Fits}
 use Rattle.memory_map.specs.declared.row.Row.{Row}
 use Rattle.elf_headers.specs.declared.program_header.ProgramHeader.{ProgramHeader}
-use Rattle.elf_headers.specs.FileHeader.{file_header, core_header, header_text, IsHeaderReadBack}
-use Rattle.elf_headers.specs.ProgramHeader.{program_header, row_text, IsRowReadBack, AreReadBack}
+use Rattle.elf_headers.specs.FileHeader.{file_header, core_header, header_text}
+use Rattle.elf_headers.specs.inner.FileHeader.{IsHeaderReadBack}
+use Rattle.elf_headers.specs.ProgramHeader.{program_header, row_text}
+use Rattle.elf_headers.specs.inner.ProgramHeader.{IsRowReadBack, AreReadBack}
 use Rattle.elf_headers.proofs.Headers.{header_size, header_ident, rows_size, all_append, one_row, row_reads}
 use Rattle.crash_headers.specs.declared.note.Note.{Note}
 use Rattle.crash_headers.specs.ProgramHeader.{note_row, load_row}
-use Rattle.crash_headers.specs.Headers.{count_of, rows, headers, length_for, HasIdentification, HasFileHeader, HasProgramHeaders}
+use Rattle.crash_headers.specs.Headers.{count_of, rows, headers, length_for}
+use Rattle.crash_headers.specs.inner.Headers.{HasIdentification, HasFileHeader, HasProgramHeaders}
 
 -- what stands where no range does
 abbrev pub no_row : Row

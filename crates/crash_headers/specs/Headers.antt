@@ -1,13 +1,11 @@
 -- The headers of an ELF64 core file (ELF gABI, chapters 4 and 5): the file header, a PT_NOTE for each note, a PT_LOAD
 -- for each range. The limit and the order of faults are this project's own.
-use Rattle.std.specs.Prelude.{◌≡◌, ℕ, ◌+◌, ◌*◌, ◌++◌, ◌<◌, List, length, map, take, slice_index_or, nat_lt, if◌then◌else◌, Option, Some, None, Result, Ok, Err}
+use Rattle.std.specs.Prelude.{ℕ, ◌+◌, ◌*◌, ◌++◌, List, length, map, nat_lt, if◌then◌else◌, Option, Some, None, Result, Ok, Err}
 use Rattle.std.specs.List.{position}
-use Rattle.kx_fields.specs.Fields.{bytes_at}
-use Rattle.kx_fields.specs.Formats.{read}
 use Rattle.memory_map.specs.declared.row.Row.{Row}
 use Rattle.elf_headers.specs.declared.program_header.ProgramHeader.{ProgramHeader}
-use Rattle.elf_headers.specs.FileHeader.{ident, file_header, core_header, header_text}
-use Rattle.elf_headers.specs.ProgramHeader.{program_header, table_text}
+use Rattle.elf_headers.specs.FileHeader.{core_header, header_text}
+use Rattle.elf_headers.specs.ProgramHeader.{table_text}
 use Rattle.crash_headers.specs.declared.note.Note.{Note}
 use Rattle.crash_headers.specs.declared.fault.CrashFault.{CrashFault}
 use Rattle.crash_headers.specs.declared.fault.CrashFault.TheVariants as faults
@@ -31,9 +29,6 @@ headers notes ranges =
 abbrev pub length_for : ℕ → List Row → ℕ
 length_for n ranges = 64 + 56 * (n + length ranges)
 
-abbrev pub headers_length : List Note → List Row → ℕ
-headers_length notes ranges = length_for (length notes) ranges
-
 abbrev pub unless_outside : List Note → List Row → Option ℕ → Result (List ℕ) CrashFault
 unless_outside notes ranges (Some i) = Err (faults.NotesOutside i)
 unless_outside notes ranges None = Ok (headers notes ranges)
@@ -44,19 +39,3 @@ headers_or_fault notes ranges =
     if nat_lt 1024 (count_of notes ranges) then
     Err (faults.TooManyRanges (count_of notes ranges))
     else unless_outside notes ranges (position (is_outside ranges) notes)
-
--- What stands where in the bytes of such headers.
-
--- they begin as an ELF64 file with its lowest bytes first does
-abbrev pub HasIdentification : List ℕ → Type 0
-HasIdentification bytes = take 16 bytes ≡ ident
-
--- the file header reads as that of a core file with so many program headers
-abbrev pub HasFileHeader : ℕ → List ℕ → Type 0
-HasFileHeader n bytes = read file_header (take 64 bytes) ≡ core_header n
-
--- what stands at 64 + 56 * i reads as program header i
-abbrev pub HasProgramHeaders : List ProgramHeader → List ℕ → Type 0
-HasProgramHeaders hs bytes =
-    (i : ℕ) (d : ProgramHeader) → i < length hs
-    → read program_header (bytes_at (64 + 56 * i) 56 bytes) ≡ slice_index_or hs i d

@@ -1,14 +1,17 @@
 //! The headers as one buffer.
 
 ghost use Rattle.std.specs.Prelude.{◌≡◌, ◌+◌, ◌*◌, ◌-◌, ◌^◌, ◌++◌, ◌≤◌, map, min, length, OnOk, IfOk};
-ghost use Rattle.kx_laws.specs.Results.{Gives};
-ghost use Rattle.memory_map.specs.Rows.{AreBelow};
+ghost use Rattle.kx_laws.specs.inner.Results.{Gives};
+ghost use Rattle.memory_map.specs.inner.Rows.{AreBelow};
 ghost use Rattle.memory_map.specs.Maps.{core_ranges};
 ghost use Rattle.crash_headers.specs.declared.fault.CrashFault.TheVariants.{Memory};
-ghost use Rattle.elf_headers.specs.FileHeader.{core_header, IsHeaderReadBack};
-ghost use Rattle.elf_headers.specs.ProgramHeader.{row_text, table_text, IsRowReadBack, AreReadBack};
+ghost use Rattle.elf_headers.specs.FileHeader.{core_header};
+ghost use Rattle.elf_headers.specs.inner.FileHeader.{IsHeaderReadBack};
+ghost use Rattle.elf_headers.specs.ProgramHeader.{row_text, table_text};
+ghost use Rattle.elf_headers.specs.inner.ProgramHeader.{IsRowReadBack, AreReadBack};
 ghost use Rattle.crash_headers.specs.ProgramHeader.{note_row, load_row};
-ghost use Rattle.crash_headers.specs.Headers.{count_of, rows, headers, headers_length, length_for, headers_or_fault, HasIdentification, HasFileHeader, HasProgramHeaders};
+ghost use Rattle.crash_headers.specs.Headers.{count_of, rows, headers, length_for, headers_or_fault};
+ghost use Rattle.crash_headers.specs.inner.Headers.{headers_length, HasIdentification, HasFileHeader, HasProgramHeaders};
 
 use crate::fault::CrashFault;
 use crate::note::{Note, first_outside};

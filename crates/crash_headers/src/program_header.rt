@@ -1,7 +1,7 @@
 //! The program headers of notes and of ranges.
 
 ghost use Rattle.std.specs.Prelude.{◌≡◌};
-ghost use Rattle.memory_map.specs.Rows.{IsBelow};
+ghost use Rattle.memory_map.specs.inner.Rows.{IsBelow};
 ghost use Rattle.crash_headers.specs.ProgramHeader.{note_row, load_row};
 
 use crate::note::Note;

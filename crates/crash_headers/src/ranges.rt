@@ -4,7 +4,7 @@ ghost use Rattle.std.specs.Prelude.{◌≡◌, ◌<◌, ◌≤◌, ◌-◌, ℕ,
 ghost use Rattle.std.specs.List.Sorted.{IsPermutation};
 ghost use Rattle.memory_map.specs.declared.row.Row.{Row};
 ghost use Rattle.memory_map.specs.Rows.{row_end};
-ghost use Rattle.crash_headers.specs.Ranges.{AreSorted, AreRising, HoldSameNotes, IsBehind, IsNotBehind};
+ghost use Rattle.crash_headers.specs.inner.Ranges.{AreSorted, AreRising, HoldSameNotes, IsBehind, IsNotBehind};
 
 use memory_map::Row;
 use std::alloc::{AllocError, Global};

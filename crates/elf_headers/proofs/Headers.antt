@@ -5,13 +5,16 @@ use Rattle.std.proofs.lemmas.List.{length-append}
 use Rattle.std.proofs.Math.Seq.{drop-append-add, take-append_seam}
 use Rattle.kx_laws.proofs.Lists.{take_front}
 use Rattle.kx_fields.specs.Fields.{AreBytes, bytes_at, zeros}
-use Rattle.kx_fields.specs.Formats.{IsFormat, Fits, blank, read, written}
+use Rattle.kx_fields.specs.Formats.{blank, read, written}
+use Rattle.kx_fields.specs.inner.Formats.{IsFormat, Fits}
 use Rattle.kx_fields.proofs.Bytes.{AreBytes-zeros, AreBytes-from_test, length-zeros}
 use Rattle.kx_fields.proofs.Formats.{AreBytes-blank, length-written, length-blank, read_written, blank_begins}
 use Rattle.elf_headers.specs.declared.program_header.ProgramHeader.{ProgramHeader}
 use Rattle.elf_headers.specs.declared.file_header.FileHeader.{FileHeader}
-use Rattle.elf_headers.specs.FileHeader.{ident, file_header, header_text, IsHeaderReadBack}
-use Rattle.elf_headers.specs.ProgramHeader.{program_header, row_text, IsRowReadBack, AreReadBack}
+use Rattle.elf_headers.specs.FileHeader.{ident, file_header, header_text}
+use Rattle.elf_headers.specs.inner.FileHeader.{IsHeaderReadBack}
+use Rattle.elf_headers.specs.ProgramHeader.{program_header, row_text}
+use Rattle.elf_headers.specs.inner.ProgramHeader.{IsRowReadBack, AreReadBack}
 
 -- ---- the tables
 pub file_header_is : IsFormat 64 file_header

@@ -1,7 +1,7 @@
 -- The file header of an ELF64 file (ELF gABI, chapter 4, "ELF Header": Elf64_Ehdr), behind its identification, and that
 -- of a core file.
-use Rattle.std.specs.Prelude.{◌≡◌, ℕ, List, [], ◌∷◌, replicate}
-use Rattle.kx_fields.specs.Formats.{Format, blank, read, written}
+use Rattle.std.specs.Prelude.{ℕ, List, [], ◌∷◌, replicate}
+use Rattle.kx_fields.specs.Formats.{Format, blank, written}
 use Rattle.elf_headers.specs.declared.file_header.FileHeader.{FileHeader}
 use Rattle.elf_headers.specs.Numbers.{et_core, em_x86_64}
 
@@ -34,10 +34,6 @@ file_header = record {
 -- the first 64 bytes of a file
 unfoldable pub header_text : FileHeader → List ℕ
 header_text h = written file_header h (blank 64 ident)
-
--- its bytes read as it is
-abbrev pub IsHeaderReadBack : FileHeader → Type 0
-IsHeaderReadBack h = read file_header (header_text h) ≡ h
 
 -- ET_CORE for EM_X86_64 with n program headers right behind the file header, and no sections
 abbrev pub core_header : ℕ → FileHeader

@@ -1,3 +1,4 @@
 pub mod Numbers
 pub mod FileHeader
 pub mod ProgramHeader
+pub mod inner

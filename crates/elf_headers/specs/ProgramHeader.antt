@@ -1,8 +1,8 @@
 -- The program headers of an ELF64 file (ELF gABI, chapter 5, "Program Header": Elf64_Phdr).
-use Rattle.std.specs.Prelude.{◌≡◌, ℕ, List, [], ◌∷◌}
-use Rattle.std.specs.List.{flat_map, AllByRecursion}
+use Rattle.std.specs.Prelude.{ℕ, List, [], ◌∷◌}
+use Rattle.std.specs.List.{flat_map}
 use Rattle.kx_fields.specs.Fields.{zeros}
-use Rattle.kx_fields.specs.Formats.{Format, read, written}
+use Rattle.kx_fields.specs.Formats.{Format, written}
 use Rattle.elf_headers.specs.declared.program_header.ProgramHeader.{ProgramHeader}
 
 abbrev pub program_header : Format ProgramHeader
@@ -23,13 +23,6 @@ program_header = record {
 
 unfoldable pub row_text : ProgramHeader → List ℕ
 row_text h = written program_header h (zeros 56)
-
--- its bytes read as it is
-abbrev pub IsRowReadBack : ProgramHeader → Type 0
-IsRowReadBack h = read program_header (row_text h) ≡ h
-
-abbrev pub AreReadBack : List ProgramHeader → Type 0
-AreReadBack hs = AllByRecursion IsRowReadBack hs
 
 -- program headers, one after another
 abbrev pub table_text : List ProgramHeader → List ℕ

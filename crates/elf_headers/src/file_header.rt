@@ -2,7 +2,8 @@
 
 ghost use Rattle.std.specs.Prelude.{◌≡◌};
 ghost use Rattle.kx_fields.specs.Formats.{read};
-ghost use Rattle.elf_headers.specs.FileHeader.{file_header, header_text, core_header, IsHeaderReadBack};
+ghost use Rattle.elf_headers.specs.FileHeader.{file_header, header_text, core_header};
+ghost use Rattle.elf_headers.specs.inner.FileHeader.{IsHeaderReadBack};
 
 use crate::numbers::{ELF64_IDENT, EM_X86_64, ET_CORE, FILE_HEADER_SIZE, PROGRAM_HEADER_SIZE};
 use kx_fields::Block;

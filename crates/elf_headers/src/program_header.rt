@@ -2,7 +2,8 @@
 
 ghost use Rattle.std.specs.Prelude.{◌≡◌};
 ghost use Rattle.kx_fields.specs.Formats.{read};
-ghost use Rattle.elf_headers.specs.ProgramHeader.{program_header, row_text, IsRowReadBack};
+ghost use Rattle.elf_headers.specs.ProgramHeader.{program_header, row_text};
+ghost use Rattle.elf_headers.specs.inner.ProgramHeader.{IsRowReadBack};
 
 use kx_fields::Block;
 

@@ -12,7 +12,7 @@ use Rattle.segments.specs.Values.{SegmentValue}
 use Rattle.elf_image.specs.declared.load.Load.{Load}
 use Rattle.elf_image.specs.Loads.{load_stop}
 use Rattle.elf_image.specs.Image.{is_file_of, is_file, byte_at, up_to_last, bytes_of, segment_of, segments_of}
-use Rattle.elf_image.specs.Joined.{IsLoad, AreLoads, Rise, grown, joined_to, join}
+use Rattle.elf_image.specs.inner.Joined.{IsLoad, AreLoads, Rise, grown, joined_to, join}
 use Rattle.elf_image.proofs.Pages.{first_number, end_number, between, run_to, run_all, Ends, ends_at, follows, all_runs, le_true, le_false}
 
 -- ---- up to the last

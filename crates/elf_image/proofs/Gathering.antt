@@ -4,7 +4,8 @@ use Rattle.std.specs.List.{range_with_len}
 use Rattle.elf_image.specs.declared.fault.ElfFault.{ElfFault}
 use Rattle.kx_laws.proofs.Results.{bind_ok, ok_same}
 use Rattle.kx_laws.specs.Results.{◌>>=◌}
-use Rattle.elf_image.specs.Gathered.{gather, onto}
+use Rattle.elf_image.specs.Gathered.{gather}
+use Rattle.elf_image.specs.inner.Gathered.{onto}
 use Rattle.elf_image.proofs.Failing.{Fails, fails_on}
 
 -- what was gathered so far of the numbers below k, of those below end

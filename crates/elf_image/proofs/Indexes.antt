@@ -19,10 +19,13 @@ use Rattle.elf_image.specs.Gathered.{gather, one, each}
 use Rattle.elf_image.specs.Sym.{Sym}
 use Rattle.elf_image.specs.Numbers.{sht_symtab}
 use Rattle.elf_image.specs.Table.{Table}
-use Rattle.elf_image.specs.Section.{section_of, place_of, first_of, is_of, read_in, IsInside, IsTable}
+use Rattle.elf_image.specs.Section.{section_of, place_of, first_of, is_of, read_in}
+use Rattle.elf_image.specs.inner.Section.{IsInside, IsTable}
 use Rattle.elf_image.specs.Symbol.{symbol_entry, name_in, is_index, symbol_of, symbol_in, entries_in, strings_of, symbols_in, refuse_second, symbols_at, read_symbols}
-use Rattle.elf_image.specs.Reloc.{AreInside, rela_fault, test_symbols, reloc_section, relocs_in, relocs_at, read_relocs}
-use Rattle.elf_image.specs.Object.{Relocatable, IsDefined, IsRelocSection, IsObject}
+use Rattle.elf_image.specs.Reloc.{rela_fault, test_symbols, reloc_section, relocs_in, relocs_at, read_relocs}
+use Rattle.elf_image.specs.inner.Reloc.{AreInside}
+use Rattle.elf_image.specs.Object.{Relocatable}
+use Rattle.elf_image.specs.inner.Object.{IsDefined, IsRelocSection, IsObject}
 use Rattle.elf_image.proofs.Walk.{peel}
 use Rattle.elf_image.proofs.Strays.{all_symbols}
 use Rattle.kx_laws.proofs.Results.{bind_ok, ok_same}

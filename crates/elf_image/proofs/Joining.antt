@@ -11,7 +11,7 @@ use Rattle.kx_pages.specs.Spans.{Run, in_span, in_spans}
 use Rattle.segments.specs.Values.{SegmentValue}
 use Rattle.elf_image.specs.declared.load.Load.{Load}
 use Rattle.elf_image.specs.Image.{load_meets_page, is_met}
-use Rattle.elf_image.specs.Joined.{first_of, end_of, grown, part, joined_to, join}
+use Rattle.elf_image.specs.inner.Joined.{first_of, end_of, grown, part, joined_to, join}
 
 -- what stands where no load does
 abbrev pub no_load : Load

@@ -6,7 +6,7 @@ use Rattle.elf_image.specs.declared.section.SectionHeader.{SectionHeader}
 use Rattle.elf_image.specs.declared.reloc.RelocSection.{RelocSection}
 use Rattle.elf_image.specs.declared.fault.ElfFault.{ElfFault}
 use Rattle.kx_laws.specs.Results.{◌>>=◌, unless}
-use Rattle.elf_image.specs.Gathered.{onto}
+use Rattle.elf_image.specs.inner.Gathered.{onto}
 use Rattle.elf_image.specs.Sym.{Sym}
 use Rattle.elf_image.specs.Numbers.{sht_symtab}
 use Rattle.elf_image.specs.Table.{Table}

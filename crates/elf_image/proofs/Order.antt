@@ -12,7 +12,7 @@ use Rattle.segments.specs.Values.{SegmentValue}
 use Rattle.elf_image.specs.declared.load.Load.{Load}
 use Rattle.elf_image.specs.Loads.{load_stop}
 use Rattle.elf_image.specs.Image.{load_meets_page, is_met, is_file_of, is_file, byte_at, bytes_of, segment_of, segments_of, runs}
-use Rattle.elf_image.specs.Joined.{IsLoad, AreLoads, AreSound, is_memory_of, Rise, join}
+use Rattle.elf_image.specs.inner.Joined.{IsLoad, AreLoads, AreSound, is_memory_of, Rise, join}
 use Rattle.elf_image.proofs.Joining.{each_at}
 use Rattle.elf_image.proofs.Pages.{runs_same}
 use Rattle.elf_image.proofs.Bytes.{byte_none, up_same, map_same, all_segments}

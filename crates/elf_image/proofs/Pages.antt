@@ -11,8 +11,9 @@ use Rattle.kx_pages.proofs.Same.{same_spans}
 use Rattle.segments.specs.Values.{SegmentValue}
 use Rattle.elf_image.specs.declared.load.Load.{Load}
 use Rattle.elf_image.specs.Loads.{load_stop}
-use Rattle.elf_image.specs.Image.{load_meets_page, is_met, with_number, runs, segment_of, segments_of, run_of, AreRuns}
-use Rattle.elf_image.specs.Joined.{IsLoad, AreLoads, Rise}
+use Rattle.elf_image.specs.Image.{load_meets_page, is_met, with_number, runs, segment_of, segments_of}
+use Rattle.elf_image.specs.inner.Image.{run_of, AreRuns}
+use Rattle.elf_image.specs.inner.Joined.{IsLoad, AreLoads, Rise}
 
 pub runs_same : (f g : ℕ → Bool) (p n : ℕ) → ((q : ℕ) → f q ≡ g q) → runs f p n ≡ runs g p n
 unfolding runs

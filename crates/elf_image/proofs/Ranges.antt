@@ -4,10 +4,11 @@ use Rattle.std.specs.Prelude.{◌&&◌, ◌||◌}
 use Rattle.std.specs.List.{list_any}
 use Rattle.std.proofs.lemmas.Bool.{cases_lt, lt-ltb, le-ltb}
 use Rattle.kx_laws.proofs.Booleans.{or_false}
-use Rattle.range_index.specs.Ranges.{Range, ranges_meet, meets_any as meets_range, AreWith}
+use Rattle.range_index.specs.inner.Ranges.{Range, ranges_meet, meets_any as meets_range, AreWith}
 use Rattle.elf_image.specs.declared.load.Load.{Load}
-use Rattle.elf_image.specs.Loads.{load_stop, loads_meet, meets_any}
-use Rattle.elf_image.specs.Index.{passes, AreRanges, HasMore}
+use Rattle.elf_image.specs.Loads.{load_stop, loads_meet}
+use Rattle.elf_image.specs.inner.Loads.{meets_any}
+use Rattle.elf_image.specs.inner.Index.{passes, AreRanges, HasMore}
 
 -- ---- a load meets a load exactly where it meets its range
 one_meets : (x l : Load) → passes (ranges_meet (x.paddr, load_stop x)) l ≡ loads_meet x l

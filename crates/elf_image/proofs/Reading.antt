@@ -6,7 +6,8 @@ use Rattle.elf_image.specs.declared.load.Load.{Load}
 use Rattle.elf_image.specs.declared.fault.ElfFault.{ElfFault}
 use Rattle.elf_image.specs.declared.file_header.Header.{Header}
 use Rattle.kx_laws.specs.Results.{◌>>=◌, unless}
-use Rattle.elf_image.specs.FileHeader.{read_header, exec_fault, exec_header, is_table_cut, machine_of, entry_size, HasTable}
+use Rattle.elf_image.specs.FileHeader.{read_header, exec_fault, exec_header, is_table_cut, machine_of, entry_size}
+use Rattle.elf_image.specs.inner.FileHeader.{HasTable}
 use Rattle.elf_image.specs.Loads.{read_loads, exec_reading}
 use Rattle.elf_image.proofs.Walk.{peel}
 use Rattle.elf_image.proofs.Failing.{Fails, fails_err, fails_on}

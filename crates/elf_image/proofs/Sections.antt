@@ -15,7 +15,8 @@ use Rattle.elf_image.specs.declared.fault.ElfFault.TheVariants as faults
 use Rattle.elf_image.specs.declared.fault.ElfPart.TheVariants as parts
 use Rattle.kx_laws.specs.Results.{◌>>=◌, unless, unless_at}
 use Rattle.elf_image.specs.FileHeader.{read_elf64, object_fault, object_header}
-use Rattle.elf_image.specs.Section.{section_header, section_of, is_section_cut, IsInside, headers_of, tested_table, read_table, IsTable}
+use Rattle.elf_image.specs.Section.{section_header, section_of, is_section_cut, headers_of, tested_table, read_table}
+use Rattle.elf_image.specs.inner.Section.{IsInside, IsTable}
 use Rattle.elf_image.proofs.Walk.{peel}
 use Rattle.elf_image.proofs.Failing.{Fails, fails_err, fails_on}
 use Rattle.elf_image.proofs.Reading.{tested_from}

@@ -14,8 +14,9 @@ use Rattle.elf_image.specs.Image.{page_count, segments_of, image}
 use Rattle.kx_laws.specs.Results.{◌>>=◌, unless}
 use Rattle.elf_image.specs.FileHeader.{exec_header}
 use Rattle.elf_image.specs.ProgramHeader.{loads_of}
-use Rattle.elf_image.specs.Loads.{Executable, load_stop, loads_meet, meets_any, has_memory, load_fault, load_onto, loads_onto, read_loads, exec_reading}
-use Rattle.elf_image.specs.Joined.{AreLoads, AreSound, is_memory_of}
+use Rattle.elf_image.specs.Loads.{Executable, load_stop, loads_meet, has_memory, load_fault, load_onto, loads_onto, read_loads, exec_reading}
+use Rattle.elf_image.specs.inner.Loads.{meets_any}
+use Rattle.elf_image.specs.inner.Joined.{AreLoads, AreSound, is_memory_of}
 use Rattle.elf_image.proofs.Walk.{IsFit, fit, fit_apart}
 use Rattle.elf_image.proofs.Order.{count_cons}
 

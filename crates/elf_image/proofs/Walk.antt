@@ -12,7 +12,8 @@ use Rattle.elf_image.specs.declared.file_header.Header.{Header}
 use Rattle.kx_laws.specs.Results.{◌>>=◌, unless}
 use Rattle.elf_image.proofs.Failing.{Fails, fails_err, fails_on}
 use Rattle.elf_image.specs.ProgramHeader.{load_at}
-use Rattle.elf_image.specs.Loads.{load_stop, is_bad, is_cut, loads_meet, meets_any, load_fault, load_onto, entry_onto, loads_onto}
+use Rattle.elf_image.specs.Loads.{load_stop, is_bad, is_cut, loads_meet, load_fault, load_onto, loads_onto}
+use Rattle.elf_image.specs.inner.Loads.{meets_any, entry_onto}
 
 -- ---- a load behind the others
 pub position-none : (p : Load → Bool) (ls : List Load) → list_any p ls ≡ false → position p ls ≡ None

@@ -1,6 +1,6 @@
 -- The file header (ELF gABI, chapter 4, "ELF Header": Elf64_Ehdr and Elf32_Ehdr; the values of x86-64 and i386 from
 -- their psABIs), and its tests. All numbers are little endian.
-use Rattle.std.specs.Prelude.{ℕ, ◌+◌, ◌*◌, ◌≤◌, ◌==◌, ◌&&◌, ◌||◌, not, Bool, true, false, List, [], ◌∷◌, length, nat_lt, nat_eq, slice_index, if◌then◌else◌, Option, Some, None, Result, Ok, Err}
+use Rattle.std.specs.Prelude.{ℕ, ◌+◌, ◌*◌, ◌==◌, ◌&&◌, ◌||◌, not, Bool, true, false, List, [], ◌∷◌, length, nat_lt, nat_eq, slice_index, if◌then◌else◌, Option, Some, None, Result, Ok, Err}
 use Rattle.std.specs.List.{starts_with}
 use Rattle.kx_fields.specs.Fields.{bytes_at}
 use Rattle.kx_fields.specs.Formats.{Format, read}
@@ -111,10 +111,6 @@ exec_header bytes = do
   h ← read_header bytes
   _ ← unless (exec_fault (length bytes) h)
   Ok h
-
--- the program headers lie in a file of n bytes
-pub record HasTable (n : ℕ) (h : Header) : Type 0 where
-  pub inside : h.file.phoff + entry_size h.wide * h.file.phnum ≤ n
 
 -- ---- a relocatable object
 

@@ -1,8 +1,7 @@
 -- What is read of each of some things, one after another, or the first refusal (this project's own).
 use Rattle.std.specs.Prelude.{◌++◌, List, [], ◌∷◌, Result, Ok}
-use Rattle.kx_laws.specs.Results.{◌>>=◌, Gives}
+use Rattle.kx_laws.specs.Results.{◌>>=◌}
 use Rattle.elf_image.specs.declared.fault.ElfFault.{ElfFault}
-use Rattle.elf_image.specs.declared.fault.ElfFault.TheVariants as faults
 
 -- all that f gives of these, one after another, or the first fault
 unfoldable pub gather : {A B : Type 0} → (A → Result (List B) ElfFault) → List A
@@ -20,12 +19,3 @@ one r = r >>= λ y. Ok (y ∷ [])
 -- what f gives of each of these, or the first fault
 abbrev pub each : {A B : Type 0} → (A → Result B ElfFault) → List A → Result (List B) ElfFault
 each f xs = gather (λ x. one (f x)) xs
-
--- behind others
-abbrev pub onto : {B : Type 0} → List B → Result (List B) ElfFault → Result (List B) ElfFault
-onto xs r = r >>= λ ys. Ok (xs ++ ys)
-
--- a call put what reading gives behind the old ones, unless memory ran out
-abbrev pub Adds : {X B : Type 0} → List B → List B → Result X ElfFault
-    → Result (List B) ElfFault → Type 0
-Adds old new result r = Gives faults.Memory (λ _. new) result (onto old r)

@@ -1,10 +1,10 @@
 -- The image of an executable: which bytes stand at which addresses (ELF gABI, chapter 5, Program Loading), and the
 -- segments that hold them, one for each run of pages (this project's own). A page has 4,096 bytes.
-use Rattle.std.specs.Prelude.{◌≡◌, ℕ, zero, suc, ◌+◌, ◌-◌, ◌*◌, ◌/◌, ◌^◌, ◌==◌, ◌&&◌, Bool, List, [], ◌∷◌, map, nat_lt, nat_le, slice_index, if◌then◌else◌, Result, Ok, Err}
+use Rattle.std.specs.Prelude.{ℕ, zero, suc, ◌+◌, ◌-◌, ◌*◌, ◌^◌, ◌==◌, ◌&&◌, Bool, List, [], ◌∷◌, map, nat_lt, nat_le, slice_index, if◌then◌else◌, Result, Ok, Err}
 use Rattle.std.specs.List.{list_any, range_with_len}
 use Rattle.kx_pages.specs.Limits.{segment_page_limit}
 use Rattle.kx_pages.specs.Ranges.{meets_page}
-use Rattle.kx_pages.specs.Spans.{Run, in_spans, AreApart, passing}
+use Rattle.kx_pages.specs.Spans.{Run, passing}
 use Rattle.segments.specs.Values.{SegmentValue}
 use Rattle.elf_image.specs.declared.load.Load.{Load}
 use Rattle.elf_image.specs.declared.fault.ElfFault.{ElfFault}
@@ -77,12 +77,3 @@ unfoldable pub image : List ℕ → List Load → Result (List SegmentValue) Elf
 image file ls =
     if nat_lt segment_page_limit (page_count ls) then Err (faults.TooLarge (page_count ls))
     else Ok (segments_of file ls)
-
--- the pages of a segment
-abbrev pub run_of : SegmentValue → Run
-run_of s = record { first = s.mem / 4096; count = s.memsz / 4096 }
-
--- the numbers that pass are those of the runs, which rise, have numbers, and neither meet nor touch
-pub record AreRuns (f : ℕ → Bool) (rs : List Run) : Type 0 where
-  pub apart : AreApart 0 rs
-  pub numbers : (p : ℕ) → in_spans rs p ≡ f p

@@ -1,10 +1,7 @@
 pub mod Numbers
 pub mod Gathered
 pub mod Loads
-pub mod Index
 pub mod Image
-pub mod Joined
-pub mod Texts
 pub mod FileHeader
 pub mod ProgramHeader
 pub mod Table
@@ -13,3 +10,4 @@ pub mod Sym
 pub mod Symbol
 pub mod Reloc
 pub mod Object
+pub mod inner

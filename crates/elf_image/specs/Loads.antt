@@ -1,14 +1,14 @@
 -- The PT_LOADs of an executable: their faults, and what a file reads as (ELF gABI, "Program Header"; the limit of
 -- addresses and the order of faults are this project's own).
-use Rattle.std.specs.Prelude.{ℕ, ◌+◌, ◌^◌, ◌++◌, ◌||◌, Bool, List, [], ◌∷◌, length, filter, nat_lt, min, max, if◌then◌else◌, Option, Some, None, Result, Ok}
+use Rattle.std.specs.Prelude.{ℕ, ◌+◌, ◌^◌, ◌++◌, ◌||◌, Bool, List, [], ◌∷◌, length, filter, nat_lt, min, max, if◌then◌else◌, Option, Some, Result, Ok}
 use Rattle.std.specs.Option.{option_map}
-use Rattle.std.specs.List.{list_any, position}
+use Rattle.std.specs.List.{position}
 use Rattle.elf_image.specs.declared.load.Load.{Load}
 use Rattle.elf_image.specs.declared.fault.ElfFault.{ElfFault}
 use Rattle.elf_image.specs.declared.fault.ElfFault.TheVariants as faults
 use Rattle.elf_image.specs.declared.fault.ElfPart.TheVariants as parts
 use Rattle.elf_image.specs.declared.file_header.Header.{Header}
-use Rattle.kx_laws.specs.Results.{◌>>=◌, unless}
+use Rattle.kx_laws.specs.Results.{unless}
 use Rattle.elf_image.specs.FileHeader.{exec_header}
 use Rattle.elf_image.specs.ProgramHeader.{loads_of}
 
@@ -34,10 +34,6 @@ is_cut n l = nat_lt n (l.offset + l.filesz)
 abbrev pub loads_meet : Load → Load → Bool
 loads_meet l m = nat_lt (max l.paddr m.paddr) (min (load_stop l) (load_stop m))
 
--- it meets one of these
-abbrev pub meets_any : Load → List Load → Bool
-meets_any l ls = list_any (loads_meet l) ls
-
 -- it has memory
 abbrev pub has_memory : Load → Bool
 has_memory l = nat_lt 0 l.memsz
@@ -54,11 +50,6 @@ unfoldable pub load_onto : ℕ → List Load → Load → Result (List Load) Elf
 load_onto n earlier l = do
   _ ← unless (load_fault n earlier l)
   Ok (earlier ++ l ∷ [])
-
--- what a program header is
-abbrev pub entry_onto : ℕ → List Load → Option Load → Result (List Load) ElfFault
-entry_onto n earlier None = Ok earlier
-entry_onto n earlier (Some l) = load_onto n earlier l
 
 -- and these loads, one after another
 unfoldable pub loads_onto : ℕ → List Load → List Load → Result (List Load) ElfFault

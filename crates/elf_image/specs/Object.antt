@@ -1,17 +1,15 @@
 -- A relocatable object (ELF gABI, "Sections", "Symbol Table", "Relocation"; the order of the refusals is this project's
 -- own).
-use Rattle.std.specs.Prelude.{◌≡◌, ℕ, ◌<◌, ◌⊎◌, List, length, map, Result, Ok}
-use Rattle.std.specs.List.{All, flat_map}
+use Rattle.std.specs.Prelude.{ℕ, List, length, map, Result, Ok}
+use Rattle.std.specs.List.{flat_map}
 use Rattle.elf_image.specs.declared.fault.ElfFault.{ElfFault}
 use Rattle.elf_image.specs.declared.section.Section.{Section}
 use Rattle.elf_image.specs.declared.reloc.Reloc.{Reloc}
 use Rattle.elf_image.specs.declared.reloc.RelocSection.{RelocSection}
-use Rattle.kx_laws.specs.Results.{◌>>=◌}
-use Rattle.elf_image.specs.Numbers.{shn_abs, shn_common}
 use Rattle.elf_image.specs.Sym.{Sym}
-use Rattle.elf_image.specs.Section.{section_of, IsInside, read_table}
+use Rattle.elf_image.specs.Section.{section_of, read_table}
 use Rattle.elf_image.specs.Symbol.{read_symbols}
-use Rattle.elf_image.specs.Reloc.{AreInside, entry_of, entries_of, read_relocs}
+use Rattle.elf_image.specs.Reloc.{entries_of, read_relocs}
 
 -- what contracts see of an object
 pub record Relocatable : Type 0 where
@@ -30,20 +28,3 @@ object_reading file = do
   symbols ← read_symbols file t
   relocs ← read_relocs file t (length symbols)
   Ok (record { sections = map section_of t.headers; symbols = symbols; reloc_sections = relocs })
-
--- a symbol's section is one of so many, or SHN_ABS or SHN_COMMON
-pub record IsDefined (sections : ℕ) (s : Sym) : Type 0 where
-  pub index : (s.section < sections) ⊎ ((s.section ≡ shn_abs) ⊎ (s.section ≡ shn_common))
-
--- a section of relocations lies in the file, its target is one of so many sections, and the symbol of each of its
--- entries one of so many symbols
-pub record IsRelocSection (file : List ℕ) (sections symbols : ℕ) (s : RelocSection) : Type 0 where
-  pub target : s.target < sections
-  pub inside : AreInside file s
-  pub symbol : (k : ℕ) → k < s.count → (entry_of file s k).symbol < symbols
-
--- the sections' bytes lie in the file, and each index is one
-pub record IsObject (o : Relocatable) (file : List ℕ) : Type 0 where
-  pub sections : All (IsInside file) o.sections
-  pub symbols : All (IsDefined (length o.sections)) o.symbols
-  pub relocs : All (IsRelocSection file (length o.sections) (length o.symbols)) o.reloc_sections

@@ -1,5 +1,5 @@
 -- Relocations with addends (ELF gABI, "Relocation": Elf64_Rela).
-use Rattle.std.specs.Prelude.{ℕ, ◌+◌, ◌*◌, ◌/◌, ◌%◌, ◌^◌, ◌≤◌, ◌==◌, not, Bool, List, [], ◌∷◌, length, map, position, nat_lt, if◌then◌else◌, Option, Some, None, Result, Ok}
+use Rattle.std.specs.Prelude.{ℕ, ◌+◌, ◌*◌, ◌/◌, ◌%◌, ◌^◌, ◌==◌, not, Bool, List, [], ◌∷◌, length, map, position, nat_lt, if◌then◌else◌, Option, Some, None, Result, Ok}
 use Rattle.std.specs.List.{slice_get, range_with_len}
 use Rattle.kx_fields.specs.Fields.{bytes_at, signed}
 use Rattle.kx_fields.specs.Formats.{Format, read}
@@ -43,10 +43,6 @@ entry_of file s k = reloc_of s k (read rela (bytes_at (entry_place s k) 24 file)
 -- the entries of a section
 abbrev pub entries_of : List ℕ → RelocSection → List Reloc
 entries_of file s = map (entry_of file s) (range_with_len 0 s.count)
-
--- the entries lie in the file
-abbrev pub AreInside : List ℕ → RelocSection → Type 0
-AreInside file s = s.offset + 24 * s.count ≤ length file
 
 -- the symbol of entry k is none of so many
 abbrev pub is_stray : List ℕ → ℕ → RelocSection → ℕ → Bool

@@ -1,7 +1,7 @@
 -- Sections and their headers (ELF gABI, "Section Header": Elf64_Shdr).
-use Rattle.std.specs.Prelude.{◌≡◌, ℕ, ◌+◌, ◌*◌, ◌/◌, ◌%◌, ◌≤◌, ◌==◌, ◌&&◌, not, Bool, false, List, [], length, drop, map, position, nat_lt, Option, Some, None, Result, Ok}
+use Rattle.std.specs.Prelude.{ℕ, ◌+◌, ◌*◌, ◌/◌, ◌%◌, ◌==◌, ◌&&◌, not, Bool, false, List, [], length, drop, map, position, nat_lt, Option, Some, None, Result, Ok}
 use Rattle.std.specs.Option.{option_map}
-use Rattle.std.specs.List.{All, range_with_len}
+use Rattle.std.specs.List.{range_with_len}
 use Rattle.kx_fields.specs.Fields.{bytes_at}
 use Rattle.kx_fields.specs.Formats.{Format, read}
 use Rattle.elf_image.specs.declared.section.Section.{Section}
@@ -9,7 +9,7 @@ use Rattle.elf_image.specs.declared.section.SectionHeader.{SectionHeader}
 use Rattle.elf_image.specs.declared.fault.ElfFault.{ElfFault}
 use Rattle.elf_image.specs.declared.fault.ElfFault.TheVariants as faults
 use Rattle.elf_image.specs.declared.fault.ElfPart.TheVariants as parts
-use Rattle.kx_laws.specs.Results.{◌>>=◌, unless_at}
+use Rattle.kx_laws.specs.Results.{unless_at}
 use Rattle.elf_image.specs.Numbers.{sht_null, sht_nobits}
 use Rattle.elf_image.specs.FileHeader.{object_header}
 use Rattle.elf_image.specs.Table.{Table}
@@ -50,10 +50,6 @@ abbrev pub is_section_cut : ℕ → SectionHeader → Bool
 is_section_cut n h =
     not (h.kind == sht_null) && (not (h.kind == sht_nobits) && nat_lt n (h.offset + h.size))
 
--- the bytes of a section of another type than SHT_NULL and SHT_NOBITS lie in the file
-pub record IsInside (file : List ℕ) (s : Section) : Type 0 where
-  pub inside : (s.kind ≡ sht_null → ⊥) → (s.kind ≡ sht_nobits → ⊥) → s.offset + s.size ≤ length file
-
 -- the n section headers from this place of the file on
 abbrev pub headers_of : ℕ → ℕ → List ℕ → List SectionHeader
 headers_of start n file =
@@ -90,12 +86,3 @@ read_table file = do
   h ← object_header file
   tested_table (length file)
       (record { start = h.file.shoff; headers = headers_of h.file.shoff h.file.shnum file })
-
--- the section headers lie in the file, and the bytes of their sections too
-pub record IsTable (file : List ℕ) (t : Table) : Type 0 where
-  pub inside : t.start + 64 * length t.headers ≤ length file
-  pub each : All (λ h. IsInside file (section_of h)) t.headers
-
--- the bytes of this section lie in the file whose section headers these are
-abbrev pub Lies : Table → SectionHeader → Type 0
-Lies t h = (file : List ℕ) → IsTable file t → IsInside file (section_of h)

@@ -1,10 +1,10 @@
 //! Executables.
 
 ghost use Rattle.std.specs.Prelude.{length, IfOk};
-ghost use Rattle.kx_laws.specs.Results.{Gives};
+ghost use Rattle.kx_laws.specs.inner.Results.{Gives};
 ghost use Rattle.elf_image.specs.declared.fault.ElfFault.TheVariants.{Memory};
 ghost use Rattle.elf_image.specs.Loads.{exec_reading};
-ghost use Rattle.elf_image.specs.Joined.{AreSound};
+ghost use Rattle.elf_image.specs.inner.Joined.{AreSound};
 
 use crate::fault::ElfFault;
 use crate::file_header::Header;

@@ -3,13 +3,15 @@
 ghost use Rattle.std.specs.Prelude.{◌≡◌, ℕ, List, ◌+◌, ◌++◌, ◌∷◌, ◌<◌, ◌≤◌, ◌^◌, [], true, false, filter, length, OnOk, IfOk, IfSome, IfNone, IsSome};
 ghost use Rattle.std.specs.List as lists;
 ghost use Rattle.elf_image.specs.declared.load.Load.{Load};
-ghost use Rattle.kx_laws.specs.Results.{unless, Gives};
+ghost use Rattle.kx_laws.specs.Results.{unless};
+ghost use Rattle.kx_laws.specs.inner.Results.{Gives};
 ghost use Rattle.elf_image.specs.declared.fault.ElfFault.TheVariants.{Memory};
-ghost use Rattle.elf_image.specs.FileHeader.{HasTable};
+ghost use Rattle.elf_image.specs.inner.FileHeader.{HasTable};
 ghost use Rattle.elf_image.specs.ProgramHeader.{loads_of};
-ghost use Rattle.elf_image.specs.Loads.{load_stop, loads_meet, meets_any, has_memory, load_fault, load_onto, entry_onto, loads_onto, read_loads};
-ghost use Rattle.elf_image.specs.Index.{HasMore};
-ghost use Rattle.range_index.specs.Ranges.{meets_any as meets_range};
+ghost use Rattle.elf_image.specs.Loads.{load_stop, loads_meet, has_memory, load_fault, load_onto, loads_onto, read_loads};
+ghost use Rattle.elf_image.specs.inner.Loads.{meets_any, entry_onto};
+ghost use Rattle.elf_image.specs.inner.Index.{HasMore};
+ghost use Rattle.range_index.specs.inner.Ranges.{meets_any as meets_range};
 
 use crate::fault::{ElfFault, ElfPart};
 use crate::file_header::Header;
@@ -45,7 +47,7 @@ fn position_of_meeting(earlier: &[Load], load: Load) -> Option<usize>
 }
 
 impl Loads {
-    ghost use Rattle.elf_image.specs.Index.{AreIndexed};
+    ghost use Rattle.elf_image.specs.inner.Index.{AreIndexed};
 
     fn new(alloc: Global) -> Loads
         ensures value { result.list.items ≡ [] }

@@ -1,9 +1,10 @@
 //! A relocatable object.
 
 ghost use Rattle.std.specs.Prelude.{IfOk};
-ghost use Rattle.kx_laws.specs.Results.{Gives};
+ghost use Rattle.kx_laws.specs.inner.Results.{Gives};
 ghost use Rattle.elf_image.specs.declared.fault.ElfFault.TheVariants.{Memory};
-ghost use Rattle.elf_image.specs.Object.{object_reading, IsObject};
+ghost use Rattle.elf_image.specs.Object.{object_reading};
+ghost use Rattle.elf_image.specs.inner.Object.{IsObject};
 
 use crate::fault::ElfFault;
 use crate::reloc::{RelocSection, read_relocs};

@@ -2,7 +2,7 @@
 
 ghost use Rattle.std.specs.Prelude.{◌≡◌, ◌<◌, length};
 ghost use Rattle.kx_fields.specs.Formats.{read};
-ghost use Rattle.elf_image.specs.FileHeader.{HasTable};
+ghost use Rattle.elf_image.specs.inner.FileHeader.{HasTable};
 ghost use Rattle.elf_image.specs.ProgramHeader.{elf32, load_of, header_at, load_at};
 
 use crate::file_header::Header;

@@ -4,12 +4,15 @@ ghost use Rattle.std.specs.Prelude.{◌≡◌, ◌+◌, ◌*◌, ◌^◌, ◌≤
 ghost use Rattle.std.specs.List.{slice_get};
 ghost use Rattle.kx_fields.specs.Fields.{bytes_at};
 ghost use Rattle.kx_fields.specs.Formats.{read};
-ghost use Rattle.kx_laws.specs.Results.{Gives, unless};
+ghost use Rattle.kx_laws.specs.Results.{unless};
+ghost use Rattle.kx_laws.specs.inner.Results.{Gives};
 ghost use Rattle.elf_image.specs.declared.fault.ElfFault.TheVariants.{Memory};
-ghost use Rattle.elf_image.specs.Gathered.{Adds};
+ghost use Rattle.elf_image.specs.inner.Gathered.{Adds};
 ghost use Rattle.elf_image.specs.Numbers.{sht_symtab};
-ghost use Rattle.elf_image.specs.Section.{IsTable, is_of};
-ghost use Rattle.elf_image.specs.Reloc.{AreInside, rela, rela_fault, entry_of, reloc_section, relocs_at, read_relocs, test_symbols};
+ghost use Rattle.elf_image.specs.Section.{is_of};
+ghost use Rattle.elf_image.specs.inner.Section.{IsTable};
+ghost use Rattle.elf_image.specs.Reloc.{rela, rela_fault, entry_of, reloc_section, relocs_at, read_relocs, test_symbols};
+ghost use Rattle.elf_image.specs.inner.Reloc.{AreInside};
 
 use crate::fault::ElfFault;
 use crate::numbers::{SHT_RELA, SHT_SYMTAB};

@@ -4,9 +4,10 @@ ghost use Rattle.std.specs.Prelude.{◌≡◌, ℕ, List, ◌+◌, ◌*◌, ◌^
 ghost use Rattle.std.specs.List.{slice_get};
 ghost use Rattle.kx_fields.specs.Fields.{bytes_at};
 ghost use Rattle.kx_fields.specs.Formats.{read};
-ghost use Rattle.kx_laws.specs.Results.{Gives};
+ghost use Rattle.kx_laws.specs.inner.Results.{Gives};
 ghost use Rattle.elf_image.specs.declared.fault.ElfFault.TheVariants.{Memory};
-ghost use Rattle.elf_image.specs.Section.{section_header, section_of, is_section_cut, headers_of, first_of, is_of, place_of, read_table, IsTable, Lies};
+ghost use Rattle.elf_image.specs.Section.{section_header, section_of, is_section_cut, headers_of, first_of, is_of, place_of, read_table};
+ghost use Rattle.elf_image.specs.inner.Section.{IsTable, Lies};
 
 use crate::fault::{ElfFault, ElfPart};
 use crate::file_header::Header;

@@ -3,10 +3,11 @@
 ghost use Rattle.std.specs.Prelude.{◌≡◌, ◌+◌, ◌*◌, ◌≤◌, ◌<◌, ◌==◌, length, position, IfSome, IfNone, Some, None, Ok};
 ghost use Rattle.kx_fields.specs.Fields.{bytes_at};
 ghost use Rattle.kx_fields.specs.Formats.{read};
-ghost use Rattle.kx_laws.specs.Results.{Gives};
+ghost use Rattle.kx_laws.specs.inner.Results.{Gives};
 ghost use Rattle.elf_image.specs.declared.fault.ElfFault.TheVariants.{Memory};
 ghost use Rattle.elf_image.specs.Gathered.{each};
-ghost use Rattle.elf_image.specs.Section.{IsTable, IsInside, section_of, place_of};
+ghost use Rattle.elf_image.specs.Section.{section_of, place_of};
+ghost use Rattle.elf_image.specs.inner.Section.{IsTable, IsInside};
 ghost use Rattle.elf_image.specs.Symbol.{symbol_entry, up_to_nul, name_in, is_index, symbol_in, entries_in, strings_of, symbols_in, refuse_second, symbols_at, read_symbols};
 
 use crate::fault::ElfFault;

@@ -2,7 +2,7 @@
 use Rattle.std.proofs.Common.{◌≡◌, Result, Ok, Err, sym, subst}
 use Rattle.file_commands.specs.declared.stop.MakeFault.{MakeFault}
 use Rattle.file_commands.specs.declared.stop.MakeFault.TheVariants as makes
-use Rattle.file_commands.specs.Calls.{RefusedBy, MakesOr}
+use Rattle.file_commands.specs.inner.Calls.{RefusedBy, MakesOr}
 
 -- a reason of one kind is a reason of another
 pub refused_as : {R : Type 0} (P Q : R → Type 0) (f : MakeFault R) → ((why : R) → P why → Q why) → RefusedBy P f → RefusedBy Q f

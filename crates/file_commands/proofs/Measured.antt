@@ -5,7 +5,8 @@ use Rattle.std.proofs.lemmas.Bool.Decides.{nat_tests}
 use Rattle.std.specs.Prelude.{IfSome}
 use Rattle.kx_edge.specs.Edge.{Files}
 use Rattle.kx_edge.specs.declared.edge.Shelf.{Ghosts as Shelf}
-use Rattle.file_commands.specs.Taking.{ok, refuse, too_long, reads, file_at, FailsFile, FailedAt, GivesFile, Took}
+use Rattle.file_commands.specs.Taking.{ok, refuse, too_long, reads, FailsFile, FailedAt, GivesFile, Took}
+use Rattle.file_commands.specs.inner.Taking.{file_at}
 use Rattle.file_commands.specs.Files.{whole_file, check_length}
 use Rattle.file_commands.proofs.Steps.{took_told}
 

@@ -13,7 +13,7 @@ use Rattle.file_commands.specs.declared.goods.Goods.{Goods as MadeGoods}
 use Rattle.file_commands.specs.Taking.{Refusal, FailedAt, ok, reads, Same, Took}
 use Rattle.file_commands.specs.Answers.{Answer, Command, Goods, FilesPut, FilesCut, PutAll, PutUpTo, SaysText, BreaksText, GoesOut, EndsAtOutput, EndsAtText, Delivers, Meets, MeetsTold, RefusesFor, Stands, InOrder, Completes, done, not_accepted, unread, unwritten, unsaid, memory, refused}
 use Rattle.file_commands.proofs.Puts.{puts_files, puts_calm, torn_files, torn_rose}
-use Rattle.file_commands.specs.Calls.{Takes, TakesNot, Makes, goods_of, take_answer, make_answer}
+use Rattle.file_commands.specs.inner.Calls.{Takes, TakesNot, Makes, goods_of, take_answer, make_answer}
 use Rattle.file_commands.proofs.Steps.{took_same, took_told, failed_rose, failed_files}
 
 module _ {S O X F R : Type 0} (D : Shelf S) (E : Sink O) (c : Command X F R) (s : S) (o : O) where

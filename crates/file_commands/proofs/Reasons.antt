@@ -2,7 +2,8 @@
 use Rattle.std.proofs.Common.{◌≡◌, ◌∙◌, ℕ, ◌-◌, List, [], ◌∷◌, ◌++◌, length, Bool, true, false, Option, Some, None, Result, Ok, Err, nat_lt, if◌then◌else◌, sym, ap, subst}
 use Rattle.kx_edge.specs.Edge.{Files, read_of}
 use Rattle.file_commands.specs.Files.{all_files, from_reader, more_files, optional_file, whole_file}
-use Rattle.file_commands.specs.Taking.{File, Refusal, Take, and_then, by, file, file_at, ok, reads, refuse, too_long}
+use Rattle.file_commands.specs.Taking.{File, Refusal, Take, and_then, by, file, ok, reads, refuse, too_long}
+use Rattle.file_commands.specs.inner.Taking.{file_at}
 use Rattle.file_commands.proofs.Measured.{measured_reads}
 
 module _ {R : Type 0} (Q : R → Type 0) where

@@ -8,7 +8,7 @@ use Rattle.file_commands.specs.declared.stop.TakeFault.{TakeFault}
 use Rattle.file_commands.specs.declared.stop.TakeFault.TheVariants as takes
 use Rattle.file_commands.specs.Files.{from_reader}
 use Rattle.file_commands.specs.Taking.{Refusal, Take, ok, refuse, by, file, and_then, ◌>>=◌, reads, Same, Took, FailedAt}
-use Rattle.file_commands.specs.Calls.{Takes, TakesNot}
+use Rattle.file_commands.specs.inner.Calls.{Takes, TakesNot}
 
 same_err : {R X : Type 0} (a b : Refusal R) → ◌≡◌ {A = Result X (Refusal R)} (Err a) (Err b) → a ≡ b
 same_err a b e = cc

@@ -1,5 +1,5 @@
 pub mod Taking
 pub mod Files
 pub mod Answers
-pub mod Calls
 pub mod Entry
+pub mod inner

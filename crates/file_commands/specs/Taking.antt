@@ -1,7 +1,6 @@
 -- What a command takes of a shelf, file after file, and what is made of their bytes: one value, from which it follows what
 -- is read of files that are told, which takes were made, and which of them failed. This project's own.
-use Rattle.std.specs.Prelude.{◌≡◌, ℕ, ◌⊎◌, List, [], IfSome, Result, Ok, Err, unwrap_or}
-use Rattle.std.specs.FinMap.{get}
+use Rattle.std.specs.Prelude.{◌≡◌, ℕ, ◌⊎◌, List, IfSome, Result, Ok, Err}
 use Rattle.kx_edge.specs.Edge.{Files, Rose, read_of}
 use Rattle.kx_edge.specs.declared.edge.Shelf.{Ghosts as Shelf}
 
@@ -36,10 +35,6 @@ abbrev pub reads : {R X : Type 0} → Take R X → Files → Result X (Refusal R
 reads (ok x) held = Ok x
 reads (refuse a) held = Err a
 reads (file name most next) held = reads (next (read_of held name most)) held
-
--- a file's bytes; one that is not held reads as the empty file
-abbrev pub file_at : Files → List ℕ → List ℕ
-file_at held name = unwrap_or (get held name) []
 
 -- a shelf holds what it held, and has not failed
 pub record Same {S : Type 0} (D : Shelf S) (old new : S) : Type 0 where

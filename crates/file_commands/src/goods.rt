@@ -2,7 +2,7 @@
 
 ghost use Rattle.std.specs.Prelude.{map, string_bytes, OnOk, IfErr};
 ghost use Rattle.file_commands.specs.Answers.{Delivers, PutAll, PutUpTo};
-ghost use Rattle.file_commands.specs.Calls.{call_answer, goods_of, file_of};
+ghost use Rattle.file_commands.specs.inner.Calls.{call_answer, goods_of, file_of};
 
 use crate::stop::Stop;
 use kx_edge::{PutFailed, SayFailed, Shelf, Sink};

@@ -86,7 +86,7 @@ impl<T: Drop, R> From<AllocFailed<T>> for MakeFault<R> {
 }
 
 impl<F, R> From<TakeFault<R>> for Stop<F, R> {
-    ghost use Rattle.file_commands.specs.Calls.{answer_of, take_answer};
+    ghost use Rattle.file_commands.specs.inner.Calls.{answer_of, take_answer};
 
     ghost from_gives = { λ f e. answer_of e ≡ take_answer f };
 
@@ -101,7 +101,7 @@ impl<F, R> From<TakeFault<R>> for Stop<F, R> {
 }
 
 impl<F, R> From<MakeFault<R>> for Stop<F, R> {
-    ghost use Rattle.file_commands.specs.Calls.{answer_of, make_answer};
+    ghost use Rattle.file_commands.specs.inner.Calls.{answer_of, make_answer};
 
     ghost from_gives = { λ f e. answer_of e ≡ make_answer f };
 

@@ -1,10 +1,10 @@
 //! Files are taken in their turn, each with a limit: one byte more is asked for, so that a longer file shows.
 
 ghost use Rattle.std.specs.Prelude.{◌≡◌, ◌+◌, ◌<◌, ◌≤◌, ◌^◌, ◌++◌, length, map, option_map, is_some, string_bytes, IfOk, IfSome};
-ghost use Rattle.kx_laws.specs.Cuts.{IsCutAt};
+ghost use Rattle.kx_laws.specs.inner.Cuts.{IsCutAt};
 ghost use Rattle.file_commands.specs.Files.{all_files, optional_file, whole_file};
-ghost use Rattle.file_commands.specs.Calls.{Takes, bytes_of, file_of};
-ghost use Rattle.file_commands.specs.Taking.{file_at};
+ghost use Rattle.file_commands.specs.inner.Calls.{Takes, bytes_of, file_of};
+ghost use Rattle.file_commands.specs.inner.Taking.{file_at};
 
 use crate::goods::File;
 use crate::stop::TakeFault;
@@ -21,7 +21,7 @@ pub struct FileParts {
 
 /// Takes a file of at most `limit` bytes, its first `at` bytes apart from the others: where a head of so many bytes is
 /// followed by bytes that are kept, these need not be moved.
-#[tactic(auto, unfolding(crate::specs::Taking::and_then, crate::specs::Taking::Took, crate::specs::Taking::FailedAt, crate::specs::Calls::TakesNot))]
+#[tactic(auto, unfolding(crate::specs::Taking::and_then, crate::specs::Taking::Took, crate::specs::Taking::FailedAt, crate::specs::inner::Calls::TakesNot))]
 pub fn take_apart<S: Shelf, R>(
     alloc: Global,
     name: String,
@@ -86,7 +86,7 @@ pub fn take_file<S: Shelf, R>(
 }
 
 /// Takes a file of at most `limit` bytes, where one is named.
-#[tactic(auto, unfolding(crate::specs::Taking::and_then, crate::specs::Taking::Took, crate::specs::Taking::FailedAt, crate::specs::Calls::TakesNot))]
+#[tactic(auto, unfolding(crate::specs::Taking::and_then, crate::specs::Taking::Took, crate::specs::Taking::FailedAt, crate::specs::inner::Calls::TakesNot))]
 pub fn take_optional<S: Shelf, R>(
     alloc: Global,
     name: Option<String>,

@@ -3,7 +3,7 @@
 ghost use Rattle.std.specs.Prelude.{List, ℕ, Option, map, option_map, string_bytes};
 ghost use Rattle.file_commands.specs.Taking.{ok, ◌>>=◌};
 ghost use Rattle.file_commands.specs.Files.{all_files, optional_file, whole_file};
-ghost use Rattle.file_commands.specs.Calls.{file_of};
+ghost use Rattle.file_commands.specs.inner.Calls.{file_of};
 
 use crate::{Command, File, Goods, MakeFault, Stop, TakeFault, run, take_all, take_optional};
 use kx_edge::{MemoryShelf, MemorySink, Shelf, ShelfFault};

@@ -2,10 +2,11 @@
 use Rattle.std.proofs.Common.{◌≡◌, ℕ, ◌+◌, ◌-◌, ◌*◌, ◌/◌, ◌<◌, ◌≤◌, true, false, Some, List, length, take, min, sym, ◌∙◌, inl, inr, arith}
 use Rattle.std.proofs.lemmas.Bool.{cases_lt, both_ways}
 use Rattle.std.specs.List.{slice_get}
-use Rattle.kx_pages.specs.Spans.{Run, end, in_spans, AreApart, IsMaximal}
+use Rattle.kx_pages.specs.Spans.{Run, end, in_spans, AreApart}
+use Rattle.kx_pages.specs.inner.Spans.{IsMaximal}
 use Rattle.hole_search.specs.declared.search.Wanted.{Wanted}
-use Rattle.hole_search.specs.Holes.{EachPage}
-use Rattle.hole_search.specs.Walk.{IsClear, AreAhead}
+use Rattle.hole_search.specs.inner.Holes.{EachPage}
+use Rattle.hole_search.specs.inner.Walk.{IsClear, AreAhead}
 use Rattle.hole_search.proofs.Rising.{none_behind, same_before}
 use Rattle.kx_pages.proofs.Spans.{inside}
 

@@ -1,10 +1,11 @@
 -- What fits, and what lies in one span of RAM.
 use Rattle.std.proofs.Common.{◌≡◌, ℕ, ◌+◌, ◌*◌, ◌<◌, ◌≤◌, Bool, true, List, Option, Some, None, sym, ◌∙◌, arith}
-use Rattle.kx_pages.specs.Spans.{Run, end, in_spans, IsMaximal}
+use Rattle.kx_pages.specs.Spans.{Run, end, in_spans}
+use Rattle.kx_pages.specs.inner.Spans.{IsMaximal}
 use Rattle.hole_search.specs.declared.search.End.{End}
 use Rattle.hole_search.specs.declared.search.Wanted.{Wanted}
-use Rattle.hole_search.specs.Holes.{EachPage, Fits, IsHole}
-use Rattle.hole_search.specs.Walk.{IsClear}
+use Rattle.hole_search.specs.inner.Holes.{EachPage, Fits, IsHole}
+use Rattle.hole_search.specs.inner.Walk.{IsClear}
 use Rattle.kx_pages.proofs.Spans.{inside}
 
 -- what fits is clear

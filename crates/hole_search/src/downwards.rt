@@ -3,8 +3,8 @@
 ghost use Rattle.std.specs.Prelude.{ℕ, ◌+◌, ◌<◌, ◌≤◌, ◌^◌, length, IfSome, IfNone};
 ghost use Rattle.kx_pages.specs.Spans.{in_spans, AreApart};
 ghost use Rattle.hole_search.specs.declared.search.End.TheVariants.{Greatest};
-ghost use Rattle.hole_search.specs.Holes.{IsHole};
-ghost use Rattle.hole_search.specs.Walk.{IsBounded, IsClear, AreAhead};
+ghost use Rattle.hole_search.specs.inner.Holes.{IsHole};
+ghost use Rattle.hole_search.specs.inner.Walk.{IsBounded, IsClear, AreAhead};
 
 use crate::bounds::{end_of, round_down, start_of};
 use crate::search::Wanted;

@@ -4,7 +4,7 @@ ghost use Rattle.std.specs.Prelude.{◌≡◌, ℕ, ◌+◌, ◌<◌, ◌≤◌,
 ghost use Rattle.kx_pages.specs.Spans.{in_spans};
 ghost use Rattle.hole_search.specs.declared.search.End.{End};
 ghost use Rattle.hole_search.specs.declared.search.Wanted.{Wanted};
-ghost use Rattle.hole_search.specs.Holes.{IsHole};
+ghost use Rattle.hole_search.specs.inner.Holes.{IsHole};
 
 use crate::downwards::greatest;
 use crate::upwards::least;

@@ -3,8 +3,8 @@
 ghost use Rattle.std.specs.Prelude.{ℕ, ◌+◌, ◌<◌, ◌≤◌, ◌^◌, IfSome};
 ghost use Rattle.kx_pages.specs.Spans.{in_spans};
 ghost use Rattle.hole_search.specs.declared.search.End.TheVariants.{Least};
-ghost use Rattle.hole_search.specs.Holes.{IsHole};
-ghost use Rattle.hole_search.specs.Walk.{IsBounded, IsClear, ArePassed};
+ghost use Rattle.hole_search.specs.inner.Holes.{IsHole};
+ghost use Rattle.hole_search.specs.inner.Walk.{IsBounded, IsClear, ArePassed};
 
 use crate::bounds::{end_of, round_up, start_of};
 use crate::search::Wanted;

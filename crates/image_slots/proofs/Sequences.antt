@@ -5,10 +5,12 @@ use Rattle.kx_pages.specs.Lists.{count}
 use Rattle.image_slots.specs.declared.reply.Reply.{Reply}
 use Rattle.image_slots.specs.Events.{EventValue}
 use Rattle.image_slots.specs.Pages.{all_pages}
-use Rattle.image_slots.specs.Sequences.{AreKept, IsBusyExactly, IsKept, after_events, is_memory, replies_to}
-use Rattle.image_slots.specs.Soundness.{IsSound}
+use Rattle.image_slots.specs.Sequences.{AreKept, IsBusyExactly, IsKept, after_events, replies_to}
+use Rattle.image_slots.specs.inner.Sequences.{is_memory}
+use Rattle.image_slots.specs.inner.Soundness.{IsSound}
 use Rattle.image_slots.specs.States.{State}
-use Rattle.image_slots.specs.Steps.{Follows, Outcome, after_want, step}
+use Rattle.image_slots.specs.Steps.{Outcome, step}
+use Rattle.image_slots.specs.inner.Steps.{Follows, after_want}
 use Rattle.image_slots.proofs.Busy.{busy_only, step_busy}
 use Rattle.image_slots.proofs.Sound.{follows_gone, follows_pages, follows_sound, sound_accepted}
 

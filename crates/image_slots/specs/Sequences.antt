@@ -1,10 +1,10 @@
 -- Events one after another (this project's own).
-use Rattle.std.specs.Prelude.{◌≡◌, ◌↔◌, ℕ, ◌≤◌, List, [], ◌∷◌, Bool, true, false, Option, None}
+use Rattle.std.specs.Prelude.{◌≡◌, ◌↔◌, ℕ, ◌≤◌, List, [], ◌∷◌, false, Option, None}
 use Rattle.kx_pages.specs.Bytes.{Mem}
 use Rattle.kx_pages.specs.Lists.{count}
 use Rattle.kx_pages.specs.Spans.{Run}
 use Rattle.image_slots.specs.declared.reply.Reply.{Reply}
-use Rattle.image_slots.specs.declared.reply.Reply.TheVariants.{Busy, Memory}
+use Rattle.image_slots.specs.declared.reply.Reply.TheVariants.{Busy}
 use Rattle.image_slots.specs.Events.{EventValue}
 use Rattle.image_slots.specs.Pages.{all_pages}
 use Rattle.image_slots.specs.Soundness.{AreAccepted, IsBusy}
@@ -24,11 +24,6 @@ fresh M left ram area =
       crash = None;
       gone = false;
     }
-
--- memory ran out
-abbrev pub is_memory : Reply → Bool
-is_memory Memory = true
-is_memory other = false
 
 -- what is answered to each of these events
 abbrev pub replies_to : State → List EventValue → List Reply

@@ -11,7 +11,7 @@ use Rattle.kx_pages.proofs.Lists.{Each-map}
 use Rattle.page_memory.specs.Contents.{Contents, at}
 use Rattle.page_memory.specs.Memory.{Agree}
 use Rattle.kx_pages.specs.Bytes.{Mem}
-use Rattle.segments.specs.Rules.{IsBare}
+use Rattle.segments.specs.inner.Rules.{IsBare}
 use Rattle.segments.specs.Values.{SegmentValue, overlay, want}
 use Rattle.segments.proofs.Laws.{AreSegments-from_IsBare, Has-from_want, pages_below}
 use Rattle.list_checker.specs.Walk.{Accepted, AcceptedKept, IsAccepted, links, pairs}
@@ -32,7 +32,7 @@ use Rattle.kexec_plan.proofs.Bare.{planned_bare}
 use Rattle.kexec_main.specs.Inputs.{LoadInputs}
 use Rattle.kexec_main.specs.Loading.{IsLoaded}
 use Rattle.kexec_main.specs.Runs.{EndsAgain, MachineLeaves, memory_after, wish_of}
-use Rattle.kexec_main.specs.Ran.{HasMode}
+use Rattle.kexec_main.specs.inner.Ran.{HasMode}
 use Rattle.kexec_main.proofs.Leaving.{has_mode}
 use Rattle.kexec_main.proofs.Told.{one_memory}
 

@@ -4,8 +4,9 @@ use Rattle.std.specs.List.{AllByRecursion}
 use Rattle.std.proofs.lemmas.Bool.Decides.{nat_tests}
 use Rattle.kx_laws.proofs.Booleans.{and_parts}
 use Rattle.image_slots.specs.declared.event.Event.{Event}
-use Rattle.image_slots.specs.Events.{EventValue, Open, Add, Write, Install, Cancel, Unload, Store, Exec, Panic, HasFewBytes, event_of}
-use Rattle.kexec_main.specs.ShortStores.{are_short, is_short}
+use Rattle.image_slots.specs.Events.{EventValue, Open, Add, Write, Install, Cancel, Unload, Store, Exec, Panic}
+use Rattle.image_slots.specs.inner.Events.{HasFewBytes, event_of}
+use Rattle.kexec_main.specs.inner.ShortStores.{are_short, is_short}
 
 short_one : (e : EventValue) → HasFewBytes e → is_short e ≡ true
 short_one (Open caller kind) h = refl

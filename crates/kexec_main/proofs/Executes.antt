@@ -6,11 +6,11 @@ use Rattle.list_checker.specs.declared.fault.ListFault.{ListFault}
 use Rattle.file_commands.specs.declared.goods.Goods.{Goods as MadeGoods}
 use Rattle.file_commands.specs.declared.stop.MakeFault.{MakeFault}
 use Rattle.file_commands.specs.declared.stop.MakeFault.TheVariants as makes
-use Rattle.file_commands.specs.Calls.{Makes, MakesOr, goods_of}
+use Rattle.file_commands.specs.inner.Calls.{Makes, MakesOr, goods_of}
 use Rattle.kexec_main.specs.declared.files.LoadFiles.{LoadFiles}
 use Rattle.kexec_main.specs.declared.status.Reason.{Reason}
 use Rattle.kexec_main.specs.Exec.{RefusesRun, RunsList, executes_as, executes_list, is_not_kept, load_of, runs_asked, runs_of}
-use Rattle.kexec_main.specs.Ran.{HasMode}
+use Rattle.kexec_main.specs.inner.Ran.{HasMode}
 
 -- the runs that are asked fit the mode
 pub runs_fit : (twice : Bool) (mode : Mode) → HasMode (runs_of twice mode) mode

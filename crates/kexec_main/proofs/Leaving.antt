@@ -14,7 +14,7 @@ use Rattle.kexec_plan.specs.Requests.{Plan}
 use Rattle.kexec_main.specs.Inputs.{LoadInputs}
 use Rattle.kexec_main.specs.Loading.{IsLoaded}
 use Rattle.kexec_main.specs.Runs.{Leaves, after_runs, wish_of}
-use Rattle.kexec_main.specs.Ran.{HasMode}
+use Rattle.kexec_main.specs.inner.Ran.{HasMode}
 
 pub leaves_by : (runs : Option Runs) (c : Checked) (mode : Mode) → c.load.image.mode ≡ mode → HasMode runs mode → Told c.load c.words c.links c.pairs → Leaves runs c (after_runs runs c)
 leaves_by None c Plain m h t = ((λ p bytes e. ap (λ o. unwrap_or o (at c.load.memory p)) e), λ p e. ap (λ o. unwrap_or o (at c.load.memory p)) e)

@@ -12,7 +12,7 @@ use Rattle.kexec_main.specs.declared.status.Reason.{Reason}
 use Rattle.kexec_main.specs.declared.status.Reason.TheVariants as reasons
 use Rattle.kexec_main.specs.Outputs.{HasNoFile, IsFileOf, IsTooHeavy}
 use Rattle.segments.specs.Values.{need}
-use Rattle.load_states.specs.Runs.{IsSameLoad}
+use Rattle.load_states.specs.inner.Runs.{IsSameLoad}
 use Rattle.load_states.proofs.Alike.{tells_alike}
 use Rattle.load_states.proofs.Ready.{list_ends}
 use Rattle.page_memory.specs.File.{stored_pages}

@@ -6,7 +6,7 @@ use Rattle.list_checker.specs.declared.fault.ListFault.{ListFault}
 use Rattle.file_commands.specs.declared.goods.Goods.{Goods as MadeGoods}
 use Rattle.file_commands.specs.declared.stop.MakeFault.{MakeFault}
 use Rattle.file_commands.specs.declared.stop.MakeFault.TheVariants as makes
-use Rattle.file_commands.specs.Calls.{Makes, MakesOr, goods_of}
+use Rattle.file_commands.specs.inner.Calls.{Makes, MakesOr, goods_of}
 use Rattle.kexec_main.specs.declared.files.CrashFiles.{CrashFiles}
 use Rattle.kexec_main.specs.declared.status.Reason.{Reason}
 use Rattle.kexec_main.specs.Check.{IsInPlace}

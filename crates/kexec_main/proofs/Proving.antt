@@ -1,12 +1,12 @@
 -- A load with a purgatory proves itself once more: after one run the test of its regions finds them the same.
 use Rattle.std.proofs.Common.{◌≡◌, ◌∙◌, ℕ, List, Option, Some, None, ap, sym}
 use Rattle.kx_pages.specs.Bytes.{Mem}
-use Rattle.segments.specs.Rules.{IsBare}
+use Rattle.segments.specs.inner.Rules.{IsBare}
 use Rattle.segments.specs.Values.{SegmentValue, want}
 use Rattle.segments.proofs.Laws.{AreSegments-from_IsBare, want-from_Has}
 use Rattle.purgatory_link.specs.declared.region_test.RegionTest.TheVariants.{Same}
 use Rattle.purgatory_link.specs.RegionTest.{test}
-use Rattle.purgatory_link.specs.Tie.{HasWanted}
+use Rattle.purgatory_link.specs.inner.Tie.{HasWanted}
 use Rattle.load_states.specs.Ready.{Told}
 use Rattle.load_states.specs.States.{Checked}
 use Rattle.kexec_words.specs.declared.commands.Runs.{Runs}

@@ -4,7 +4,8 @@ use Rattle.kx_laws.proofs.Results.{bind_ok, guard_ok, ok_same}
 use Rattle.kx_edge.specs.Edge.{Files}
 use Rattle.page_memory.specs.Contents.{Contents}
 use Rattle.page_memory.specs.File.{reading}
-use Rattle.segments.specs.Rules.{IsBare, bare_refusal}
+use Rattle.segments.specs.Rules.{bare_refusal}
+use Rattle.segments.specs.inner.Rules.{IsBare}
 use Rattle.segments.specs.Values.{SegmentValue}
 use Rattle.segments.specs.declared.fault.SegFault.{SegFault}
 use Rattle.load_record.specs.File.{Record, tested_head, record_of, record_reading, record_by, tested_segments}
@@ -12,7 +13,8 @@ use Rattle.load_record.specs.Head.{version_of}
 use Rattle.load_record.specs.declared.fault.RecFault.{RecFault}
 use Rattle.load_record.specs.declared.head.Head.{Head}
 use Rattle.file_commands.specs.Files.{from_reader, whole_file}
-use Rattle.file_commands.specs.Taking.{Refusal, file_at, ok, reads, too_long, ◌>>=◌}
+use Rattle.file_commands.specs.Taking.{Refusal, ok, reads, too_long, ◌>>=◌}
+use Rattle.file_commands.specs.inner.Taking.{file_at}
 use Rattle.file_commands.proofs.Measured.{measured_reads}
 use Rattle.file_commands.proofs.Steps.{reads_cases}
 use Rattle.kexec_words.specs.Values.{ExecValue}

@@ -16,8 +16,8 @@ use Rattle.kexec_plan.specs.Requests.{Plan}
 use Rattle.kexec_main.specs.declared.status.Reason.{Reason}
 use Rattle.kexec_main.specs.declared.status.Reason.TheVariants as reasons
 use Rattle.kexec_main.specs.BootResident.{HasNoList, RefusesResident, raw_inputs, resident_text}
-use Rattle.kexec_main.specs.Ran.{ran_resident, HasMode, HasRun}
-use Rattle.kexec_main.specs.Views.{IsKernel}
+use Rattle.kexec_main.specs.inner.Ran.{ran_resident, HasMode, HasRun}
+use Rattle.kexec_main.specs.inner.Views.{IsKernel}
 use Rattle.kexec_main.specs.Inputs.{LoadInputs}
 use Rattle.kexec_main.specs.declared.boot_resident.ResidentKernel.{ResidentKernel}
 use Rattle.kexec_main.specs.declared.running.Ran.{Ran}

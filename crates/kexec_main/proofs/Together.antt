@@ -22,10 +22,11 @@ use Rattle.load_record.specs.File.{Record, record_file, record_reading}
 use Rattle.load_record.specs.declared.fault.RecFault.{RecFault}
 use Rattle.load_states.specs.Fillings.{IsSealed}
 use Rattle.load_states.specs.Loads.{memory_of}
-use Rattle.load_states.specs.Runs.{IsSameCheck, IsSameLoad}
+use Rattle.load_states.specs.inner.Runs.{IsSameCheck, IsSameLoad}
 use Rattle.load_states.specs.States.{Checked, Load}
 use Rattle.load_states.proofs.Alike.{tells_alike}
-use Rattle.file_commands.specs.Taking.{Refusal, file_at, ok, reads}
+use Rattle.file_commands.specs.Taking.{Refusal, ok, reads}
+use Rattle.file_commands.specs.inner.Taking.{file_at}
 use Rattle.file_commands.proofs.Steps.{reads_cases}
 use Rattle.kexec_words.specs.declared.commands.Runs.{Runs}
 use Rattle.kexec_words.specs.declared.commands.Runs.TheVariants.{Once, Twice}
@@ -44,7 +45,7 @@ use Rattle.kexec_main.specs.Loads.{IsLaid, NormalLoad}
 use Rattle.kexec_main.specs.Outputs.{IsFileOf}
 use Rattle.kexec_main.specs.Runs.{after_runs, list_text, run_text, wish_of}
 use Rattle.kexec_main.specs.Texts.{load_lines, purgatory_line, ran_line}
-use Rattle.kexec_main.specs.Together.{AskTogether, LoadThenExecIsBoot, booted_text, is_twice}
+use Rattle.kexec_main.specs.inner.Together.{AskTogether, LoadThenExecIsBoot, booted_text, is_twice}
 use Rattle.kexec_main.proofs.Reread.{exec_read, memory_found, record_found}
 
 -- a load of segments over a pool is one

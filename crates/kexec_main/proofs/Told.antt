@@ -9,7 +9,7 @@ use Rattle.kexec_words.specs.declared.commands.Runs.TheVariants.{Once, Twice}
 use Rattle.load_states.specs.States.{Checked}
 use Rattle.kexec_main.specs.declared.running.Ran.{Ran}
 use Rattle.kexec_main.specs.Runs.{after_runs, list_text, run_text}
-use Rattle.kexec_main.specs.Ran.{HasRun, last_line, ran_text, second_steps}
+use Rattle.kexec_main.specs.inner.Ran.{HasRun, last_line, ran_text, second_steps}
 use Rattle.kexec_main.specs.Texts.{load_lines, purgatory_line, ran_line}
 
 first_text : (runs : Option Runs) (c : Checked) (r : Ran) (start : Start) → HasRun runs c r → load_lines r.words r.links r.pairs r.image start ++ ran_line r.steps ≡ list_text c start ++ ran_line c.words

@@ -19,7 +19,7 @@ use Rattle.kexec_main.specs.Boot.{boot_files}
 use Rattle.kexec_main.specs.Files.{map_file, memory_file, memory_limit, pages_file, pool_file, text_limit, usable_below}
 use Rattle.kexec_main.specs.Inputs.{kernel_files, left_after, load_inputs, purgatory_limit, request_with}
 use Rattle.kexec_main.specs.Load.{load_command_files, load_wish}
-use Rattle.kexec_main.specs.TooFew.{BootLacksPages, BootRefusesForPages, IsRefusedForPages, LoadLacksPages, LoadRefusesForPages}
+use Rattle.kexec_main.specs.inner.TooFew.{BootLacksPages, BootRefusesForPages, IsRefusedForPages, LoadLacksPages, LoadRefusesForPages}
 
 abbrev IsInput : Reason → Type 0
 IsInput (Input f) = Unit {0}

@@ -27,9 +27,4 @@ pub mod CoreFile
 pub mod Laid
 pub mod Commands
 pub mod Call
-pub mod TooFew
-pub mod Together
-pub mod Views
-pub mod Ran
-pub mod ShortStores
-pub mod ExitStatuses
+pub mod inner

@@ -1,13 +1,13 @@
 //! `boot`: loads a kernel and runs it.
 
 ghost use Rattle.std.specs.Prelude.{◌≡◌, string_bytes};
-ghost use Rattle.file_commands.specs.Calls.{Makes, Takes};
+ghost use Rattle.file_commands.specs.inner.Calls.{Makes, Takes};
 ghost use Rattle.list_checker.specs.declared.fault.ListFault.{ListFault as SpecFault};
 ghost use Rattle.kexec_main.specs.Boot.{BootInputs as Inputs, boot_files, boots};
-ghost use Rattle.kexec_main.specs.Views.{boot_inputs};
+ghost use Rattle.kexec_main.specs.inner.Views.{boot_inputs};
 ghost use Rattle.kexec_main.specs.Runs.{wish_of};
-ghost use Rattle.kexec_words.specs.Limits.{HasParts};
-ghost use Rattle.kexec_words.specs.Values.{boot_value, inputs_value};
+ghost use Rattle.kexec_words.specs.inner.Limits.{HasParts};
+ghost use Rattle.kexec_words.specs.inner.Values.{boot_value, inputs_value};
 
 use crate::inputs::take_inputs;
 use crate::load_inputs::LoadInputs;

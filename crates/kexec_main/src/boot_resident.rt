@@ -6,11 +6,11 @@ ghost use Rattle.page_memory.specs.Contents.{at};
 ghost use Rattle.page_pool.specs.Pages.{usable_of};
 ghost use Rattle.list_checker.specs.Checked.{as_pair};
 ghost use Rattle.resident_planner.specs.Made.{IsMade};
-ghost use Rattle.file_commands.specs.Calls.{Makes, MakesOr, Takes};
-ghost use Rattle.kexec_words.specs.Values.{boot_resident_value};
-ghost use Rattle.kexec_main.specs.Views.{inputs_of, IsKernel, resident_inputs};
+ghost use Rattle.file_commands.specs.inner.Calls.{Makes, MakesOr, Takes};
+ghost use Rattle.kexec_words.specs.inner.Values.{boot_resident_value};
+ghost use Rattle.kexec_main.specs.inner.Views.{inputs_of, IsKernel, resident_inputs};
 ghost use Rattle.kexec_main.specs.BootResident.{HasNoList, RefusesResident, ResidentInputs as Inputs, boots_resident, copied_line, pairs_file, resident_files};
-ghost use Rattle.kexec_main.specs.Ran.{ran_resident};
+ghost use Rattle.kexec_main.specs.inner.Ran.{ran_resident};
 
 use crate::files::{TEXT_LIMIT, refused_by};
 use crate::inputs::take_inputs;

@@ -3,8 +3,8 @@
 ghost use Rattle.std.specs.Prelude.{◌≡◌, IfOk, IfErr};
 ghost use Rattle.list_checker.specs.declared.fault.ListFault.{ListFault as SpecFault};
 ghost use Rattle.list_checker.specs.declared.fault.CheckFault.TheVariants as faults;
-ghost use Rattle.file_commands.specs.Calls.{Makes, goods_of};
-ghost use Rattle.kexec_words.specs.Values.{load_names_value};
+ghost use Rattle.file_commands.specs.inner.Calls.{Makes, goods_of};
+ghost use Rattle.kexec_words.specs.inner.Values.{load_names_value};
 ghost use Rattle.kexec_main.specs.Check.{IsFaultLine, checks, checks_in_place, checks_list};
 ghost use Rattle.kexec_main.specs.Files.{load_files_of};
 

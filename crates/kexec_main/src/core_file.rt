@@ -2,11 +2,12 @@
 
 ghost use Rattle.std.specs.Prelude.{◌≡◌, ◌<◌, ◌^◌, Ok, IfOk, string_bytes};
 ghost use Rattle.page_memory.specs.Contents.{at};
-ghost use Rattle.vmcore_file.specs.File.{value_of, core_reading};
-ghost use Rattle.file_commands.specs.Calls.{Makes, MakesOr, Takes};
-ghost use Rattle.kexec_words.specs.Values.{core_value};
+ghost use Rattle.vmcore_file.specs.File.{core_reading};
+ghost use Rattle.vmcore_file.specs.inner.File.{value_of};
+ghost use Rattle.file_commands.specs.inner.Calls.{Makes, MakesOr, Takes};
+ghost use Rattle.kexec_words.specs.inner.Values.{core_value};
 ghost use Rattle.kexec_main.specs.CoreFile.{CoreInputs as Inputs, RefusesCore, core_files, core_line, cores};
-ghost use Rattle.kexec_main.specs.Views.{core_inputs};
+ghost use Rattle.kexec_main.specs.inner.Views.{core_inputs};
 
 use crate::core_inputs::CoreInputs;
 use crate::files::take_memory;

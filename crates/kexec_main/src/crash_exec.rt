@@ -2,7 +2,7 @@
 
 ghost use Rattle.std.specs.Prelude.{string_bytes};
 ghost use Rattle.page_memory.specs.Contents.{at};
-ghost use Rattle.file_commands.specs.Calls.{Makes, MakesOr, goods_of};
+ghost use Rattle.file_commands.specs.inner.Calls.{Makes, MakesOr, goods_of};
 ghost use Rattle.kexec_main.specs.CrashExec.{RunsInPlace, executes_in_place};
 ghost use Rattle.kexec_main.specs.Outputs.{HasNoFile};
 

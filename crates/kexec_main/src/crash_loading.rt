@@ -1,8 +1,8 @@
 //! The request of a crash kernel is planned, and its segments are put in their place.
 
 ghost use Rattle.std.specs.Prelude.{Some};
-ghost use Rattle.file_commands.specs.Calls.{MakesOr};
-ghost use Rattle.kexec_main.specs.Views.{crash_inputs_of, crash_plan_of};
+ghost use Rattle.file_commands.specs.inner.Calls.{MakesOr};
+ghost use Rattle.kexec_main.specs.inner.Views.{crash_inputs_of, crash_plan_of};
 ghost use Rattle.kexec_main.specs.CrashLoading.{IsCrashLoaded};
 ghost use Rattle.kexec_main.specs.Loading.{HasNoPlan};
 

@@ -2,7 +2,7 @@
 
 ghost use Rattle.std.specs.Prelude.{◌≡◌, ◌^◌, ℕ, false, true};
 ghost use Rattle.page_pool.specs.Pages.{is_filed};
-ghost use Rattle.kexec_main.specs.ShortStores.{are_short};
+ghost use Rattle.kexec_main.specs.inner.ShortStores.{are_short};
 
 use image_slots::Event;
 use memory_map::Map;

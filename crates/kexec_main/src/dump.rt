@@ -3,10 +3,10 @@
 ghost use Rattle.std.specs.Prelude.{◌≡◌, ◌++◌, ◌∷◌, [], true, false, IfOk, OnOk, string_bytes};
 ghost use Rattle.std.specs.List.{flat_map};
 ghost use Rattle.sha2.specs.Sha256.{sha256};
-ghost use Rattle.file_commands.specs.Calls.{Makes, Takes, goods_of};
-ghost use Rattle.kexec_words.specs.Values.{load_names_value};
+ghost use Rattle.file_commands.specs.inner.Calls.{Makes, Takes, goods_of};
+ghost use Rattle.kexec_words.specs.inner.Values.{load_names_value};
 ghost use Rattle.kexec_main.specs.Dump.{dumps, head_fault, head_text, lines_of, segment_line, walk_text, word_line, word_lines};
-ghost use Rattle.kexec_main.specs.Views.{dump_inputs};
+ghost use Rattle.kexec_main.specs.inner.Views.{dump_inputs};
 ghost use Rattle.kexec_main.specs.Files.{load_files_of};
 
 use crate::files::{take_digested_record, take_memory};

@@ -1,13 +1,13 @@
 //! `exec`: runs the load that a record tells where it is accepted.
 
 ghost use Rattle.std.specs.Prelude.{◌≡◌, string_bytes};
-ghost use Rattle.load_states.specs.Answers.{IsAcceptedAs};
+ghost use Rattle.load_states.specs.inner.Answers.{IsAcceptedAs};
 ghost use Rattle.load_states.specs.States.{Load as LoadOf};
-ghost use Rattle.file_commands.specs.Calls.{Makes, MakesOr, Takes, goods_of};
-ghost use Rattle.kexec_words.specs.Values.{exec_value};
+ghost use Rattle.file_commands.specs.inner.Calls.{Makes, MakesOr, Takes, goods_of};
+ghost use Rattle.kexec_words.specs.inner.Values.{exec_value};
 ghost use Rattle.kexec_main.specs.Exec.{ExecInputs as Inputs, RunsList, RefusesRun, exec_files, executes, executes_list, lacks_swap_page, runs_of};
-ghost use Rattle.kexec_main.specs.Views.{exec_inputs};
-ghost use Rattle.kexec_main.specs.Ran.{HasMode};
+ghost use Rattle.kexec_main.specs.inner.Views.{exec_inputs};
+ghost use Rattle.kexec_main.specs.inner.Ran.{HasMode};
 
 use crate::check::unaccepted_goods;
 use crate::crash_exec::exec_in_place;

@@ -1,10 +1,10 @@
 //! The files of the commands are taken, each with its limit, and read.
 
 ghost use Rattle.std.specs.Prelude.{◌≡◌, ℕ, ◌^◌, [], None, false, is_some, option_map, string_bytes, IfOk};
-ghost use Rattle.file_commands.specs.Calls.{Takes};
+ghost use Rattle.file_commands.specs.inner.Calls.{Takes};
 ghost use Rattle.file_commands.specs.Files.{optional_file};
 ghost use Rattle.kexec_main.specs.Files.{load_by, load_files, load_record_file, map_file, memory_file, notes_file, pages_file, pool_file, some_notes, usable_below};
-ghost use Rattle.load_record.specs.File.{IsWritable};
+ghost use Rattle.load_record.specs.inner.File.{IsWritable};
 ghost use Rattle.page_pool.specs.Pages.{is_filed, usable_of};
 
 use crate::status::{InputFault, Reason};

@@ -2,12 +2,12 @@
 //! kernel, which become the request for a plan.
 
 ghost use Rattle.std.specs.Prelude.{◌≡◌, ◌≤◌, ◌-◌, ℕ, length, map, option_map, is_some, string_bytes, IfOk};
-ghost use Rattle.file_commands.specs.Calls.{Takes, file_of};
-ghost use Rattle.kexec_words.specs.Limits.{HasParts};
-ghost use Rattle.kexec_words.specs.Values.{crash_inputs_value, inputs_value};
-ghost use Rattle.kexec_plan.specs.Requests.{request_of};
+ghost use Rattle.file_commands.specs.inner.Calls.{Takes, file_of};
+ghost use Rattle.kexec_words.specs.inner.Limits.{HasParts};
+ghost use Rattle.kexec_words.specs.inner.Values.{crash_inputs_value, inputs_value};
+ghost use Rattle.kexec_plan.specs.inner.Requests.{request_of};
 ghost use Rattle.kexec_main.specs.Inputs.{KernelFiles as KernelBytes, kernel_files, left_after, load_inputs, module_of, request_with};
-ghost use Rattle.kexec_main.specs.Views.{inputs_of, kernel_bytes, crash_inputs_of};
+ghost use Rattle.kexec_main.specs.inner.Views.{inputs_of, kernel_bytes, crash_inputs_of};
 ghost use Rattle.kexec_main.specs.CrashInputs.{crash_inputs, crash_request};
 
 use crate::files::{take_map, take_map_file, take_memory, take_notes, take_pool};

@@ -1,7 +1,7 @@
 //! What commands do together, and what their refusals stand for.
 
-ghost use Rattle.kexec_main.specs.Together.{LoadThenExecIsBoot};
-ghost use Rattle.kexec_main.specs.TooFew.{BootRefusesForPages, LoadRefusesForPages};
+ghost use Rattle.kexec_main.specs.inner.Together.{LoadThenExecIsBoot};
+ghost use Rattle.kexec_main.specs.inner.TooFew.{BootRefusesForPages, LoadRefusesForPages};
 
 use kx_edge::{Shelf, Sink};
 

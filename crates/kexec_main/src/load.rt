@@ -8,12 +8,12 @@ ghost use Rattle.segments.specs.Values.{want};
 ghost use Rattle.kx_pages.specs.Modes.{swap_page};
 ghost use Rattle.list_checker.specs.Walk.{IsAccepted};
 ghost use Rattle.load_record.specs.File.{record_file};
-ghost use Rattle.file_commands.specs.Calls.{Makes, Takes, file_of};
-ghost use Rattle.kexec_words.specs.Limits.{HasParts};
-ghost use Rattle.kexec_words.specs.Values.{inputs_value, load_value};
+ghost use Rattle.file_commands.specs.inner.Calls.{Makes, Takes, file_of};
+ghost use Rattle.kexec_words.specs.inner.Limits.{HasParts};
+ghost use Rattle.kexec_words.specs.inner.Values.{inputs_value, load_value};
 ghost use Rattle.kexec_main.specs.Load.{IsReadBack, LoadCommand as Inputs, load_command_files, loads, record_of_load};
-ghost use Rattle.kexec_main.specs.Ran.{IsToldText};
-ghost use Rattle.kexec_main.specs.Views.{load_command, plan_of};
+ghost use Rattle.kexec_main.specs.inner.Ran.{IsToldText};
+ghost use Rattle.kexec_main.specs.inner.Views.{load_command, plan_of};
 
 use crate::inputs::take_inputs;
 use crate::load_inputs::LoadInputs;

@@ -2,7 +2,7 @@
 
 ghost use Rattle.std.specs.Prelude.{◌≡◌, ℕ, false};
 ghost use Rattle.page_pool.specs.Pages.{is_filed};
-ghost use Rattle.kexec_plan.specs.Requests.{IsMapped, request_of};
+ghost use Rattle.kexec_plan.specs.inner.Requests.{IsMapped, request_of};
 
 use kexec_plan::Request;
 use memory_map::Map;

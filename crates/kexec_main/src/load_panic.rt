@@ -2,9 +2,9 @@
 
 ghost use Rattle.std.specs.Prelude.{◌≡◌, string_bytes, IfOk};
 ghost use Rattle.load_record.specs.File.{record_file};
-ghost use Rattle.file_commands.specs.Calls.{Makes, Takes, file_of};
-ghost use Rattle.kexec_words.specs.Values.{load_panic_value};
-ghost use Rattle.kexec_main.specs.Views.{crash_plan_of, load_panic_command};
+ghost use Rattle.file_commands.specs.inner.Calls.{Makes, Takes, file_of};
+ghost use Rattle.kexec_words.specs.inner.Values.{load_panic_value};
+ghost use Rattle.kexec_main.specs.inner.Views.{crash_plan_of, load_panic_command};
 ghost use Rattle.kexec_main.specs.Load.{IsReadBack};
 ghost use Rattle.kexec_main.specs.LoadPanic.{LoadPanicCommand as Inputs, load_panic_files, loads_panic, panic_text, record_of_crash};
 

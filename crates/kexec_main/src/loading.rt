@@ -1,15 +1,15 @@
 //! A request is planned, and its segments are loaded.
 
 ghost use Rattle.std.specs.Prelude.{◌≡◌, ◌≤◌, ℕ, length, false, option_map, Ok};
-ghost use Rattle.kx_laws.specs.Results.{Gives};
+ghost use Rattle.kx_laws.specs.inner.Results.{Gives};
 ghost use Rattle.page_memory.specs.Contents.{at};
 ghost use Rattle.page_pool.specs.Pages.{is_filed, usable_of};
 ghost use Rattle.segments.specs.Values.{need};
 ghost use Rattle.load_states.specs.Fillings.{IsSealed};
-ghost use Rattle.file_commands.specs.Calls.{MakesOr};
+ghost use Rattle.file_commands.specs.inner.Calls.{MakesOr};
 ghost use Rattle.kexec_plan.specs.Plan.{plan};
-ghost use Rattle.kexec_plan.specs.Requests.{IsMapped, lent, planned_of, request_of};
-ghost use Rattle.kexec_main.specs.Views.{inputs_of, plan_of};
+ghost use Rattle.kexec_plan.specs.inner.Requests.{IsMapped, lent, planned_of, request_of};
+ghost use Rattle.kexec_main.specs.inner.Views.{inputs_of, plan_of};
 ghost use Rattle.kexec_main.specs.Loading.{HasNoPlan, IsLoaded, IsTooFew, RefusesLoad};
 
 use crate::load_inputs::LoadInputs;

@@ -1,10 +1,10 @@
 //! `migrate`: writes a load record anew, as version 2.
 
 ghost use Rattle.std.specs.Prelude.{◌≡◌, IfOk, string_bytes};
-ghost use Rattle.file_commands.specs.Calls.{Makes, Takes};
-ghost use Rattle.kexec_words.specs.Values.{migrate_value};
+ghost use Rattle.file_commands.specs.inner.Calls.{Makes, Takes};
+ghost use Rattle.kexec_words.specs.inner.Values.{migrate_value};
 ghost use Rattle.kexec_main.specs.Migrate.{MigrateInputs as Inputs, migrate_files, migrates, segments_line};
-ghost use Rattle.kexec_main.specs.Views.{migrate_inputs};
+ghost use Rattle.kexec_main.specs.inner.Views.{migrate_inputs};
 
 use crate::files::take_digested_record;
 use crate::migrate_inputs::MigrateInputs;

@@ -1,6 +1,6 @@
 //! What `migrate` takes.
 
-ghost use Rattle.load_record.specs.File.{IsWritable};
+ghost use Rattle.load_record.specs.inner.File.{IsWritable};
 
 use load_record::DigestedRecord;
 

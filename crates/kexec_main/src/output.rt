@@ -2,7 +2,7 @@
 
 ghost use Rattle.std.specs.Prelude.{◌≡◌, ◌∷◌, [], map, string_bytes, IfOk};
 ghost use Rattle.page_memory.specs.Contents.{at};
-ghost use Rattle.file_commands.specs.Calls.{MakesOr, file_of};
+ghost use Rattle.file_commands.specs.inner.Calls.{MakesOr, file_of};
 ghost use Rattle.kexec_main.specs.Outputs.{HasNoFile, IsFileOf, IsMemoryFile};
 
 use crate::status::Reason;

@@ -4,10 +4,11 @@ ghost use Rattle.std.specs.Prelude.{◌≡◌, ◌⊎◌, ℕ, List, map, string
 ghost use Rattle.kx_edge.specs.Edge.{Rose};
 ghost use Rattle.file_commands.specs.Answers.{Meets, MeetsTold, done, memory, refused, unread, unsaid, unwritten};
 ghost use Rattle.file_commands.specs.Taking.{Refusal};
-ghost use Rattle.file_commands.specs.Calls.{call_answer};
-ghost use Rattle.kexec_words.specs.Limits.{IsWithinLimits};
+ghost use Rattle.file_commands.specs.inner.Calls.{call_answer};
+ghost use Rattle.kexec_words.specs.inner.Limits.{IsWithinLimits};
 ghost use Rattle.kexec_words.specs.Meaning.{command_of};
-ghost use Rattle.kexec_words.specs.Values.{CommandValue, command_value};
+ghost use Rattle.kexec_words.specs.Values.{CommandValue};
+ghost use Rattle.kexec_words.specs.inner.Values.{command_value};
 ghost use Rattle.kexec_main.specs.Statuses.{answer_of};
 ghost use Rattle.kexec_main.specs.Call.{EndsWithoutFiles, HasDone, HasRefusal, IsInOrder};
 ghost use Rattle.kexec_main.specs.Commands.{Holds};

@@ -8,10 +8,10 @@ ghost use Rattle.segments.specs.Values.{want};
 ghost use Rattle.kx_pages.specs.Modes.{swap_page};
 ghost use Rattle.list_checker.specs.Walk.{IsAccepted};
 ghost use Rattle.list_checker.specs.Checked.{as_pair};
-ghost use Rattle.load_states.specs.Answers.{IsAcceptedAs};
+ghost use Rattle.load_states.specs.inner.Answers.{IsAcceptedAs};
 ghost use Rattle.load_states.specs.Exchange.{exchange};
 ghost use Rattle.load_states.specs.States.{Load, swap_of};
-ghost use Rattle.kexec_main.specs.Ran.{HasMode, HasRun, RunsLoaded};
+ghost use Rattle.kexec_main.specs.inner.Ran.{HasMode, HasRun, RunsLoaded};
 
 use kexec_words::Runs;
 use kx_pages::{Image, Start};

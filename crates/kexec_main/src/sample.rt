@@ -1,6 +1,6 @@
 //! `sample`: loads what a number makes, and runs it. It takes no file.
 
-ghost use Rattle.file_commands.specs.Calls.{Makes};
+ghost use Rattle.file_commands.specs.inner.Calls.{Makes};
 ghost use Rattle.kexec_main.specs.Sample.{sample_files, samples};
 
 use crate::running::run_loaded;

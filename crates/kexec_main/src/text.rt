@@ -2,7 +2,7 @@
 //! line.
 
 ghost use Rattle.std.specs.Prelude.{◌≡◌, ◌++◌, IfOk, OnOk, string_bytes};
-ghost use Rattle.kexec_main.specs.Ran.{ran_text};
+ghost use Rattle.kexec_main.specs.inner.Ran.{ran_text};
 ghost use Rattle.page_memory.specs.Contents.{at};
 ghost use Rattle.kexec_main.specs.Texts.{accepted_line, crash_line, crash_lines, crash_ran_text, head_line, load_lines, memory_line, purgatory_line, ran_line, regions_line, start_line};
 

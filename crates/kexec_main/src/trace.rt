@@ -1,10 +1,10 @@
 //! `trace`: runs any list for some steps.
 
 ghost use Rattle.std.specs.Prelude.{◌≡◌, ◌<◌, ◌^◌, ℕ, Some, IfOk, string_bytes};
-ghost use Rattle.file_commands.specs.Calls.{Makes, Takes};
-ghost use Rattle.kexec_words.specs.Values.{trace_value};
+ghost use Rattle.file_commands.specs.inner.Calls.{Makes, Takes};
+ghost use Rattle.kexec_words.specs.inner.Values.{trace_value};
 ghost use Rattle.kexec_main.specs.Trace.{TraceInputs as Inputs, mode_by, outcome_line, trace_files, traces};
-ghost use Rattle.kexec_main.specs.Views.{trace_inputs};
+ghost use Rattle.kexec_main.specs.inner.Views.{trace_inputs};
 
 use crate::files::take_memory;
 use crate::output::memory_output;

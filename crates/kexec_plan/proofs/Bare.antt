@@ -5,7 +5,7 @@ use Rattle.kx_laws.proofs.Results.{bind_ok, ok_same}
 use Rattle.kx_fields.specs.Fields.{with_bytes}
 use Rattle.kx_pages.specs.declared.image.Start.{Start}
 use Rattle.segments.specs.Values.{SegmentValue}
-use Rattle.segments.specs.Rules.{IsBare}
+use Rattle.segments.specs.inner.Rules.{IsBare}
 use Rattle.segments.specs.declared.fault.SegFault.{SegFault}
 use Rattle.segments.specs.declared.fault.Kind.TheVariants.{Normal, Crash}
 use Rattle.kexec_plan.specs.Ground.{Ground, Unknown, Machine, Reserved}
@@ -18,7 +18,8 @@ use Rattle.kexec_plan.specs.declared.places.Site.{Site}
 use Rattle.kexec_plan.specs.Requests.{Asked, Plan}
 use Rattle.kexec_plan.specs.Parts.{segment_at, start_at}
 use Rattle.kexec_plan.specs.Rules.{first_refusal, unless_refused, test_segments}
-use Rattle.kexec_plan.specs.Purgatory.{HasSymbols, Linkage, PurgatoryValue, arm, linked_at}
+use Rattle.kexec_plan.specs.Purgatory.{Linkage, PurgatoryValue, arm, linked_at}
+use Rattle.kexec_plan.specs.inner.Purgatory.{HasSymbols}
 use Rattle.kexec_plan.specs.Plan.{plan}
 use Rattle.kexec_plan.specs.Finish.{plain_plan, armed_segment, armed_plan, finish}
 use Rattle.kexec_plan.proofs.Linkages.{IsLinkage, linkage_is}

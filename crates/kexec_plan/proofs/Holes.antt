@@ -8,10 +8,11 @@ use Rattle.std.proofs.lemmas.Option.{none-some}
 use Rattle.kx_laws.proofs.Booleans.{and_parts, true_false}
 use Rattle.hole_search.specs.declared.search.End.{End}
 use Rattle.hole_search.specs.declared.search.End.TheVariants.{Least, Greatest}
-use Rattle.hole_search.specs.Holes.{Fits, IsHole}
+use Rattle.hole_search.specs.inner.Holes.{Fits, IsHole}
 use Rattle.kexec_plan.specs.Parts.{part_size}
 use Rattle.kexec_plan.specs.declared.places.PlaceRule.{PlaceRule}
-use Rattle.kexec_plan.specs.Holes.{is_free, are_free, fits, greatest, least, hole_from, hole, IsHoleBy}
+use Rattle.kexec_plan.specs.Holes.{is_free, are_free, fits, greatest, least, hole_from, hole}
+use Rattle.kexec_plan.specs.inner.Holes.{IsHoleBy}
 
 -- ---- what a search that went through says
 least_is : (f : ℕ → Bool) (n p a : ℕ) → least f p n ≡ Some a → (f a ≡ true) × ((x : ℕ) → p ≤ x → f x ≡ true → a ≤ x)

@@ -6,7 +6,7 @@ use Rattle.bzimage.specs.Kernel.{Kernel}
 use Rattle.boot_params.specs.SetupData.{nul_end, record_place}
 use Rattle.boot_params.specs.Params.{params_length}
 use Rattle.kexec_plan.specs.declared.places.Site.{Site}
-use Rattle.kexec_plan.specs.Places.{IsPlacedBy}
+use Rattle.kexec_plan.specs.inner.Places.{IsPlacedBy}
 use Rattle.kexec_plan.specs.Table.{parameters_rule}
 
 -- they have more than a page

@@ -8,24 +8,26 @@ use Rattle.kx_laws.proofs.Options.{some_same}
 use Rattle.kx_pages.specs.Spans.{in_span, in_spans}
 use Rattle.kx_pages.specs.declared.image.Start.{Start}
 use Rattle.kx_fields.specs.Fields.{zeros, bytes_at, with_bytes}
-use Rattle.kx_fields.specs.Formats.{IsFormat}
+use Rattle.kx_fields.specs.inner.Formats.{IsFormat}
 use Rattle.kx_fields.proofs.Bytes.{length-zeros}
 use Rattle.kx_fields.proofs.Fields.{length-with_bytes}
 use Rattle.kx_fields.proofs.Formats.{length-written}
-use Rattle.segments.specs.Values.{SegmentValue, is_page_of_segment, is_destination, span_of}
-use Rattle.segments.specs.Rules.{IsBare}
+use Rattle.segments.specs.Values.{SegmentValue, is_page_of_segment, is_destination}
+use Rattle.segments.specs.inner.Values.{span_of}
+use Rattle.segments.specs.inner.Rules.{IsBare}
 use Rattle.segments.proofs.Laws.{IsPlaced, AreSegments-from_IsBare}
 use Rattle.segments.proofs.Alike.{Alike, has_pages_set}
 use Rattle.purgatory_link.specs.declared.region_test.RegionTest.TheVariants as answers
 use Rattle.purgatory_link.specs.Regions.{others, region_table, digest}
 use Rattle.purgatory_link.specs.RegionTest.{test}
-use Rattle.purgatory_link.specs.Tie.{HasWanted, HasPlaces, with_regions}
+use Rattle.purgatory_link.specs.inner.Tie.{HasWanted, HasPlaces, with_regions}
 use Rattle.purgatory_link.proofs.Standing.{same_where_wanted}
 use Rattle.purgatory_link.proofs.Replacing.{others_stay, digest_stays}
 use Rattle.purgatory_link.proofs.Placing.{regions_put}
 use Rattle.kexec_plan.specs.declared.places.Site.{Site}
 use Rattle.kexec_plan.specs.Parts.{segment_at}
-use Rattle.kexec_plan.specs.Purgatory.{Linkage, registers, registers_text, arm, HasSymbols}
+use Rattle.kexec_plan.specs.Purgatory.{Linkage, registers, registers_text, arm}
+use Rattle.kexec_plan.specs.inner.Purgatory.{HasSymbols}
 use Rattle.kexec_plan.specs.Finish.{armed_segment}
 use Rattle.kexec_plan.proofs.Last.{last_get, last_set}
 

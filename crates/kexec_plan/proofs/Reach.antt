@@ -2,13 +2,15 @@
 use Rattle.std.proofs.Common.{◌≡◌, ℕ, ◌+◌, ◌-◌, ◌^◌, ◌≤◌, List, [], ◌∷◌, length, arith, length-append}
 use Rattle.std.specs.Prelude.{min}
 use Rattle.memory_map.specs.declared.row.Row.{Row}
-use Rattle.multiboot_image.specs.Modules.{PlacedModule, AreBelow, with_nul, texts, texts_size}
-use Rattle.multiboot_image.specs.Info.{IsInReach, info_size, name_place}
+use Rattle.multiboot_image.specs.Modules.{PlacedModule, with_nul, texts, texts_size}
+use Rattle.multiboot_image.specs.inner.Modules.{AreBelow}
+use Rattle.multiboot_image.specs.Info.{info_size, name_place}
+use Rattle.multiboot_image.specs.inner.Info.{IsInReach}
 use Rattle.kexec_plan.specs.declared.places.Site.{Site}
 use Rattle.kexec_plan.specs.Parts.{part_size}
-use Rattle.kexec_plan.specs.Places.{IsPlacedBy}
+use Rattle.kexec_plan.specs.inner.Places.{IsPlacedBy}
 use Rattle.kexec_plan.specs.Table.{information_rule}
-use Rattle.kexec_plan.specs.Multiboot.{EndLow}
+use Rattle.kexec_plan.specs.inner.Multiboot.{EndLow}
 
 -- texts that end at 4 GiB or before it begin below
 below : (text : ℕ) (ms : List PlacedModule) → EndLow ms → text + texts_size ms ≤ 2 ^ 32 → AreBelow text ms

@@ -8,7 +8,7 @@ use Rattle.kexec_plan.specs.Ground.{Ground}
 use Rattle.memory_map.specs.Maps.{MapValue}
 use Rattle.purgatory_link.specs.declared.region_test.RegionTest.TheVariants as answers
 use Rattle.purgatory_link.specs.RegionTest.{test}
-use Rattle.purgatory_link.specs.Tie.{HasWanted}
+use Rattle.purgatory_link.specs.inner.Tie.{HasWanted}
 use Rattle.kexec_plan.specs.declared.places.Site.{Site}
 use Rattle.kexec_plan.specs.Requests.{Asked, Plan}
 use Rattle.kexec_plan.specs.Parts.{segment_at}

@@ -1,15 +1,12 @@
 -- The end of every plan: the purgatory is linked, the segments are tested, and the purgatory gets what it is to find (this
 -- project's own).
-use Rattle.std.specs.Prelude.{◌≡◌, ℕ, ◌+◌, ◌≤◌, ◌⊎◌, ◌++◌, List, [], ◌∷◌, length, Option, Some, None, Result, Ok}
-use Rattle.std.specs.List.{slice_get}
-use Rattle.kx_laws.specs.Results.{◌>>=◌}
+use Rattle.std.specs.Prelude.{ℕ, ◌+◌, ◌≤◌, ◌⊎◌, ◌++◌, List, [], ◌∷◌, length, Option, Some, None, Result, Ok}
 use Rattle.kx_pages.specs.declared.image.Start.{Start}
 use Rattle.segments.specs.Values.{SegmentValue}
 use Rattle.kexec_plan.specs.Ground.{Ground}
 use Rattle.purgatory_link.specs.Regions.{others, digest, region_table}
 use Rattle.kexec_plan.specs.declared.fault.PlanFault.{PlanFault}
 use Rattle.kexec_plan.specs.declared.places.Site.{Site}
-use Rattle.kexec_plan.specs.declared.symbols.Symbols.{Symbols}
 use Rattle.kexec_plan.specs.Requests.{Plan}
 use Rattle.kexec_plan.specs.Parts.{segment_at, start_at}
 use Rattle.kexec_plan.specs.Rules.{test_segments}
@@ -22,18 +19,10 @@ plain_plan g ss start = do
   segments ← test_segments g ss
   Ok (record { segments = segments; start = start; regions = 0; digest = 0 })
 
--- segment number g of these has this property
-abbrev pub OfSegment : List SegmentValue → ℕ → (SegmentValue → Type 0) → Type 0
-OfSegment ss g P = (s : SegmentValue) → slice_get ss g ≡ Some s → P s
-
 -- the bytes of the purgatory, segment number g of these, with the registers for this start, with the table of the
 -- regions of all others and with their digest
 abbrev pub armed_among : List SegmentValue → ℕ → Linkage → Start → List ℕ
 armed_among ss g l start = arm l start (region_table (others ss g)) (digest ss g)
-
-abbrev pub armed_of : List SegmentValue → ℕ → ℕ → Symbols → Start → SegmentValue → List ℕ
-armed_of ss g base symbols start s =
-    armed_among ss g (record { base = base; bytes = s.bytes; symbols = symbols }) start
 
 -- the purgatory's segment behind these, with what it is to find
 abbrev pub armed_segment : Linkage → Start → List SegmentValue → Site → SegmentValue

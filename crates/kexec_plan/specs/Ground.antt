@@ -6,8 +6,6 @@ use Rattle.memory_map.specs.Maps.{MapValue, is_ram, crash_rows, core_ranges}
 use Rattle.crash_headers.specs.declared.note.Note.{Note}
 use Rattle.crash_headers.specs.Headers.{length_for, headers_or_fault}
 use Rattle.kexec_plan.specs.declared.fault.PlanFault.{PlanFault}
-use Rattle.kexec_plan.specs.declared.ground.Known.{Known}
-use Rattle.kexec_plan.specs.declared.ground.Known.TheVariants as known
 use Rattle.kexec_plan.specs.Faults.{told_by, of_crash}
 
 -- nothing is known of memory; a machine's memory map; the area of this map that is reserved for a crash kernel
@@ -16,23 +14,11 @@ pub data Ground : Type 0 where
   Machine : MapValue → Ground
   Reserved : MapValue → Run → Ground
 
--- the program's as this value
-abbrev pub ground_of : Known → Ground
-ground_of known.Unknown = Unknown
-ground_of (known.Machine map) = Machine map.now
-ground_of (known.Reserved map area) = Reserved map.now area
-
 -- the pages where parts may lie
 unfoldable pub ram : Ground → ℕ → Bool
 ram Unknown q = false
 ram (Machine map) q = is_ram map q
 ram (Reserved map area) q = in_span area q
-
--- the pages that are reserved
-abbrev pub reserved_pages : Ground → ℕ → Bool
-reserved_pages Unknown q = false
-reserved_pages (Machine map) q = false
-reserved_pages (Reserved map area) q = in_span area q
 
 -- the rows of the memory map for the kernel
 abbrev pub rows : Ground → List Row

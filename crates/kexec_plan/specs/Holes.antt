@@ -4,7 +4,6 @@ use Rattle.std.specs.Prelude.{ℕ, zero, suc, ◌+◌, ◌-◌, ◌/◌, ◌%◌
 use Rattle.std.specs.List.{list_all, range_with_len}
 use Rattle.hole_search.specs.declared.search.End.{End}
 use Rattle.hole_search.specs.declared.search.End.TheVariants.{Least, Greatest}
-use Rattle.hole_search.specs.Holes.{IsHole}
 use Rattle.kexec_plan.specs.declared.places.PlaceRule.{PlaceRule}
 use Rattle.kexec_plan.specs.Parts.{part_size}
 
@@ -42,9 +41,3 @@ hole_from Greatest f n = greatest f n
 
 unfoldable pub hole : (ℕ → Bool) → (ℕ → Bool) → PlaceRule → Option ℕ
 hole ram taken r = hole_from r.end (fits ram taken r) (r.most + 1)
-
--- what is found is the hole of this rule
-abbrev pub IsHoleBy : (ℕ → Bool) → (ℕ → Bool) → PlaceRule → Option ℕ → Type 0
-IsHoleBy ram taken r found =
-    IsHole r.end ram taken
-    (record { size = part_size r.length; align = r.align; min = r.min; max = r.most }) found

@@ -14,3 +14,4 @@ pub mod Linux
 pub mod Multiboot
 pub mod Ground
 pub mod Plan
+pub mod inner

@@ -1,7 +1,6 @@
 -- A bzImage with its initrd and its command (Linux/x86 boot protocol, "64-bit Boot Protocol": the kernel is entered 0x200
 -- bytes behind its start, with the address of the boot parameters in rsi; the order of places is this project's own).
-use Rattle.std.specs.Prelude.{ℕ, ◌+◌, ◌/◌, ◌^◌, ◌<◌, ◌++◌, codes, decimal, Bool, List, [], ◌∷◌, length, drop, Option, Some, None, option_map, unwrap_or, Result, Ok, Err}
-use Rattle.kx_laws.specs.Results.{◌>>=◌}
+use Rattle.std.specs.Prelude.{ℕ, ◌+◌, ◌/◌, ◌++◌, codes, decimal, List, [], ◌∷◌, length, drop, Option, Some, None, option_map, unwrap_or, Result, Ok}
 use Rattle.kx_pages.specs.declared.image.Start.{Start}
 use Rattle.memory_map.specs.declared.row.Row.{Row}
 use Rattle.segments.specs.Values.{SegmentValue}
@@ -76,11 +75,6 @@ linux_places g k r p = do
     parameters = parameters;
     purgatory = purgatory;
   })
-
--- kernel and boot parameters lie below the limit of addresses
-pub record AreLow (s : LinuxPlaces) : Type 0 where
-  pub kernel : s.kernel.at < 2 ^ 46
-  pub parameters : s.parameters.at + 4096 < 2 ^ 46
 
 -- the segment of a part that may be left out
 abbrev pub segment_if : Option Site → Option (List ℕ) → List SegmentValue

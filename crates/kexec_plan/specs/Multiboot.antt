@@ -1,9 +1,6 @@
 -- A Multiboot kernel with its command and its modules (Multiboot Specification 0.6.96: eax holds 0x2badb002 at the start,
 -- and ebx the address of the information; the order of places is this project's own).
-use Rattle.std.specs.Prelude.{ℕ, ◌+◌, ◌^◌, ◌<◌, ◌++◌, Bool, List, [], ◌∷◌, length, Result, Ok}
-use Rattle.std.specs.List.{AllByRecursion}
-use Rattle.kx_laws.specs.Results.{◌>>=◌}
-use Rattle.kx_pages.specs.Spans.{in_spans}
+use Rattle.std.specs.Prelude.{ℕ, ◌+◌, ◌++◌, Bool, List, [], ◌∷◌, length, Result, Ok}
 use Rattle.kx_pages.specs.declared.image.Start.{Start}
 use Rattle.segments.specs.Values.{SegmentValue}
 use Rattle.memory_map.specs.declared.row.Row.{Row}
@@ -11,7 +8,6 @@ use Rattle.multiboot_image.specs.Info.{info}
 use Rattle.multiboot_image.specs.Modules.{PlacedModule}
 use Rattle.kexec_plan.specs.declared.fault.PlanFault.{PlanFault}
 use Rattle.kexec_plan.specs.declared.places.Site.{Site}
-use Rattle.kexec_plan.specs.declared.multiboot_plan.Laying.{Laying}
 use Rattle.kexec_plan.specs.Modules.{AskedModule}
 use Rattle.kexec_plan.specs.Parts.{segment_at}
 use Rattle.kexec_plan.specs.Places.{place, taking}
@@ -22,9 +18,6 @@ pub record Laid : Type 0 where
   pub taken : ℕ → Bool
   pub list : List SegmentValue
   pub slots : List PlacedModule
-
-abbrev pub laid_of : Laying → Laid
-laid_of l = record { taken = in_spans l.taken; list = l.list.items; slots = l.slots.items }
 
 -- a module at its place, as the kernel is told of it
 abbrev pub slot_at : Site → AskedModule → PlacedModule
@@ -49,13 +42,6 @@ modules_onto ram l [] = Ok l
 modules_onto ram l (m ∷ ms) = do
   more ← module_onto ram l m
   modules_onto ram more ms
-
--- the modules end below 4 GiB
-pub record EndsLow (m : PlacedModule) : Type 0 where
-  pub low : m.start + m.size < 2 ^ 32
-
-abbrev pub EndLow : List PlacedModule → Type 0
-EndLow ms = AllByRecursion EndsLow ms
 
 -- the segments, with that of the information behind them
 abbrev pub multiboot_parts : Laid → Site → List Row → List ℕ → List SegmentValue

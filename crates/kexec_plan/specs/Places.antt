@@ -1,7 +1,6 @@
 -- Where the parts of a plan are placed (this project's own).
-use Rattle.std.specs.Prelude.{◌≡◌, ℕ, ◌+◌, ◌*◌, ◌/◌, ◌%◌, ◌^◌, ◌≤◌, ◌||◌, Bool, false, ◌&&◌, max, min, nat_lt, nat_le, if◌then◌else◌, List, [], ◌∷◌, Option, Some, None, Result, Ok, Err}
+use Rattle.std.specs.Prelude.{ℕ, ◌+◌, ◌*◌, ◌/◌, ◌^◌, ◌||◌, Bool, false, ◌&&◌, max, min, nat_lt, nat_le, if◌then◌else◌, List, [], ◌∷◌, Option, Some, None, Result, Ok, Err}
 use Rattle.std.specs.List.{list_any}
-use Rattle.kx_laws.specs.Results.{◌>>=◌}
 use Rattle.segments.specs.Values.{SegmentValue, stop}
 use Rattle.kx_pages.specs.Spans.{Run, in_span}
 use Rattle.kexec_plan.specs.declared.fault.PlanFault.{PlanFault}
@@ -58,15 +57,3 @@ taking_some taken (Some s) = taking taken s
 abbrev pub pages_of : List (Option Site) → ℕ → Bool
 pages_of [] = nothing
 pages_of (s ∷ ss) = taking_some (pages_of ss) s
-
--- what is so of each place that is found by a rule
-pub record IsPlacedBy (r : PlaceRule) (s : Site) : Type 0 where
-  pub aligned : s.at % r.align ≡ 0
-  pub within : s.at + s.size ≤ r.most + 1
-  pub low : s.at + s.size ≤ 2 ^ 46
-  pub size : s.size ≡ part_size r.length
-
-abbrev pub IsPlacedIf : Option PlaceRule → Option Site → Type 0
-IsPlacedIf (Some r) (Some s) = IsPlacedBy r s
-IsPlacedIf (Some r) None = ⊥
-IsPlacedIf None s = Unit {0}

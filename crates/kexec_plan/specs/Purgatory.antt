@@ -1,12 +1,11 @@
 -- The purgatory: code that runs between the old kernel and the new one. It finds the registers of the new kernel, the
 -- regions that it tests and their digest in three symbols, and starts at a fourth (names, sizes and the
 -- order of the registers are those of Linux's own purgatory, arch/x86/purgatory).
-use Rattle.std.specs.Prelude.{◌≡◌, ℕ, ◌+◌, ◌-◌, ◌%◌, ◌^◌, ◌<◌, ◌≤◌, ◌==◌, not, List, [], ◌∷◌, codes, if◌then◌else◌, Option, Some, None, Result, Ok, Err}
-use Rattle.kx_laws.specs.Results.{◌>>=◌}
+use Rattle.std.specs.Prelude.{ℕ, ◌-◌, ◌==◌, not, List, [], ◌∷◌, codes, if◌then◌else◌, Option, Some, None, Result, Ok, Err}
 use Rattle.kx_fields.specs.Fields.{zeros, with_bytes}
 use Rattle.kx_fields.specs.Formats.{Format, written}
 use Rattle.kx_pages.specs.declared.image.Start.{Start}
-use Rattle.elf_image.specs.Object.{Relocatable, object_reading, IsObject}
+use Rattle.elf_image.specs.Object.{Relocatable, object_reading}
 use Rattle.purgatory_link.specs.declared.fault.LinkFault.{LinkFault}
 use Rattle.purgatory_link.specs.declared.fault.LinkFault.TheVariants as link
 use Rattle.purgatory_link.specs.Layout.{linked_size}
@@ -27,14 +26,6 @@ pub record PurgatoryValue : Type 0 where
   pub file : List ℕ
   pub size : ℕ
 
--- what is so of each
-pub record IsPurgatory (p : PurgatoryValue) : Type 0 where
-  pub object : IsObject p.object p.file
-  pub size : linked_size p.object.sections ≡ Ok p.size
-  pub some : 4096 ≤ p.size
-  pub most : p.size ≤ 16777216
-  pub whole : p.size % 4096 ≡ 0
-
 unfoldable pub read_purgatory : List ℕ → Result PurgatoryValue PlanFault
 read_purgatory file = do
   object ← told_by of_object (object_reading file)
@@ -49,12 +40,6 @@ some_purgatory (Some file) = do
 
 abbrev pub purgatory_rule : ℕ → PurgatoryValue → PlaceRule
 purgatory_rule most p = highest parts.Purgatory p.size most
-
--- a purgatory at its place
-abbrev pub IsLinkable : Option PurgatoryValue → Option Site → Type 0
-IsLinkable (Some p) (Some s) = (s.at % 4096 ≡ 0) × (s.at + p.size < 2 ^ 46)
-IsLinkable (Some p) None = Unit {0}
-IsLinkable None s = Unit {0}
 
 -- the address of a symbol of n bytes that lie in the linked bytes
 abbrev pub place_by : Image → ℕ → Option (ℕ × ℕ) → Result ℕ LinkFault
@@ -112,12 +97,3 @@ arm l start table digest =
     with_bytes (l.symbols.digest - l.base) digest (
     with_bytes (l.symbols.regions - l.base) table (
     with_bytes (l.symbols.regs - l.base) (registers_text start) l.bytes))
-
--- the three symbols lie in the linked bytes
-pub record HasSymbols (base n : ℕ) (s : Symbols) : Type 0 where
-  pub regs_from : base ≤ s.regs
-  pub regs_to : s.regs + 136 ≤ base + n
-  pub regions_from : base ≤ s.regions
-  pub regions_to : s.regions + 256 ≤ base + n
-  pub digest_from : base ≤ s.digest
-  pub digest_to : s.digest + 32 ≤ base + n

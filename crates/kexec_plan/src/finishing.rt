@@ -2,12 +2,13 @@
 
 ghost use Rattle.std.specs.Prelude.{◌≡◌, ◌++◌, ◌∷◌, [], ◌<◌, length, List, Some, IfOk, OnOk};
 ghost use Rattle.std.specs.List.{slice_set};
-ghost use Rattle.kx_laws.specs.Results.{Gives};
-ghost use Rattle.kexec_plan.specs.Requests.{planned_of};
+ghost use Rattle.kx_laws.specs.inner.Results.{Gives};
+ghost use Rattle.kexec_plan.specs.inner.Requests.{planned_of};
 ghost use Rattle.kexec_plan.specs.Parts.{segment_at};
 ghost use Rattle.kexec_plan.specs.Rules.{test_segments};
-ghost use Rattle.kexec_plan.specs.Purgatory.{IsLinkable, HasSymbols};
-ghost use Rattle.kexec_plan.specs.Finish.{OfSegment, armed_of, plain_plan, armed_segment};
+ghost use Rattle.kexec_plan.specs.inner.Purgatory.{IsLinkable, HasSymbols};
+ghost use Rattle.kexec_plan.specs.Finish.{plain_plan, armed_segment};
+ghost use Rattle.kexec_plan.specs.inner.Finish.{OfSegment, armed_of};
 ghost use Rattle.kexec_plan.specs.Finish.{armed_plan, finish};
 
 use crate::fault::PlanFault;

@@ -1,8 +1,8 @@
 //! Kernels whose place is given: raw bytes, and executables whose files say where they lie.
 
 ghost use Rattle.std.specs.Prelude.{◌≡◌, option_map, IfOk};
-ghost use Rattle.kx_laws.specs.Results.{Gives};
-ghost use Rattle.kexec_plan.specs.Requests.{planned_of};
+ghost use Rattle.kx_laws.specs.inner.Results.{Gives};
+ghost use Rattle.kexec_plan.specs.inner.Requests.{planned_of};
 ghost use Rattle.kexec_plan.specs.Parts.{start_at};
 ghost use Rattle.kexec_plan.specs.Kernels.{raw_kernel, elf_kernel, multiboot_kernel};
 ghost use Rattle.kexec_plan.specs.Plan.{fixed_plan};

@@ -1,7 +1,7 @@
 //! The form of the kernel's file, and what a kernel of this form takes.
 
 ghost use Rattle.std.specs.Prelude.{◌≡◌};
-ghost use Rattle.kexec_plan.specs.Requests.{request_of};
+ghost use Rattle.kexec_plan.specs.inner.Requests.{request_of};
 ghost use Rattle.kexec_plan.specs.Formats.{shown_format, format_of, unused_part};
 
 use crate::fault::{Part, PlanFault};

@@ -1,12 +1,13 @@
 //! What is known of the memory that a kernel is loaded into.
 
 ghost use Rattle.std.specs.Prelude.{◌≡◌, ◌<◌, ◌-◌, ◌^◌, option_map, IfOk};
-ghost use Rattle.kx_laws.specs.Results.{Gives};
+ghost use Rattle.kx_laws.specs.inner.Results.{Gives};
 ghost use Rattle.kx_pages.specs.Spans.{in_spans};
-ghost use Rattle.segments.specs.Rules.{Answers, refusal};
+ghost use Rattle.segments.specs.Rules.{refusal};
+ghost use Rattle.segments.specs.inner.Rules.{Answers};
 ghost use Rattle.kexec_plan.specs.Ground.{ram, rows, most, headers, headers_size, Reserved};
 ghost use Rattle.kexec_plan.specs.Formats.{open_ground};
-ghost use Rattle.kexec_plan.specs.Requests.{lent};
+ghost use Rattle.kexec_plan.specs.inner.Requests.{lent};
 ghost use Rattle.kexec_plan.specs.Rules.{first_refusal, ram_runs, test_segments};
 ghost use Rattle.kexec_plan.specs.Table.{headers_rule};
 
@@ -42,7 +43,8 @@ pub(crate) struct Ground<'a> {
 impl<'a> Model for Ground<'a> {
     ghost use Rattle.std.specs.Prelude.{◌≡◌, ℕ};
     ghost use Rattle.kx_pages.specs.Spans.{in_spans};
-    ghost use Rattle.kexec_plan.specs.Ground.{Ground as GroundValue, ground_of, reserved_pages};
+    ghost use Rattle.kexec_plan.specs.Ground.{Ground as GroundValue};
+    ghost use Rattle.kexec_plan.specs.inner.Ground.{ground_of, reserved_pages};
 
     ghost Value = { GroundValue };
 

@@ -1,14 +1,17 @@
 //! Where the parts of a bzImage lie.
 
 ghost use Rattle.std.specs.Prelude.{◌≡◌, ◌<◌, ◌^◌, length, option_map, IfOk};
-ghost use Rattle.kx_laws.specs.Results.{Gives};
+ghost use Rattle.kx_laws.specs.inner.Results.{Gives};
 ghost use Rattle.kx_pages.specs.Spans.{in_spans};
-ghost use Rattle.bzimage.specs.Kernel.{IsSound};
-ghost use Rattle.kexec_plan.specs.Requests.{request_of};
-ghost use Rattle.kexec_plan.specs.Places.{nothing, pages_of, IsPlacedBy, IsPlacedIf};
-ghost use Rattle.kexec_plan.specs.Purgatory.{purgatory_rule, IsLinkable};
+ghost use Rattle.bzimage.specs.inner.Kernel.{IsSound};
+ghost use Rattle.kexec_plan.specs.inner.Requests.{request_of};
+ghost use Rattle.kexec_plan.specs.Places.{nothing, pages_of};
+ghost use Rattle.kexec_plan.specs.inner.Places.{IsPlacedBy, IsPlacedIf};
+ghost use Rattle.kexec_plan.specs.Purgatory.{purgatory_rule};
+ghost use Rattle.kexec_plan.specs.inner.Purgatory.{IsLinkable};
 ghost use Rattle.kexec_plan.specs.Table.{initrd_rule, parameters_rule};
-ghost use Rattle.kexec_plan.specs.Linux.{linux_of, told_command, linux_places, AreLow};
+ghost use Rattle.kexec_plan.specs.Linux.{linux_of, told_command, linux_places};
+ghost use Rattle.kexec_plan.specs.inner.Linux.{AreLow};
 
 use crate::command::{command_of, told_command};
 use crate::fault::PlanFault;

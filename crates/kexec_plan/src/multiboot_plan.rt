@@ -1,15 +1,17 @@
 //! The plan of a Multiboot kernel with its modules.
 
 ghost use Rattle.std.specs.Prelude.{◌≡◌, ◌++◌, ◌∷◌, [], length, option_map, IfOk, OnOk};
-ghost use Rattle.kx_laws.specs.Results.{Gives};
+ghost use Rattle.kx_laws.specs.inner.Results.{Gives};
 ghost use Rattle.kx_pages.specs.Spans.{in_spans};
 ghost use Rattle.multiboot_image.specs.Info.{info};
-ghost use Rattle.kexec_plan.specs.Requests.{planned_of, request_of};
+ghost use Rattle.kexec_plan.specs.inner.Requests.{planned_of, request_of};
 ghost use Rattle.kexec_plan.specs.Parts.{segment_at};
-ghost use Rattle.kexec_plan.specs.Places.{IsPlacedBy};
+ghost use Rattle.kexec_plan.specs.inner.Places.{IsPlacedBy};
 ghost use Rattle.kexec_plan.specs.Table.{information_rule};
-ghost use Rattle.kexec_plan.specs.Multiboot.{laid_of, slot_at, with_module, module_onto};
-ghost use Rattle.kexec_plan.specs.Multiboot.{modules_onto, EndLow};
+ghost use Rattle.kexec_plan.specs.Multiboot.{slot_at, with_module, module_onto};
+ghost use Rattle.kexec_plan.specs.inner.Multiboot.{laid_of};
+ghost use Rattle.kexec_plan.specs.Multiboot.{modules_onto};
+ghost use Rattle.kexec_plan.specs.inner.Multiboot.{EndLow};
 ghost use Rattle.kexec_plan.specs.Plan.{multiboot_plan};
 
 use crate::command::command_of;

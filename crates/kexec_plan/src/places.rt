@@ -1,10 +1,11 @@
 //! Places of the parts of a plan.
 
 ghost use Rattle.std.specs.Prelude.{◌≡◌, ◌+◌, ◌*◌, ◌<◌, ◌≤◌, ◌^◌, ℕ, max, None, IfOk, IfSome, OnOk};
-ghost use Rattle.kx_laws.specs.Results.{Gives};
+ghost use Rattle.kx_laws.specs.inner.Results.{Gives};
 ghost use Rattle.kx_pages.specs.Spans.{in_span, in_spans};
 ghost use Rattle.kexec_plan.specs.Parts.{part_size, segment_at};
-ghost use Rattle.kexec_plan.specs.Places.{is_met, taken_by, place, placed_some, taking, taking_some, pages_at, IsPlacedBy, IsPlacedIf};
+ghost use Rattle.kexec_plan.specs.Places.{is_met, taken_by, place, placed_some, taking, taking_some, pages_at};
+ghost use Rattle.kexec_plan.specs.inner.Places.{IsPlacedBy, IsPlacedIf};
 
 use crate::fault::{Part, PlanFault};
 use hole_search::{End, find};

@@ -1,8 +1,8 @@
 //! The plan of a request.
 
 ghost use Rattle.std.specs.Prelude.{◌≡◌};
-ghost use Rattle.kx_laws.specs.Results.{Gives};
-ghost use Rattle.kexec_plan.specs.Requests.{request_of, planned_of, lent, IsMapped};
+ghost use Rattle.kx_laws.specs.inner.Results.{Gives};
+ghost use Rattle.kexec_plan.specs.inner.Requests.{request_of, planned_of, lent, IsMapped};
 ghost use Rattle.kexec_plan.specs.Formats.{ground_for};
 ghost use Rattle.kexec_plan.specs.Plan.{plan_as, plan};
 

@@ -5,10 +5,11 @@ ghost use Rattle.std.specs.Prelude.{◌≡◌, ℕ, Bool, List, Option, Ok};
 ghost use Rattle.memory_map.specs.Maps.{MapValue};
 ghost use Rattle.purgatory_link.specs.declared.region_test.RegionTest.TheVariants.{Same};
 ghost use Rattle.purgatory_link.specs.RegionTest.{test};
-ghost use Rattle.purgatory_link.specs.Tie.{HasWanted};
+ghost use Rattle.purgatory_link.specs.inner.Tie.{HasWanted};
 ghost use Rattle.kexec_plan.specs.declared.places.PlaceRule.{PlaceRule};
 ghost use Rattle.kexec_plan.specs.Requests.{Asked, Plan};
-ghost use Rattle.kexec_plan.specs.Holes.{hole, IsHoleBy};
+ghost use Rattle.kexec_plan.specs.Holes.{hole};
+ghost use Rattle.kexec_plan.specs.inner.Holes.{IsHoleBy};
 ghost use Rattle.kexec_plan.specs.Finish.{HasTableApart};
 ghost use Rattle.kexec_plan.specs.Plan.{plan};
 

@@ -1,8 +1,9 @@
 //! A purgatory that is read, and linked at its place.
 
 ghost use Rattle.std.specs.Prelude.{◌≡◌, ◌+◌, ◌-◌, ◌≤◌, option_map, length, Some, IfOk};
-ghost use Rattle.kx_laws.specs.Results.{Gives};
-ghost use Rattle.kexec_plan.specs.Purgatory.{read_purgatory, some_purgatory, purgatory_rule, linked_at, arm, HasSymbols, IsLinkable};
+ghost use Rattle.kx_laws.specs.inner.Results.{Gives};
+ghost use Rattle.kexec_plan.specs.Purgatory.{read_purgatory, some_purgatory, purgatory_rule, linked_at, arm};
+ghost use Rattle.kexec_plan.specs.inner.Purgatory.{HasSymbols, IsLinkable};
 
 use crate::fault::{Part, PlanFault};
 use crate::places::{PlaceRule, Site};
@@ -23,7 +24,8 @@ pub(crate) struct Purgatory {
 }
 
 impl Model for Purgatory {
-    ghost use Rattle.kexec_plan.specs.Purgatory.{PurgatoryValue, IsPurgatory};
+    ghost use Rattle.kexec_plan.specs.Purgatory.{PurgatoryValue};
+    ghost use Rattle.kexec_plan.specs.inner.Purgatory.{IsPurgatory};
 
     ghost Value = { PurgatoryValue };
 

@@ -4,7 +4,7 @@ use Rattle.std.proofs.lemmas.List.{drop_all, drop_more}
 use Rattle.std.specs.Prelude.{◌||◌, codes, if◌then◌else◌}
 use Rattle.std.specs.Str.{bytes_eq}
 use Rattle.kexec_usage.specs.declared.given.Given.{Given}
-use Rattle.kexec_usage.specs.Words.{given_value, text_in, is_help, has_help}
+use Rattle.kexec_usage.specs.inner.Words.{given_value, text_in, is_help, has_help}
 
 -- the first of the words that are left decides
 text_step : (gs : List Given) (name : List ℕ) (i : ℕ) (d : Given) (b : Bool) → i < length gs → b ≡ bytes_eq (get_or gs i d).name.now name → text_in (map given_value (drop i gs)) name ≡ (if b then Some (get_or gs i d).text.now else text_in (map given_value (drop (i + 1) gs)) name)

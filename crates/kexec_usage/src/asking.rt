@@ -1,7 +1,7 @@
 //! Words that ask for help, or for the version.
 
 ghost use Rattle.std.specs.Prelude.{◌≡◌, map, string_bytes};
-ghost use Rattle.kexec_usage.specs.Words.{has_help, is_help, has_version};
+ghost use Rattle.kexec_usage.specs.inner.Words.{has_help, is_help, has_version};
 
 // Whether the word asks for help.
 fn is_help(word: &str) -> bool

@@ -1,8 +1,8 @@
 //! Files among the words that are given.
 
 ghost use Rattle.std.specs.Prelude.{◌≡◌, map, option_map};
-ghost use Rattle.kexec_usage.specs.Words.{given_value};
-ghost use Rattle.kexec_usage.specs.Files.{file_with, other_with, is_written, shared_among, shared_value};
+ghost use Rattle.kexec_usage.specs.inner.Words.{given_value};
+ghost use Rattle.kexec_usage.specs.inner.Files.{file_with, other_with, is_written, shared_among, shared_value};
 
 use crate::given::Given;
 use kexec_words::Kind;

@@ -1,9 +1,9 @@
 //! The words of a command, each with the name that it has in the table.
 
 ghost use Rattle.std.specs.Prelude.{◌≡◌, IfOk, map, option_map, string_bytes, is_some};
-ghost use Rattle.kexec_words.specs.Table.{argument_value, argument_values};
-ghost use Rattle.kexec_usage.specs.Reading.{reading_value, mistake_value, answer_value, is_option, split_value, value_step, word_step, flag_step, valued_step, known_step, option_step, awaited_step, free_step, step, want, begun, reading_of, rest_of, answer_of, IsRead};
-ghost use Rattle.kexec_usage.specs.Words.{given_value, text_in};
+ghost use Rattle.kexec_words.specs.inner.Table.{argument_value, argument_values};
+ghost use Rattle.kexec_usage.specs.inner.Reading.{reading_value, mistake_value, answer_value, is_option, split_value, value_step, word_step, flag_step, valued_step, known_step, option_step, awaited_step, free_step, step, want, begun, reading_of, rest_of, answer_of, IsRead};
+ghost use Rattle.kexec_usage.specs.inner.Words.{given_value, text_in};
 
 use crate::lookup::{is_repeated, next_word, option_in};
 use crate::mistake::Mistake;

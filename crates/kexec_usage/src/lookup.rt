@@ -1,8 +1,8 @@
 //! Arguments in the table of a command.
 
 ghost use Rattle.std.specs.Prelude.{◌≡◌, option_map};
-ghost use Rattle.kexec_words.specs.Table.{argument_value, argument_values};
-ghost use Rattle.kexec_usage.specs.Reading.{option_in, is_repeated, next_word, next_value};
+ghost use Rattle.kexec_words.specs.inner.Table.{argument_value, argument_values};
+ghost use Rattle.kexec_usage.specs.inner.Reading.{option_in, is_repeated, next_word, next_value};
 
 use kexec_words::{Argument, Form};
 

@@ -1,7 +1,7 @@
 //! The words of kexec(8), which is another program, and what stands here in their place.
 
 ghost use Rattle.std.specs.Prelude.{◌≡◌, option_map};
-ghost use Rattle.kexec_usage.specs.OldWords.{command_for, option_for};
+ghost use Rattle.kexec_usage.specs.inner.OldWords.{command_for, option_for};
 
 // Options of kexec(8) that act on the running machine, or on how the program does so.
 const WITHOUT_COUNTERPART: [&str; 21] = [

@@ -1,7 +1,7 @@
 //! The sentence about words that are refused.
 
 ghost use Rattle.std.specs.Prelude.{◌≡◌, map, string_bytes};
-ghost use Rattle.kexec_usage.specs.OldWords.{meant_of};
+ghost use Rattle.kexec_usage.specs.inner.OldWords.{meant_of};
 
 use crate::files::shared_file;
 use crate::given::{Answer, Given, text_of};

@@ -9,13 +9,15 @@ use Rattle.kx_pages.specs.Numbers.{is_page_address}
 use Rattle.kexec_words.specs.Numbers.{number_of, if_passes, in_form, some_in_form, hex_of, page_address_of, steps_of, swap_of, head_of, limit_of, trace_numbers_from, is_headers_address, headers_address_of, core_address_of}
 use Rattle.kexec_words.specs.Values.{InputsValue, CrashInputsValue, ExecValue, MigrateValue, CommandValue}
 use Rattle.kexec_words.specs.Values.{boot, load, load_panic, check, dump, exec, trace, migrate, sample, boot_resident, drill, core}
-use Rattle.kexec_words.specs.Meaning.{has_same_name, files_of, crash_files_of, with_numbers, map_answer, image_from, needs_map, image_or_refusal, image_where, inputs_of, boot_by, boot_with, boot_in, load_by, load_with, load_in, with_map, load_panic_with, load_panic_in, crash_inputs_of, exec_of, exec_with, exec_in, trace_with, trace_in, trace_numbers_by, migrate_of, migrate_with, migrate_in, sample_by, sample_in, boot_resident_at, boot_resident_with, boot_resident_in, resident_address_by, drill_by, drill_with, drill_in, core_by, core_with, core_in, answer_where, answer_by, command_by_name, plan_numbers_by}
-use Rattle.kexec_words.specs.Meaning.{Answers, load_names_in}
-use Rattle.kexec_words.specs.Values.{command_value}
+use Rattle.kx_pages.specs.Types.{needs_map}
+use Rattle.kexec_words.specs.Meaning.{has_same_name, files_of, crash_files_of, with_numbers, map_answer, image_from, image_or_refusal, image_where, inputs_of, boot_by, boot_with, boot_in, load_by, load_with, load_in, with_map, load_panic_with, load_panic_in, crash_inputs_of, exec_of, exec_with, exec_in, trace_with, trace_in, trace_numbers_by, migrate_of, migrate_with, migrate_in, sample_by, sample_in, boot_resident_at, boot_resident_with, boot_resident_in, resident_address_by, drill_by, drill_with, drill_in, core_by, core_with, core_in, answer_where, answer_by, command_by_name, plan_numbers_by}
+use Rattle.kexec_words.specs.Meaning.{load_names_in}
+use Rattle.kexec_words.specs.inner.Meaning.{Answers}
+use Rattle.kexec_words.specs.inner.Values.{command_value}
 use Rattle.kexec_words.specs.Apps.{boot_app, load_app, load_panic_app, check_app, dump_app, exec_app, trace_app, migrate_app, sample_app, boot_resident_app, drill_app, core_app}
 use Rattle.kexec_words.specs.declared.commands.Command.{Command}
 use Rattle.kexec_words.specs.declared.faults.WordsFault.{WordsFault}
-use Rattle.kexec_words.specs.Limits.{HasParts, IsWithinLimits, HasOutputsApart}
+use Rattle.kexec_words.specs.inner.Limits.{HasParts, IsWithinLimits, HasOutputsApart}
 use Rattle.kx_pages.specs.declared.image.ImageType.{ImageType}
 use Rattle.kexec_words.specs.declared.numbers.PlanNumbers.{PlanNumbers}
 use Rattle.kexec_words.specs.declared.numbers.TraceNumbers.{TraceNumbers}
@@ -49,12 +51,12 @@ anything (Err e) = tt
 
 -- ---- boot and load
 
-typed_has : (i : InputsValue) (o : Option ImageType) → IfOk (image_or_refusal i o) (λ image. needs_map image i ≡ true → is_some i.map ≡ true)
+typed_has : (i : InputsValue) (o : Option ImageType) → IfOk (image_or_refusal i o) (λ image. needs_map image (is_some i.purgatory) ≡ true → is_some i.map ≡ true)
 typed_has i None = tt
-typed_has i (Some image) = go (needs_map image i) refl (is_some i.map) refl
+typed_has i (Some image) = go (needs_map image (is_some i.purgatory)) refl (is_some i.map) refl
   where
-    go : (x : Bool) → needs_map image i ≡ x → (y : Bool) → is_some i.map ≡ y
-        → IfOk (if x && not y then Err why.NeedsMap else Ok image) (λ image. needs_map image i ≡ true → is_some i.map ≡ true)
+    go : (x : Bool) → needs_map image (is_some i.purgatory) ≡ x → (y : Bool) → is_some i.map ≡ y
+        → IfOk (if x && not y then Err why.NeedsMap else Ok image) (λ image. needs_map image (is_some i.purgatory) ≡ true → is_some i.map ≡ true)
     go true e true f = λ _. f
     go true e false f = tt
     go false e y f = λ t. absurd (false≢true (sym e ∙ t))
@@ -62,7 +64,7 @@ typed_has i (Some image) = go (needs_map image i) refl (is_some i.map) refl
 image_has : (i : InputsValue) (b : Bool) (n : PlanNumbers) → IfOk (image_where i b n) (λ image. HasParts i image × (b ≡ false))
 image_has i b n = go (nat_lt 12 (length i.modules)) refl b (image_from n.kind n.at n.entry)
   where
-    last : (o : Result ImageType UsageWhy) → length i.modules ≤ 12 → IfOk o (λ image. needs_map image i ≡ true → is_some i.map ≡ true)
+    last : (o : Result ImageType UsageWhy) → length i.modules ≤ 12 → IfOk o (λ image. needs_map image (is_some i.purgatory) ≡ true → is_some i.map ≡ true)
         → IfOk o (λ image. HasParts i image × (false ≡ false))
     last (Ok image) few h = ((few, h), refl)
     last (Err w) few h = tt

@@ -4,8 +4,9 @@ use Rattle.std.specs.Result.{IsErrAnd}
 use Rattle.clap.specs.Words.{App, Row, Text, fault_of, matches_of, rows_of, found_of}
 use Rattle.clap.specs.Kinds.{Kinds}
 use Rattle.clap.specs.declared.parser.matches.ArgMatches.{ArgMatches}
-use Rattle.kexec_words.specs.Found.{Parses}
-use Rattle.kexec_words.specs.Meaning.{Answers, answer_by, answer_where, map_answer, with_numbers}
+use Rattle.kexec_words.specs.inner.Found.{Parses}
+use Rattle.kexec_words.specs.Meaning.{answer_by, answer_where, map_answer, with_numbers}
+use Rattle.kexec_words.specs.inner.Meaning.{Answers}
 use Rattle.kexec_words.specs.declared.faults.Which.{Which}
 use Rattle.kexec_words.specs.declared.faults.UsageWhy.{UsageWhy}
 use Rattle.kexec_words.specs.declared.faults.UsageWhy.TheVariants as why

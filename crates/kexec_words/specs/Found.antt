@@ -1,23 +1,7 @@
 -- What the words of a command are taken to be (this project's own), by what clap states of simple commands.
-use Rattle.std.specs.Prelude.{◌≡◌, [], Bool, false, Option, Some, None, Result, Ok, Err, option_map, map, List, unwrap_or, codes}
-use Rattle.std.specs.Borrow.{Bor}
+use Rattle.std.specs.Prelude.{[], Bool, false, Option, Some, None, List, unwrap_or, codes}
 use Rattle.std.specs.Str.{bytes_eq}
-use Rattle.clap.specs.Words.{App, Row, Text, all_of, first_of, fault_of, matches_of, rows_of, found_of}
-use Rattle.clap.specs.declared.parser.matches.ArgMatches.{ArgMatches}
-use Rattle.kexec_words.specs.declared.faults.WordsFault.{WordsFault}
-use Rattle.kexec_words.specs.declared.faults.WordsFault.TheVariants.{Memory, Usage}
-use Rattle.kexec_words.specs.declared.faults.UsageWhy.TheVariants as why
-
--- the words after the command's name are taken
-abbrev pub IsTaken : App → List Text → Type 0
-IsTaken app words = fault_of app words ≡ []
-
--- what a parse answers: the values of words that are taken, a refusal of words that are not, or want of memory
-abbrev pub Parses : App → List Text → Result ArgMatches WordsFault → Type 0
-Parses app words (Ok m) = IsTaken app words × (rows_of (found_of m) ≡ matches_of app words)
-Parses app words (Err Memory) = Unit {0}
-Parses app words (Err (Usage why.Parse)) = IsTaken app words → ⊥
-Parses app words (Err (Usage other)) = ⊥
+use Rattle.clap.specs.Words.{Row, Text, all_of, first_of}
 
 -- a positional word that must be there; it is there wherever the words are taken
 abbrev pub word_of : Text → List Row → Text
@@ -34,10 +18,3 @@ flag_of id rows = is_true (first_of id rows)
 -- the positional words of which there may be none, one or several
 abbrev pub words_of : Text → List Row → List Text
 words_of id rows = unwrap_or (all_of id rows) []
-
--- the text behind a reference
-abbrev pub text_in : Option (Bor Text) → Option Text
-text_in = option_map (λ s. s.now)
-
-abbrev pub texts_in : List (Bor Text) → List Text
-texts_in = map (λ s. s.now)

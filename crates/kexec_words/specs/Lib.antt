@@ -4,5 +4,4 @@ pub mod Found
 pub mod Numbers
 pub mod Values
 pub mod Meaning
-pub mod Limits
-pub mod Texts
+pub mod inner

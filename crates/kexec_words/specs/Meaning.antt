@@ -1,5 +1,5 @@
 -- What the words after the program's name say, and the first reason to refuse them (this project's own).
-use Rattle.std.specs.Prelude.{◌≡◌, ℕ, ◌&&◌, ◌||◌, not, Bool, true, false, Option, Some, None, Result, Ok, Err, List, [], ◌∷◌, ◌++◌, length, nat_lt, codes, if◌then◌else◌, is_some, unwrap_or}
+use Rattle.std.specs.Prelude.{ℕ, ◌&&◌, ◌||◌, not, Bool, true, false, Option, Some, None, Result, Ok, Err, List, [], ◌∷◌, ◌++◌, length, nat_lt, codes, if◌then◌else◌, is_some, unwrap_or}
 use Rattle.std.specs.List.{list_any}
 use Rattle.std.specs.Str.{bytes_eq}
 use Rattle.clap.specs.Words.{App, Text, Row, first_of, fault_of, matches_of}
@@ -10,6 +10,7 @@ use Rattle.kexec_words.specs.Numbers.{plan_numbers_of, trace_numbers_of, address
 use Rattle.kexec_words.specs.Values.{InputsValue, BootValue, LoadValue, CrashInputsValue, LoadPanicValue, LoadNamesValue, ExecValue, TraceValue, MigrateValue, BootResidentValue, DrillValue, CoreValue, CommandValue}
 use Rattle.kexec_words.specs.Values.{boot, load, load_panic, check, dump, exec, trace, migrate, sample, boot_resident, drill, core}
 use Rattle.kx_pages.specs.declared.image.ImageType.{ImageType}
+use Rattle.kx_pages.specs.Types.{needs_map}
 use Rattle.kx_pages.specs.declared.image.ImageType.TheVariants as image
 use Rattle.kexec_words.specs.declared.numbers.TypeWord.{TypeWord}
 use Rattle.kexec_words.specs.declared.numbers.TypeWord.TheVariants as kind
@@ -19,8 +20,6 @@ use Rattle.kexec_words.specs.declared.faults.Which.{Which}
 use Rattle.kexec_words.specs.declared.faults.Which.TheVariants as which
 use Rattle.kexec_words.specs.declared.faults.UsageWhy.{UsageWhy}
 use Rattle.kexec_words.specs.declared.faults.UsageWhy.TheVariants as why
-use Rattle.kexec_words.specs.declared.faults.WordsFault.{WordsFault}
-use Rattle.kexec_words.specs.declared.faults.WordsFault.TheVariants as fault
 use Rattle.kexec_words.specs.declared.naming.Name.{Name}
 use Rattle.kexec_words.specs.declared.naming.Name.TheVariants as name
 
@@ -73,15 +72,10 @@ image_from kind.Elf at entry = Some image.Elf
 image_from kind.Bzimage at entry = Some image.Bzimage
 image_from kind.Multiboot at entry = Some image.Multiboot
 
--- a map must be given: for each type but raw, and for a purgatory
-abbrev pub needs_map : ImageType → InputsValue → Bool
-needs_map (image.Raw at entry) i = is_some i.purgatory
-needs_map other i = true
-
 abbrev pub image_or_refusal : InputsValue → Option ImageType → Result ImageType UsageWhy
 image_or_refusal i None = Err why.NeedsAt
 image_or_refusal i (Some image) =
-    if needs_map image i && not (is_some i.map) then Err why.NeedsMap
+    if needs_map image (is_some i.purgatory) && not (is_some i.map) then Err why.NeedsMap
     else Ok image
 
 -- the image's type, or the first reason after the numbers' forms: too many modules, a name used twice, no --at, no --map
@@ -324,9 +318,3 @@ command_by_name (Some name.Core) words = map_answer core (answer_by core_app cor
 abbrev pub command_of : List Text → Result CommandValue UsageWhy
 command_of [] = Err why.Command
 command_of (first ∷ words) = command_by_name (name_of first) words
-
--- an answer to words that say this: its value, its reason, or want of memory
-abbrev pub Answers : {A B : Type 0} → (B → A) → Result A UsageWhy → Result B WordsFault → Type 0
-Answers value said (Ok b) = said ≡ Ok (value b)
-Answers value said (Err (fault.Usage w)) = said ≡ Err w
-Answers value said (Err fault.Memory) = Unit {0}

@@ -1,34 +1,7 @@
 -- What the table says of an argument, as the contracts see it (this project's own).
-use Rattle.std.specs.Prelude.{Bool, true, false, List, map}
 use Rattle.clap.specs.Words.{Text}
-use Rattle.kexec_words.specs.declared.table.Argument.{Argument}
 use Rattle.kexec_words.specs.declared.table.Form.{Form}
-use Rattle.kexec_words.specs.declared.table.Form.TheVariants as form
 use Rattle.kexec_words.specs.declared.table.Kind.{Kind}
-use Rattle.kexec_words.specs.declared.table.Kind.TheVariants as kind
-
--- the name of a file
-abbrev pub is_file : Kind → Bool
-is_file kind.Input = true
-is_file kind.Output = true
-is_file other = false
-
--- a number in hexadecimal
-abbrev pub is_hexadecimal : Kind → Bool
-is_hexadecimal kind.Address = true
-is_hexadecimal kind.ListWord = true
-is_hexadecimal other = false
-
-abbrev pub is_number : Kind → Bool
-is_number kind.Address = true
-is_number kind.ListWord = true
-is_number kind.Count = true
-is_number other = false
-
-abbrev pub is_option : Form → Bool
-is_option form.Word = false
-is_option form.Words = false
-is_option other = true
 
 -- an argument: its names for clap and for people, that of its value, how it is given, and what it is
 pub record ArgumentValue : Type 0 where
@@ -37,15 +10,3 @@ pub record ArgumentValue : Type 0 where
   pub value : Text
   pub form : Form
   pub kind : Kind
-
-abbrev pub argument_value : Argument → ArgumentValue
-argument_value a = record {
-  id = a.id.now;
-  name = a.name.now;
-  value = a.value.now;
-  form = a.form;
-  kind = a.kind;
-}
-
-abbrev pub argument_values : List Argument → List ArgumentValue
-argument_values = map argument_value

@@ -3,8 +3,9 @@
 ghost use Rattle.std.specs.Prelude.{◌≡◌, map, string_bytes};
 ghost use Rattle.clap.specs.Words.{rows_of, found_of};
 ghost use Rattle.kexec_words.specs.Apps.{boot_resident_app};
-ghost use Rattle.kexec_words.specs.Meaning.{Answers, answer_by, resident_address_by, boot_resident_with, boot_resident_in};
-ghost use Rattle.kexec_words.specs.Values.{boot_resident_value};
+ghost use Rattle.kexec_words.specs.Meaning.{answer_by, resident_address_by, boot_resident_with, boot_resident_in};
+ghost use Rattle.kexec_words.specs.inner.Meaning.{Answers};
+ghost use Rattle.kexec_words.specs.inner.Values.{boot_resident_value};
 
 use crate::arguments::BOOT_RESIDENT;
 use crate::commands::BootResident;

@@ -3,8 +3,9 @@
 ghost use Rattle.std.specs.Prelude.{◌≡◌, map, option_map, string_bytes};
 ghost use Rattle.clap.specs.Words.{rows_of, found_of};
 ghost use Rattle.kexec_words.specs.Apps.{drill_app};
-ghost use Rattle.kexec_words.specs.Meaning.{Answers, answer_by, drill_with, drill_in};
-ghost use Rattle.kexec_words.specs.Values.{drill_value};
+ghost use Rattle.kexec_words.specs.Meaning.{answer_by, drill_with, drill_in};
+ghost use Rattle.kexec_words.specs.inner.Meaning.{Answers};
+ghost use Rattle.kexec_words.specs.inner.Values.{drill_value};
 
 use crate::arguments::DRILL;
 use crate::commands::Drill;

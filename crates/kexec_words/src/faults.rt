@@ -3,7 +3,7 @@
 ghost use Rattle.std.specs.Prelude.{◌≡◌};
 ghost use Rattle.kexec_words.specs.declared.faults.WordsFault.TheVariants.{Memory, Usage};
 ghost use Rattle.kexec_words.specs.declared.faults.UsageWhy.TheVariants.{Number};
-ghost use Rattle.kexec_words.specs.Texts.{which_text};
+ghost use Rattle.kexec_words.specs.inner.Texts.{which_text};
 
 use crate::options::{RUNS_WORDS, TYPE_WORDS};
 use std::alloc::AllocError;
@@ -137,7 +137,7 @@ impl From<Which> for WordsFault {
 
 impl Display for Which {
     ghost use Rattle.std.specs.Prelude.{Some};
-    ghost use Rattle.kexec_words.specs.Texts.{which_text};
+    ghost use Rattle.kexec_words.specs.inner.Texts.{which_text};
 
     ghost output = { λ which. Some (which_text which) };
 

@@ -1,9 +1,9 @@
 //! What the commands and their arguments mean, for people: the table, laid out.
 
 ghost use Rattle.std.specs.Prelude.{◌≡◌, map, string_bytes, Some};
-ghost use Rattle.kexec_words.specs.Table.{argument_values};
+ghost use Rattle.kexec_words.specs.inner.Table.{argument_values};
 ghost use Rattle.kexec_words.specs.Meaning.{name_of};
-ghost use Rattle.kexec_words.specs.Texts.{first_name, arguments_by, arguments_of};
+ghost use Rattle.kexec_words.specs.inner.Texts.{first_name, arguments_by, arguments_of};
 
 use crate::layout::{write_arguments, write_entry, write_paragraph, write_usage};
 use crate::naming::{NAMES, Name, name_of};

@@ -2,7 +2,7 @@
 
 ghost use Rattle.std.specs.Prelude.{◌≡◌, option_map, string_bytes, map, [], ◌∷◌};
 ghost use Rattle.kexec_words.specs.Meaning.{name_of, is_among, with_name, files_of, crash_files_of, has_same_name};
-ghost use Rattle.kexec_words.specs.Values.{inputs_value, crash_inputs_value};
+ghost use Rattle.kexec_words.specs.inner.Values.{inputs_value, crash_inputs_value};
 
 use crate::commands::{CrashInputs, Inputs};
 

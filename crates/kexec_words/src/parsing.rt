@@ -3,8 +3,9 @@
 ghost use Rattle.std.specs.Prelude.{◌≡◌, IfOk, map, option_map, string_bytes, true, false};
 ghost use Rattle.clap.specs.Words.{app_of, rule_of, rows_of, found_of, is_simple_and_free, first_of};
 ghost use Rattle.kexec_words.specs.Apps.{rule_by, app_taking};
-ghost use Rattle.kexec_words.specs.Table.{argument_value, argument_values};
-ghost use Rattle.kexec_words.specs.Found.{Parses, text_in, texts_in, word_of, flag_of, words_of};
+ghost use Rattle.kexec_words.specs.inner.Table.{argument_value, argument_values};
+ghost use Rattle.kexec_words.specs.Found.{word_of, flag_of, words_of};
+ghost use Rattle.kexec_words.specs.inner.Found.{Parses, text_in, texts_in};
 
 use crate::table::{Argument, Form};
 use crate::{UsageWhy, WordsFault};

@@ -3,9 +3,10 @@
 ghost use Rattle.std.specs.Prelude.{◌≡◌, IfOk, map, string_bytes};
 ghost use Rattle.clap.specs.Words.{rows_of, found_of};
 ghost use Rattle.kexec_words.specs.Apps.{boot_app, load_app};
-ghost use Rattle.kexec_words.specs.Meaning.{Answers, answer_by, inputs_of, image_from, image_or_refusal, image_where, plan_numbers_by, boot_with, boot_in, load_with, load_in};
-ghost use Rattle.kexec_words.specs.Found.{text_in};
-ghost use Rattle.kexec_words.specs.Values.{inputs_value, boot_value, load_value};
+ghost use Rattle.kexec_words.specs.Meaning.{answer_by, inputs_of, image_from, image_or_refusal, image_where, plan_numbers_by, boot_with, boot_in, load_with, load_in};
+ghost use Rattle.kexec_words.specs.inner.Meaning.{Answers};
+ghost use Rattle.kexec_words.specs.inner.Found.{text_in};
+ghost use Rattle.kexec_words.specs.inner.Values.{inputs_value, boot_value, load_value};
 
 use crate::arguments::{BOOT, LOAD};
 use crate::commands::{Boot, Inputs, Load};
@@ -62,11 +63,7 @@ fn with_map(inputs: &Inputs, image: Option<ImageType>) -> Result<ImageType, Usag
     let Some(image) = image else {
         return Err(UsageWhy::NeedsAt);
     };
-    let needs_map = match image {
-        ImageType::Raw { .. } => inputs.purgatory.is_some(),
-        _ => true,
-    };
-    if needs_map && inputs.map.is_none() {
+    if image.needs_map(inputs.purgatory.is_some()) && inputs.map.is_none() {
         return Err(UsageWhy::NeedsMap);
     }
     Ok(image)

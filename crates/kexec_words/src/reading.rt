@@ -1,9 +1,10 @@
 //! All commands.
 
 ghost use Rattle.std.specs.Prelude.{◌≡◌, IfOk, map, string_bytes, Some};
-ghost use Rattle.kexec_words.specs.Meaning.{Answers, command_of, command_by_name};
-ghost use Rattle.kexec_words.specs.Limits.{IsWithinLimits, HasOutputsApart};
-ghost use Rattle.kexec_words.specs.Values.{command_value};
+ghost use Rattle.kexec_words.specs.Meaning.{command_of, command_by_name};
+ghost use Rattle.kexec_words.specs.inner.Meaning.{Answers};
+ghost use Rattle.kexec_words.specs.inner.Limits.{IsWithinLimits, HasOutputsApart};
+ghost use Rattle.kexec_words.specs.inner.Values.{command_value};
 
 use crate::boot_resident::read_boot_resident;
 use crate::commands::Command;

@@ -1,7 +1,7 @@
 //! What the table of the commands says of an argument, and of a command.
 
 ghost use Rattle.std.specs.Prelude.{◌≡◌};
-ghost use Rattle.kexec_words.specs.Table.{is_file, is_hexadecimal, is_number, is_option};
+ghost use Rattle.kexec_words.specs.inner.Table.{is_file, is_hexadecimal, is_number, is_option};
 
 /// How an argument is given.
 #[derive(Clone, Copy, Debug, PartialEq, Eq)]

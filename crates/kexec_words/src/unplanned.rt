@@ -3,8 +3,9 @@
 ghost use Rattle.std.specs.Prelude.{◌≡◌, IfOk, map, option_map, string_bytes, codes};
 ghost use Rattle.clap.specs.Words.{rows_of, found_of};
 ghost use Rattle.kexec_words.specs.Apps.{load_panic_app, check_app, dump_app, exec_app, trace_app, migrate_app, sample_app, core_app};
-ghost use Rattle.kexec_words.specs.Meaning.{Answers, answer_by, crash_inputs_of, load_panic_with, load_panic_in, load_names_of, load_names_in, exec_of, exec_with, exec_in, trace_numbers_by, trace_with, trace_in, migrate_of, migrate_with, migrate_in, sample_by, sample_in, core_by, core_with, core_in};
-ghost use Rattle.kexec_words.specs.Values.{crash_inputs_value, load_panic_value, load_names_value, exec_value, trace_value, migrate_value, number_value, core_value};
+ghost use Rattle.kexec_words.specs.Meaning.{answer_by, crash_inputs_of, load_panic_with, load_panic_in, load_names_of, load_names_in, exec_of, exec_with, exec_in, trace_numbers_by, trace_with, trace_in, migrate_of, migrate_with, migrate_in, sample_by, sample_in, core_by, core_with, core_in};
+ghost use Rattle.kexec_words.specs.inner.Meaning.{Answers};
+ghost use Rattle.kexec_words.specs.inner.Values.{crash_inputs_value, load_panic_value, load_names_value, exec_value, trace_value, migrate_value, number_value, core_value};
 
 use crate::arguments::{CORE, EXEC, LOAD_PANIC, LOADED, MIGRATE, SAMPLE, TRACE};
 use crate::commands::{Core, CrashInputs, Exec, LoadNames, LoadPanic, Migrate, Trace};

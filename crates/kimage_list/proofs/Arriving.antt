@@ -3,7 +3,8 @@ use Rattle.std.proofs.Common.{◌≡◌, ℕ, ◌+◌, ◌≤◌, List, [], ◌�
 use Rattle.std.specs.Prelude.{◌≢◌, ◌⊎◌, ◌/◌, eqb, is_some, unwrap_or}
 use Rattle.std.proofs.lemmas.List.{map-append}
 use Rattle.std.proofs.lemmas.Bool.Decides.{eqb_tells}
-use Rattle.page_memory.specs.Contents.{Contents, at, IsHeld}
+use Rattle.page_memory.specs.Contents.{Contents, at}
+use Rattle.page_memory.specs.inner.Contents.{IsHeld}
 use Rattle.page_pool.specs.Pages.{Pages}
 use Rattle.std.proofs.lemmas.Bool.{eqb-true}
 use Rattle.kimage_list.proofs.Entering.{items-move, pages_of-move, number-front, number-new, next-entry, unsourced, apart, item_more, place_more, tight_more}
@@ -12,16 +13,17 @@ use Rattle.kimage_list.proofs.Linking.{place-inside, sources-keys, word-still, w
 use Rattle.kimage_list.proofs.Lists.{eqb-self}
 use Rattle.kimage_list.proofs.OpenList.{holds-append}
 use Rattle.kimage_list.proofs.Takes.{destinations-append, sources-append}
-use Rattle.kimage_list.specs.Drafts.{IsHome, Draft, Renders, HasRoom, IsNext, with_move, CanTake}
-use Rattle.kimage_list.specs.Laying.{items, source_pages, Holds}
+use Rattle.kimage_list.specs.inner.Drafts.{IsHome, Draft, Renders, HasRoom, IsNext, with_move, CanTake}
+use Rattle.kimage_list.specs.Laying.{items, source_pages}
+use Rattle.kimage_list.specs.inner.Laying.{Holds}
 use Rattle.kimage_list.specs.Load.{Loading, Move, source_of}
-use Rattle.kimage_list.specs.Opening.{open_pages, entry_place, number}
-use Rattle.kimage_list.specs.Tables.{Slots, slot, place_in, source_in}
+use Rattle.kimage_list.specs.inner.Opening.{open_pages, entry_place, number}
+use Rattle.kimage_list.specs.inner.Tables.{Slots, slot, place_in, source_in}
 use Rattle.kx_pages.specs.Items.{code}
 use Rattle.kx_pages.specs.Lists.{destinations, sources, count}
 use Rattle.kx_pages.specs.declared.item.Item.TheVariants.{Source}
 use Rattle.kx_pages.specs.Bytes.{page_of}
-use Rattle.page_memory.specs.Memory.{set_word}
+use Rattle.page_memory.specs.inner.Memory.{set_word}
 use Rattle.kx_pages.proofs.Lists.{Each-append}
 use Rattle.kx_pages.proofs.Counting.{count-append}
 

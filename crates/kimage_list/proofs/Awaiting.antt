@@ -8,12 +8,14 @@ use Rattle.kx_pages.specs.Bytes.{page_of, Wants}
 use Rattle.page_memory.specs.Contents.{at}
 use Rattle.kimage_list.specs.declared.table.PageSource.{PageSource}
 use Rattle.kx_pages.specs.Lists.{Has, count, destinations}
-use Rattle.kimage_list.specs.Load.{Loading, Move, pages_of, starts, requests, give_page, loading_after, source_of}
-use Rattle.kimage_list.specs.Laying.{Holds, source_pages}
-use Rattle.kimage_list.specs.Tables.{slot, source_in}
-use Rattle.kimage_list.specs.Drafts.{Renders, CanTake, IsSteady, IsNext, with_move, HeadIs}
-use Rattle.kimage_list.specs.Counted.{UnderWay}
-use Rattle.kimage_list.specs.Writers.{History, Writer, StandsAt, IsOpen, IsAwaited, draft_of, is_wanted, need, pages_in, with_bytes}
+use Rattle.kimage_list.specs.Load.{Loading, Move, requests, give_page, loading_after, source_of}
+use Rattle.kimage_list.specs.inner.Load.{pages_of, starts}
+use Rattle.kimage_list.specs.Laying.{source_pages}
+use Rattle.kimage_list.specs.inner.Laying.{Holds}
+use Rattle.kimage_list.specs.inner.Tables.{slot, source_in}
+use Rattle.kimage_list.specs.inner.Drafts.{Renders, CanTake, IsSteady, IsNext, with_move, HeadIs}
+use Rattle.kimage_list.specs.inner.Counted.{UnderWay}
+use Rattle.kimage_list.specs.inner.Writers.{History, Writer, StandsAt, IsOpen, IsAwaited, draft_of, is_wanted, need, pages_in, with_bytes}
 use Rattle.kimage_list.proofs.Lists.{eqb-self}
 use Rattle.kimage_list.proofs.Takes.{no_destination}
 use Rattle.kimage_list.proofs.Counting.{counted_fit}

@@ -7,20 +7,21 @@ use Rattle.kx_pages.specs.Lists.{Distinct, count, destinations}
 use Rattle.kx_pages.specs.Spans.{Run, AreApart, pages, in_spans}
 use Rattle.kx_pages.specs.declared.image.Wish.{Wish}
 use Rattle.kx_pages.specs.declared.image.Wish.TheVariants.{Plain, Kept}
-use Rattle.kimage_list.specs.Load.{Loading, Entry, pages_of, starts, begun, give_page, loading_after}
+use Rattle.kimage_list.specs.Load.{Loading, Entry, begun, give_page, loading_after}
+use Rattle.kimage_list.specs.inner.Load.{pages_of, starts}
 use Rattle.kimage_list.specs.Laying.{mode_with}
-use Rattle.kimage_list.specs.Tables.{Slots}
-use Rattle.kimage_list.specs.Drafts.{Renders, CanTake, with_first}
-use Rattle.kimage_list.specs.Counted.{UnderWay}
-use Rattle.kimage_list.specs.Calls.{IsPrepared, load_begun}
+use Rattle.kimage_list.specs.inner.Tables.{Slots}
+use Rattle.kimage_list.specs.inner.Drafts.{Renders, CanTake, with_first}
+use Rattle.kimage_list.specs.inner.Counted.{UnderWay}
+use Rattle.kimage_list.specs.inner.Calls.{IsPrepared, load_begun}
 use Rattle.kimage_list.specs.declared.open_list.OpenList.{OpenList}
 use Rattle.kx_pages.specs.declared.image.Mode.TheVariants as mode
 use Rattle.page_pool.specs.Pages.{is_filed}
-use Rattle.kimage_list.specs.Writers.{History, Writer, StandsAt, draft_of, is_wanted, need, pages_in, destination_after}
+use Rattle.kimage_list.specs.inner.Writers.{History, Writer, StandsAt, draft_of, is_wanted, need, pages_in, destination_after}
 use Rattle.kimage_list.proofs.Lists.{nil_cons}
 use Rattle.kimage_list.proofs.Parts.{served-append}
 use Rattle.kimage_list.proofs.Opening.{opened}
-use Rattle.kimage_list.specs.Beginning.{IsFresh, AreHeld}
+use Rattle.kimage_list.specs.inner.Beginning.{IsFresh, AreHeld}
 use Rattle.kimage_list.proofs.Going.{first_is_there, opens_under_way}
 use Rattle.kimage_list.proofs.Spanned.{length-pages_in, has-pages_in}
 use Rattle.kx_pages.proofs.Counting.{count-from_Distinct, count-append}

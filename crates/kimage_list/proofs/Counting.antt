@@ -7,7 +7,7 @@ use Rattle.std.proofs.lemmas.Bool.{or_parts, eqb-false, ne_eqb}
 use Rattle.kx_pages.proofs.Counting.{Distinct-from_count, count-from_has_not, no_longer}
 use Rattle.kx_pages.proofs.Lists.{Has-either}
 use Rattle.kimage_list.proofs.Takes.{Takes, size, no_destination, destinations-append, Awaited, taken_took, Sound, given_sound, wished, others}
-use Rattle.kimage_list.specs.Drafts.{one, amount}
+use Rattle.kimage_list.specs.inner.Drafts.{one, amount}
 use Rattle.kimage_list.specs.Load.{source_of, is_for, Loading, draw, take_page, give_page}
 use Rattle.kx_pages.specs.Lists.{Has, destinations, has, count}
 use Rattle.kx_pages.proofs.Lists.{Each-map, Each-both, Each-append}

@@ -6,12 +6,14 @@ use Rattle.std.proofs.lemmas.Bool.Decides.{eqb_tells}
 use Rattle.std.specs.Ordering.{nat_cmp, is_eq}
 use Rattle.std.specs.Cmp.{nat_cmp_total, eq_by_cmp_equiv}
 use Rattle.std.specs.FinMap.{get, get-insert, nat_cmp-IsAntisymmetric}
-use Rattle.page_pool.specs.Pages.{Pages, is_filed, mark, usable_of}
+use Rattle.page_pool.specs.Pages.{Pages, is_filed, usable_of}
+use Rattle.page_pool.specs.inner.Pages.{mark}
 use Rattle.kx_laws.proofs.Booleans.{is_eq-false}
 use Rattle.kimage_list.proofs.Lists.{eqb-self}
 use Rattle.kimage_list.specs.Load.{Loading, without, source_of, at_home, is_for, draw, take_page}
-use Rattle.kimage_list.specs.Tables.{Slots, slot, source_in, place_in}
-use Rattle.kimage_list.specs.Tracking.{Tracks, fate_of, Took, Gives, Exchanged as Pair, whole_pool}
+use Rattle.kimage_list.specs.inner.Tables.{Slots, slot, source_in, place_in}
+use Rattle.kimage_list.specs.Tracking.{whole_pool}
+use Rattle.kimage_list.specs.inner.Tracking.{Tracks, fate_of, Took, Gives, Exchanged as Pair}
 use Rattle.kimage_list.specs.declared.table.PageSource.{PageSource}
 use Rattle.kimage_list.specs.declared.taking.Fate.{Fate}
 use Rattle.kimage_list.specs.declared.taking.Fate.TheVariants.{Exchanged, Given, Filed}

@@ -7,10 +7,11 @@ use Rattle.std.proofs.lemmas.Bool.Decides.{eqb_tells}
 use Rattle.kimage_list.proofs.Counting.{counted_fit, Full, Waits, taken_none, full_on}
 use Rattle.kimage_list.proofs.Parts.{served-append}
 use Rattle.kimage_list.proofs.Takes.{sources-append, wished, others}
-use Rattle.kimage_list.specs.Counted.{Counts, Allowed}
-use Rattle.kimage_list.specs.Laws.{AlwaysTakes, OneMore}
-use Rattle.kimage_list.specs.Drafts.{one, uses, Draft}
-use Rattle.kimage_list.specs.Load.{Loading, take_page, give_page, pages_of, serve, begun}
+use Rattle.kimage_list.specs.inner.Counted.{Counts, Allowed}
+use Rattle.kimage_list.specs.inner.Laws.{AlwaysTakes, OneMore}
+use Rattle.kimage_list.specs.inner.Drafts.{one, uses, Draft}
+use Rattle.kimage_list.specs.Load.{Loading, take_page, give_page, serve, begun}
+use Rattle.kimage_list.specs.inner.Load.{pages_of}
 use Rattle.kx_pages.specs.Lists.{Has, sources, count}
 use Rattle.kx_pages.proofs.Lists.{Each-map, Each-append, length-destinations}
 use Rattle.kx_pages.proofs.Counting.{count-append}

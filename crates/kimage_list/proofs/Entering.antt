@@ -2,24 +2,28 @@
 use Rattle.std.proofs.Common.{◌≡◌, ℕ, suc, ◌+◌, ◌-◌, ◌*◌, ◌^◌, ◌<◌, ◌≤◌, List, [], ◌∷◌, ◌++◌, length, Some, refl, sym, ap, ◌∙◌, subst, ⊎_elim, inl, inr, arith, Bool, true, false, cond, length-append}
 use Rattle.std.specs.Prelude.{◌≢◌, ◌⊎◌, ◌/◌, ◌%◌, eqb, slice_index}
 use Rattle.std.proofs.lemmas.Bool.Decides.{eqb_tells}
-use Rattle.page_memory.specs.Contents.{Contents, at, IsHeld}
+use Rattle.page_memory.specs.Contents.{Contents, at}
+use Rattle.page_memory.specs.inner.Contents.{IsHeld}
 use Rattle.page_pool.specs.Pages.{Pages}
 use Rattle.kimage_list.proofs.Exchange.{still, keys_are}
 use Rattle.kimage_list.proofs.Linking.{items-full, place-inside, next-listed, sources-keys, word-still, word-apart}
 use Rattle.kimage_list.proofs.Lists.{heads_same, nil_cons}
 use Rattle.kimage_list.proofs.OpenList.{entry_added}
 use Rattle.kimage_list.proofs.Room.{room}
-use Rattle.kimage_list.specs.Drafts.{Draft, Renders, HasRoom, IsSteady, with_start}
-use Rattle.kimage_list.specs.Laying.{items, source_pages, Holds}
-use Rattle.kimage_list.specs.Load.{Entry, Start, Move, pages_of}
-use Rattle.kimage_list.specs.Opening.{open_pages, entry_place, next_place, Tight, number}
-use Rattle.kimage_list.specs.Tables.{Slots, slot, place_in}
+use Rattle.kimage_list.specs.inner.Drafts.{Draft, Renders, HasRoom, IsSteady, with_start}
+use Rattle.kimage_list.specs.Laying.{items, source_pages}
+use Rattle.kimage_list.specs.inner.Laying.{Holds}
+use Rattle.kimage_list.specs.Load.{Entry, Start, Move}
+use Rattle.kimage_list.specs.inner.Load.{pages_of}
+use Rattle.kimage_list.specs.inner.Opening.{open_pages, entry_place, next_place, Tight, number}
+use Rattle.kimage_list.specs.inner.Tables.{Slots, slot, place_in}
 use Rattle.kx_pages.specs.Items.{code}
 use Rattle.kx_pages.specs.Lists.{Distinct, destinations, sources, count}
 use Rattle.kx_pages.specs.declared.item.Item.{Item}
 use Rattle.kx_pages.specs.declared.item.Item.TheVariants.{Destination, Source}
 use Rattle.kx_pages.specs.Bytes.{Mem}
-use Rattle.page_memory.specs.Memory.{put, set_word}
+use Rattle.page_memory.specs.Memory.{put}
+use Rattle.page_memory.specs.inner.Memory.{set_word}
 use Rattle.kx_pages.proofs.Counting.{count-append, Each-from_no_count, Distinct-from_count, Each-from_count}
 use Rattle.page_memory.proofs.Laws.{put-apart}
 

@@ -2,8 +2,9 @@
 use Rattle.std.proofs.Common.{◌≡◌, ℕ, ◌+◌, ◌<◌, List, [], ◌∷◌, ◌++◌, Some, None, sym, ap, ◌∙◌, subst, arith}
 use Rattle.kx_pages.specs.Lists.{Has}
 use Rattle.kx_pages.specs.Spans.{Run, in_span, in_spans}
-use Rattle.kimage_list.specs.Load.{Start, Move, page_entries, pages_of, starts}
-use Rattle.kimage_list.specs.Writers.{History, Writer, StandsAt, IsAwaited, with_destination, with_source, destination_after, pages_from}
+use Rattle.kimage_list.specs.Load.{Start, Move, page_entries}
+use Rattle.kimage_list.specs.inner.Load.{pages_of, starts}
+use Rattle.kimage_list.specs.inner.Writers.{History, Writer, StandsAt, IsAwaited, with_destination, with_source, destination_after, pages_from}
 use Rattle.kimage_list.proofs.Spanned.{span_inside, has-from, from-above}
 use Rattle.kimage_list.proofs.Segmented.{pages_of-page_entries, starts-page_entries, after-page_entries, page_entries-more}
 use Rattle.kimage_list.proofs.Awaiting.{awaited_exactly}

@@ -9,16 +9,19 @@ use Rattle.std.proofs.lemmas.Bool.Decides.{eqb_tells}
 use Rattle.std.proofs.lemmas.Option.{none-some}
 use Rattle.kimage_list.proofs.Lists.{nil_cons, heads_same, length-items}
 use Rattle.kimage_list.proofs.Words.{word-changed}
-use Rattle.kimage_list.specs.Laying.{in_bytes, items, source_pages, Holds}
-use Rattle.kimage_list.specs.Load.{Entry, Start, Move, source_of, at_home, pages_of}
-use Rattle.kimage_list.specs.Opening.{onward, open_pages, entry_place, number}
+use Rattle.kimage_list.specs.Laying.{in_bytes, items, source_pages}
+use Rattle.kimage_list.specs.inner.Laying.{Holds}
+use Rattle.kimage_list.specs.Load.{Entry, Start, Move, source_of, at_home}
+use Rattle.kimage_list.specs.inner.Load.{pages_of}
+use Rattle.kimage_list.specs.inner.Opening.{onward, open_pages, entry_place, number}
 use Rattle.kx_pages.specs.Items.{code}
 use Rattle.kx_pages.specs.Lists.{Distinct, destinations}
 use Rattle.kx_pages.specs.declared.item.Item.{Item}
 use Rattle.kx_pages.specs.declared.item.Item.TheVariants.{Destination, Source}
 use Rattle.kx_pages.specs.Bytes.{page_of, Mem, Wants}
-use Rattle.page_memory.specs.Contents.{page_with_word}
-use Rattle.page_memory.specs.Memory.{put, set_word}
+use Rattle.page_memory.specs.inner.Contents.{page_with_word}
+use Rattle.page_memory.specs.Memory.{put}
+use Rattle.page_memory.specs.inner.Memory.{set_word}
 use Rattle.kx_pages.proofs.Lists.{Each-map, Each-both}
 use Rattle.kx_laws.proofs.Options.{some_same}
 use Rattle.page_memory.proofs.Laws.{put-same, put-apart}

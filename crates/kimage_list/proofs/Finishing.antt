@@ -3,18 +3,20 @@ use Rattle.std.proofs.Common.{◌≡◌, ℕ, ◌+◌, ◌-◌, ◌^◌, ◌<◌
 use Rattle.std.specs.Prelude.{◌≢◌, ◌⊎◌, ◌/◌, ◌%◌, eqb}
 use Rattle.std.proofs.lemmas.Bool.Decides.{eqb_tells}
 use Rattle.std.proofs.lemmas.Bool.{cases_lt}
-use Rattle.page_memory.specs.Contents.{Contents, at, IsHeld}
+use Rattle.page_memory.specs.Contents.{Contents, at}
+use Rattle.page_memory.specs.inner.Contents.{IsHeld}
 use Rattle.page_pool.specs.Pages.{Pages}
 use Rattle.kimage_list.proofs.Linking.{items-full, next-listed, sources-keys, word-still, word-apart}
 use Rattle.kimage_list.proofs.Lists.{keys, keys-append, keys-link_pages, keys-source_pages, holds_all, put_all_other}
 use Rattle.kimage_list.proofs.OpenList.{list_ended, holds-append}
-use Rattle.kimage_list.specs.Drafts.{Draft, Renders, HasLink, laid_by}
-use Rattle.kimage_list.specs.Laying.{items, source_pages, link_pages, put_all, Holds}
-use Rattle.kimage_list.specs.Opening.{next_place, open_pages}
-use Rattle.kimage_list.specs.Tables.{Slots}
+use Rattle.kimage_list.specs.inner.Drafts.{Draft, Renders, HasLink, laid_by}
+use Rattle.kimage_list.specs.Laying.{items, source_pages, link_pages, put_all}
+use Rattle.kimage_list.specs.inner.Laying.{Holds}
+use Rattle.kimage_list.specs.inner.Opening.{next_place, open_pages}
+use Rattle.kimage_list.specs.inner.Tables.{Slots}
 use Rattle.kx_pages.specs.Lists.{Distinct, sources, count}
 use Rattle.kx_pages.specs.Bytes.{Mem}
-use Rattle.page_memory.specs.Memory.{set_word}
+use Rattle.page_memory.specs.inner.Memory.{set_word}
 use Rattle.kx_pages.proofs.Counting.{count-append, Distinct-from_count}
 
 same_page : (N K : Mem) (xs : List (ℕ × (List ℕ))) (p : ℕ) → Holds N xs → Holds K xs → 1 ≤ count p (keys xs) → N p ≡ K p

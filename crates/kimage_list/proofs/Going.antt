@@ -8,10 +8,11 @@ use Rattle.kimage_list.proofs.Counting.{Full, full_on, none_filed}
 use Rattle.kimage_list.proofs.Enough.{full_of, always_takes, wished-inside, wished-once}
 use Rattle.kimage_list.proofs.Entering.{pages_of-start, pages_of-move}
 use Rattle.kimage_list.proofs.Takes.{wished, others, taken_took}
-use Rattle.kimage_list.specs.Counted.{Counts, Allowed, UnderWay}
-use Rattle.kimage_list.specs.Laws.{RoomIsThere, PageIsThere, StartIsThere, AllDrawn, OpensUnderWay}
-use Rattle.kimage_list.specs.Drafts.{initial, with_first, Draft, CanTake, with_link, with_move, Room, RoomBy, HasRoom}
-use Rattle.kimage_list.specs.Load.{Loading, Start, Move, take_page, give_page, pages_of}
+use Rattle.kimage_list.specs.inner.Counted.{Counts, Allowed, UnderWay}
+use Rattle.kimage_list.specs.inner.Laws.{RoomIsThere, PageIsThere, StartIsThere, AllDrawn, OpensUnderWay}
+use Rattle.kimage_list.specs.inner.Drafts.{initial, with_first, Draft, CanTake, with_link, with_move, Room, RoomBy, HasRoom}
+use Rattle.kimage_list.specs.Load.{Loading, Start, Move, take_page, give_page}
+use Rattle.kimage_list.specs.inner.Load.{pages_of}
 use Rattle.kx_pages.specs.Lists.{Has, count}
 use Rattle.kx_pages.specs.Bytes.{Mem, Wants}
 

@@ -5,12 +5,13 @@ use Rattle.std.specs.FinMap.{get, insert}
 use Rattle.std.specs.List.Sorted.{IsPermutation}
 use Rattle.std.proofs.lemmas.List.Elements.{All-nil, All-cons, All-head, All-tail, All-weaker}
 use Rattle.std.proofs.lemmas.List.Sorted.{All-permutation}
-use Rattle.page_memory.specs.Contents.{Contents, IsHeld}
+use Rattle.page_memory.specs.Contents.{Contents}
+use Rattle.page_memory.specs.inner.Contents.{IsHeld}
 use Rattle.page_memory.proofs.Laws.{held-insert_only}
 use Rattle.kx_pages.specs.Lists.{Has}
 use Rattle.kx_pages.proofs.Counting.{count-from_Has}
-use Rattle.kimage_list.specs.Beginning.{AreHeld}
-use Rattle.kimage_list.specs.Held.{HoldSame}
+use Rattle.kimage_list.specs.inner.Beginning.{AreHeld}
+use Rattle.kimage_list.specs.inner.Held.{HoldSame}
 use Rattle.kimage_list.proofs.Opening.{at_first}
 
 -- what was set is a page that was held

@@ -4,25 +4,28 @@ use Rattle.std.specs.List.{AllByRecursion}
 use Rattle.std.specs.Prelude.{◌≢◌, ◌⊎◌, ◌/◌, ◌%◌, eqb, slice_index}
 use Rattle.std.proofs.lemmas.Option.{none-some}
 use Rattle.std.proofs.lemmas.Bool.Decides.{eqb_tells}
-use Rattle.page_memory.specs.Contents.{Contents, at, IsHeld}
+use Rattle.page_memory.specs.Contents.{Contents, at}
+use Rattle.page_memory.specs.inner.Contents.{IsHeld}
 use Rattle.page_pool.specs.Pages.{Pages}
 use Rattle.kimage_list.proofs.Drawing.{source_of-at_home}
 use Rattle.kimage_list.proofs.Exchange.{exchange_at}
 use Rattle.kimage_list.proofs.Lists.{eqb-self}
 use Rattle.kimage_list.proofs.Takes.{Takes as Moves, count-at_home, taken_took}
-use Rattle.kimage_list.specs.Drafts.{one, amount, Draft, Renders, CanTake, CanMove, exchange}
-use Rattle.kimage_list.specs.Laying.{items, source_pages, Holds}
+use Rattle.kimage_list.specs.inner.Drafts.{one, amount, Draft, Renders, CanTake, CanMove, exchange}
+use Rattle.kimage_list.specs.Laying.{items, source_pages}
+use Rattle.kimage_list.specs.inner.Laying.{Holds}
 use Rattle.kimage_list.specs.Load.{Loading, source_of, at_home, take_page}
-use Rattle.kimage_list.specs.Opening.{open_pages, entry_place, number}
-use Rattle.kimage_list.specs.Tables.{Slots}
-use Rattle.kimage_list.specs.Tracking.{Gives, Took, Exchanged as Pair}
+use Rattle.kimage_list.specs.inner.Opening.{open_pages, entry_place, number}
+use Rattle.kimage_list.specs.inner.Tables.{Slots}
+use Rattle.kimage_list.specs.inner.Tracking.{Gives, Took, Exchanged as Pair}
 use Rattle.kimage_list.specs.declared.taking.MovedPage.{MovedPage}
 use Rattle.kimage_list.specs.declared.taking.TakenPage.{TakenPage}
 use Rattle.kx_pages.specs.Items.{code}
 use Rattle.kx_pages.specs.Lists.{sources, count}
 use Rattle.kx_pages.specs.declared.item.Item.TheVariants.{Source}
 use Rattle.kx_pages.specs.Bytes.{Mem}
-use Rattle.page_memory.specs.Memory.{put, set_word}
+use Rattle.page_memory.specs.Memory.{put}
+use Rattle.page_memory.specs.inner.Memory.{set_word}
 use Rattle.kx_pages.proofs.Lists.{Each-map}
 use Rattle.kx_pages.proofs.Counting.{count-append, Each-from_no_count, Distinct-from_count, count-at}
 

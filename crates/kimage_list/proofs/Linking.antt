@@ -4,24 +4,28 @@ use Rattle.std.specs.List.{AllByRecursion}
 use Rattle.std.specs.Prelude.{◌≢◌, ◌⊎◌, ◌/◌, ◌%◌, eqb, slice_index}
 use Rattle.std.proofs.lemmas.Option.{none-some}
 use Rattle.std.proofs.lemmas.Bool.Decides.{eqb_tells}
-use Rattle.page_memory.specs.Contents.{Contents, at, IsHeld}
+use Rattle.page_memory.specs.Contents.{Contents, at}
+use Rattle.page_memory.specs.inner.Contents.{IsHeld}
 use Rattle.page_pool.specs.Pages.{Pages}
 use Rattle.kimage_list.proofs.Exchange.{still}
 use Rattle.kimage_list.proofs.InHand.{count-first}
 use Rattle.kimage_list.proofs.Lists.{heads_same, nil_cons}
 use Rattle.kimage_list.proofs.OpenList.{next_page, first_link, link_added}
-use Rattle.kimage_list.specs.Drafts.{one, Draft, Renders, with_link, IsFull, HeadIs}
-use Rattle.kimage_list.specs.Laying.{items, source_pages, Holds}
-use Rattle.kimage_list.specs.Load.{Loading, Entry, Start, Move, source_of, pages_of}
-use Rattle.kimage_list.specs.Opening.{open_pages, entry_place, next_place, Tight, number}
-use Rattle.kimage_list.specs.Tables.{Slots, slot, place_in, source_in}
+use Rattle.kimage_list.specs.inner.Drafts.{one, Draft, Renders, with_link, IsFull, HeadIs}
+use Rattle.kimage_list.specs.Laying.{items, source_pages}
+use Rattle.kimage_list.specs.inner.Laying.{Holds}
+use Rattle.kimage_list.specs.Load.{Loading, Entry, Start, Move, source_of}
+use Rattle.kimage_list.specs.inner.Load.{pages_of}
+use Rattle.kimage_list.specs.inner.Opening.{open_pages, entry_place, next_place, Tight, number}
+use Rattle.kimage_list.specs.inner.Tables.{Slots, slot, place_in, source_in}
 use Rattle.kimage_list.specs.declared.table.PageSource.{PageSource}
 use Rattle.kx_pages.specs.Items.{code}
 use Rattle.kx_pages.specs.Lists.{Distinct, destinations, sources, count}
 use Rattle.kx_pages.specs.declared.item.Item.TheVariants.{Link}
 use Rattle.kx_pages.specs.Bytes.{page_of, Mem, Wants}
-use Rattle.page_memory.specs.Contents.{page_with_word}
-use Rattle.page_memory.specs.Memory.{put, set_word}
+use Rattle.page_memory.specs.inner.Contents.{page_with_word}
+use Rattle.page_memory.specs.Memory.{put}
+use Rattle.page_memory.specs.inner.Memory.{set_word}
 use Rattle.kx_pages.proofs.Lists.{Each-map}
 use Rattle.kx_pages.proofs.Counting.{count-append, Each-from_no_count, Distinct-from_count}
 use Rattle.page_memory.proofs.Laws.{put-apart}

@@ -10,7 +10,8 @@ use Rattle.page_memory.proofs.Laws.{put-apart, put-same}
 use Rattle.kx_pages.specs.declared.item.Item.{Item}
 use Rattle.kx_pages.specs.Bytes.{Mem, Wants}
 use Rattle.kimage_list.specs.Load.{Entry, Start, Move}
-use Rattle.kimage_list.specs.Laying.{Holds, items, link_pages, source_pages, put_all}
+use Rattle.kimage_list.specs.Laying.{items, link_pages, source_pages, put_all}
+use Rattle.kimage_list.specs.inner.Laying.{Holds}
 
 pub eqb-self : (x : ℕ) → eqb x x ≡ true
 eqb-self x = ⊎_elim (λ t. t.0) (λ t. absurd (t.1 refl)) (eqb_tells x x)

@@ -3,9 +3,9 @@ use Rattle.std.proofs.Common.{◌≡◌, ℕ, ◌+◌, ◌-◌, ◌*◌, ◌<◌
 use Rattle.std.specs.Prelude.{◌/◌, ◌%◌, eqb}
 use Rattle.std.proofs.lemmas.Bool.{eqb-true}
 use Rattle.kimage_list.specs.Load.{Loading, Start, take_page, give_page, serve}
-use Rattle.kimage_list.specs.Drafts.{Draft, Renders, IsSteady, HasRoom, Room, RoomBy, with_link, with_start, HeadIs}
-use Rattle.kimage_list.specs.Counted.{UnderWay}
-use Rattle.kimage_list.specs.Writers.{History, Writer, StandsAt, IsOpen, draft_of, is_wanted, need, pages_in, with_destination}
+use Rattle.kimage_list.specs.inner.Drafts.{Draft, Renders, IsSteady, HasRoom, Room, RoomBy, with_link, with_start, HeadIs}
+use Rattle.kimage_list.specs.inner.Counted.{UnderWay}
+use Rattle.kimage_list.specs.inner.Writers.{History, Writer, StandsAt, IsOpen, draft_of, is_wanted, need, pages_in, with_destination}
 use Rattle.kimage_list.proofs.Going.{room_is_there, start_is_there}
 use Rattle.kimage_list.proofs.Spanned.{length-pages_in}
 use Rattle.kx_pages.specs.Needs.{first_count}

@@ -5,15 +5,17 @@ use Rattle.std.specs.Prelude.{◌≢◌, ◌/◌, ◌%◌, map}
 use Rattle.std.proofs.lemmas.List.{take_all, length-drop, map-append, length-map}
 use Rattle.kimage_list.proofs.Words.{next-word}
 use Rattle.kimage_list.proofs.Exchange.{put-written, still, keys_are}
-use Rattle.kimage_list.specs.Laying.{in_bytes, link_pages, Holds}
-use Rattle.kimage_list.specs.Opening.{open_pages, next_place, Tight}
+use Rattle.kimage_list.specs.Laying.{in_bytes, link_pages}
+use Rattle.kimage_list.specs.inner.Laying.{Holds}
+use Rattle.kimage_list.specs.inner.Opening.{open_pages, next_place, Tight}
 use Rattle.kx_pages.specs.Items.{code}
 use Rattle.kx_pages.specs.Lists.{Distinct}
 use Rattle.kx_pages.specs.declared.item.Item.{Item}
 use Rattle.kx_pages.specs.declared.item.Item.TheVariants.{Link, Done}
 use Rattle.kx_pages.specs.Bytes.{page_of, Mem}
-use Rattle.page_memory.specs.Contents.{page_with_word}
-use Rattle.page_memory.specs.Memory.{put, set_word}
+use Rattle.page_memory.specs.inner.Contents.{page_with_word}
+use Rattle.page_memory.specs.Memory.{put}
+use Rattle.page_memory.specs.inner.Memory.{set_word}
 use Rattle.page_memory.proofs.Laws.{put-same, put-apart}
 
 -- each link page with its bytes so far, where these words come last

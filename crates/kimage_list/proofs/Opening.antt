@@ -3,17 +3,18 @@ use Rattle.std.proofs.Common.{◌≡◌, ℕ, zero, suc, ◌+◌, ◌<◌, ◌�
 use Rattle.std.specs.Prelude.{◌≢◌, ◌⊎◌, eqb, slice_index, is_some}
 use Rattle.std.proofs.lemmas.Option.{none-some}
 use Rattle.std.proofs.lemmas.Bool.Decides.{eqb_tells}
-use Rattle.page_memory.specs.Contents.{Contents, at, IsHeld}
+use Rattle.page_memory.specs.Contents.{Contents, at}
+use Rattle.page_memory.specs.inner.Contents.{IsHeld}
 use Rattle.page_pool.specs.Pages.{Pages, is_filed, usable_of}
 use Rattle.std.specs.Prelude.{◌^◌, Result, Ok, Err, OnOk, All}
 use Rattle.std.specs.List.Sorted.{IsPermutation}
 use Rattle.std.proofs.lemmas.List.{get_or-take, length-take-le}
 use Rattle.std.proofs.lemmas.List.Elements.{All-get_or}
 use Rattle.std.proofs.lemmas.List.Sorted.{All-permutation, IsPermutation-sym}
-use Rattle.kimage_list.specs.Beginning.{AreHeld}
-use Rattle.kimage_list.specs.Drafts.{initial, with_first, Draft, Renders}
+use Rattle.kimage_list.specs.inner.Beginning.{AreHeld}
+use Rattle.kimage_list.specs.inner.Drafts.{initial, with_first, Draft, Renders}
 use Rattle.kimage_list.specs.Load.{Loading}
-use Rattle.kimage_list.specs.Tables.{Slots, slot, source_in, place_in, fresh_slot}
+use Rattle.kimage_list.specs.inner.Tables.{Slots, slot, source_in, place_in, fresh_slot}
 use Rattle.kx_pages.specs.Lists.{Distinct, count}
 use Rattle.kx_pages.specs.Bytes.{Mem, Wants}
 use Rattle.kx_pages.proofs.Counting.{count-from_Distinct, count-append}

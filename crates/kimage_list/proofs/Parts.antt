@@ -6,7 +6,7 @@ use Rattle.std.proofs.Math.Seq.{take-append_seam}
 use Rattle.kx_pages.specs.Lists.{has}
 use Rattle.kx_pages.specs.declared.image.Wish.TheVariants.{Plain, Kept}
 use Rattle.kimage_list.specs.Load.{Loading, Entry, Request, is_for, source_of, begun, draw, take_page, give_page, serve, own_request, requests_from}
-use Rattle.kimage_list.specs.Laws.{FirstPages}
+use Rattle.kimage_list.specs.inner.Laws.{FirstPages}
 use Rattle.kx_laws.proofs.Options.{some_same}
 
 pub served-append : (D : ℕ → Bool) (rs qs : List (Option ℕ)) (l m : Loading) → serve D rs l ≡ Some m → serve D (rs ++ qs) l ≡ serve D qs m

@@ -1,7 +1,8 @@
 -- The entries of a segment, page by page.
 use Rattle.std.proofs.Common.{◌≡◌, ℕ, zero, suc, ◌+◌, [], ◌∷◌, ◌++◌, Some, refl, ap, ◌∙◌, arith}
-use Rattle.kimage_list.specs.Load.{Move, page_entries, pages_of, starts}
-use Rattle.kimage_list.specs.Writers.{destination_after, pages_from}
+use Rattle.kimage_list.specs.Load.{Move, page_entries}
+use Rattle.kimage_list.specs.inner.Load.{pages_of, starts}
+use Rattle.kimage_list.specs.inner.Writers.{destination_after, pages_from}
 
 pub pages_of-page_entries : (p n : ℕ) → pages_of (page_entries p n) ≡ pages_from p n
 pages_of-page_entries p zero = refl

@@ -6,7 +6,7 @@ use Rattle.std.proofs.lemmas.Bool.{cases_lt, or_cases, false≢true, or_right}
 use Rattle.std.proofs.lemmas.Bool.Decides.{eqb_tells}
 use Rattle.kx_pages.specs.Lists.{Has, count}
 use Rattle.kx_pages.specs.Spans.{Run, end, in_span, in_spans, pages, AreApart}
-use Rattle.kimage_list.specs.Writers.{pages_from, pages_in}
+use Rattle.kimage_list.specs.inner.Writers.{pages_from, pages_in}
 use Rattle.kx_pages.proofs.Lists.{Each-map, Each-append, Has-left, Has-right}
 use Rattle.kx_pages.proofs.Counting.{count-append}
 use Rattle.kx_pages.proofs.Spans.{inside}

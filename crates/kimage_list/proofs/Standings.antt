@@ -8,12 +8,13 @@ use Rattle.kx_pages.specs.Lists.{Has, count, sources}
 use Rattle.kx_pages.specs.declared.item.Item.{Item}
 use Rattle.kx_pages.specs.declared.image.Wish.{Wish}
 use Rattle.kx_pages.specs.declared.image.Wish.TheVariants.{Plain, Kept}
-use Rattle.kimage_list.specs.Load.{Loading, Request, Entry, Start, Move, pages_of, starts, own_request, requests_from, requests, begun, take_page, give_page, serve, loading_after}
+use Rattle.kimage_list.specs.Load.{Loading, Request, Entry, Start, Move, own_request, requests_from, requests, begun, take_page, give_page, serve, loading_after}
+use Rattle.kimage_list.specs.inner.Load.{pages_of, starts}
 use Rattle.kimage_list.specs.Laying.{items, source_pages, links_of, mode_with}
-use Rattle.kimage_list.specs.Opening.{open_pages, laid_so_far}
-use Rattle.kimage_list.specs.Tables.{Slots}
-use Rattle.kimage_list.specs.Drafts.{Draft, Renders}
-use Rattle.kimage_list.specs.Writers.{History, Writer, StandsAt, IsOpen, KeepsPages, draft_of, is_wanted, pages_in, destination_after}
+use Rattle.kimage_list.specs.inner.Opening.{open_pages, laid_so_far}
+use Rattle.kimage_list.specs.inner.Tables.{Slots}
+use Rattle.kimage_list.specs.inner.Drafts.{Draft, Renders}
+use Rattle.kimage_list.specs.inner.Writers.{History, Writer, StandsAt, IsOpen, KeepsPages, draft_of, is_wanted, pages_in, destination_after}
 use Rattle.kimage_list.proofs.Lists.{keys, keys-append, keys-source_pages}
 use Rattle.kimage_list.proofs.Counting.{counted_fit}
 use Rattle.kimage_list.proofs.Parts.{served-append, requests-append}

@@ -9,7 +9,7 @@ use Rattle.std.proofs.lemmas.Bool.Decides.{nat_tests}
 use Rattle.std.proofs.lemmas.List.{take_all, take_more, map-append, length-replicate, get_or-replicate, get_or-set_same, get_or-set_other}
 use Rattle.std.proofs.lemmas.Option.{slice_get-get_or, slice_get_past, slice_get_within, get_or_from_slice_get}
 use Rattle.kx_pages.specs.Spans.{Run, in_span, in_spans, AreApart, end}
-use Rattle.kimage_list.specs.Tables.{SlotRow, Slots, slot, row_end, in_row, AreRising, fresh_row, fresh_slot}
+use Rattle.kimage_list.specs.inner.Tables.{SlotRow, Slots, slot, row_end, in_row, AreRising, fresh_row, fresh_slot}
 use Rattle.kimage_list.specs.declared.table.PageSource.{PageSource}
 
 before_row : (r : SlotRow) (p : ℕ) → p < r.first → in_row r p ≡ false

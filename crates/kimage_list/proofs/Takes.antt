@@ -5,7 +5,7 @@ use Rattle.std.specs.Prelude.{◌≢◌, ◌⊎◌, eqb, not, ◌||◌}
 use Rattle.std.proofs.lemmas.Option.{none-some}
 use Rattle.std.proofs.lemmas.Bool.{or_cases, or_parts, eqb-true, eq-eqb, false≢true}
 use Rattle.std.proofs.lemmas.Bool.Decides.{eqb_tells}
-use Rattle.kimage_list.specs.Drafts.{one, amount, IsHome}
+use Rattle.kimage_list.specs.inner.Drafts.{one, amount, IsHome}
 use Rattle.kimage_list.specs.Load.{without, source_of, at_home, is_for, Loading, draw, take_page, give_page, serve}
 use Rattle.kx_laws.proofs.Booleans.{not_false, not_true}
 use Rattle.kx_pages.specs.Lists.{Has, destinations, sources, count, has}

@@ -4,7 +4,7 @@ use Rattle.std.specs.Prelude.{replicate}
 use Rattle.std.proofs.Math.Seq.{drop-append_seam, take-append_seam, drop-append-add}
 use Rattle.byteorder.specs.Endian.{little_bytes}
 use Rattle.kx_pages.specs.Bytes.{page_of}
-use Rattle.page_memory.specs.Contents.{page_with_word}
+use Rattle.page_memory.specs.inner.Contents.{page_with_word}
 use Rattle.kx_pages.proofs.Bytes.{page_of-fits}
 use Rattle.kimage_list.specs.Laying.{in_bytes}
 

@@ -10,14 +10,14 @@ use Rattle.kx_pages.specs.declared.image.Image.{Image}
 use Rattle.kx_pages.specs.Lists.{Has, has, count, sources}
 use Rattle.kx_pages.specs.Items.{code}
 use Rattle.kx_pages.specs.declared.item.Item.TheVariants.{Link}
-use Rattle.kimage_list.specs.Load.{pages_of}
+use Rattle.kimage_list.specs.inner.Load.{pages_of}
 use Rattle.kimage_list.specs.Laying.{items, source_pages, put_all, link_pages, lay, head_of, links_of, control_of, load_mode}
-use Rattle.kimage_list.specs.Tables.{slot, source_in}
-use Rattle.kimage_list.specs.Drafts.{Draft, HasLink, laid_by, HeadIs}
-use Rattle.kimage_list.specs.Calls.{IsWritten}
+use Rattle.kimage_list.specs.inner.Tables.{slot, source_in}
+use Rattle.kimage_list.specs.inner.Drafts.{Draft, HasLink, laid_by, HeadIs}
+use Rattle.kimage_list.specs.inner.Calls.{IsWritten}
 use Rattle.kimage_list.specs.declared.written.Written.{Written}
 use Rattle.page_pool.specs.Pages.{is_filed, usable_of}
-use Rattle.kimage_list.specs.Writers.{History, Writer, StandsAt, IsAwaited, draft_of, is_wanted, need, pages_in}
+use Rattle.kimage_list.specs.inner.Writers.{History, Writer, StandsAt, IsAwaited, draft_of, is_wanted, need, pages_in}
 use Rattle.kimage_list.proofs.Lists.{keys, keys-append, keys-source_pages, keys-link_pages, put_all_other}
 use Rattle.kimage_list.proofs.Counting.{counted_fit}
 use Rattle.kimage_list.proofs.Going.{all_drawn}

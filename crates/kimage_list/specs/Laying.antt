@@ -1,7 +1,6 @@
 -- What a load lays in memory: the words of its list over the link pages, as the kernel's kexec core has them
 -- (kimage_entry_t), and the destinations' bytes at the sources. Which page is which is this project's own.
-use Rattle.std.specs.Prelude.{◌≡◌, ℕ, List, [], ◌∷◌, ◌++◌, map, take, drop, unwrap_or, slice_index}
-use Rattle.std.specs.List.{AllByRecursion}
+use Rattle.std.specs.Prelude.{ℕ, List, [], ◌∷◌, ◌++◌, map, take, drop, unwrap_or, slice_index}
 use Rattle.byteorder.specs.Endian.{little_bytes}
 use Rattle.kx_pages.specs.Bytes.{Mem, Wants, page_of}
 use Rattle.page_memory.specs.Memory.{put}
@@ -58,10 +57,6 @@ source_pages W qs = map (λ q. (q.1, unwrap_or (W q.0) [])) qs
 abbrev pub put_all : Mem → List (ℕ × List ℕ) → Mem
 put_all M [] = M
 put_all M (x ∷ xs) = put (put_all M xs) x.0 x.1
-
--- memory has these pages' bytes
-abbrev pub Holds : Mem → List (ℕ × List ℕ) → Type 0
-Holds M xs = AllByRecursion (λ x. M x.0 ≡ x.1) xs
 
 -- the memory of a load: M, but for the link pages and the sources
 abbrev pub lay : Mem → Wants → Wish → List Entry → Loading → Mem

@@ -1,13 +1,5 @@
 pub mod Load
 pub mod Laying
-pub mod Opening
-pub mod Tables
 pub mod Tracking
-pub mod Drafts
-pub mod OpenLists
-pub mod Counted
-pub mod Writers
-pub mod Beginning
-pub mod Held
 pub mod Calls
-pub mod Laws
+pub mod inner

@@ -12,22 +12,10 @@ pub data Entry : Type 0 where
   Start : (page : ℕ) → Entry
   Move : (page : ℕ) → Entry
 
--- the destination pages of these entries
-abbrev pub pages_of : List Entry → List ℕ
-pages_of [] = []
-pages_of (Start p ∷ es) = pages_of es
-pages_of (Move p ∷ es) = p ∷ pages_of es
-
 -- the source entries of n pages, from page p on
 abbrev pub page_entries : ℕ → ℕ → List Entry
 page_entries p zero = []
 page_entries p (suc n) = Move p ∷ page_entries (suc p) n
-
--- how many of them are destination entries
-abbrev pub starts : List Entry → ℕ
-starts [] = 0
-starts (Start p ∷ es) = suc (starts es)
-starts (Move p ∷ es) = starts es
 
 -- a request is for this destination page, or for none: then it is for the control page, the swap page or a link page
 abbrev pub Request : Type 0

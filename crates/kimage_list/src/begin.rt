@@ -2,11 +2,12 @@
 
 ghost use Rattle.std.specs.Prelude.{◌≡◌, ℕ, ◌≤◌, ◌<◌, ◌+◌, ◌^◌, ◌||◌, ◌⊎◌, length, slice_index, take, OnOk, IfOk};
 ghost use Rattle.std.specs.List.Sorted.{IsPermutation};
-ghost use Rattle.page_memory.specs.Contents.{at, IsHeld};
+ghost use Rattle.page_memory.specs.Contents.{at};
+ghost use Rattle.page_memory.specs.inner.Contents.{IsHeld};
 ghost use Rattle.page_pool.specs.Pages.{usable_of};
 ghost use Rattle.kx_pages.specs.Lists.{Has};
 ghost use Rattle.kx_pages.specs.Spans.{AreApart};
-ghost use Rattle.kimage_list.specs.Beginning.{IsFresh, AreHeld};
+ghost use Rattle.kimage_list.specs.inner.Beginning.{IsFresh, AreHeld};
 
 use crate::table::Table;
 use kx_pages::{Page, PageSet};

@@ -2,10 +2,10 @@
 
 ghost use Rattle.std.specs.Prelude.{◌≡◌, ◌↔◌, ℕ, true};
 ghost use Rattle.kx_pages.specs.Lists.{Has};
-ghost use Rattle.kimage_list.specs.Load.{pages_of};
-ghost use Rattle.kimage_list.specs.Writers.{IsAwaited, KeepsPages, History, StandsAt, Writer, is_wanted};
-ghost use Rattle.kimage_list.specs.Laws.{AlwaysTakes, OneMore, RoomIsThere, PageIsThere, StartIsThere};
-ghost use Rattle.kimage_list.specs.Laws.{AllDrawn, OpensUnderWay, FirstPages};
+ghost use Rattle.kimage_list.specs.inner.Load.{pages_of};
+ghost use Rattle.kimage_list.specs.inner.Writers.{IsAwaited, KeepsPages, History, StandsAt, Writer, is_wanted};
+ghost use Rattle.kimage_list.specs.inner.Laws.{AlwaysTakes, OneMore, RoomIsThere, PageIsThere, StartIsThere};
+ghost use Rattle.kimage_list.specs.inner.Laws.{AllDrawn, OpensUnderWay, FirstPages};
 
 /// Taking never fails below the need.
 pub fn taking_never_fails()

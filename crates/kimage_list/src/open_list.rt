@@ -1,13 +1,14 @@
 //! A list while it is written: the steps of the writer.
 
 ghost use Rattle.std.specs.Prelude.{◌≡◌, ℕ, ◌<◌, ◌≤◌, ◌+◌, ◌*◌, ◌∷◌, List, [], length, None, Some};
-ghost use Rattle.page_memory.specs.Contents.{at, IsHeld};
-ghost use Rattle.page_memory.specs.Memory.{set_word};
-ghost use Rattle.kimage_list.specs.Held.{HoldSame};
+ghost use Rattle.page_memory.specs.Contents.{at};
+ghost use Rattle.page_memory.specs.inner.Contents.{IsHeld};
+ghost use Rattle.page_memory.specs.inner.Memory.{set_word};
+ghost use Rattle.kimage_list.specs.inner.Held.{HoldSame};
 ghost use Rattle.kimage_list.specs.Load.{Loading};
-ghost use Rattle.kimage_list.specs.OpenLists.{IsRendered, IsRenderedBut};
+ghost use Rattle.kimage_list.specs.inner.OpenLists.{IsRendered, IsRenderedBut};
 ghost use Rattle.kimage_list.specs.Tracking.{whole_pool};
-ghost use Rattle.kimage_list.specs.Drafts.{Draft, CanTake, IsFull, with_link, Room, HasRoom, IsSteady, IsNext, with_first, with_start, with_move, HasLink, laid_by, HeadIs};
+ghost use Rattle.kimage_list.specs.inner.Drafts.{Draft, CanTake, IsFull, with_link, Room, HasRoom, IsSteady, IsNext, with_first, with_start, with_move, HasLink, laid_by, HeadIs};
 
 use crate::pages::{destination_word, fill, link_word, settle, source_word, write_word};
 use crate::table::{PageSource, Table};

@@ -2,11 +2,13 @@
 
 ghost use Rattle.std.specs.Prelude.{◌≡◌, ℕ, ◌/◌, ◌%◌, ◌<◌, ◌≤◌, ◌^◌, [], length};
 ghost use Rattle.kx_pages.specs.Bytes.{page_of};
-ghost use Rattle.page_memory.specs.Contents.{at, IsHeld};
-ghost use Rattle.page_memory.specs.Memory.{put, set_word};
+ghost use Rattle.page_memory.specs.Contents.{at};
+ghost use Rattle.page_memory.specs.inner.Contents.{IsHeld};
+ghost use Rattle.page_memory.specs.Memory.{put};
+ghost use Rattle.page_memory.specs.inner.Memory.{set_word};
 ghost use Rattle.kx_pages.specs.Items.{code};
 ghost use Rattle.kx_pages.specs.declared.item.Item.TheVariants.{Source, Link, Destination};
-ghost use Rattle.kimage_list.specs.Drafts.{CanMove, exchange};
+ghost use Rattle.kimage_list.specs.inner.Drafts.{CanMove, exchange};
 
 use crate::taking::TakenPage;
 use kx_pages::{Item, Page};

@@ -6,8 +6,8 @@
 ghost use Rattle.std.specs.Prelude.{◌≡◌, ◌≢◌, ℕ, ◌≤◌, ◌<◌, ◌-◌, ◌∷◌, [], Some, None, IsSome, IsTrue, IfOk, set};
 ghost use Rattle.std.specs.List.Sorted.{IsPartitionPoint};
 ghost use Rattle.kx_pages.specs.Spans.{AreApart};
-ghost use Rattle.kimage_list.specs.Tables.{slot, row_end, in_row, AreRising, fresh_row};
-ghost use Rattle.kimage_list.specs.Beginning.{IsFresh};
+ghost use Rattle.kimage_list.specs.inner.Tables.{slot, row_end, in_row, AreRising, fresh_row};
+ghost use Rattle.kimage_list.specs.inner.Beginning.{IsFresh};
 
 use kx_pages::{Page, PageSet, Span};
 use std::alloc::{AllocError, Global};
@@ -30,7 +30,7 @@ struct Row {
 
 impl Model for Row {
     ghost use Rattle.std.specs.Prelude.{◌+◌, ◌≤◌, ◌^◌, length};
-    ghost use Rattle.kimage_list.specs.Tables.{SlotRow, row_code};
+    ghost use Rattle.kimage_list.specs.inner.Tables.{SlotRow, row_code};
 
     ghost Value = { SlotRow };
 
@@ -96,7 +96,7 @@ pub struct Table {
 }
 
 impl Model for Table {
-    ghost use Rattle.kimage_list.specs.Tables.{Slots, slots_code, AreRising};
+    ghost use Rattle.kimage_list.specs.inner.Tables.{Slots, slots_code, AreRising};
 
     ghost Value = { Slots };
 

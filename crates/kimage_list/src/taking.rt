@@ -10,8 +10,9 @@
 
 ghost use Rattle.std.specs.Prelude.{◌≡◌, ◌≢◌, ℕ, Bool, Some, IsSome, ◌==◌};
 ghost use Rattle.kimage_list.specs.Load.{Loading, is_for, draw, take_page};
-ghost use Rattle.kimage_list.specs.Tables.{slot};
-ghost use Rattle.kimage_list.specs.Tracking.{Tracks, Gives, fate_of, whole_pool};
+ghost use Rattle.kimage_list.specs.inner.Tables.{slot};
+ghost use Rattle.kimage_list.specs.Tracking.{whole_pool};
+ghost use Rattle.kimage_list.specs.inner.Tracking.{Tracks, Gives, fate_of};
 
 use crate::table::{PageSource, Table};
 use kx_pages::Page;

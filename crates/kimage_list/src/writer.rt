@@ -2,17 +2,19 @@
 
 ghost use Rattle.std.specs.Prelude.{◌≡◌, ◌≢◌, ℕ, ◌<◌, ◌≤◌, ◌+◌, ◌^◌, ◌⊎◌, ◌↔◌, ◌∷◌, [], length, take, drop, None, Some, IfOk, IfErr, false};
 ghost use Rattle.kx_pages.specs.Bytes.{page_of};
-ghost use Rattle.page_memory.specs.Contents.{at, IsHeld};
+ghost use Rattle.page_memory.specs.Contents.{at};
+ghost use Rattle.page_memory.specs.inner.Contents.{IsHeld};
 ghost use Rattle.page_pool.specs.Pages.{Pages, is_filed, usable_of};
 ghost use Rattle.kx_pages.specs.Lists.{Has, count, sources};
 ghost use Rattle.kx_pages.specs.Spans.{pages};
 ghost use Rattle.kx_pages.specs.Needs.{need_of};
-ghost use Rattle.kimage_list.specs.Held.{HoldSame, load_pages};
+ghost use Rattle.kimage_list.specs.inner.Held.{HoldSame, load_pages};
 ghost use Rattle.kimage_list.specs.Laying.{image_of, lay};
-ghost use Rattle.kimage_list.specs.Tables.{slot};
+ghost use Rattle.kimage_list.specs.inner.Tables.{slot};
 ghost use Rattle.kimage_list.specs.Tracking.{whole_pool};
-ghost use Rattle.kimage_list.specs.Writers.{History, StandsAt, IsAwaited, with_destination, with_source, need};
-ghost use Rattle.kimage_list.specs.Calls.{load_begun, Refuses, IsPrepared, IsWritten, HasDrawn};
+ghost use Rattle.kimage_list.specs.inner.Writers.{History, StandsAt, IsAwaited, with_destination, with_source, need};
+ghost use Rattle.kimage_list.specs.Calls.{HasDrawn};
+ghost use Rattle.kimage_list.specs.inner.Calls.{load_begun, Refuses, IsPrepared, IsWritten};
 
 use crate::begin::prepare;
 use crate::open_list::OpenList;
@@ -36,13 +38,13 @@ pub struct ListWriter {
 }
 
 impl Model for ListWriter {
-    ghost use Rattle.kimage_list.specs.Writers.{Writer, writer_code, History, StandsAt};
+    ghost use Rattle.kimage_list.specs.inner.Writers.{Writer, writer_code, History, StandsAt};
 
     ghost Value = { Writer };
 
     ghost coded = { writer_code };
 
-    ghost use Rattle.kimage_list.specs.Calls.{writer_of};
+    ghost use Rattle.kimage_list.specs.inner.Calls.{writer_of};
 
     ghost view = { writer_of };
 

@@ -7,7 +7,8 @@ use Rattle.std.specs.Int.{bytes_low_first}
 use Rattle.byteorder.specs.Endian.{little_bytes}
 use Rattle.kx_fields.specs.Fields.{AreBytes, with_field, with_bytes, zeros}
 use Rattle.kx_fields.proofs.Fields.{byte_at-pow, AreBytes-drop}
-use Rattle.kx_fields.specs.Formats.{Table, are_bytes, with_values}
+use Rattle.kx_fields.specs.Formats.{Table, with_values}
+use Rattle.kx_fields.specs.inner.Formats.{are_bytes}
 use Rattle.std.proofs.lemmas.Bool.{and_parts}
 
 -- bytes stay bytes

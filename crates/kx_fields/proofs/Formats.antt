@@ -7,8 +7,10 @@ use Rattle.std.specs.Prelude.{ℤ, FitsSigned}
 use Rattle.std.specs.Int.{w64}
 use Rattle.std.proofs.lemmas.Int.{of_z-to_z, to_z-of_z}
 use Rattle.std.proofs.Math.Seq.{take-append_seam, drop-append_seam}
-use Rattle.kx_fields.specs.Fields.{AreBytes, field, bytes_at, with_bytes, zeros, signed, unsigned}
-use Rattle.kx_fields.specs.Formats.{texts, blank, values_at, with_values, Fit, is_outside, is_table, is_packed, Format, table, read, written, Fits, value_of, IsOfNumbers, IsFormat}
+use Rattle.kx_fields.specs.Fields.{AreBytes, field, bytes_at, with_bytes, zeros, signed}
+use Rattle.kx_fields.specs.inner.Fields.{unsigned}
+use Rattle.kx_fields.specs.Formats.{blank, with_values, Format, table, read, written}
+use Rattle.kx_fields.specs.inner.Formats.{texts, values_at, Fit, is_outside, is_table, is_packed, Fits, value_of, IsOfNumbers, IsFormat}
 use Rattle.kx_fields.proofs.Bytes.{AreBytes-with_bytes, AreBytes-with_values, AreBytes-zeros, length-zeros}
 use Rattle.kx_fields.proofs.Tables.{field_fits, values_fit, length-with_values, outside_values, values_back, values_put_back, values_onto, outside_bytes, outside_packed, front_same, past_end, values_packed, values_beside}
 

@@ -3,7 +3,7 @@
 
 ghost use Rattle.std.specs.Prelude.{◌≡◌, ◌<◌, ◌^◌};
 ghost use Rattle.kx_fields.specs.Formats.{read, written};
-ghost use Rattle.kx_fields.specs.Kinds.{kinds};
+ghost use Rattle.kx_fields.specs.inner.Kinds.{kinds};
 
 use crate::{Block, fields};
 

@@ -1,3 +1,3 @@
 pub mod Results
 pub mod Counts
-pub mod Cuts
+pub mod inner

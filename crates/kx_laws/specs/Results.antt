@@ -1,5 +1,5 @@
 -- What readers answer: a value, or the first refusal (this project's own).
-use Rattle.std.specs.Prelude.{◌≡◌, ◌⊎◌, ℕ, Option, Some, None, Result, Ok, Err}
+use Rattle.std.specs.Prelude.{ℕ, Option, Some, None, Result, Ok, Err}
 
 -- one step after another: the first refusal is the answer of all
 infixl 10 ◌>>=◌
@@ -16,9 +16,3 @@ unless (Some fault) = Err fault
 abbrev pub unless_at : {F : Type 0} → (ℕ → F) → Option ℕ → Result (Unit {0}) F
 unless_at fault None = Ok tt
 unless_at fault (Some i) = Err (fault i)
-
--- The answer of a call, whose value is seen by `view`, is the one that is defined; or the call wants memory, and answers
--- the fault that says so.
-abbrev pub Gives : {X Y F : Type 0} → (memory : F) → (X → Y) → Result X F → Result Y F → Type 0
-Gives memory view (Ok x) defined = defined ≡ Ok (view x)
-Gives memory view (Err e) defined = (defined ≡ Err e) ⊎ (e ≡ memory)

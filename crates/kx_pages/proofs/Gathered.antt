@@ -8,7 +8,7 @@ use Rattle.std.proofs.lemmas.List.{drop_more, drop_all, take_all}
 use Rattle.std.proofs.lemmas.List.Folds.{list_any_more}
 use Rattle.std.proofs.lemmas.List.Sorted.{list_any-IsPermutation}
 use Rattle.kx_pages.specs.Spans.{Run, end, in_span, in_spans, AreApart}
-use Rattle.kx_pages.specs.Edits.{if_some}
+use Rattle.kx_pages.specs.inner.Edits.{if_some}
 use Rattle.kx_pages.proofs.Spans.{low_none, none_above}
 use Rattle.kx_pages.proofs.Sets.{in_if_some, has-append, some_ahead, apart_lower}
 

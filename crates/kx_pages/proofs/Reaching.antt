@@ -6,7 +6,7 @@ use Rattle.std.specs.List.{slice_get}
 use Rattle.std.specs.List.Sorted.{IsNonDecreasingBy}
 use Rattle.kx_laws.proofs.Booleans.{or_first, or_second}
 use Rattle.kx_pages.specs.Spans.{Run, end, in_span, in_spans, AreApart}
-use Rattle.kx_pages.specs.Edits.{spans_meet, reaching}
+use Rattle.kx_pages.specs.inner.Edits.{spans_meet, reaching}
 use Rattle.kx_pages.proofs.Spans.{low_none, behind_none}
 use Rattle.kx_pages.proofs.Counted.{any_meets}
 

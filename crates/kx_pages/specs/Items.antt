@@ -4,13 +4,6 @@ use Rattle.std.specs.Prelude.{ℕ, ◌+◌, ◌*◌, ◌/◌, ◌%◌, Option, S
 use Rattle.kx_pages.specs.declared.item.Item.{Item}
 use Rattle.kx_pages.specs.declared.item.Item.TheVariants.{Link, Destination, Source, Done}
 
--- the page that an item names
-abbrev pub number : Item → ℕ
-number (Link p) = p
-number (Destination p) = p
-number (Source p) = p
-number (Done p) = p
-
 -- the word of an item
 abbrev pub code : Item → ℕ
 code (Destination p) = 4096 * p + 1

@@ -1,10 +1,11 @@
 pub mod Numbers
 pub mod Spans
 pub mod Ranges
-pub mod Edits
 pub mod Items
 pub mod Lists
 pub mod Modes
 pub mod Needs
+pub mod Types
 pub mod Limits
 pub mod Bytes
+pub mod inner

@@ -4,11 +4,6 @@ use Rattle.std.specs.Prelude.{ℕ, Option, Some, None}
 use Rattle.kx_pages.specs.declared.image.Mode.{Mode}
 use Rattle.kx_pages.specs.declared.image.Mode.TheVariants.{Plain, Kept}
 
--- the mode with this swap page, plain for none
-abbrev pub mode_of : Option ℕ → Mode
-mode_of None = Plain
-mode_of (Some swap) = Kept swap
-
 -- the swap page of a mode
 abbrev pub swap_page : Mode → Option ℕ
 swap_page Plain = None

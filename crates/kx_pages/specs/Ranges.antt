@@ -1,6 +1,5 @@
 -- Ranges of addresses and the pages that they meet, and bytes in whole pages (this project's own). A page has 4,096 bytes.
-use Rattle.std.specs.Prelude.{ℕ, ◌+◌, ◌-◌, ◌*◌, ◌/◌, ◌^◌, Bool, if◌then◌else◌, nat_lt, min, max}
-use Rattle.kx_pages.specs.Spans.{Run}
+use Rattle.std.specs.Prelude.{ℕ, ◌+◌, ◌-◌, ◌*◌, ◌/◌, Bool, if◌then◌else◌, nat_lt, min, max}
 
 -- some address from start on and before stop is one of page p's
 abbrev pub meets_page : (start stop p : ℕ) → Bool
@@ -17,8 +16,3 @@ whole_pages n = 4096 * pages_for n
 -- how many pages meet the addresses from start on and before stop
 abbrev pub count_met : (start stop : ℕ) → ℕ
 count_met start stop = if nat_lt start stop then pages_for stop - start / 4096 else 0
-
--- these pages, where they lie below 2 ^ 34
-abbrev pub pages_met : (start stop : ℕ) → Run
-pages_met start stop =
-    record { first = min (start / 4096) (2 ^ 34); count = count_met start stop }

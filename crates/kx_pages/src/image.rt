@@ -2,6 +2,9 @@
 
 use crate::page::Page;
 
+ghost use Rattle.std.specs.Prelude.{◌≡◌};
+ghost use Rattle.kx_pages.specs.Types.{needs_map};
+
 /// The type of a kernel's file.
 #[derive(Clone, Copy, Debug, PartialEq, Eq)]
 pub enum ImageType {
@@ -15,6 +18,19 @@ pub enum ImageType {
     Bzimage,
     /// A Multiboot kernel (Multiboot Specification, version 0.6.96).
     Multiboot,
+}
+
+impl ImageType {
+    /// Whether a memory map must be known for a kernel of this type, with a purgatory or without one: the place of a raw
+    /// kernel is given, that of any other part is found in the map.
+    pub fn needs_map(self, has_purgatory: bool) -> bool
+        ensures { result ≡ needs_map self has_purgatory }
+    {
+        match self {
+            ImageType::Raw { .. } => has_purgatory,
+            _ => true,
+        }
+    }
 }
 
 /// What a load asks for: plain, or with context preserved (`KEXEC_PRESERVE_CONTEXT` of kexec_load(2)).

@@ -1,7 +1,8 @@
 //! The words of a list of page copies.
 
 ghost use Rattle.std.specs.Prelude.{◌≡◌, ◌<◌, ◌^◌};
-ghost use Rattle.kx_pages.specs.Items.{code, decode, number};
+ghost use Rattle.kx_pages.specs.Items.{code, decode};
+ghost use Rattle.kx_pages.specs.inner.Items.{number};
 
 /// A word that has exactly one flag in its low twelve bits, and the number of the page that it names: a word of the
 /// kernel's kexec core with `IND_INDIRECTION`, `IND_DESTINATION`, `IND_SOURCE` or `IND_DONE`.

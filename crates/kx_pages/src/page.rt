@@ -1,7 +1,8 @@
 //! Page numbers.
 
 ghost use Rattle.std.specs.Prelude.{◌≡◌, ◌*◌, ◌/◌, ◌<◌, ◌^◌, ◌↔◌, IsSome, IfSome};
-ghost use Rattle.kx_pages.specs.Numbers.{IsPage, is_page_address};
+ghost use Rattle.kx_pages.specs.Numbers.{is_page_address};
+ghost use Rattle.kx_pages.specs.inner.Numbers.{IsPage};
 
 use std::marker::Model;
 

@@ -2,8 +2,9 @@
 
 ghost use Rattle.std.specs.Prelude.{◌≡◌, ℕ, ◌-◌, ◌<◌, ◌≤◌, ◌^◌, ◌↔◌, ◌++◌, ◌∷◌, ◌&&◌, ◌||◌, [], not, nat_lt, List, length, IsTrue, IfOk, IfErr};
 ghost use Rattle.std.specs.List.{slice_get, All};
-ghost use Rattle.kx_pages.specs.Spans.{Run, end, in_span, in_spans, pages, AreApart, passing, IsMaximal};
-ghost use Rattle.kx_pages.specs.Edits.{join, if_some, without, spans_meet, with_rest};
+ghost use Rattle.kx_pages.specs.Spans.{Run, end, in_span, in_spans, pages, AreApart, passing};
+ghost use Rattle.kx_pages.specs.inner.Spans.{IsMaximal};
+ghost use Rattle.kx_pages.specs.inner.Edits.{join, if_some, without, spans_meet, with_rest};
 
 use crate::page::{PAGE_LIMIT, Page};
 use crate::search::{any_has, any_meets};

@@ -2,8 +2,9 @@
 
 ghost use Rattle.std.specs.Prelude.{◌≡◌, ℕ, ◌+◌, ◌-◌, ◌≤◌, ◌^◌, ◌↔◌, ◌&&◌, nat_lt, min, IsSome, IfSome};
 ghost use Rattle.kx_pages.specs.Spans.{Run, end, in_span};
-ghost use Rattle.kx_pages.specs.Ranges.{meets_page, pages_met};
-ghost use Rattle.kx_pages.specs.Edits.{hull, spans_meet};
+ghost use Rattle.kx_pages.specs.Ranges.{meets_page};
+ghost use Rattle.kx_pages.specs.inner.Ranges.{pages_met};
+ghost use Rattle.kx_pages.specs.inner.Edits.{hull, spans_meet};
 
 use crate::page::{ADDRESS_LIMIT, PAGE_LIMIT, PAGE_SIZE};
 use crate::rounding::pages_for;

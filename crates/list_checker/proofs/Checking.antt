@@ -14,7 +14,7 @@ use Rattle.kx_pages.specs.Items.{code, decode}
 use Rattle.kx_pages.specs.Lists.{Has, Distinct, destinations, sources, has}
 use Rattle.list_checker.specs.Walk.{Reads, Walk, links, DestinationFirst, pairs_from, pairs, InOrder, Accepted, IsAccepted}
 use Rattle.list_checker.specs.Faults.{Earlier, nothing_earlier, with_item, following, are_wanted, is_swap, is_kept, reasons, swap_meets_control, Faultless}
-use Rattle.list_checker.specs.Laws.{AcceptedWith, CheckExact}
+use Rattle.list_checker.specs.inner.Laws.{AcceptedWith, CheckExact}
 use Rattle.list_checker.proofs.Lists.{none_holds, none_first, equal-same_bytes, wanted_bytes, InOrder-push, InOrder-split}
 use Rattle.list_checker.proofs.Kept.{Keeps, keeps_none, keeps_link, keeps_pair, link_keeps, pair_keeps}
 use Rattle.kx_pages.proofs.Lists.{Each-map, Each-both, Each-append, Each-left, Each-right, Each-at, Each-from_Has, Has-from_has, has-from_Has, Each-from_has_not, has_not-from_Each, Each-from_destinations, Each-destinations}

@@ -11,7 +11,7 @@ use Rattle.list_checker.specs.declared.fault.Why.TheVariants.{Flags, Missing, Pa
 use Rattle.kx_pages.specs.Bytes.{Mem, Wants}
 use Rattle.kx_pages.specs.Items.{code, decode}
 use Rattle.list_checker.specs.Faults.{first_of, are_wanted}
-use Rattle.list_checker.specs.Laws.{ListsWanted}
+use Rattle.list_checker.specs.inner.Laws.{ListsWanted}
 use Rattle.list_checker.specs.Crash.{AcceptedCrash, crash_reason, crash_reasons, lacks}
 use Rattle.list_checker.proofs.Lists.{none_holds, none_first, wanted_bytes, equal-same_bytes}
 use Rattle.kx_laws.proofs.Options.{some_same}

@@ -14,8 +14,9 @@ use Rattle.kx_pages.specs.Items.{code, decode}
 use Rattle.list_checker.specs.Walk.{Reads, Walk, links}
 use Rattle.kx_pages.specs.Lists.{Distinct}
 use Rattle.list_checker.specs.Faults.{Earlier, nothing_earlier, with_item, with_pair, following, why_by, walk_reasons, FaultyBy}
-use Rattle.list_checker.specs.Checked.{Leads, IsPlace}
-use Rattle.list_checker.specs.Reading.{words_from, IsWalk, ShowsLinks, FitsLinks}
+use Rattle.list_checker.specs.inner.Checked.{Leads, IsPlace}
+use Rattle.list_checker.specs.Reading.{words_from, IsWalk}
+use Rattle.list_checker.specs.inner.Reading.{ShowsLinks, FitsLinks}
 use Rattle.list_checker.proofs.Lists.{none_holds}
 use Rattle.list_checker.proofs.Checking.{decoded}
 use Rattle.list_checker.proofs.Ending.{Linked, linked_none, linked_more, reach, reach_link, reach_next}

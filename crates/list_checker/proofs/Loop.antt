@@ -8,7 +8,7 @@ use Rattle.std.proofs.lemmas.Option.{none-some}
 use Rattle.kx_pages.specs.declared.image.Image.{Image}
 use Rattle.page_memory.specs.Contents.{Contents, at}
 use Rattle.segments.specs.Values.{SegmentValue, want, pages}
-use Rattle.segments.specs.Rules.{IsBare}
+use Rattle.segments.specs.inner.Rules.{IsBare}
 use Rattle.kx_pages.specs.declared.item.Item.{Item}
 use Rattle.kx_pages.specs.declared.item.Item.TheVariants.{Link, Destination, Source, Done}
 use Rattle.list_checker.specs.declared.fault.Why.{Why}
@@ -17,7 +17,8 @@ use Rattle.list_checker.specs.declared.earlier.Earlier.{Earlier as Sets}
 use Rattle.page_memory.specs.Memory.{word}
 use Rattle.kx_pages.specs.Items.{decode}
 use Rattle.list_checker.specs.Faults.{Earlier, nothing_earlier, with_item, with_pair, following, is_wanted, reasons, pair_reasons, Faulty, Faultless}
-use Rattle.list_checker.specs.Checked.{Shows, as_pair, why_refused, Fits, Leads, IsPlace, IsAccept, IsFirstFault}
+use Rattle.list_checker.specs.Checked.{as_pair, IsFirstFault}
+use Rattle.list_checker.specs.inner.Checked.{Shows, why_refused, Fits, Leads, IsPlace, IsAccept}
 use Rattle.list_checker.proofs.Lists.{none_holds}
 use Rattle.list_checker.proofs.Checking.{check_exact}
 use Rattle.list_checker.proofs.Ending.{Linked, linked_none, linked_more, reach, reach_link, reach_next, check_ends}

@@ -8,7 +8,7 @@ use Rattle.std.proofs.lemmas.Bool.{cases_eq, eq-eqb, ne_eqb}
 use Rattle.std.proofs.lemmas.List.{map-append}
 use Rattle.kx_pages.specs.Lists.{has}
 use Rattle.list_checker.specs.Faults.{is_kept}
-use Rattle.list_checker.specs.Checked.{is_among}
+use Rattle.list_checker.specs.inner.Checked.{is_among}
 use Rattle.kx_laws.proofs.Booleans.{is_eq-false, or_false, or_true}
 use Rattle.kx_pages.proofs.Lists.{has-push}
 

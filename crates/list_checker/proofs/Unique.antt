@@ -7,7 +7,7 @@ use Rattle.kx_pages.specs.Bytes.{Mem}
 use Rattle.page_memory.specs.Memory.{word}
 use Rattle.kx_laws.proofs.Options.{some_same}
 use Rattle.list_checker.specs.Walk.{Reads, Walk}
-use Rattle.list_checker.specs.Laws.{OneWalk}
+use Rattle.list_checker.specs.inner.Laws.{OneWalk}
 use Rattle.list_checker.proofs.Checking.{decode-code}
 
 same_item : (w : ℕ) (i j : Item) → w ≡ code i → w ≡ code j → i ≡ j

@@ -7,11 +7,11 @@ use Rattle.std.proofs.lemmas.Bool.{true≢false, false≢true}
 use Rattle.kx_pages.specs.Bytes.{page_of}
 use Rattle.segments.specs.Values.{SegmentValue, want, pages}
 use Rattle.segments.proofs.Laws.{AreSegments-from_IsBare, pages_below, Has-from_want, want-from_Has}
-use Rattle.segments.specs.Rules.{IsBare}
+use Rattle.segments.specs.inner.Rules.{IsBare}
 use Rattle.list_checker.specs.declared.fault.Why.{Why}
 use Rattle.list_checker.specs.declared.fault.Why.TheVariants.{Missing}
 use Rattle.list_checker.specs.Faults.{same_bytes, are_wanted, is_wanted, first_of}
-use Rattle.list_checker.specs.Laws.{ListsWanted}
+use Rattle.list_checker.specs.inner.Laws.{ListsWanted}
 use Rattle.list_checker.proofs.Lists.{same_bytes-equal, equal-same_bytes}
 
 cases_le : (a b : ℕ) → (a ≤ b) ⊎ (b < a)

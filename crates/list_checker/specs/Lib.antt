@@ -1,7 +1,7 @@
 pub mod Walk
 pub mod Faults
-pub mod Laws
 pub mod Checked
 pub mod Reading
 pub mod Crash
 pub mod Texts
+pub mod inner

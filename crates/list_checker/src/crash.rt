@@ -3,7 +3,7 @@
 ghost use Rattle.std.specs.Prelude.{◌≡◌, ℕ, ◌+◌, ◌≤◌, ◌^◌, IfOk, IfErr, Some, not, leb, true, [], ◌∷◌};
 ghost use Rattle.page_memory.specs.Contents.{at};
 ghost use Rattle.segments.specs.Values.{want, pages};
-ghost use Rattle.segments.specs.Rules.{IsBare};
+ghost use Rattle.segments.specs.inner.Rules.{IsBare};
 ghost use Rattle.kx_pages.specs.Items.{decode};
 ghost use Rattle.list_checker.specs.Faults.{first_of};
 ghost use Rattle.list_checker.specs.Crash.{AcceptedCrash, crash_reason};

@@ -9,7 +9,7 @@ ghost use Rattle.kx_pages.specs.Lists.{has};
 ghost use Rattle.list_checker.specs.Faults as spec;
 ghost use Rattle.list_checker.specs.Faults.{nothing_earlier};
 ghost use Rattle.kx_pages.specs.Modes.{swap_page};
-ghost use Rattle.list_checker.specs.Checked.{Shows, Fits, is_among};
+ghost use Rattle.list_checker.specs.inner.Checked.{Shows, Fits, is_among};
 
 use crate::missing::first_outside;
 use kx_pages::{Item, Mode, Page};

@@ -1,7 +1,7 @@
 //! Why a list is not accepted.
 
 ghost use Rattle.std.specs.Prelude.{◌≡◌};
-ghost use Rattle.list_checker.specs.Texts.{cause_text};
+ghost use Rattle.list_checker.specs.inner.Texts.{cause_text};
 
 use kx_pages::Page;
 use std::alloc::{AllocError, AllocFailed};

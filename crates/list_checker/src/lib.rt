@@ -5,7 +5,7 @@
 //! what it is to have, or the first word that has a fault, and why.
 #![tactic(auto)]
 
-ghost use Rattle.list_checker.specs.Laws.{CheckExact, CheckEnds, OneWalk};
+ghost use Rattle.list_checker.specs.inner.Laws.{CheckExact, CheckEnds, OneWalk};
 
 mod crash;
 mod earlier;

@@ -1,8 +1,8 @@
 //! Checking a list in a memory.
 
 ghost use Rattle.std.specs.Prelude.{◌≡◌, ℕ, ◌+◌, ◌<◌, ◌^◌, IfOk, IfErr};
-ghost use Rattle.segments.specs.Rules.{IsBare};
-ghost use Rattle.list_checker.specs.Checked.{IsAccept, IsCheckFault};
+ghost use Rattle.segments.specs.inner.Rules.{IsBare};
+ghost use Rattle.list_checker.specs.inner.Checked.{IsAccept, IsCheckFault};
 
 use crate::earlier::{Accept, Earlier};
 use crate::fault::{CheckFault, ListFault};

@@ -6,7 +6,8 @@ ghost use Rattle.page_memory.specs.Contents.{at};
 ghost use Rattle.list_checker.specs.Faults as spec;
 ghost use Rattle.kx_pages.specs.Lists.{has};
 ghost use Rattle.list_checker.specs.Faults.{why_by, walk_reasons, first_of};
-ghost use Rattle.list_checker.specs.Reading.{IsWalk, ShowsLinks, IsFollowed, FitsLinks};
+ghost use Rattle.list_checker.specs.Reading.{IsWalk};
+ghost use Rattle.list_checker.specs.inner.Reading.{ShowsLinks, IsFollowed, FitsLinks};
 
 use crate::fault::{ListFault, Why};
 use crate::reasons::{following, place_reason};

@@ -3,13 +3,13 @@
 ghost use Rattle.std.specs.Prelude.{◌≡◌, ◌≢◌, ℕ, ◌+◌, ◌*◌, ◌/◌, ◌%◌, ◌<◌, ◌^◌, IsTrue, IfSome, MatchResult, Option, Some, None, true, false, not, ◌||◌, ◌&&◌, ◌==◌};
 ghost use Rattle.page_memory.specs.Contents.{at};
 ghost use Rattle.segments.specs.Values.{want, pages};
-ghost use Rattle.segments.specs.Rules.{IsBare};
+ghost use Rattle.segments.specs.inner.Rules.{IsBare};
 ghost use Rattle.kx_pages.specs.Items.{decode};
 ghost use Rattle.kx_pages.specs.Lists.{has, destinations, sources};
 ghost use Rattle.list_checker.specs.Faults as spec;
 ghost use Rattle.kx_pages.specs.Modes.{swap_page};
 ghost use Rattle.list_checker.specs.Faults.{first_of, is_swap, is_wanted, are_wanted};
-ghost use Rattle.list_checker.specs.Checked.{Shows, why_refused, reasons_of_pair, reasons_of_link, reasons_of_place, reasons_of_done, reasons_of_source, IsJudged, Leads, IsPlace};
+ghost use Rattle.list_checker.specs.inner.Checked.{Shows, why_refused, reasons_of_pair, reasons_of_link, reasons_of_place, reasons_of_done, reasons_of_source, IsJudged, Leads, IsPlace};
 
 use crate::earlier::Earlier;
 use crate::fault::Why;

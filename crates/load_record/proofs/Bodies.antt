@@ -9,7 +9,8 @@ use Rattle.std.proofs.lemmas.Slice.Eq.{bytes_eq-Decides}
 use Rattle.sha2.proofs.Facts256.{length-sha256}
 use Rattle.kx_fields.specs.Fields.{AreBytes, zeros}
 use Rattle.kx_fields.proofs.Fields.{AreBytes-drop}
-use Rattle.kx_fields.specs.Formats.{IsFormat, read, written}
+use Rattle.kx_fields.specs.Formats.{read, written}
+use Rattle.kx_fields.specs.inner.Formats.{IsFormat}
 use Rattle.kx_fields.proofs.Bytes.{AreBytes-take, AreBytes-zeros, length-zeros}
 use Rattle.kx_fields.proofs.Formats.{length-written, written_behind, front_read, front_dropped}
 use Rattle.kx_laws.specs.Results.{◌>>=◌}
@@ -17,7 +18,7 @@ use Rattle.kx_laws.proofs.Booleans.{not_false}
 use Rattle.kx_laws.proofs.Lists.{take_front, drop_front}
 use Rattle.kx_laws.proofs.Results.{bind_ok, guard_ok, ok_same}
 use Rattle.segments.specs.Values.{SegmentValue}
-use Rattle.segments.specs.Shape.{IsPlaced}
+use Rattle.segments.specs.inner.Shape.{IsPlaced}
 use Rattle.load_record.specs.declared.fault.RecFault.{RecFault}
 use Rattle.load_record.specs.declared.fault.RecFault.TheVariants as faults
 use Rattle.load_record.specs.declared.body.SegmentHead.{SegmentHead}

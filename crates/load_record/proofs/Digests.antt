@@ -8,7 +8,7 @@ use Rattle.sha2.specs.Sha256.{sha256}
 use Rattle.segments.specs.Values.{SegmentValue}
 use Rattle.load_record.specs.declared.version.Version.{Version}
 use Rattle.load_record.specs.declared.version.Version.TheVariants.{First, Second}
-use Rattle.load_record.specs.File.{made_digest, made_digests, digests_of}
+use Rattle.load_record.specs.inner.File.{made_digest, made_digests, digests_of}
 use Rattle.kx_laws.proofs.Lists.{drop_at}
 
 pub none_made : (v : Version) → [] ≡ made_digests v []

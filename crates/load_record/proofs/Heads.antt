@@ -5,7 +5,8 @@ use Rattle.std.proofs.lemmas.Bool.Decides.{nat_tests}
 use Rattle.std.proofs.lemmas.Bool.{or_parts, ltb-false}
 use Rattle.std.proofs.lemmas.List.{length-append}
 use Rattle.kx_fields.specs.Fields.{AreBytes}
-use Rattle.kx_fields.specs.Formats.{IsFormat, blank, read}
+use Rattle.kx_fields.specs.Formats.{blank, read}
+use Rattle.kx_fields.specs.inner.Formats.{IsFormat}
 use Rattle.kx_fields.proofs.Bytes.{AreBytes-from_test}
 use Rattle.kx_fields.proofs.Formats.{AreBytes-blank, length-blank, length-written, blank_begins, blank_spelled, front_read, front_dropped}
 use Rattle.kx_laws.specs.Results.{◌>>=◌, unless}
@@ -17,7 +18,8 @@ use Rattle.load_record.specs.declared.fault.RecFault.TheVariants as faults
 use Rattle.load_record.specs.declared.head.Head.{Head}
 use Rattle.load_record.specs.declared.version.Version.{Version}
 use Rattle.load_record.specs.declared.version.Version.TheVariants.{First, Second}
-use Rattle.load_record.specs.Head.{magic, has_magic, version_of, head_format, head_text, head_fault, IsInRange, is_bad_mode, is_bad_page}
+use Rattle.load_record.specs.Head.{magic, has_magic, version_of, head_format, head_text, head_fault, is_bad_mode, is_bad_page}
+use Rattle.load_record.specs.inner.Head.{IsInRange}
 use Rattle.load_record.specs.File.{read_head, tested_head}
 
 pub head_is : IsFormat 96 head_format

@@ -20,8 +20,10 @@ use Rattle.segments.specs.declared.fault.SegFault.{SegFault}
 use Rattle.load_record.specs.declared.head.Head.{Head}
 use Rattle.load_record.specs.declared.version.Version.{Version}
 use Rattle.load_record.specs.declared.version.Version.TheVariants.{First, Second}
-use Rattle.load_record.specs.Head.{magic, has_magic, version_of, head_text, head_fault, IsInRange}
-use Rattle.load_record.specs.File.{Record, HasPages, IsWritable, mode_number, swap_address, head_of_record, record_of, segment_text, record_text, tested_head, tested_segments, record_by, record_reading}
+use Rattle.load_record.specs.Head.{magic, has_magic, version_of, head_text, head_fault}
+use Rattle.load_record.specs.inner.Head.{IsInRange}
+use Rattle.load_record.specs.File.{Record, mode_number, swap_address, head_of_record, record_of, segment_text, record_text, tested_head, tested_segments, record_by, record_reading}
+use Rattle.load_record.specs.inner.File.{HasPages, IsWritable}
 use Rattle.load_record.proofs.Heads.{IsGood, good_head, no_fault_of, head_spelled, head_found, magic_first, version_again, head_tested_text, behind_head}
 use Rattle.load_record.proofs.Bodies.{tested_spelled, tested_back, segment_ranges}
 

@@ -6,10 +6,11 @@ ghost use Rattle.std.specs.Option.{option_or, option_to_list};
 ghost use Rattle.sha2.specs.Sha256.{sha256};
 ghost use Rattle.kx_fields.specs.Fields.{zeros};
 ghost use Rattle.kx_fields.specs.Formats.{read, written};
-ghost use Rattle.kx_laws.specs.Results.{Gives};
+ghost use Rattle.kx_laws.specs.inner.Results.{Gives};
 ghost use Rattle.load_record.specs.declared.version.Version.TheVariants.{Second};
-ghost use Rattle.load_record.specs.File.{made_digest, digest_size, made_digests, digests_of, file_segment, head_of_segment, is_wrong, record_file, segment_at, segment_format, segment_of, segment_text, keep_segments, tested_segments, without_wrong};
-ghost use Rattle.kx_laws.specs.Cuts.{IsCutAt};
+ghost use Rattle.load_record.specs.File.{digest_size, file_segment, head_of_segment, is_wrong, record_file, segment_at, segment_format, segment_of, segment_text, tested_segments, without_wrong};
+ghost use Rattle.load_record.specs.inner.File.{made_digest, made_digests, digests_of, keep_segments};
+ghost use Rattle.kx_laws.specs.inner.Cuts.{IsCutAt};
 
 use crate::fault::RecFault;
 use crate::load::LoadRecord;

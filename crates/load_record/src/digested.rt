@@ -1,10 +1,11 @@
 //! A load record with the digests of its segments.
 
 ghost use Rattle.std.specs.Prelude.{◌≡◌, ◌<◌, ◌++◌, length, Some, Ok, IfOk, IfSome};
-ghost use Rattle.kx_laws.specs.Cuts.{IsCutAt};
-ghost use Rattle.kx_laws.specs.Results.{Gives};
+ghost use Rattle.kx_laws.specs.inner.Cuts.{IsCutAt};
+ghost use Rattle.kx_laws.specs.inner.Results.{Gives};
 ghost use Rattle.load_record.specs.Head.{version_of};
-ghost use Rattle.load_record.specs.File.{IsWritable, digest_at, digests_of, record_file, record_reading, record_text};
+ghost use Rattle.load_record.specs.File.{record_file, record_reading, record_text};
+ghost use Rattle.load_record.specs.inner.File.{IsWritable, digest_at, digests_of};
 
 use crate::body::{give_segments, room_of};
 use crate::fault::RecFault;
@@ -25,7 +26,8 @@ pub struct DigestedRecord {
 
 impl Model for DigestedRecord {
     ghost use Rattle.std.specs.Prelude.{◌≡◌};
-    ghost use Rattle.load_record.specs.File.{Record, digests_of};
+    ghost use Rattle.load_record.specs.File.{Record};
+    ghost use Rattle.load_record.specs.inner.File.{digests_of};
 
     ghost Value = { Record };
 

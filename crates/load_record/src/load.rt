@@ -2,11 +2,12 @@
 
 ghost use Rattle.std.specs.Prelude.{◌≡◌, ◌<◌, ◌≤◌, ◌++◌, length, None, Ok, IfOk, IfSome};
 ghost use Rattle.kx_fields.specs.Fields.{AreBytes};
-ghost use Rattle.kx_laws.specs.Results.{Gives};
+ghost use Rattle.kx_laws.specs.inner.Results.{Gives};
 ghost use Rattle.segments.specs.Rules.{bare_refusal};
 ghost use Rattle.load_record.specs.Head.{head_fault, version_of};
-ghost use Rattle.load_record.specs.File.{IsWritable, digests_of, record_reading, record_file, record_text, record_by};
-ghost use Rattle.kx_laws.specs.Cuts.{IsCutAt};
+ghost use Rattle.load_record.specs.File.{record_reading, record_file, record_text, record_by};
+ghost use Rattle.load_record.specs.inner.File.{IsWritable, digests_of};
+ghost use Rattle.kx_laws.specs.inner.Cuts.{IsCutAt};
 
 use crate::body::{put_in_front, put_segments, read_segments, room_of, take_segments};
 use crate::digested::DigestedRecord;

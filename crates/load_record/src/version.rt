@@ -2,7 +2,8 @@
 
 ghost use Rattle.std.specs.Prelude.{◌≡◌, ◌+◌, length};
 ghost use Rattle.load_record.specs.Head.{version_of};
-ghost use Rattle.load_record.specs.File.{made_digest, digest_size, is_wrong};
+ghost use Rattle.load_record.specs.File.{digest_size, is_wrong};
+ghost use Rattle.load_record.specs.inner.File.{made_digest};
 
 use sha2::{Digest, Sha256};
 

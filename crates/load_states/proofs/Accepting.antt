@@ -5,15 +5,18 @@ use Rattle.std.specs.Prelude.{◌⊎◌, IsSome, map}
 use Rattle.kx_pages.specs.Lists.{Has}
 use Rattle.kx_pages.proofs.Lists.{Each-at}
 use Rattle.kx_pages.specs.Modes.{swap_page}
-use Rattle.page_memory.specs.Contents.{IsHeld}
+use Rattle.page_memory.specs.inner.Contents.{IsHeld}
 use Rattle.list_checker.specs.declared.earlier.Accept.{Accept}
-use Rattle.list_checker.specs.Checked.{as_pair, IsAccept}
+use Rattle.list_checker.specs.Checked.{as_pair}
+use Rattle.list_checker.specs.inner.Checked.{IsAccept}
 use Rattle.load_states.specs.declared.accepted.Accepted.{Accepted}
 use Rattle.load_states.specs.declared.accepted.Accepted.TheVariants as variants
-use Rattle.load_states.specs.States.{Checked, IsLeftAs, Load, checked_of}
-use Rattle.load_states.specs.Ready.{Told, written_pages}
-use Rattle.load_states.specs.Answers.{HoldsForRun, HoldsNoOther, IsAcceptedAs, IsMadeOf}
-use Rattle.load_states.specs.Runs.{checked_in}
+use Rattle.load_states.specs.States.{Checked, Load}
+use Rattle.load_states.specs.inner.States.{IsLeftAs, checked_of}
+use Rattle.load_states.specs.Ready.{Told}
+use Rattle.load_states.specs.inner.Ready.{written_pages}
+use Rattle.load_states.specs.inner.Answers.{HoldsForRun, HoldsNoOther, IsAcceptedAs, IsMadeOf}
+use Rattle.load_states.specs.inner.Runs.{checked_in}
 use Rattle.load_states.proofs.Alike.{told_left}
 use Rattle.load_states.proofs.Ready.{told_of}
 

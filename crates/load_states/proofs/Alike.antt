@@ -9,11 +9,12 @@ use Rattle.list_checker.specs.Walk.{IsAccepted, links, pairs}
 use Rattle.list_checker.proofs.Unique.{walk_same}
 use Rattle.load_states.specs.Exchange.{exchange}
 use Rattle.load_states.specs.Ready.{Told}
-use Rattle.load_states.specs.Runs.{TellsAlike, checked_in}
-use Rattle.load_states.specs.Answers.{IsAcceptedAs}
+use Rattle.load_states.specs.inner.Runs.{TellsAlike, checked_in}
+use Rattle.load_states.specs.inner.Answers.{IsAcceptedAs}
 use Rattle.load_states.specs.declared.accepted.Accepted.{Accepted}
 use Rattle.load_states.specs.declared.accepted.Accepted.TheVariants as variants
-use Rattle.load_states.specs.States.{Checked, IsLeftAs, Load, swap_of}
+use Rattle.load_states.specs.States.{Checked, Load, swap_of}
+use Rattle.load_states.specs.inner.States.{IsLeftAs}
 use Rattle.load_states.proofs.Outside.{walk_in}
 use Rattle.kx_pages.specs.Modes.{swap_page}
 use Rattle.kx_pages.proofs.Bytes.{same_memory}

@@ -6,21 +6,24 @@ use Rattle.std.proofs.lemmas.Bool.Decides.{nat_tests}
 use Rattle.std.proofs.lemmas.Nat.Bits.{and_pow}
 use Rattle.kx_pages.specs.declared.image.Mode.{Mode}
 use Rattle.kx_pages.specs.declared.image.Mode.TheVariants.{Plain, Kept}
-use Rattle.page_memory.specs.Contents.{Contents, at, copy_page, IsHeld}
+use Rattle.page_memory.specs.Contents.{Contents, at, copy_page}
+use Rattle.page_memory.specs.inner.Contents.{IsHeld}
 use Rattle.page_memory.proofs.Laws.{frame_at-insert_same, frame_at-insert_other, held-insert, word-same_page}
 use Rattle.relocate_machine.specs.declared.step.Step.{Step}
 use Rattle.relocate_machine.specs.declared.step.Step.TheVariants as steps
 use Rattle.relocate_machine.specs.declared.step.Outcome.TheVariants as outcomes
 use Rattle.relocate_machine.specs.declared.word.WordKind.TheVariants as kinds
 use Rattle.relocate_machine.specs.Machine.{State, after_move, kind_of, start_at, step_of, word_address}
-use Rattle.relocate_machine.specs.Writes.{AreHeld, HoldsWrites, move_writes, writes_of}
-use Rattle.relocate_machine.specs.Run.{run_from, run_after, HeldFrom, HeldAfter}
+use Rattle.relocate_machine.specs.inner.Writes.{AreHeld, HoldsWrites, move_writes, writes_of}
+use Rattle.relocate_machine.specs.Run.{run_from, run_after}
+use Rattle.relocate_machine.specs.inner.Run.{HeldFrom, HeldAfter}
 use Rattle.kx_pages.specs.declared.item.Item.{Item}
 use Rattle.kx_pages.specs.declared.item.Item.TheVariants.{Link, Destination, Source, Done}
 use Rattle.kx_pages.specs.Items.{code}
 use Rattle.kx_pages.specs.Lists.{Has}
 use Rattle.kx_pages.specs.Bytes.{Mem, Wants}
-use Rattle.page_memory.specs.Memory.{word, copied_page}
+use Rattle.page_memory.specs.Memory.{word}
+use Rattle.page_memory.specs.inner.Memory.{copied_page}
 use Rattle.list_checker.specs.Walk.{Reads, Walk, links, pairs_from, pairs, Accepted, AcceptedKept}
 use Rattle.segments.specs.Values.{overlay}
 use Rattle.load_states.specs.Exchange.{exchange}

@@ -6,10 +6,11 @@ use Rattle.kx_laws.proofs.Options.{some_of}
 use Rattle.kx_pages.specs.Lists.{Has, count, sources}
 use Rattle.kx_pages.specs.declared.image.Wish.{Wish}
 use Rattle.segments.specs.Values.{SegmentValue, is_destination, need, pages}
-use Rattle.segments.specs.Shape.{AreSegments}
+use Rattle.segments.specs.inner.Shape.{AreSegments}
 use Rattle.segments.proofs.Laws.{Has-from_is_destination, Distinct-pages}
-use Rattle.kimage_list.specs.Load.{Loading, Request, begun, give_page, pages_of, requests, serve}
-use Rattle.kimage_list.specs.Counted.{Allowed}
+use Rattle.kimage_list.specs.Load.{Loading, Request, begun, give_page, requests, serve}
+use Rattle.kimage_list.specs.inner.Load.{pages_of}
+use Rattle.kimage_list.specs.inner.Counted.{Allowed}
 use Rattle.kimage_list.proofs.Counting.{Full, full_on, counted_fit}
 use Rattle.kimage_list.proofs.Enough.{has_of_count, taken_some}
 use Rattle.kimage_list.proofs.Lists.{eqb-self}
@@ -17,7 +18,8 @@ use Rattle.kimage_list.proofs.Parts.{served-append}
 use Rattle.kimage_list.proofs.Standings.{length-entries, one_served}
 use Rattle.kimage_list.proofs.Takes.{others, wished}
 use Rattle.kx_pages.proofs.Lists.{length-sources}
-use Rattle.load_states.specs.Loads.{LoadsExactly, entries_of, loading_of}
+use Rattle.load_states.specs.Loads.{entries_of, loading_of}
+use Rattle.load_states.specs.inner.Loads.{LoadsExactly}
 use Rattle.load_states.proofs.FillSteps.{need_same, starts-entries_of}
 use Rattle.load_states.proofs.LaidAccepted.{others_in, served_well, wished_in}
 use Rattle.load_states.proofs.LaidPlan.{pages_of-entries_of}

@@ -13,11 +13,12 @@ use Rattle.kx_pages.specs.declared.image.Wish.TheVariants.{Plain, Kept}
 use Rattle.page_memory.specs.Contents.{Contents, at}
 use Rattle.kx_pages.specs.Bytes.{Mem}
 use Rattle.segments.specs.Values.{SegmentValue, is_destination, want, page_count, pages_of_segment, pages, need}
-use Rattle.segments.specs.Shape.{AreSegments}
+use Rattle.segments.specs.inner.Shape.{AreSegments}
 use Rattle.segments.proofs.Laws.{is_destination-from_Has, Has-from_is_destination, Distinct-pages, pages-append}
-use Rattle.kimage_list.specs.Load.{Entry, Start, Move, page_entries, pages_of, starts}
-use Rattle.kimage_list.specs.Writers.{Writer, StandsAt, IsAwaited, with_destination, with_source, with_bytes, destination_after, pages_in}
-use Rattle.kimage_list.specs.Calls.{load_begun}
+use Rattle.kimage_list.specs.Load.{Entry, Start, Move, page_entries}
+use Rattle.kimage_list.specs.inner.Load.{pages_of, starts}
+use Rattle.kimage_list.specs.inner.Writers.{Writer, StandsAt, IsAwaited, with_destination, with_source, with_bytes, destination_after, pages_in}
+use Rattle.kimage_list.specs.inner.Calls.{load_begun}
 use Rattle.kimage_list.proofs.Counting.{counted_fit}
 use Rattle.kimage_list.proofs.Entering.{pages_of-start, pages_of-move}
 use Rattle.kimage_list.proofs.Spanned.{length-pages_in, has-pages_in, each-pages_in, pages-once}
@@ -25,7 +26,7 @@ use Rattle.kimage_list.proofs.Segmented.{starts-page_entries, after-page_entries
 use Rattle.kimage_list.proofs.Awaiting.{awaited_exactly}
 use Rattle.kimage_list.proofs.Standings.{starts-append, after-append}
 use Rattle.load_states.specs.Loads.{entries_of}
-use Rattle.load_states.specs.Fillings.{Fills, FillsFrom}
+use Rattle.load_states.specs.inner.Fillings.{Fills, FillsFrom}
 use Rattle.load_states.proofs.LaidPlan.{pages_of-entries_of, pages_of-append, pages_of-range}
 use Rattle.kx_pages.proofs.Lists.{Each-from_Has, Has-left, Has-right, Has-either, Has-range, range-Has, Each-map}
 use Rattle.kx_pages.proofs.Counting.{count-append, count-from_Has}

@@ -4,9 +4,9 @@ use Rattle.kx_pages.specs.declared.image.Wish.{Wish}
 use Rattle.kx_pages.specs.Bytes.{Mem}
 use Rattle.segments.specs.Values.{SegmentValue}
 use Rattle.kimage_list.specs.Load.{Entry, Move}
-use Rattle.kimage_list.specs.Writers.{History, Writer, StandsAt, with_destination, destination_after}
+use Rattle.kimage_list.specs.inner.Writers.{History, Writer, StandsAt, with_destination, destination_after}
 use Rattle.load_states.specs.Loads.{entries_of}
-use Rattle.load_states.specs.Fillings.{Fills}
+use Rattle.load_states.specs.inner.Fillings.{Fills}
 use Rattle.load_states.proofs.FillSteps.{so_far, so_far-start, so_far-more, so_far-goes, start_filled}
 
 -- segment i is written up to this page: some load stands there, and so does each load that stood before the segment

@@ -5,10 +5,11 @@ use Rattle.std.specs.Prelude.{All, Result, Ok, Err, OnOk}
 use Rattle.kx_pages.specs.declared.image.Mode.{Mode}
 use Rattle.kx_pages.specs.declared.image.Mode.TheVariants.{Plain, Kept}
 use Rattle.kx_pages.specs.Lists.{destinations, sources}
-use Rattle.page_memory.specs.Contents.{Contents, IsHeld}
-use Rattle.kimage_list.specs.Held.{HoldSame}
-use Rattle.relocate_machine.specs.Writes.{AreHeld, move_writes}
-use Rattle.load_states.specs.Ready.{written_pages}
+use Rattle.page_memory.specs.Contents.{Contents}
+use Rattle.page_memory.specs.inner.Contents.{IsHeld}
+use Rattle.kimage_list.specs.inner.Held.{HoldSame}
+use Rattle.relocate_machine.specs.inner.Writes.{AreHeld, move_writes}
+use Rattle.load_states.specs.inner.Ready.{written_pages}
 use Rattle.kx_pages.proofs.Lists.{Each-left, Each-right}
 use Rattle.kx_pages.proofs.Lists.{Each-from_All}
 

@@ -13,9 +13,11 @@ use Rattle.kx_pages.specs.declared.image.Wish.{Wish}
 use Rattle.kx_pages.specs.declared.image.Wish.TheVariants.{Plain, Kept}
 use Rattle.kx_pages.specs.Bytes.{Mem, Wants}
 use Rattle.list_checker.specs.Walk.{links, pairs_from, pairs, DestinationFirst, InOrder, PairsApart, Accepted, AcceptedKept}
-use Rattle.kimage_list.specs.Load.{Loading, Request, Entry, Start, Move, begun, pages_of, own_request, requests_from, requests, loading_after}
-use Rattle.kimage_list.specs.Laying.{Holds, items, chain, link_pages, source_pages, put_all, lay, head_of, control_of, swap_of, list_of}
-use Rattle.kimage_list.specs.Drafts.{one, IsHome}
+use Rattle.kimage_list.specs.Load.{Loading, Request, Entry, Start, Move, begun, own_request, requests_from, requests, loading_after}
+use Rattle.kimage_list.specs.inner.Load.{pages_of}
+use Rattle.kimage_list.specs.Laying.{items, chain, link_pages, source_pages, put_all, lay, head_of, control_of, swap_of, list_of}
+use Rattle.kimage_list.specs.inner.Laying.{Holds}
+use Rattle.kimage_list.specs.inner.Drafts.{one, IsHome}
 use Rattle.kimage_list.proofs.Lists.{keys, holds_all, keys-append, keys-link_pages, keys-source_pages, length-items, heads_same, nil_cons}
 use Rattle.kimage_list.proofs.Takes.{Sound, wished, others, served_sound}
 use Rattle.load_states.proofs.LaidWords.{IsMove, lead, walks}

@@ -4,10 +4,12 @@ use Rattle.std.specs.List.{range_with_len, AllByRecursion}
 use Rattle.kx_pages.specs.Lists.{Has, count}
 use Rattle.kx_pages.specs.declared.image.Wish.TheVariants.{Plain, Kept}
 use Rattle.segments.specs.Values.{SegmentValue, is_destination, want, page_count, pages_of_segment, pages}
-use Rattle.segments.specs.Shape.{AreSegments, IsPlaced}
+use Rattle.segments.specs.inner.Shape.{AreSegments, IsPlaced}
 use Rattle.segments.proofs.Laws.{is_destination-from_Has, want-from_Has, Has-from_want, Distinct-pages}
-use Rattle.kimage_list.specs.Load.{Entry, Start, Move, page_entries, pages_of}
-use Rattle.load_states.specs.Loads.{entries_of, LoadIsAccepted}
+use Rattle.kimage_list.specs.Load.{Entry, Start, Move, page_entries}
+use Rattle.kimage_list.specs.inner.Load.{pages_of}
+use Rattle.load_states.specs.Loads.{entries_of}
+use Rattle.load_states.specs.inner.Loads.{LoadIsAccepted}
 use Rattle.load_states.proofs.LaidAccepted.{Follows, Begins, Plan, plain_accepted, kept_accepted}
 use Rattle.kx_pages.proofs.Lists.{Each-from_Has}
 use Rattle.kx_pages.proofs.Counting.{count-from_Distinct}

@@ -12,7 +12,8 @@ use Rattle.kx_pages.specs.Items.{code}
 use Rattle.kx_pages.specs.declared.item.Item.{Item}
 use Rattle.kx_pages.specs.declared.item.Item.TheVariants.{Link, Destination, Source, Done}
 use Rattle.list_checker.specs.Walk.{Reads, Walk}
-use Rattle.kimage_list.specs.Laying.{chain, in_bytes, link_pages, Holds}
+use Rattle.kimage_list.specs.Laying.{chain, in_bytes, link_pages}
+use Rattle.kimage_list.specs.inner.Laying.{Holds}
 use Rattle.kimage_list.proofs.Words.{length-in_bytes, page-split}
 use Rattle.kx_pages.proofs.Lists.{Each-drop, Each-take}
 

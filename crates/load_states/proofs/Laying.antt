@@ -6,15 +6,17 @@ use Rattle.std.proofs.lemmas.Bool.{false≢true, or_cases}
 use Rattle.std.proofs.lemmas.Bool.Decides.{nat_tests, eqb_tells}
 use Rattle.std.proofs.lemmas.Option.{none-some, slice_get-get_or}
 use Rattle.std.proofs.lemmas.List.Folds.{Any-from_list_any}
-use Rattle.kx_pages.specs.Spans.{Run, in_span, in_spans, IsMaximal}
+use Rattle.kx_pages.specs.Spans.{Run, in_span, in_spans}
+use Rattle.kx_pages.specs.inner.Spans.{IsMaximal}
 use Rattle.kx_pages.specs.Lists.{Has}
 use Rattle.kx_pages.proofs.Lists.{Each-at, Each-from_All, Has-left, Has-right, Has-either, Has-range, range-Has}
 use Rattle.kx_pages.specs.Bytes.{Mem}
-use Rattle.page_memory.specs.Contents.{Contents, IsHeld, at, after_set}
+use Rattle.page_memory.specs.Contents.{Contents, at}
+use Rattle.page_memory.specs.inner.Contents.{IsHeld, after_set}
 use Rattle.page_memory.proofs.Laws.{frame_at-insert_same, frame_at-insert_other, held-insert_only}
 use Rattle.segments.specs.Values.{SegmentValue, want, overlay}
 use Rattle.kx_laws.proofs.Options.{some_same}
-use Rattle.load_states.specs.Laying.{Lays, pages_of_spans}
+use Rattle.load_states.specs.inner.Laying.{Lays, pages_of_spans}
 
 pub lays_more : (S : List SegmentValue) (M N L : Mem) → Lays S M N → Lays S N L → Lays S M L
 lays_more S M N L h k q = ⊎_elim

@@ -5,7 +5,8 @@ use Rattle.std.specs.Prelude.{◌≢◌, cond, eqb, unwrap_or}
 use Rattle.kx_pages.specs.declared.image.Mode.{Mode}
 use Rattle.kx_pages.specs.declared.image.Mode.TheVariants.{Plain, Kept}
 use Rattle.kx_pages.specs.Bytes.{Mem, Wants}
-use Rattle.page_memory.specs.Memory.{copied_page, put}
+use Rattle.page_memory.specs.Memory.{put}
+use Rattle.page_memory.specs.inner.Memory.{copied_page}
 use Rattle.kx_pages.specs.Lists.{Has, destinations}
 use Rattle.list_checker.specs.Walk.{InOrder}
 use Rattle.segments.specs.Values.{overlay}

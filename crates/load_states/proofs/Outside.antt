@@ -17,9 +17,11 @@ use Rattle.list_checker.specs.Walk.{Walk, IsAccepted, pairs, pairs_from}
 use Rattle.list_checker.proofs.Unique.{walk_same}
 use Rattle.load_states.specs.Fillings.{IsSealed}
 use Rattle.load_states.specs.Loads.{entries_of}
-use Rattle.load_states.specs.Ready.{IsToGoBack, Told}
-use Rattle.load_states.specs.Runs.{RestoresOthers}
-use Rattle.load_states.specs.States.{Checked, Load, Returned, swap_of}
+use Rattle.load_states.specs.Ready.{Told}
+use Rattle.load_states.specs.inner.Ready.{IsToGoBack}
+use Rattle.load_states.specs.inner.Runs.{RestoresOthers}
+use Rattle.load_states.specs.States.{Checked, Load, swap_of}
+use Rattle.load_states.specs.inner.States.{Returned}
 use Rattle.load_states.proofs.LaidAccepted.{pairs-chained, served_well}
 use Rattle.load_states.proofs.Ready.{Undoes, swap_is}
 use Rattle.kx_pages.proofs.Counting.{count-from_Has, count-at}

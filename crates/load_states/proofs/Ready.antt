@@ -5,28 +5,34 @@ use Rattle.std.specs.Prelude.{◌≢◌, IsSome, map, unwrap_or}
 use Rattle.kx_pages.specs.declared.item.Item.{Item}
 use Rattle.kx_pages.specs.declared.image.Mode.{Mode}
 use Rattle.kx_pages.specs.declared.image.Mode.TheVariants.{Plain, Kept}
-use Rattle.relocate_machine.specs.Writes.{AreHeld, move_writes}
+use Rattle.relocate_machine.specs.inner.Writes.{AreHeld, move_writes}
 use Rattle.kx_pages.specs.Lists.{Has, destinations, sources}
-use Rattle.page_memory.specs.Contents.{Contents, at, IsHeld, after_set}
+use Rattle.page_memory.specs.Contents.{Contents, at}
+use Rattle.page_memory.specs.inner.Contents.{IsHeld, after_set}
 use Rattle.page_memory.proofs.Laws.{frame_at-insert_other, held-insert}
 use Rattle.std.proofs.lemmas.Option.{none-some}
 use Rattle.kx_pages.specs.Bytes.{Mem}
 use Rattle.segments.specs.Values.{SegmentValue, want, overlay}
-use Rattle.segments.specs.Rules.{IsBare}
+use Rattle.segments.specs.inner.Rules.{IsBare}
 use Rattle.segments.proofs.Laws.{AreSegments-from_IsBare, Has-from_want, pages_below}
 use Rattle.list_checker.specs.declared.earlier.Accept.{Accept}
 use Rattle.list_checker.specs.Walk.{Accepted, AcceptedKept, PairsApart, IsAccepted, links, pairs}
-use Rattle.list_checker.specs.Checked.{as_pair, IsAccept}
-use Rattle.load_states.specs.States.{CrashLoad, Load, Checked, checked_of, swap_of}
+use Rattle.list_checker.specs.Checked.{as_pair}
+use Rattle.list_checker.specs.inner.Checked.{IsAccept}
+use Rattle.load_states.specs.States.{CrashLoad, Load, Checked, swap_of}
+use Rattle.load_states.specs.inner.States.{checked_of}
 use Rattle.load_states.specs.Exchange.{exchange, partner}
 use Rattle.load_states.proofs.Exchange.{arrives, link_kept, link_unwanted, restores, returns, no_source_wanted, sources_get}
-use Rattle.load_states.specs.Runs.{CrashRunsTo, EndsAfter, RunsTo}
-use Rattle.load_states.specs.Ready.{Told, HoldsPairs, IsReadyPlain, IsKept, IsReadyKept, IsToGoBack}
+use Rattle.load_states.specs.Runs.{EndsAfter}
+use Rattle.load_states.specs.inner.Runs.{CrashRunsTo, RunsTo}
+use Rattle.load_states.specs.Ready.{Told}
+use Rattle.load_states.specs.inner.Ready.{HoldsPairs, IsReadyPlain, IsKept, IsReadyKept, IsToGoBack}
 use Rattle.load_states.proofs.Bridge.{Comes, plain_runs, kept_runs, done_runs, done_leaves}
 use Rattle.load_states.proofs.Holding.{Holds}
 use Rattle.kx_pages.specs.declared.image.Image.{Image}
 use Rattle.relocate_machine.specs.Machine.{start_at}
-use Rattle.relocate_machine.specs.Run.{HeldFrom, run_of}
+use Rattle.relocate_machine.specs.Run.{run_of}
+use Rattle.relocate_machine.specs.inner.Run.{HeldFrom}
 use Rattle.relocate_machine.specs.declared.step.Outcome.TheVariants as outcomes
 use Rattle.kx_pages.proofs.Lists.{Each-map, Each-both}
 use Rattle.kx_pages.specs.Modes.{swap_page}

@@ -10,17 +10,19 @@ use Rattle.kx_pages.specs.Bytes.{Mem}
 use Rattle.page_pool.specs.Pages.{usable_of}
 use Rattle.segments.specs.Values.{is_destination, want, pages, need}
 use Rattle.segments.proofs.Laws.{Has-from_is_destination, Has-from_want}
-use Rattle.kimage_list.specs.Load.{pages_of, starts, loading_after}
+use Rattle.kimage_list.specs.Load.{loading_after}
+use Rattle.kimage_list.specs.inner.Load.{pages_of, starts}
 use Rattle.kimage_list.specs.Laying.{list_of}
-use Rattle.kimage_list.specs.Writers.{History, StandsAt, IsAwaited}
-use Rattle.kimage_list.specs.Writers as writers
-use Rattle.kimage_list.specs.Calls.{IsWritten}
+use Rattle.kimage_list.specs.inner.Writers.{History, StandsAt, IsAwaited}
+use Rattle.kimage_list.specs.inner.Writers as writers
+use Rattle.kimage_list.specs.inner.Calls.{IsWritten}
 use Rattle.kimage_list.specs.declared.written.Written.{Written}
 use Rattle.kimage_list.proofs.Awaiting.{awaited_exactly}
 use Rattle.kimage_list.proofs.DrawnPools.{has_drawn}
 use Rattle.list_checker.specs.Walk.{IsAccepted}
 use Rattle.load_states.specs.Loads.{entries_of, loading_of, memory_of}
-use Rattle.load_states.specs.Fillings.{Fill, FillsFrom, IsSealed, left}
+use Rattle.load_states.specs.Fillings.{IsSealed}
+use Rattle.load_states.specs.inner.Fillings.{Fill, FillsFrom, left}
 use Rattle.load_states.proofs.LaidPlan.{pages_of-entries_of, load_is_accepted}
 use Rattle.load_states.proofs.FillSteps.{span_pages, need_same, starts-entries_of}
 use Rattle.kx_pages.proofs.Lists.{has-from_Has}

@@ -1,8 +1,7 @@
 pub mod Exchange
 pub mod States
 pub mod Ready
-pub mod Answers
 pub mod Loads
 pub mod Fillings
 pub mod Runs
-pub mod Laying
+pub mod inner

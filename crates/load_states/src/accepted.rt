@@ -3,16 +3,20 @@
 ghost use Rattle.std.specs.Prelude.{◌≡◌, ℕ, List, map, IsSome, Some};
 ghost use Rattle.std.specs.List.{AllByRecursion};
 ghost use Rattle.page_memory.specs.Contents.{at};
-ghost use Rattle.relocate_machine.specs.Writes.{AreHeld, move_writes};
+ghost use Rattle.relocate_machine.specs.inner.Writes.{AreHeld, move_writes};
 ghost use Rattle.segments.specs.Values.{overlay, want};
-ghost use Rattle.segments.specs.Rules.{IsBare};
+ghost use Rattle.segments.specs.inner.Rules.{IsBare};
 ghost use Rattle.kx_pages.specs.Modes.{swap_page};
-ghost use Rattle.list_checker.specs.Checked.{as_pair, IsAccept};
+ghost use Rattle.list_checker.specs.Checked.{as_pair};
+ghost use Rattle.list_checker.specs.inner.Checked.{IsAccept};
 ghost use Rattle.load_states.specs.Exchange.{exchange};
-ghost use Rattle.load_states.specs.States.{swap_of, with_memory, checked_of};
-ghost use Rattle.load_states.specs.Ready.{HoldsPairs, Told};
-ghost use Rattle.load_states.specs.Runs.{EndsAfter, RunsTo};
-ghost use Rattle.load_states.specs.Answers.{IsMadeOf};
+ghost use Rattle.load_states.specs.States.{swap_of, with_memory};
+ghost use Rattle.load_states.specs.inner.States.{checked_of};
+ghost use Rattle.load_states.specs.Ready.{Told};
+ghost use Rattle.load_states.specs.inner.Ready.{HoldsPairs};
+ghost use Rattle.load_states.specs.Runs.{EndsAfter};
+ghost use Rattle.load_states.specs.inner.Runs.{RunsTo};
+ghost use Rattle.load_states.specs.inner.Answers.{IsMadeOf};
 
 use crate::loaded::Loaded;
 use crate::ran::{RanKept, RanPlain};
@@ -55,8 +59,9 @@ pub struct AcceptedPlain {
 }
 
 impl Model for AcceptedPlain {
-    ghost use Rattle.load_states.specs.States.{Checked, checked_code, checked_of};
-    ghost use Rattle.load_states.specs.Ready.{IsReadyPlain};
+    ghost use Rattle.load_states.specs.States.{Checked};
+    ghost use Rattle.load_states.specs.inner.States.{checked_code, checked_of};
+    ghost use Rattle.load_states.specs.inner.Ready.{IsReadyPlain};
 
     ghost Value = { Checked };
 
@@ -131,8 +136,9 @@ pub struct AcceptedKept {
 }
 
 impl Model for AcceptedKept {
-    ghost use Rattle.load_states.specs.States.{Checked, checked_code, checked_of};
-    ghost use Rattle.load_states.specs.Ready.{IsReadyKept};
+    ghost use Rattle.load_states.specs.States.{Checked};
+    ghost use Rattle.load_states.specs.inner.States.{checked_code, checked_of};
+    ghost use Rattle.load_states.specs.inner.Ready.{IsReadyKept};
 
     ghost Value = { Checked };
 

@@ -1,11 +1,12 @@
 //! Crash kernels, which lie in their place from the load on.
 
 ghost use Rattle.std.specs.Prelude.{◌≡◌, ◌⊎◌, ◌↔◌, ℕ, true, IfOk, IfErr};
-ghost use Rattle.page_memory.specs.Contents.{at, IsHeld};
+ghost use Rattle.page_memory.specs.Contents.{at};
+ghost use Rattle.page_memory.specs.inner.Contents.{IsHeld};
 ghost use Rattle.segments.specs.Values.{is_destination, want, overlay, pages};
 ghost use Rattle.kx_pages.specs.Items.{decode};
 ghost use Rattle.list_checker.specs.Crash.{AcceptedCrash as IsAcceptedCrash, crash_reason};
-ghost use Rattle.load_states.specs.Runs.{CrashRunsTo};
+ghost use Rattle.load_states.specs.inner.Runs.{CrashRunsTo};
 
 use crate::lay::{hold_set, lay_set};
 use crate::ran::RanPlain;
@@ -29,7 +30,8 @@ pub struct CrashLoaded {
 }
 
 impl Model for CrashLoaded {
-    ghost use Rattle.load_states.specs.States.{CrashLoad, crash_code};
+    ghost use Rattle.load_states.specs.States.{CrashLoad};
+    ghost use Rattle.load_states.specs.inner.States.{crash_code};
 
     ghost Value = { CrashLoad };
 
@@ -48,7 +50,8 @@ impl Model for AcceptedCrash {
     ghost use Rattle.page_memory.specs.Contents.{at};
     ghost use Rattle.segments.specs.Values.{want};
     ghost use Rattle.list_checker.specs.Crash.{AcceptedCrash as IsAcceptedCrash};
-    ghost use Rattle.load_states.specs.States.{CrashLoad, crash_code};
+    ghost use Rattle.load_states.specs.States.{CrashLoad};
+    ghost use Rattle.load_states.specs.inner.States.{crash_code};
 
     ghost Value = { CrashLoad };
 

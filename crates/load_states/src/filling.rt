@@ -4,18 +4,22 @@ ghost use Rattle.std.specs.Prelude.{◌≡◌, ℕ, ◌<◌, ◌≤◌, ◌+◌,
 ghost use Rattle.kx_pages.specs.Lists.{Has};
 ghost use Rattle.kx_pages.specs.Spans.{AreApart, in_spans};
 ghost use Rattle.kx_pages.specs.declared.image.Wish.{Wish as WishOf};
-ghost use Rattle.page_memory.specs.Contents.{at, IsHeld};
+ghost use Rattle.page_memory.specs.Contents.{at};
+ghost use Rattle.page_memory.specs.inner.Contents.{IsHeld};
 ghost use Rattle.kx_pages.specs.Bytes.{Mem};
 ghost use Rattle.page_pool.specs.Pages.{is_filed, usable_of};
-ghost use Rattle.kimage_list.specs.Load.{Entry, Move, pages_of};
-ghost use Rattle.kimage_list.specs.Held.{HoldSame};
+ghost use Rattle.kimage_list.specs.Load.{Entry, Move};
+ghost use Rattle.kimage_list.specs.inner.Load.{pages_of};
+ghost use Rattle.kimage_list.specs.inner.Held.{HoldSame};
 ghost use Rattle.kimage_list.specs.Tracking.{whole_pool};
-ghost use Rattle.kimage_list.specs.Writers.{destination_after};
-ghost use Rattle.kimage_list.specs.Calls.{Refuses};
+ghost use Rattle.kimage_list.specs.inner.Writers.{destination_after};
+ghost use Rattle.kimage_list.specs.inner.Calls.{Refuses};
 ghost use Rattle.segments.specs.Values.{is_destination, need};
-ghost use Rattle.segments.specs.Shape.{AreSegments};
-ghost use Rattle.load_states.specs.Loads.{LoadsExactly, entries_of};
-ghost use Rattle.load_states.specs.Fillings.{Fills, FillsFrom, IsSealed, left};
+ghost use Rattle.segments.specs.inner.Shape.{AreSegments};
+ghost use Rattle.load_states.specs.Loads.{entries_of};
+ghost use Rattle.load_states.specs.inner.Loads.{LoadsExactly};
+ghost use Rattle.load_states.specs.Fillings.{IsSealed};
+ghost use Rattle.load_states.specs.inner.Fillings.{Fills, FillsFrom, left};
 
 use crate::loaded::Loaded;
 use kimage_list::{BeginFault, ListWriter};
@@ -54,7 +58,7 @@ impl Model for Filling {
     ghost use Rattle.std.specs.Prelude.{ℕ, List};
     ghost use Rattle.kx_pages.specs.Bytes.{Mem};
     ghost use Rattle.kx_pages.specs.declared.image.Wish.{Wish};
-    ghost use Rattle.load_states.specs.Fillings.{Fill, fill_code, FillsFrom};
+    ghost use Rattle.load_states.specs.inner.Fillings.{Fill, fill_code, FillsFrom};
 
     ghost Value = { Fill };
 

@@ -3,10 +3,11 @@
 ghost use Rattle.std.specs.Prelude.{◌≡◌, ◌⊎◌, ℕ, ◌++◌, map, IfOk, OnOk};
 ghost use Rattle.std.specs.List.{AllByRecursion};
 ghost use Rattle.kx_pages.specs.Lists.{Has, destinations, sources};
-ghost use Rattle.page_memory.specs.Contents.{at, IsHeld};
-ghost use Rattle.relocate_machine.specs.Writes.{AreHeld, move_writes};
+ghost use Rattle.page_memory.specs.Contents.{at};
+ghost use Rattle.page_memory.specs.inner.Contents.{IsHeld};
+ghost use Rattle.relocate_machine.specs.inner.Writes.{AreHeld, move_writes};
 ghost use Rattle.list_checker.specs.Checked.{as_pair};
-ghost use Rattle.load_states.specs.Ready.{written_pages};
+ghost use Rattle.load_states.specs.inner.Ready.{written_pages};
 
 use kx_pages::{Mode, Page};
 use list_checker::Pair;

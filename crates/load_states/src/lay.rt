@@ -3,9 +3,10 @@
 ghost use Rattle.std.specs.Prelude.{◌≡◌, ◌⊎◌, ℕ, ◌+◌, ◌++◌, ◌<◌, ◌≤◌, Some, IsSome, IsTrue, IfOk, OnOk};
 ghost use Rattle.std.specs.List.{range_with_len};
 ghost use Rattle.kx_pages.specs.Spans.{in_spans, AreApart};
-ghost use Rattle.page_memory.specs.Contents.{at, IsHeld};
+ghost use Rattle.page_memory.specs.Contents.{at};
+ghost use Rattle.page_memory.specs.inner.Contents.{IsHeld};
 ghost use Rattle.segments.specs.Values.{want};
-ghost use Rattle.load_states.specs.Laying.{Lays, pages_of_spans};
+ghost use Rattle.load_states.specs.inner.Laying.{Lays, pages_of_spans};
 
 use kx_pages::{Page, PageSet, Span};
 use page_memory::Memory;

@@ -4,14 +4,16 @@ ghost use Rattle.std.specs.Prelude.{◌≡◌, ◌≤◌, ◌⊎◌, ℕ, length
 ghost use Rattle.std.specs.List.{AllByRecursion};
 ghost use Rattle.kx_pages.specs.Lists.{Has};
 ghost use Rattle.kx_pages.specs.Bytes.{page_of};
-ghost use Rattle.page_memory.specs.Contents.{IsHeld, after_set};
-ghost use Rattle.relocate_machine.specs.Writes.{AreHeld, move_writes};
-ghost use Rattle.list_checker.specs.Checked.{as_pair, IsAccept, IsCheckFault};
-ghost use Rattle.segments.specs.Rules.{IsBare};
-ghost use Rattle.load_states.specs.States.{IsLeftAs, no_pages, with_memory};
-ghost use Rattle.load_states.specs.Answers.{HoldsForRun, HoldsNoOther, IsAcceptedAs};
-ghost use Rattle.load_states.specs.Ready.{written_pages};
-ghost use Rattle.load_states.specs.Runs.{TellsAlike, checked_in};
+ghost use Rattle.page_memory.specs.inner.Contents.{IsHeld, after_set};
+ghost use Rattle.relocate_machine.specs.inner.Writes.{AreHeld, move_writes};
+ghost use Rattle.list_checker.specs.Checked.{as_pair};
+ghost use Rattle.list_checker.specs.inner.Checked.{IsAccept, IsCheckFault};
+ghost use Rattle.segments.specs.inner.Rules.{IsBare};
+ghost use Rattle.load_states.specs.States.{no_pages, with_memory};
+ghost use Rattle.load_states.specs.inner.States.{IsLeftAs};
+ghost use Rattle.load_states.specs.inner.Answers.{HoldsForRun, HoldsNoOther, IsAcceptedAs};
+ghost use Rattle.load_states.specs.inner.Ready.{written_pages};
+ghost use Rattle.load_states.specs.inner.Runs.{TellsAlike, checked_in};
 
 use crate::accepted::{Accepted, of_mode};
 use crate::hold::hold_pairs;
@@ -34,7 +36,8 @@ pub struct Loaded {
 }
 
 impl Model for Loaded {
-    ghost use Rattle.load_states.specs.States.{Load, load_code};
+    ghost use Rattle.load_states.specs.States.{Load};
+    ghost use Rattle.load_states.specs.inner.States.{load_code};
 
     ghost Value = { Load };
 

@@ -4,12 +4,14 @@ ghost use Rattle.std.specs.Prelude.{◌≡◌, ◌≢◌, ℕ, ◌≤◌, None, 
 ghost use Rattle.std.specs.List.{AllByRecursion};
 ghost use Rattle.kx_pages.specs.Lists.{Has, sources};
 ghost use Rattle.kx_pages.specs.Bytes.{page_of, Mem};
-ghost use Rattle.page_memory.specs.Contents.{at, after_set};
+ghost use Rattle.page_memory.specs.Contents.{at};
+ghost use Rattle.page_memory.specs.inner.Contents.{after_set};
 ghost use Rattle.segments.specs.Values.{want};
 ghost use Rattle.load_states.specs.Exchange.{exchange};
-ghost use Rattle.load_states.specs.States.{swap_of, with_memory, checked_of};
-ghost use Rattle.load_states.specs.Ready.{IsToGoBack};
-ghost use Rattle.load_states.specs.Runs.{IsTouched, RestoresOthers, RunsTo};
+ghost use Rattle.load_states.specs.States.{swap_of, with_memory};
+ghost use Rattle.load_states.specs.inner.States.{checked_of};
+ghost use Rattle.load_states.specs.inner.Ready.{IsToGoBack};
+ghost use Rattle.load_states.specs.inner.Runs.{IsTouched, RestoresOthers, RunsTo};
 
 use crate::loaded::Loaded;
 use crate::run::run_to_end;
@@ -26,7 +28,7 @@ pub struct RanPlain {
 }
 
 impl Model for RanPlain {
-    ghost use Rattle.load_states.specs.States.{Ran, ran_code};
+    ghost use Rattle.load_states.specs.inner.States.{Ran, ran_code};
 
     ghost Value = { Ran };
 
@@ -72,8 +74,9 @@ pub struct RanKept {
 }
 
 impl Model for RanKept {
-    ghost use Rattle.load_states.specs.States.{Checked, checked_code, checked_of};
-    ghost use Rattle.load_states.specs.Ready.{IsToGoBack};
+    ghost use Rattle.load_states.specs.States.{Checked};
+    ghost use Rattle.load_states.specs.inner.States.{checked_code, checked_of};
+    ghost use Rattle.load_states.specs.inner.Ready.{IsToGoBack};
 
     ghost Value = { Checked };
 
@@ -167,7 +170,7 @@ pub struct Back {
 }
 
 impl Model for Back {
-    ghost use Rattle.load_states.specs.States.{Returned, returned_code};
+    ghost use Rattle.load_states.specs.inner.States.{Returned, returned_code};
 
     ghost Value = { Returned };
 

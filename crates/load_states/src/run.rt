@@ -2,7 +2,8 @@
 
 ghost use Rattle.std.specs.Prelude.{◌≡◌};
 ghost use Rattle.relocate_machine.specs.Machine.{start_at};
-ghost use Rattle.relocate_machine.specs.Run.{HeldFrom, run_of};
+ghost use Rattle.relocate_machine.specs.Run.{run_of};
+ghost use Rattle.relocate_machine.specs.inner.Run.{HeldFrom};
 
 use kx_pages::Mode;
 use page_memory::Memory;

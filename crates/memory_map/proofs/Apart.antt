@@ -12,7 +12,8 @@ use Rattle.memory_map.specs.declared.fault.MapFault.TheVariants as faults
 use Rattle.memory_map.specs.declared.row.Class.{Class}
 use Rattle.memory_map.specs.declared.row.Class.TheVariants as classes
 use Rattle.memory_map.specs.declared.row.Row.{Row}
-use Rattle.memory_map.specs.Rows.{row_end, is_inside, covers, rows_meet, is_ram_row, IsBelow, AreBelow}
+use Rattle.memory_map.specs.Rows.{row_end, is_inside, rows_meet, is_ram_row}
+use Rattle.memory_map.specs.inner.Rows.{covers, IsBelow, AreBelow}
 use Rattle.memory_map.specs.Maps.{MapValue, nothing, with_row, with_area, ram_pages, before_area, behind_area, without_area, outside, core_ranges}
 use Rattle.memory_map.specs.Text.{checked_entry, below_limit, meets_ram, row_onto, class_onto, line_onto, lines_onto, if_ram, map_reading}
 use Rattle.memory_map.proofs.Sets.{rows_meet_bytes}

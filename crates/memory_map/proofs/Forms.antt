@@ -9,7 +9,7 @@ use Rattle.text_lines.specs.Lines.{cut, number}
 use Rattle.text_lines.proofs.Cutting.{has_no, cut_parts, cut_behind, number_digits, number_has_no}
 use Rattle.memory_map.specs.declared.row.Class.{Class}
 use Rattle.memory_map.specs.Text.{class_of, without_spaces, entry_with_name, entry_to, entry_from, entry_of}
-use Rattle.memory_map.specs.Grammar.{IsEntry}
+use Rattle.memory_map.specs.inner.Grammar.{IsEntry}
 
 abbrev Entry : Type 0
 Entry = ℕ × ℕ × Class

@@ -4,10 +4,10 @@ use Rattle.std.specs.Prelude.{◌&&◌, ◌||◌}
 use Rattle.std.specs.List.{list_any}
 use Rattle.std.proofs.lemmas.List.Folds.{list_any-append}
 use Rattle.kx_laws.proofs.Booleans.{or_false}
-use Rattle.range_index.specs.Ranges.{Range, AreWith}
+use Rattle.range_index.specs.inner.Ranges.{Range, AreWith}
 use Rattle.memory_map.specs.declared.row.Row.{Row}
 use Rattle.memory_map.specs.Rows.{is_ram_row}
-use Rattle.memory_map.specs.Index.{range_of, IsIndex}
+use Rattle.memory_map.specs.inner.Index.{range_of, IsIndex}
 
 -- what a test finds among the rows and one more
 found_more : (rows : List Row) (x : Row) (test : Range → Bool) → list_any (λ r. is_ram_row r && test (range_of r)) (rows ++ x ∷ []) ≡ (list_any (λ r. is_ram_row r && test (range_of r)) rows || (is_ram_row x && test (range_of x)))

@@ -10,7 +10,8 @@ use Rattle.kx_pages.specs.Ranges.{pages_for}
 use Rattle.kx_pages.specs.Spans.{Run, in_span, in_spans, passing}
 use Rattle.memory_map.specs.declared.row.Row.{Row}
 use Rattle.memory_map.specs.Rows.{row_end, holds_page}
-use Rattle.memory_map.specs.Maps.{MapValue, pages_inside, if_some_pages, has_page, is_whole, is_taken, is_ram, ram_pages}
+use Rattle.memory_map.specs.Maps.{MapValue, pages_inside, if_some_pages, is_whole, is_taken, is_ram, ram_pages}
+use Rattle.memory_map.specs.inner.Maps.{has_page}
 use Rattle.kx_pages.proofs.Spans.{passing_same}
 
 le_same : (a b c d : ℕ) → (a ≤ b → c ≤ d) → (b < a → d < c) → nat_le a b ≡ nat_le c d

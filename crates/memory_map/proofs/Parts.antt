@@ -10,9 +10,10 @@ use Rattle.std.proofs.lemmas.List.{drop_more, take_more}
 use Rattle.std.specs.List.Sorted.{IsNonDecreasingBy, IsPermutation}
 use Rattle.std.proofs.lemmas.List.Sorted.{list_any-IsPermutation, All-permutation}
 use Rattle.memory_map.specs.declared.row.Row.{Row}
-use Rattle.memory_map.specs.Rows.{row_end, is_inside, covers, AreParts, StartUpTo, IsBelow}
+use Rattle.memory_map.specs.Rows.{row_end, is_inside}
+use Rattle.memory_map.specs.inner.Rows.{covers, AreParts, StartUpTo, IsBelow}
 use Rattle.memory_map.specs.Maps.{before_area, behind_area, without_area, outside}
-use Rattle.memory_map.specs.Walk.{part, walk}
+use Rattle.memory_map.specs.inner.Walk.{part, walk}
 use Rattle.memory_map.proofs.Sets.{difference}
 use Rattle.kx_laws.proofs.Booleans.{or_second, or_false, or_shift}
 

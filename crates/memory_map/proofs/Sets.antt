@@ -3,7 +3,8 @@ use Rattle.std.proofs.Common.{◌≡◌, ◌<◌, ◌≤◌, ℕ, ◌+◌, ◌-�
 use Rattle.std.specs.Prelude.{IsTrue, ◌↔◌, not, ◌&&◌, ◌||◌, min, max, nat_lt, nat_le, ◌==◌, if◌then◌else◌}
 use Rattle.std.specs.List.{flat_map, list_any}
 use Rattle.std.proofs.lemmas.List.Folds.{list_any-append}
-use Rattle.memory_map.specs.Rows.{row_end, covers, is_inside, rows_meet, holds_page, meets_page}
+use Rattle.memory_map.specs.Rows.{row_end, is_inside, rows_meet, holds_page, meets_page}
+use Rattle.memory_map.specs.inner.Rows.{covers}
 use Rattle.std.proofs.lemmas.Bool.{and_from, and_parts, le-leb, lt-ltb, leb-true, ltb-true}
 use Rattle.memory_map.specs.Maps.{outside, without_area, before_area, behind_area}
 use Rattle.memory_map.specs.declared.row.Row.{Row}

@@ -1,11 +1,11 @@
 -- What the named lines of a memory map say: rows (with the E820 types of the Linux/x86 boot protocol), crash areas, and
 -- the RAM outside of them (this project's own).
-use Rattle.std.specs.Prelude.{◌≡◌, ℕ, ◌-◌, ◌*◌, ◌/◌, ◌^◌, ◌++◌, ◌==◌, ◌&&◌, ◌||◌, not, Bool, false, List, [], ◌∷◌, length, nat_lt, min, max, filter, if◌then◌else◌, Option, Some, None, option_and_then}
+use Rattle.std.specs.Prelude.{ℕ, ◌-◌, ◌*◌, ◌/◌, ◌^◌, ◌++◌, ◌==◌, ◌&&◌, ◌||◌, not, Bool, List, [], ◌∷◌, length, nat_lt, min, max, filter, if◌then◌else◌, Option, Some, None, option_and_then}
 use Rattle.std.specs.List.{list_any, flat_map, slice_get}
 use Rattle.kx_pages.specs.Ranges.{pages_for}
-use Rattle.kx_pages.specs.Spans.{Run, in_span, in_spans, passing}
+use Rattle.kx_pages.specs.Spans.{Run, passing}
 use Rattle.memory_map.specs.declared.row.Row.{Row}
-use Rattle.memory_map.specs.Rows.{row_end, holds_page, meets_page, is_ram_row, AreBelow}
+use Rattle.memory_map.specs.Rows.{row_end, holds_page, meets_page, is_ram_row}
 
 -- the rows (kinds 1 to 4) and the crash areas, both in the text's order
 pub record MapValue : Type 0 where
@@ -57,11 +57,6 @@ reserved_in areas =
 abbrev pub reserved_area : MapValue → Option Run
 reserved_area m = reserved_in m.areas
 
--- page p is one of the span's, if there is a span
-abbrev pub has_page : Option Run → ℕ → Bool
-has_page None p = false
-has_page (Some s) p = in_span s p
-
 -- the row of a reserved area
 abbrev pub reserved_row : Option Run → List Row
 reserved_row None = []
@@ -106,13 +101,3 @@ outside (area ∷ areas) rows = outside areas (flat_map (without_area area) rows
 -- the System RAM outside the crash areas
 abbrev pub core_ranges : MapValue → List Row
 core_ranges m = outside m.areas (filter is_ram_row m.rows)
-
--- what each map keeps beside the rows and the areas: the pages that are RAM, and two more lists of rows
-pub record IsMap (m : MapValue) (ram : List Run) (crash core : List Row) : Type 0 where
-  pub rows_below : AreBelow m.rows
-  pub areas_below : AreBelow m.areas
-  pub crash_below : AreBelow crash
-  pub core_below : AreBelow core
-  pub ram_is : (p : ℕ) → in_spans ram p ≡ is_ram m p
-  pub crash_is : crash ≡ crash_rows m
-  pub core_is : core ≡ core_ranges m

@@ -7,13 +7,14 @@
 #![tactic(auto)]
 
 ghost use Rattle.std.specs.Prelude.{◌≡◌, ◌↔◌, ℕ, ◌/◌, ◌&&◌, not, filter, IsTrue, List, Some};
-ghost use Rattle.kx_laws.specs.Results.{Gives};
+ghost use Rattle.kx_laws.specs.inner.Results.{Gives};
 ghost use Rattle.kx_pages.specs.Spans.{in_spans};
 ghost use Rattle.memory_map.specs.declared.row.Row.{Row};
-ghost use Rattle.memory_map.specs.Rows.{is_inside, covers, rows_meet, holds_page, meets_page, is_ram_row, AreBelow};
+ghost use Rattle.memory_map.specs.Rows.{is_inside, rows_meet, holds_page, meets_page, is_ram_row};
+ghost use Rattle.memory_map.specs.inner.Rows.{covers, AreBelow};
 ghost use Rattle.memory_map.specs.Maps.{is_ram, reserved_area, crash_rows, core_ranges};
 ghost use Rattle.memory_map.specs.Text.{map_reading, entry_of};
-ghost use Rattle.memory_map.specs.Grammar.{IsEntry};
+ghost use Rattle.memory_map.specs.inner.Grammar.{IsEntry};
 ghost use Rattle.memory_map.specs.declared.row.Class.{Class};
 ghost use Rattle.memory_map.specs.declared.fault.MapFault.TheVariants as faults;
 
@@ -44,7 +45,8 @@ pub struct Map {
 }
 
 impl Model for Map {
-    ghost use Rattle.memory_map.specs.Maps.{MapValue, IsMap};
+    ghost use Rattle.memory_map.specs.Maps.{MapValue};
+    ghost use Rattle.memory_map.specs.inner.Maps.{IsMap};
 
     ghost Value = { MapValue };
 

@@ -3,8 +3,10 @@
 ghost use Rattle.std.specs.Prelude.{◌≡◌, ℕ, ◌+◌, ◌-◌, ◌&&◌, ◌||◌, ◌<◌, ◌≤◌, ◌^◌, not, IfOk};
 ghost use Rattle.std.specs.List.{list_any};
 ghost use Rattle.kx_pages.specs.Spans.{in_spans};
-ghost use Rattle.memory_map.specs.Rows.{is_ram_row, holds_page, meets_page, IsBelow, AreBelow};
-ghost use Rattle.memory_map.specs.Maps.{is_whole, is_ram, pages_inside, if_some_pages, reserved_in, has_page};
+ghost use Rattle.memory_map.specs.Rows.{is_ram_row, holds_page, meets_page};
+ghost use Rattle.memory_map.specs.inner.Rows.{IsBelow, AreBelow};
+ghost use Rattle.memory_map.specs.Maps.{is_whole, is_ram, pages_inside, if_some_pages, reserved_in};
+ghost use Rattle.memory_map.specs.inner.Maps.{has_page};
 
 use crate::row::Row;
 use kx_pages::{PAGE_SIZE, PageSet, Span, pages_for};

@@ -4,8 +4,9 @@ ghost use Rattle.std.specs.Prelude.{◌≡◌, ℕ, ◌+◌, ◌++◌, ◌∷◌
 ghost use Rattle.std.specs.List.{All};
 ghost use Rattle.std.specs.List.Sorted.{IsNonDecreasingBy};
 ghost use Rattle.memory_map.specs.declared.row.Row.{Row};
-ghost use Rattle.memory_map.specs.Rows.{row_end, is_inside, covers, is_ram_row, IsBelow, AreBelow, HasBytes, HaveBytes, AreParts, StartUpTo};
-ghost use Rattle.memory_map.specs.Walk.{part, walk};
+ghost use Rattle.memory_map.specs.Rows.{row_end, is_inside, is_ram_row};
+ghost use Rattle.memory_map.specs.inner.Rows.{covers, IsBelow, AreBelow, HasBytes, HaveBytes, AreParts, StartUpTo};
+ghost use Rattle.memory_map.specs.inner.Walk.{part, walk};
 ghost use Rattle.memory_map.specs.Maps.{outside, core_ranges, reserved_row};
 
 use crate::row::Row;

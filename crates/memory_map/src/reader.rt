@@ -1,13 +1,14 @@
 //! The rows and crash areas of a text, line by line.
 
 ghost use Rattle.std.specs.Prelude.{◌≡◌, ℕ, List, ◌+◌, ◌++◌, ◌∷◌, ◌<◌, ◌≤◌, ◌^◌, [], true, false, OnOk, IfOk};
-ghost use Rattle.kx_laws.specs.Results.{Gives};
+ghost use Rattle.kx_laws.specs.inner.Results.{Gives};
 ghost use Rattle.text_lines.specs.Lines.{lines};
-ghost use Rattle.range_index.specs.Ranges.{meets_any};
+ghost use Rattle.range_index.specs.inner.Ranges.{meets_any};
 ghost use Rattle.memory_map.specs.declared.fault.MapFault.TheVariants as faults;
 ghost use Rattle.memory_map.specs.declared.row.Row.{Row};
-ghost use Rattle.memory_map.specs.Index.{range_of, IsIndex};
-ghost use Rattle.memory_map.specs.Rows.{is_ram_row, IsBelow};
+ghost use Rattle.memory_map.specs.inner.Index.{range_of, IsIndex};
+ghost use Rattle.memory_map.specs.Rows.{is_ram_row};
+ghost use Rattle.memory_map.specs.inner.Rows.{IsBelow};
 ghost use Rattle.memory_map.specs.Text.{meets_ram, row_onto, line_onto, lines_onto};
 
 use crate::fault::MapFault;
@@ -42,7 +43,7 @@ fn index_row(ram: &mut RangeIndex, row: Row) -> Result<(), AllocError>
 
 impl Reader {
     ghost use Rattle.memory_map.specs.Maps.{nothing, with_row};
-    ghost use Rattle.memory_map.specs.Reader.{IsReader, map_value_of};
+    ghost use Rattle.memory_map.specs.inner.Reader.{IsReader, map_value_of};
 
     fn new(alloc: Global) -> Reader
         ensures value { map_value_of result ≡ nothing }

@@ -12,7 +12,7 @@ use Rattle.multiboot_image.specs.MapRows.{map_row, row_text, is_low, is_high, ki
 use Rattle.multiboot_image.specs.Modules.{PlacedModule, module_row, module_text, module_row_of, module_table, with_nul, texts}
 use Rattle.multiboot_image.specs.Info.{info_format, info_text, places_of, info_of, info, info_size}
 use Rattle.multiboot_image.proofs.Search.{first_here, first_none}
-use Rattle.kx_fields.specs.Formats.{IsFormat}
+use Rattle.kx_fields.specs.inner.Formats.{IsFormat}
 
 -- the tables
 pub info_format_is : IsFormat 88 info_format

@@ -40,11 +40,6 @@ abbrev pub is_header_at : List ℕ → ℕ → Bool
 is_header_at bytes at =
     (at % 4 == 0) && (nat_le (at + 12) (length bytes) && is_head (head_at bytes at))
 
-abbrev pub head_in : List ℕ → ℕ → Option Head
-head_in bytes at =
-    if nat_le (at + 12) (length bytes) && is_head (head_at bytes at) then Some (head_at bytes at)
-    else None
-
 -- the least place of a header in these bytes
 unfoldable pub header_place : List ℕ → Option ℕ
 header_place bytes = find (is_header_at bytes) (range_with_len 0 (length bytes))

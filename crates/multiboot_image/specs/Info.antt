@@ -1,14 +1,14 @@
 -- The information that a Multiboot kernel finds at its start (Multiboot Specification 0.6.96, section 3.3), at the address
 -- `at`: a structure of 88 bytes and behind it, without gaps, the map, the module table, the command, the loader's name and
 -- the modules' texts (the order is this project's own).
-use Rattle.std.specs.Prelude.{ℕ, ◌+◌, ◌*◌, ◌^◌, ◌++◌, ◌<◌, ◌≤◌, List, [], ◌∷◌, length, codes}
+use Rattle.std.specs.Prelude.{ℕ, ◌+◌, ◌*◌, ◌++◌, List, [], ◌∷◌, length, codes}
 use Rattle.kx_fields.specs.Fields.{zeros}
 use Rattle.kx_fields.specs.Formats.{Format, written}
 use Rattle.memory_map.specs.declared.row.Row.{Row}
 use Rattle.multiboot_image.specs.declared.info.Info.{Info}
 use Rattle.multiboot_image.specs.declared.info.Places.{Places}
 use Rattle.multiboot_image.specs.MapRows.{mem_lower, mem_upper, map_text}
-use Rattle.multiboot_image.specs.Modules.{PlacedModule, module_table, with_nul, texts, texts_size, AreBelow}
+use Rattle.multiboot_image.specs.Modules.{PlacedModule, module_table, with_nul, texts, texts_size}
 
 abbrev pub info_format : Format Info
 info_format = record {
@@ -45,12 +45,6 @@ places_of at rows modules command = record {
   texts = name_place at rows modules command + 6;
 }
 
--- what places of parts that follow one another keep
-pub record AreRising (p : Places) (rows modules : ℕ) : Type 0 where
-  pub map : p.map + 24 * rows ≤ p.modules
-  pub table : p.modules + 16 * modules ≤ p.command
-  pub command : p.command ≤ p.name
-
 -- the structure: bits 0, 2, 3, 6 and 9 of its flags say that memory, command, modules, map and the loader's name are told
 abbrev pub info_of : Places → List Row → ℕ → Info
 info_of p rows modules = record {
@@ -77,16 +71,7 @@ info at rows command modules =
     ++ (with_nul (codes "kexec")
     ++ texts modules))))
 
--- all addresses that are written are below 2^32
-pub record IsInReach (at : ℕ) (rows : List Row) (command : List ℕ) (modules : List PlacedModule)
-    : Type 0 where
-  pub name : name_place at (length rows) (length modules) (length command) < 2 ^ 32
-  pub table : AreBelow (name_place at (length rows) (length modules) (length command) + 6) modules
-
 -- how many bytes the information has
 abbrev pub info_size : ℕ → ℕ → List PlacedModule → ℕ
 info_size rows command modules =
     88 + 24 * rows + 16 * length modules + (command + 1) + 6 + texts_size modules
-
-abbrev pub info_length_of : List Row → List ℕ → List PlacedModule → ℕ
-info_length_of rows command modules = info_size (length rows) (length command) modules

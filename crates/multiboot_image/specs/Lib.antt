@@ -3,3 +3,4 @@ pub mod Parts
 pub mod MapRows
 pub mod Modules
 pub mod Info
+pub mod inner

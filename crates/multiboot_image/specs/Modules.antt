@@ -1,6 +1,6 @@
 -- Modules in the information of a Multiboot kernel: their table and their texts (Multiboot Specification 0.6.96, section
 -- 3.3, mods_addr).
-use Rattle.std.specs.Prelude.{ℕ, ◌+◌, ◌^◌, ◌++◌, ◌<◌, List, [], ◌∷◌, length}
+use Rattle.std.specs.Prelude.{ℕ, ◌+◌, ◌++◌, List, [], ◌∷◌, length}
 use Rattle.std.specs.List.{flat_map}
 use Rattle.kx_fields.specs.Fields.{zeros}
 use Rattle.kx_fields.specs.Formats.{Format, written}
@@ -41,12 +41,6 @@ with_nul text = text ++ 0 ∷ []
 
 abbrev pub texts : List PlacedModule → List ℕ
 texts modules = flat_map (λ m. with_nul m.text) modules
-
--- the addresses in the module table are below 2^32, where the texts begin at this address
-abbrev pub AreBelow : ℕ → List PlacedModule → Type 0
-AreBelow text [] = Unit {0}
-AreBelow text (m ∷ ms) =
-    (m.start + m.size < 2 ^ 32) × (text < 2 ^ 32) × AreBelow (text + length m.text + 1) ms
 
 abbrev pub texts_size : List PlacedModule → ℕ
 texts_size modules = length (texts modules)

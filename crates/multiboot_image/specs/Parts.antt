@@ -1,9 +1,9 @@
 -- What a Multiboot kernel is loaded as (Multiboot Specification 0.6.96, sections 3.1.3 and 3.2): by the addresses in its
 -- header, or as an ELF32 executable.
-use Rattle.std.specs.Prelude.{◌≡◌, ℕ, ◌+◌, ◌-◌, ◌*◌, ◌/◌, ◌%◌, ◌^◌, ◌++◌, ◌==◌, ◌&&◌, ◌||◌, not, Bool, List, [], ◌∷◌, length, take, drop, replicate, nat_lt, if◌then◌else◌, Option, Some, None, IfSome, Result, Ok, Err}
+use Rattle.std.specs.Prelude.{ℕ, ◌+◌, ◌-◌, ◌*◌, ◌/◌, ◌%◌, ◌^◌, ◌++◌, ◌==◌, ◌&&◌, ◌||◌, not, Bool, List, [], ◌∷◌, length, take, drop, replicate, nat_lt, if◌then◌else◌, Option, Some, None, Result, Ok, Err}
 use Rattle.kx_pages.specs.Limits.{segment_page_limit}
-use Rattle.kx_pages.specs.Ranges.{meets_page, count_met}
-use Rattle.segments.specs.Values.{SegmentValue, is_destination}
+use Rattle.kx_pages.specs.Ranges.{count_met}
+use Rattle.segments.specs.Values.{SegmentValue}
 use Rattle.elf_image.specs.Loads.{Executable, exec_reading}
 use Rattle.elf_image.specs.Image.{image}
 use Rattle.elf_image.specs.declared.fault.ElfFault.{ElfFault}
@@ -50,10 +50,6 @@ is_bad s =
 -- how many pages the memory meets
 abbrev pub page_count : Site → ℕ
 page_count s = count_met s.kludge.load_addr (memory_stop s)
-
--- some byte of page p is one of the memory's
-abbrev pub memory_meets_page : ℕ → Site → Bool
-memory_meets_page p s = meets_page s.kludge.load_addr (memory_stop s) p
 
 -- the segment of these pages: zeros up to load_addr, then the loaded bytes
 abbrev pub segment : List ℕ → Site → SegmentValue
@@ -103,8 +99,3 @@ parts_by file at None = elf_parts file
 -- what a file with this header is loaded as
 abbrev pub parts : Header → List ℕ → Result Loaded MbFault
 parts h file = parts_by file h.at h.kludge
-
--- with addresses in the header the pages are those that some byte of the memory from load_addr on is in
-abbrev pub HasPagesMet : List ℕ → Header → Loaded → Type 0
-HasPagesMet file h r =
-    IfSome h.kludge (λ k. (p : ℕ) → is_destination r.list p ≡ memory_meets_page p (site file h.at k))

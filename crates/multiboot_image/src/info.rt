@@ -2,7 +2,8 @@
 
 ghost use Rattle.std.specs.Prelude.{◌≡◌, ◌+◌, ◌*◌, ◌-◌, ◌^◌, ◌<◌, ◌≤◌, length, min, IfOk};
 ghost use Rattle.multiboot_image.specs.MapRows.{mem_lower, mem_upper};
-ghost use Rattle.multiboot_image.specs.Info.{info_of, info_text, name_place, places_of, AreRising, IsInReach, info, info_size, info_length_of};
+ghost use Rattle.multiboot_image.specs.Info.{info_of, info_text, name_place, places_of, info, info_size};
+ghost use Rattle.multiboot_image.specs.inner.Info.{AreRising, IsInReach, info_length_of};
 
 use crate::map_rows::{mem_lower, mem_upper, put_rows};
 use crate::modules::{Placed, put_module_table, put_text, put_texts, texts_size};

@@ -1,7 +1,8 @@
 //! Modules: their table and their texts.
 
 ghost use Rattle.std.specs.Prelude.{◌≡◌, ◌+◌, ◌-◌, ◌^◌, ◌++◌, ◌<◌, min, OnOk};
-ghost use Rattle.multiboot_image.specs.Modules.{module_text, module_bytes, module_table, texts, texts_size, with_nul, AreBelow};
+ghost use Rattle.multiboot_image.specs.Modules.{module_text, module_bytes, module_table, texts, texts_size, with_nul};
+ghost use Rattle.multiboot_image.specs.inner.Modules.{AreBelow};
 
 use kx_fields::Block;
 use std::alloc::AllocError;

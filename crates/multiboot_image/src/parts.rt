@@ -1,10 +1,11 @@
 //! The segments that a Multiboot kernel is loaded as.
 
 ghost use Rattle.std.specs.Prelude.{◌≡◌, ◌+◌, ◌++◌, ◌≤◌, ◌<◌, ◌^◌, false, length, take, drop, replicate, ℕ, IfOk};
-ghost use Rattle.kx_laws.specs.Results.{Gives};
+ghost use Rattle.kx_laws.specs.inner.Results.{Gives};
 ghost use Rattle.segments.specs.Values.{is_destination};
 ghost use Rattle.multiboot_image.specs.declared.fault.MbFault.TheVariants.{Memory};
-ghost use Rattle.multiboot_image.specs.Parts.{place, loaded_length, load_stop, memory_stop, is_bad, page_count, segment, memory_meets_page, HasPagesMet, kludge_parts, elf_parts, parts};
+ghost use Rattle.multiboot_image.specs.Parts.{place, loaded_length, load_stop, memory_stop, is_bad, page_count, segment, kludge_parts, elf_parts, parts};
+ghost use Rattle.multiboot_image.specs.inner.Parts.{memory_meets_page, HasPagesMet};
 
 use crate::fault::MbFault;
 use crate::header::{Header, Kludge};

@@ -4,7 +4,8 @@ use Rattle.std.proofs.lemmas.List.{length-replicate}
 use Rattle.kx_fields.specs.Fields.{IsBlock, with_field, zeros}
 use Rattle.kx_fields.proofs.Fields.{length-with_field}
 use Rattle.kx_fields.proofs.Bytes.{AreBytes-zeros, AreBytes-with_field}
-use Rattle.page_memory.specs.Contents.{page_with_word, zero_page}
+use Rattle.page_memory.specs.Contents.{zero_page}
+use Rattle.page_memory.specs.inner.Contents.{page_with_word}
 
 pub IsBlock-zero_page : IsBlock 4096 zero_page
 unfolding zero_page zeros

@@ -16,7 +16,7 @@ use Rattle.std.specs.BTreeMap.{IsOrdered, is_at, BTreeMap}
 use Rattle.std.specs.BTreeMap as tree
 use Rattle.std.specs.FinMap.{FinMap, get, insert, same_map, empty, nat_cmp-IsAntisymmetric}
 use Rattle.std.proofs.lemmas.List.{length-append, length-drop, take-append-drop}
-use Rattle.page_memory.specs.View.{pages_by}
+use Rattle.page_memory.specs.inner.View.{pages_by}
 use Rattle.kx_pages.proofs.Bytes.{page_of-fits}
 use Rattle.page_memory.proofs.Laws.{frame_at-found, frame_at-insert_other, frame_at-insert_same}
 use Rattle.page_memory.proofs.OneFile.{list_zeros, zeros_are}
@@ -27,8 +27,8 @@ use Rattle.kx_laws.proofs.Lists.{take_front, drop_front}
 use Rattle.kx_laws.proofs.Options.{none_some, some_same, map_none}
 use Rattle.kx_pages.specs.Bytes.{page_of}
 use Rattle.page_memory.specs.Contents.{frame_at}
-use Rattle.page_memory.specs.Frames.{frame_in, IsTable, pages_in, Differs}
-use Rattle.page_memory.specs.InPlace.{AreInSlots, slots_of}
+use Rattle.page_memory.specs.inner.Frames.{frame_in, IsTable, pages_in, Differs}
+use Rattle.page_memory.specs.inner.InPlace.{AreInSlots, slots_of}
 use Rattle.page_memory.proofs.Stored.{all_kept, distinct_kept, kept_in}
 use Rattle.page_memory.proofs.Tables.{AreFrames, get-pages_by, pages_by-differs, some_held}
 use Rattle.page_memory.proofs.Frames.{other_frames, inside_found, frame_in-append, frame_in-last, IsBlock-frame_in}

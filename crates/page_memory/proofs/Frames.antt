@@ -12,13 +12,13 @@ use Rattle.std.specs.Prelude.{nat_lt}
 use Rattle.std.proofs.lemmas.Bool.Decides.{nat_tests}
 use Rattle.std.proofs.Math.Seq.{drop-append-add}
 use Rattle.std.proofs.lemmas.List.{drop-append-le, take-append-le, take-take, drop-take, length-append, length-take, length-drop, drop-drop}
-use Rattle.page_memory.specs.View.{pages_by}
+use Rattle.page_memory.specs.inner.View.{pages_by}
 use Rattle.kx_fields.specs.Fields.{AreBytes, IsBlock}
 use Rattle.kx_fields.proofs.Fields.{AreBytes-drop}
 use Rattle.kx_fields.proofs.Bytes.{AreBytes-take}
 use Rattle.kx_laws.proofs.Booleans.{true_false, Equal-from_is_eq}
 use Rattle.kx_laws.proofs.Lists.{take_front, drop_front}
-use Rattle.page_memory.specs.Frames.{frame_in, put_frame, IsTable}
+use Rattle.page_memory.specs.inner.Frames.{frame_in, put_frame, IsTable}
 use Rattle.page_memory.proofs.Tables.{get-pages_by}
 
 take_long : (xs : List ℕ) (n : ℕ) → n ≤ length xs → length (take n xs) ≡ n

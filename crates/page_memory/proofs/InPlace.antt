@@ -10,10 +10,10 @@ use Rattle.std.proofs.lemmas.List.{drop-drop, drop_at, drop_more, get_or-set_oth
 use Rattle.std.proofs.lemmas.Map.Keys.{apart_from_distinct}
 use Rattle.byteorder.specs.Endian.{little_bytes}
 use Rattle.byteorder.specs.Numbers.{length-bytes_low_first}
-use Rattle.page_memory.specs.Contents.{page_with_word}
+use Rattle.page_memory.specs.inner.Contents.{page_with_word}
 use Rattle.page_memory.specs.File.{magic, page_text, text_of}
-use Rattle.page_memory.specs.Frames.{frame_entries, frame_in, put_frame, trade_frames}
-use Rattle.page_memory.specs.InPlace.{AreArranged, AreGathered, AreOwned, AreSlotsOf, Holds, place, slot_entries, slots_of}
+use Rattle.page_memory.specs.inner.Frames.{frame_entries, frame_in, put_frame, trade_frames}
+use Rattle.page_memory.specs.inner.InPlace.{AreArranged, AreGathered, AreOwned, AreSlotsOf, Holds, place, slot_entries, slots_of}
 use Rattle.page_memory.proofs.Moves.{frame_in-front, length-frame_in, put_frame-append}
 use Rattle.page_memory.proofs.Frames.{frame_in-append, frame_in-put_same, frame_in-put_other, length-put_frame}
 

@@ -11,8 +11,10 @@ use Rattle.std.specs.Prelude.{◌⊎◌, eqb}
 use Rattle.std.proofs.Common.{inl, inr}
 use Rattle.std.proofs.lemmas.Bool.Decides.{eqb_tells}
 use Rattle.kx_pages.specs.Bytes.{Mem}
-use Rattle.page_memory.specs.Contents.{Contents, at, with_page, after_set, with_word, page_with_word, frame_at, zero_page}
-use Rattle.page_memory.specs.Memory.{word, put, set_word}
+use Rattle.page_memory.specs.Contents.{Contents, at, with_page, frame_at, zero_page}
+use Rattle.page_memory.specs.inner.Contents.{after_set, with_word, page_with_word}
+use Rattle.page_memory.specs.Memory.{word, put}
+use Rattle.page_memory.specs.inner.Memory.{set_word}
 use Rattle.kx_laws.proofs.Booleans.{is_eq-false}
 
 pub frame_at-found : (m : FinMap nat_cmp (List ℕ)) (p : ℕ) (bytes : List ℕ) → Some bytes ≡ get m p → frame_at m p ≡ bytes

@@ -4,7 +4,7 @@ use Rattle.std.specs.Prelude.{replicate}
 use Rattle.std.proofs.lemmas.List.{append-nil, drop-append-le, take-append-le, take-append-drop, length-take, length-drop}
 use Rattle.kx_pages.specs.Bytes.{page_of}
 use Rattle.page_memory.specs.Contents.{zero_page}
-use Rattle.page_memory.specs.Frames.{frame_in, put_frame}
+use Rattle.page_memory.specs.inner.Frames.{frame_in, put_frame}
 use Rattle.kx_pages.proofs.Bytes.{page_of-fits}
 use Rattle.page_memory.proofs.Frames.{frame_in-append}
 

@@ -8,8 +8,8 @@ use Rattle.std.specs.BTreeMap.{BTreeMap, is_at}
 use Rattle.std.specs.BTreeMap as tree
 use Rattle.std.specs.FinMap.{nat_cmp-IsAntisymmetric}
 use Rattle.kx_laws.proofs.Options.{some_same}
-use Rattle.page_memory.specs.Frames.{Differs}
-use Rattle.page_memory.specs.Shortcuts.{AreInPlace, SayWhat, shortcut_place}
+use Rattle.page_memory.specs.inner.Frames.{Differs}
+use Rattle.page_memory.specs.inner.Shortcuts.{AreInPlace, SayWhat, shortcut_place}
 use Rattle.kx_laws.proofs.Booleans.{Equal-from_is_eq}
 
 -- a row of shortcuts

@@ -4,15 +4,15 @@ use Rattle.std.specs.Prelude.{filter, map}
 use Rattle.std.specs.Prelude.{eqb}
 use Rattle.std.specs.List.{AllByRecursion, IsDistinct}
 use Rattle.std.proofs.lemmas.List.{append-nil, length-map}
-use Rattle.page_memory.specs.InPlace.{slots_of}
+use Rattle.page_memory.specs.inner.InPlace.{slots_of}
 use Rattle.std.specs.List.Sorted.{IsStrictlySortedBy}
 use Rattle.std.specs.Map.{keys_of}
 use Rattle.std.specs.Ordering.{nat_cmp}
 use Rattle.std.specs.Cmp.{nat_cmp_total}
 use Rattle.std.specs.declared.cmp.Ordering.TheVariants.{Less}
 use Rattle.std.specs.FinMap.{entries, put, empty, entries-insert, len-empty, len-entries}
-use Rattle.page_memory.specs.View.{pages_by}
-use Rattle.page_memory.specs.Frames.{frame_entries, frame_in}
+use Rattle.page_memory.specs.inner.View.{pages_by}
+use Rattle.page_memory.specs.inner.Frames.{frame_entries, frame_in}
 use Rattle.page_memory.specs.File.{is_stored}
 
 one_or_none : (b : Bool) (e : ℕ × List ℕ) (es : List (ℕ × List ℕ)) (n : ℕ) → length es ≤ n → length (cond b (e ∷ es) es) ≤ n + 1

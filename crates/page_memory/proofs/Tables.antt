@@ -10,8 +10,8 @@ use Rattle.std.specs.Option.{IfSome}
 use Rattle.kx_fields.specs.Fields.{IsBlock}
 use Rattle.std.specs.Prelude.{◌↔◌, IsTrue, IsSome, is_some}
 use Rattle.std.specs.FinMap.{FinMap, get, insert, same_map, get-from_entries, get-insert, nat_cmp-IsAntisymmetric}
-use Rattle.page_memory.specs.View.{pages_by}
-use Rattle.page_memory.specs.Frames.{Differs}
+use Rattle.page_memory.specs.inner.View.{pages_by}
+use Rattle.page_memory.specs.inner.Frames.{Differs}
 
 -- each page of the table is one, and has bytes
 pub record AreFrames {X : Type 0} (f : X → List ℕ) (m : tree.BTreeMap ℕ X) : Type 0 where

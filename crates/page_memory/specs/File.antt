@@ -1,5 +1,5 @@
 -- The memory file, this project's own: the magic, the count, and the pages in rising order, none of them all zeros.
-use Rattle.std.specs.Prelude.{◌≡◌, ◌≢◌, ℕ, zero, suc, ◌+◌, ◌^◌, ◌<◌, ◌≤◌, ◌++◌, Bool, not, List, length, take, drop, filter, nat_lt, nat_le, nat_eq, ◌==◌, if◌then◌else◌, Result, Ok, Err, codes}
+use Rattle.std.specs.Prelude.{ℕ, zero, suc, ◌+◌, ◌^◌, ◌++◌, Bool, not, List, length, take, drop, filter, nat_lt, nat_le, nat_eq, ◌==◌, if◌then◌else◌, Result, Ok, Err, codes}
 use Rattle.std.specs.List.{flat_map, list_all, starts_with}
 use Rattle.std.specs.Ordering.{nat_cmp}
 use Rattle.std.specs.FinMap as finite
@@ -8,9 +8,7 @@ use Rattle.kx_fields.specs.Fields.{field}
 use Rattle.kx_laws.specs.Results.{◌>>=◌}
 use Rattle.page_memory.specs.declared.fault.MemFault.{MemFault}
 use Rattle.page_memory.specs.declared.fault.MemFault.TheVariants as faults
-use Rattle.page_memory.specs.declared.fault.HeavyFault.{HeavyFault}
-use Rattle.page_memory.specs.declared.fault.HeavyFault.TheVariants as heavy
-use Rattle.page_memory.specs.Contents.{Contents, at}
+use Rattle.page_memory.specs.Contents.{Contents}
 
 abbrev pub magic : List ℕ
 magic = codes "KXMEM001"
@@ -31,14 +29,6 @@ page_text e = little_bytes 8 e.0 ++ e.1
 -- the file of these pages
 unfoldable pub text_of : List (ℕ × List ℕ) → List ℕ
 text_of es = magic ++ (little_bytes 8 (length es) ++ flat_map page_text es)
-
--- pages that are few enough have these bytes as their file
-abbrev pub IsFileOf : List (ℕ × List ℕ) → List ℕ → Type 0
-IsFileOf es bytes = (length es ≤ 131072) × (bytes ≡ text_of es)
-
--- Why pages have no file: they are too many, and their number is told; or memory is wanted, of which nothing is said.
-abbrev pub HasNoFile : List (ℕ × List ℕ) → HeavyFault → Type 0
-HasNoFile es e = e ≢ heavy.Memory → (131072 < length es) × (e ≡ heavy.TooMany (length es))
 
 -- the file of a memory
 abbrev pub file : Contents → List ℕ
@@ -78,7 +68,3 @@ read_pages bytes =
 -- what a file reads as
 abbrev pub reading : List ℕ → Result Contents MemFault
 reading bytes = read_pages bytes >>= λ m. Ok (record { pages = m; sets = 0 })
-
--- a file of a memory is read as a memory that agrees with it at every page
-abbrev pub IsReadAgain : Contents → Type 0
-IsReadAgain m = (k : Contents) × (reading (file m) ≡ Ok k) × ((q : ℕ) → at k q ≡ at m q)

@@ -3,7 +3,6 @@
 use Rattle.std.specs.Prelude.{◌≡◌, ℕ, ◌/◌, ◌%◌, List, drop, if◌then◌else◌, ◌==◌}
 use Rattle.byteorder.specs.Endian.{little_number}
 use Rattle.kx_pages.specs.Bytes.{Mem}
-use Rattle.page_memory.specs.Contents.{page_with_word}
 
 -- the little-endian number in the eight bytes at this address, which is a multiple of 8
 unfoldable pub word : Mem → ℕ → ℕ
@@ -12,14 +11,6 @@ word M a = little_number 8 (drop (a % 4096) (M (a / 4096)))
 -- the memory with this page set to these bytes
 abbrev pub put : Mem → ℕ → List ℕ → Mem
 put M p bytes q = if q == p then bytes else M q
-
--- the memory with this number as the word at this address
-abbrev pub set_word : Mem → ℕ → ℕ → Mem
-set_word M a v = put M (a / 4096) (page_with_word (M (a / 4096)) (a % 4096) v)
-
--- the memory after one page was copied to another
-abbrev pub copied_page : Mem → ℕ → ℕ → Mem
-copied_page M source destination = put M destination (M source)
 
 -- two memories agree at every page
 abbrev pub Agree : Mem → Mem → Type 0

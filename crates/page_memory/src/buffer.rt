@@ -7,8 +7,9 @@ ghost use Rattle.std.specs.BTreeMap as tree;
 ghost use Rattle.std.specs.Vec.{vec_capacity};
 ghost use Rattle.kx_fields.specs.Fields.{IsBlock};
 ghost use Rattle.kx_pages.specs.Bytes.{page_of};
-ghost use Rattle.page_memory.specs.Contents.{frame_at, page_with_word};
-ghost use Rattle.page_memory.specs.Frames.{frame_in, put_frame, put_word_in, pages_in, AreExchanged, HaveSamePages, IsAdded, IsCopied, IsSet, IsTable, IsWordSet};
+ghost use Rattle.page_memory.specs.Contents.{frame_at};
+ghost use Rattle.page_memory.specs.inner.Contents.{page_with_word};
+ghost use Rattle.page_memory.specs.inner.Frames.{frame_in, put_frame, put_word_in, pages_in, AreExchanged, HaveSamePages, IsAdded, IsCopied, IsSet, IsTable, IsWordSet};
 
 use crate::layout::{FIRST_FRAME, FRAME_SIZE, SLOT};
 use crate::table::Table;
@@ -17,7 +18,7 @@ use kx_pages::Page;
 use std::alloc::AllocError;
 
 /// The frame that begins at a place of the buffer.
-#[tactic(auto, unfolding(crate::specs::Frames::frame_in))]
+#[tactic(auto, unfolding(crate::specs::inner::Frames::frame_in))]
 pub(crate) fn frame(frames: &[u8], place: usize) -> &[u8]
     requires { place + 4096 ≤ length frames.now }
     ensures { result.now ≡ frame_in frames.now place }
@@ -28,7 +29,7 @@ pub(crate) fn frame(frames: &[u8], place: usize) -> &[u8]
 }
 
 // Fills a frame with bytes, then zeros.
-#[tactic(auto, unfolding(crate::specs::Frames::put_frame))]
+#[tactic(auto, unfolding(crate::specs::inner::Frames::put_frame))]
 fn fill(frames: &mut [u8], place: usize, bytes: &[u8])
     requires inside { place + 4096 ≤ length frames.old }
     requires fits { length bytes.now ≤ 4096 }
@@ -50,7 +51,7 @@ fn fill_frame(frame: &mut [u8], bytes: &[u8])
 }
 
 // Writes a word at a place of the frame that begins at `start`.
-#[tactic(auto, unfolding(crate::specs::Frames::put_frame, crate::specs::Frames::frame_in))]
+#[tactic(auto, unfolding(crate::specs::inner::Frames::put_frame, crate::specs::inner::Frames::frame_in))]
 fn fill_word(frames: &mut [u8], start: usize, place: usize, v: u64)
     requires inside { start + 4096 ≤ length frames.old }
     requires fits { place + 8 ≤ 4096 }

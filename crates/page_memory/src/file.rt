@@ -7,12 +7,13 @@ ghost use Rattle.std.specs.List.{AllByRecursion};
 ghost use Rattle.std.specs.Ordering.{nat_cmp};
 ghost use Rattle.byteorder.specs.Endian.{little_bytes};
 ghost use Rattle.kx_fields.specs.Fields.{field};
-ghost use Rattle.kx_laws.specs.Results.{Gives};
+ghost use Rattle.kx_laws.specs.inner.Results.{Gives};
 ghost use Rattle.page_memory.specs.Contents.{Contents, IsMemory, at};
-ghost use Rattle.page_memory.specs.File.{magic, text_of, page_text, file, pages_from, read_pages, entry_at, is_all_zeros, stored_pages, HasNoFile, IsFileOf, IsReadAgain};
+ghost use Rattle.page_memory.specs.File.{magic, text_of, page_text, file, pages_from, read_pages, entry_at, is_all_zeros, stored_pages};
+ghost use Rattle.page_memory.specs.inner.File.{HasNoFile, IsFileOf, IsReadAgain};
 ghost use Rattle.page_memory.specs.Memory.{Agree};
-ghost use Rattle.page_memory.specs.Frames.{pages_in, AreStored, IsTable, stored_in, frame_entries};
-ghost use Rattle.page_memory.specs.InPlace.{AreInSlots};
+ghost use Rattle.page_memory.specs.inner.Frames.{pages_in, AreStored, IsTable, stored_in, frame_entries};
+ghost use Rattle.page_memory.specs.inner.InPlace.{AreInSlots};
 
 use crate::buffer::frame;
 use crate::fault::{HeavyFault, MemFault};

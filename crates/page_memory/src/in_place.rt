@@ -11,9 +11,10 @@ ghost use Rattle.std.specs.Prelude.{◌≡◌, ◌≢◌, ◌≤◌, ◌<◌, �
 ghost use Rattle.std.specs.BTreeMap.{IsOrdered};
 ghost use Rattle.std.specs.List.{flat_map, IsDistinct};
 ghost use Rattle.std.specs.Ordering.{nat_cmp};
-ghost use Rattle.page_memory.specs.File.{text_of, HasNoFile, IsFileOf};
-ghost use Rattle.page_memory.specs.Frames.{IsTable, frame_in, put_frame, stored_in, trade_frames};
-ghost use Rattle.page_memory.specs.InPlace.{AreArranged, AreGathered, AreInSlots, AreOwned, AreSlotsOf, StillHold, slot_entries, slot_texts, slots_of};
+ghost use Rattle.page_memory.specs.File.{text_of};
+ghost use Rattle.page_memory.specs.inner.File.{HasNoFile, IsFileOf};
+ghost use Rattle.page_memory.specs.inner.Frames.{IsTable, frame_in, put_frame, stored_in, trade_frames};
+ghost use Rattle.page_memory.specs.inner.InPlace.{AreArranged, AreGathered, AreInSlots, AreOwned, AreSlotsOf, StillHold, slot_entries, slot_texts, slots_of};
 
 use crate::buffer::put_word;
 use crate::fault::HeavyFault;
@@ -24,7 +25,7 @@ use kx_pages::Page;
 use std::alloc::{AllocError, Global};
 
 // A frame of the buffer and 4,096 bytes that lie elsewhere change places.
-#[tactic(auto, unfolding(crate::specs::Frames::put_frame, crate::specs::Frames::frame_in))]
+#[tactic(auto, unfolding(crate::specs::inner::Frames::put_frame, crate::specs::inner::Frames::frame_in))]
 fn trade(frames: &mut [u8], place: usize, other: &mut [u8])
     requires inside { place + 4096 ≤ length frames.old }
     requires whole { length other.old ≡ 4096 }

@@ -4,13 +4,15 @@ ghost use Rattle.std.specs.Prelude.{◌≡◌, ℕ, ◌+◌, ◌*◌, ◌/◌, �
 ghost use Rattle.std.specs.FinMap as finite;
 ghost use Rattle.std.specs.Option.{option_map};
 ghost use Rattle.kx_fields.specs.Fields.{IsBlock};
-ghost use Rattle.kx_laws.specs.Results.{Gives};
+ghost use Rattle.kx_laws.specs.inner.Results.{Gives};
 ghost use Rattle.kx_pages.specs.Lists.{Has};
-ghost use Rattle.page_memory.specs.File.{HasNoFile, IsFileOf, reading, stored_pages, file};
+ghost use Rattle.page_memory.specs.File.{reading, stored_pages, file};
+ghost use Rattle.page_memory.specs.inner.File.{HasNoFile, IsFileOf};
 ghost use Rattle.kx_pages.specs.Bytes.{page_of};
-ghost use Rattle.page_memory.specs.Contents.{IsMemory, Contents, at, IsHeld, with_page, with_word, after_set, swap_pages};
+ghost use Rattle.page_memory.specs.Contents.{IsMemory, Contents, at, with_page, swap_pages};
+ghost use Rattle.page_memory.specs.inner.Contents.{IsHeld, with_word, after_set};
 ghost use Rattle.page_memory.specs.Memory.{word};
-ghost use Rattle.page_memory.specs.Frames.{frame_in, put_frame, pages_in, IsTable};
+ghost use Rattle.page_memory.specs.inner.Frames.{frame_in, put_frame, pages_in, IsTable};
 
 use crate::buffer::{add_frame, copy_frame, exchange, frame, write_frame, write_word};
 use crate::fault::{HeavyFault, MemFault};
@@ -34,9 +36,10 @@ pub struct Memory {
 }
 
 impl Model for Memory {
-    ghost use Rattle.page_memory.specs.Contents.{Contents, contents_code};
+    ghost use Rattle.page_memory.specs.Contents.{Contents};
+    ghost use Rattle.page_memory.specs.inner.Contents.{contents_code};
     ghost use Rattle.page_memory.specs.Memory.{word};
-    ghost use Rattle.page_memory.specs.Frames.{pages_in, IsTable};
+    ghost use Rattle.page_memory.specs.inner.Frames.{pages_in, IsTable};
 
     ghost Value = { Contents };
 

@@ -8,8 +8,8 @@
 ghost use Rattle.std.specs.Prelude.{◌≡◌, ◌+◌, length, set, Some, None, IsSome, IfSome, IfOk, OnOk, OnErr};
 ghost use Rattle.std.specs.Ordering.{nat_cmp};
 ghost use Rattle.std.specs.BTreeMap as tree;
-ghost use Rattle.page_memory.specs.Frames.{Differs};
-ghost use Rattle.page_memory.specs.Shortcuts.{AreInPlace, SayWhat, shortcut_place};
+ghost use Rattle.page_memory.specs.inner.Frames.{Differs};
+ghost use Rattle.page_memory.specs.inner.Shortcuts.{AreInPlace, SayWhat, shortcut_place};
 
 use kx_pages::Page;
 use std::alloc::{AllocError, Global};
@@ -29,7 +29,7 @@ pub struct Table {
 }
 
 // Where in a row of so many shortcuts that of a page stands.
-#[tactic(auto, unfolding(crate::specs::Shortcuts::shortcut_place))]
+#[tactic(auto, unfolding(crate::specs::inner::Shortcuts::shortcut_place))]
 fn place_in_row(count: usize, p: Page) -> usize
     ensures { result ≡ shortcut_place count p }
 {

@@ -7,7 +7,7 @@ use Rattle.std.specs.Ordering.{nat_cmp}
 use Rattle.std.proofs.lemmas.List.{take_more}
 use Rattle.std.proofs.lemmas.List.FromFn.{length-range_with_len}
 use Rattle.page_pool.specs.Repeats.{first_repeat}
-use Rattle.page_pool.specs.Marks.{AreMarks}
+use Rattle.page_pool.specs.inner.Marks.{AreMarks}
 use Rattle.page_pool.specs.File.{pages_onto, line_onto}
 use Rattle.page_pool.specs.declared.fault.PoolFault.{PoolFault}
 use Rattle.page_pool.specs.declared.fault.PoolFault.TheVariants as faults

@@ -4,7 +4,7 @@ use Rattle.std.specs.Prelude.{◌↔◌, unwrap_or}
 use Rattle.text_lines.specs.Lines.{cut, number}
 use Rattle.text_lines.proofs.Cutting.{cut_parts, cut_behind, cut_nowhere, number_has_no}
 use Rattle.page_pool.specs.File.{both, range_by, range_of}
-use Rattle.page_pool.specs.Grammar.{IsPoolLine}
+use Rattle.page_pool.specs.inner.Grammar.{IsPoolLine}
 
 same_range : (x y : ℕ × ℕ) → ◌≡◌ {A = Option (ℕ × ℕ)} (Some x) (Some y) → x ≡ y
 same_range x y h = ap (λ o. unwrap_or {T = ℕ × ℕ} o x) h

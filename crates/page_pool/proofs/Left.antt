@@ -9,11 +9,11 @@ use Rattle.std.proofs.lemmas.List.Elements.{filter-append}
 use Rattle.std.proofs.lemmas.List.Filters.{length-filter_both}
 use Rattle.kx_laws.proofs.Booleans.{and_parts, not_true, true_false}
 use Rattle.kx_pages.specs.Lists.{Has, has, Distinct}
-use Rattle.kx_pages.specs.Numbers.{IsPage}
+use Rattle.kx_pages.specs.inner.Numbers.{IsPage}
 use Rattle.kx_pages.proofs.Lists.{Each-map, Each-at, Each-from_Has, Has-from_has, has-from_Has, has-push}
 use Rattle.kx_pages.proofs.Counting.{no_longer, Distinct-append, Distinct-filter}
 use Rattle.page_pool.specs.Pages.{is_usable, left_among, usable_among}
-use Rattle.page_pool.specs.Queue.{is_waiting}
+use Rattle.page_pool.specs.inner.Queue.{is_waiting}
 
 -- ---- filters
 

@@ -11,12 +11,12 @@ use Rattle.std.proofs.lemmas.List.Folds.{list_any-append}
 use Rattle.std.proofs.lemmas.Bool.Decides.{eqb_tells}
 use Rattle.kx_laws.proofs.Booleans.{is_eq-false, or_true, or_false}
 use Rattle.kx_pages.specs.Lists.{count}
-use Rattle.kx_pages.specs.Numbers.{IsPage}
+use Rattle.kx_pages.specs.inner.Numbers.{IsPage}
 use Rattle.kx_pages.proofs.Lists.{Each-append}
 use Rattle.kx_pages.proofs.Counting.{Distinct-push, Each-from_no_count}
 use Rattle.page_pool.specs.Pages.{usable_among}
 use Rattle.page_pool.proofs.Queueing.{queue_fresh}
-use Rattle.page_pool.specs.Marks.{marks_of, AreMarks, IsPool}
+use Rattle.page_pool.specs.inner.Marks.{marks_of, AreMarks, IsPool}
 
 apart : (k q : ℕ) → k ≢ q → is_eq (nat_cmp k q) ≡ false
 apart k q ne = is_eq-false (nat_cmp k q) (λ e. ne (nat_cmp-IsAntisymmetric k q e))

@@ -9,7 +9,7 @@ use Rattle.kx_pages.specs.Lists.{Has, has, Distinct, count}
 use Rattle.kx_pages.proofs.Lists.{Each-at, Each-append, Each-take, Each-from_has_not, Has-from_has, Has-get_or, has-push}
 use Rattle.kx_pages.proofs.Counting.{Distinct-push, count-from_Has, count-from_has_not}
 use Rattle.page_pool.specs.Pages.{left_among, usable_among}
-use Rattle.page_pool.specs.Queue.{pages_at, is_waiting, IsQueue}
+use Rattle.page_pool.specs.inner.Queue.{pages_at, is_waiting, IsQueue}
 use Rattle.page_pool.proofs.Left.{eqb_same, usable_waiting, usable_more, usable_are, usable_drawn, left_length, usable_fits}
 
 pub pages_at-append : (xs ps qs : List ℕ) → pages_at xs (ps ++ qs) ≡ pages_at xs ps ++ pages_at xs qs

@@ -10,9 +10,9 @@ use Rattle.std.specs.FinMap.{nat_cmp-IsAntisymmetric, get-insert}
 use Rattle.std.proofs.lemmas.Option.{slice_get_read}
 use Rattle.kx_pages.specs.Lists.{count}
 use Rattle.kx_pages.proofs.Counting.{count-append}
-use Rattle.page_pool.specs.Repeats.{IsFirstRepeat}
-use Rattle.page_pool.specs.Marks.{marks_of, FiledAreAmong, AreMarks, IsPool}
-use Rattle.page_pool.specs.Queue.{pages_at}
+use Rattle.page_pool.specs.inner.Repeats.{IsFirstRepeat}
+use Rattle.page_pool.specs.inner.Marks.{marks_of, FiledAreAmong, AreMarks, IsPool}
+use Rattle.page_pool.specs.inner.Queue.{pages_at}
 use Rattle.page_pool.proofs.Left.{usable_undrawn}
 use Rattle.page_pool.proofs.Queueing.{queue_drawn, gone_more, gone_among, count_among}
 use Rattle.page_pool.proofs.Made.{marks_none, pool_made, count-any, some-fresh}

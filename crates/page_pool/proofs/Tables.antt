@@ -7,7 +7,7 @@ use Rattle.std.specs.BTreeMap.{is_at, BTreeMap}
 use Rattle.std.specs.BTreeMap as tree
 use Rattle.std.specs.Prelude.{IsSome}
 use Rattle.std.specs.FinMap.{insert, same_map, get-from_entries, get-insert, nat_cmp-IsAntisymmetric}
-use Rattle.page_pool.specs.Marks.{marks_of}
+use Rattle.page_pool.specs.inner.Marks.{marks_of}
 
 -- n has v at k, and at each other key what m has
 abbrev pub Differs : BTreeMap ℕ Bool → BTreeMap ℕ Bool → ℕ → Bool → Type 0

@@ -1,12 +1,9 @@
 -- The pool file (this project's own): each line a page number, or the first and the last page of a range, in
 -- hexadecimal.
-use Rattle.std.specs.Prelude.{ℕ, ◌+◌, ◌-◌, ◌^◌, ◌++◌, ◌≡◌, Bool, List, [], ◌∷◌, length, nat_lt, nat_le, if◌then◌else◌, Option, Some, None, Result, Ok, Err}
+use Rattle.std.specs.Prelude.{ℕ, ◌+◌, ◌-◌, ◌^◌, ◌++◌, List, [], ◌∷◌, length, nat_lt, nat_le, if◌then◌else◌, Option, Some, None, Result, Ok, Err}
 use Rattle.std.specs.List.{range_with_len}
-use Rattle.std.specs.BTreeMap as tree
-use Rattle.kx_laws.specs.Results.{◌>>=◌}
 use Rattle.text_lines.specs.Lines.{lines, cut, number}
-use Rattle.page_pool.specs.Repeats.{first_repeat, IsFirstRepeat}
-use Rattle.page_pool.specs.Marks.{AreMarks}
+use Rattle.page_pool.specs.Repeats.{first_repeat}
 use Rattle.page_pool.specs.declared.fault.PoolFault.{PoolFault}
 use Rattle.page_pool.specs.declared.fault.PoolFault.TheVariants as faults
 
@@ -69,16 +66,3 @@ unfoldable pub pool_reading : List ℕ → Result (List ℕ) PoolFault
 pool_reading text = do
   pages ← pages_onto 1 [] (lines text)
   each_once pages
-
--- a mark for each page, or the first page that stands earlier too, unless memory ran out
-abbrev pub MarksOrRepeat : Result (tree.BTreeMap ℕ Bool) PoolFault → List ℕ → Type 0
-MarksOrRepeat (Ok m) pages = AreMarks pages m × (first_repeat [] pages ≡ None)
-MarksOrRepeat (Err faults.Memory) pages = Unit {0}
-MarksOrRepeat (Err (faults.Repeats p)) pages =
-    (first_repeat [] pages ≡ Some p) × IsFirstRepeat pages p
-MarksOrRepeat (Err e) pages = ⊥
-
--- where a page is named as one that repeats, it is the first that stands earlier too
-abbrev pub RepeatIsFirst : List ℕ → PoolFault → Type 0
-RepeatIsFirst pages (faults.Repeats p) = IsFirstRepeat pages p
-RepeatIsFirst pages e = Unit {0}

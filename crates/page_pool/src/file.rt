@@ -2,7 +2,7 @@
 
 ghost use Rattle.std.specs.Prelude.{◌≡◌, ◌<◌, ◌≤◌, ◌+◌, ◌++◌, ◌^◌, length, OnOk, IfOk, []};
 ghost use Rattle.std.specs.List.{range_with_len};
-ghost use Rattle.kx_laws.specs.Results.{Gives};
+ghost use Rattle.kx_laws.specs.inner.Results.{Gives};
 ghost use Rattle.text_lines.specs.Lines.{lines};
 ghost use Rattle.page_pool.specs.declared.fault.PoolFault.TheVariants as faults;
 ghost use Rattle.page_pool.specs.File.{range_of, both, checked_range, line_onto, pages_onto};

@@ -12,14 +12,16 @@ ghost use Rattle.std.specs.Prelude.{◌≡◌, ◌↔◌, ℕ, List, Some, ◌+�
 ghost use Rattle.std.specs.Ordering.{nat_cmp};
 ghost use Rattle.std.specs.FinMap as finite;
 ghost use Rattle.std.specs.BTreeMap as tree;
-ghost use Rattle.kx_laws.specs.Results.{Gives};
+ghost use Rattle.kx_laws.specs.inner.Results.{Gives};
 ghost use Rattle.kx_pages.specs.Lists.{Distinct, count};
-ghost use Rattle.page_pool.specs.Pages.{is_filed, mark, left_of, usable_of};
-ghost use Rattle.page_pool.specs.Queue.{is_waiting};
-ghost use Rattle.page_pool.specs.Marks.{marks_of};
+ghost use Rattle.page_pool.specs.Pages.{is_filed, left_of, usable_of};
+ghost use Rattle.page_pool.specs.inner.Pages.{mark};
+ghost use Rattle.page_pool.specs.inner.Queue.{is_waiting};
+ghost use Rattle.page_pool.specs.inner.Marks.{marks_of};
 ghost use Rattle.page_pool.specs.declared.fault.PoolFault.TheVariants as faults;
-ghost use Rattle.page_pool.specs.File.{pool_reading, range_of, each_once, MarksOrRepeat, RepeatIsFirst};
-ghost use Rattle.page_pool.specs.Grammar.{IsPoolLine};
+ghost use Rattle.page_pool.specs.File.{pool_reading, range_of, each_once};
+ghost use Rattle.page_pool.specs.inner.File.{MarksOrRepeat, RepeatIsFirst};
+ghost use Rattle.page_pool.specs.inner.Grammar.{IsPoolLine};
 
 mod fault;
 mod file;
@@ -54,9 +56,10 @@ pub struct Pool {
 
 impl Model for Pool {
     ghost use Rattle.std.specs.Prelude.{take};
-    ghost use Rattle.page_pool.specs.Pages.{Pages, pages_code};
-    ghost use Rattle.page_pool.specs.Queue.{pages_at};
-    ghost use Rattle.page_pool.specs.Marks.{marks_of, IsPool};
+    ghost use Rattle.page_pool.specs.Pages.{Pages};
+    ghost use Rattle.page_pool.specs.inner.Pages.{pages_code};
+    ghost use Rattle.page_pool.specs.inner.Queue.{pages_at};
+    ghost use Rattle.page_pool.specs.inner.Marks.{marks_of, IsPool};
 
     ghost Value = { Pages };
 

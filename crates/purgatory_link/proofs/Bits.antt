@@ -7,7 +7,7 @@ use Rattle.std.proofs.lemmas.Nat.{and_le_r, one_shl}
 use Rattle.std.proofs.lemmas.Nat.Bits.{bit_at_and, bit_at_or, bit_at-lt, bit_at-zero, bit_at-trailing_zeros, bit_at_mask_inside, bit_at_mask_below, bit_at_mask_above}
 use Rattle.std.proofs.Math.Nat.{pow-le-pow_right}
 use Rattle.std.proofs.lemmas.List.{get_or-set_same, get_or-set_other, get_or_past}
-use Rattle.purgatory_link.specs.Taken.{is_set, is_taken, is_among}
+use Rattle.purgatory_link.specs.inner.Taken.{is_set, is_taken, is_among}
 
 -- whether a byte is one of the w at a place
 pub inside : (at w k : ℕ) → at ≤ k → k < at + w → is_among at w k ≡ true

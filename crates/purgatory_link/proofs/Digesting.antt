@@ -11,8 +11,8 @@ use Rattle.kx_fields.specs.Fields.{zeros, with_field}
 use Rattle.kx_fields.proofs.Fields.{next_field}
 use Rattle.kx_pages.specs.Bytes.{Wants}
 use Rattle.segments.specs.Values.{SegmentValue, pages, pages_of_segment}
-use Rattle.segments.specs.Rules.{IsBare}
-use Rattle.segments.specs.Shape.{IsPlaced}
+use Rattle.segments.specs.inner.Rules.{IsBare}
+use Rattle.segments.specs.inner.Shape.{IsPlaced}
 use Rattle.segments.proofs.Laws.{AreSegments-from_IsBare}
 use Rattle.purgatory_link.specs.Regions.{others, wanted_bytes, row, region_table}
 use Rattle.kx_pages.proofs.Lists.{Each-slice_get}

@@ -11,7 +11,8 @@ use Rattle.purgatory_link.specs.declared.fault.LinkFault.{LinkFault}
 use Rattle.kx_laws.specs.Results.{◌>>=◌}
 use Rattle.purgatory_link.specs.Symbols.{start_at, symbol_value}
 use Rattle.purgatory_link.specs.Formulas.{form_of, wide, formula, fits, modulo}
-use Rattle.purgatory_link.specs.Relocs.{size_at, meets, test_place, put_value, put_form, put_in, put_of, HasRoom, IsPut}
+use Rattle.purgatory_link.specs.Relocs.{size_at, meets, test_place, put_value, put_form, put_in, put_of}
+use Rattle.purgatory_link.specs.inner.Relocs.{HasRoom, IsPut}
 
 pub bind_ok : {A B : Type 0} (r : Result A LinkFault) (f : A → Result B LinkFault) (y : B) → (r >>= f) ≡ Ok y → (x : A) × (r ≡ Ok x) × (f x ≡ Ok y)
 bind_ok (Ok x) f y h = (x, refl, h)

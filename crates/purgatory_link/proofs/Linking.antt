@@ -10,7 +10,8 @@ use Rattle.kx_laws.specs.Results.{◌>>=◌, unless_at}
 use Rattle.purgatory_link.specs.Sym.{Named}
 use Rattle.purgatory_link.specs.Layout.{is_loaded, is_rel, padding, end_behind, starts, end, in_pages, lay, linked_size}
 use Rattle.purgatory_link.specs.Symbols.{known_start, names_of}
-use Rattle.purgatory_link.specs.Relocs.{size_of, HasRoom, relocate}
+use Rattle.purgatory_link.specs.Relocs.{size_of, relocate}
+use Rattle.purgatory_link.specs.inner.Relocs.{HasRoom}
 use Rattle.purgatory_link.specs.Link.{unlinked_bytes, starts_of, link_at, linking}
 use Rattle.purgatory_link.proofs.Laying.{le-end, pages_hold}
 use Rattle.purgatory_link.proofs.Relocating.{room_more}

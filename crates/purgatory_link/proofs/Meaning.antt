@@ -5,7 +5,8 @@ use Rattle.std.specs.List.{list_any, AllByRecursion}
 use Rattle.std.proofs.lemmas.List.{get_or-drop}
 use Rattle.std.proofs.lemmas.Bool.{cases_lt, or_left, false≢true, lt-ltb, both_ways, and_from}
 use Rattle.std.proofs.lemmas.Bool.Decides.{nat_tests}
-use Rattle.kx_fields.specs.Fields.{field, with_field, IsApart}
+use Rattle.kx_fields.specs.Fields.{field, with_field}
+use Rattle.kx_fields.specs.inner.Fields.{IsApart}
 use Rattle.kx_fields.proofs.Fields.{read_back, other_field, length-with_field}
 use Rattle.elf_image.specs.declared.reloc.Reloc.{Reloc}
 use Rattle.elf_image.specs.Object.{Relocatable, relocs_of}
@@ -17,12 +18,13 @@ use Rattle.purgatory_link.specs.declared.fault.LinkFault.TheVariants as faults
 use Rattle.kx_laws.specs.Results.{◌>>=◌}
 use Rattle.purgatory_link.specs.Symbols.{start_at, symbol_value}
 use Rattle.purgatory_link.specs.Formulas.{form_of, wide, formula, fits, modulo}
-use Rattle.purgatory_link.specs.Relocs.{meets_one, meets, test_place, put_value, put_of, puts_of, with_one, with_put, with_puts, relocate, HasRoom, IsPut}
+use Rattle.purgatory_link.specs.Relocs.{meets_one, meets, test_place, put_value, put_of, puts_of, with_one, with_puts, relocate}
+use Rattle.purgatory_link.specs.inner.Relocs.{with_put, HasRoom, IsPut}
 use Rattle.purgatory_link.specs.Link.{starts_of, unlinked_bytes}
 use Rattle.std.specs.List.{All}
-use Rattle.elf_image.specs.Section.{IsInside}
+use Rattle.elf_image.specs.inner.Section.{IsInside}
 use Rattle.purgatory_link.proofs.Bytes.{unlinked_byte}
-use Rattle.purgatory_link.specs.Meaning.{Holds, AllHold, is_in_field, KeepsOthers}
+use Rattle.purgatory_link.specs.inner.Meaning.{Holds, AllHold, is_in_field, KeepsOthers}
 use Rattle.purgatory_link.proofs.Found.{bind_ok, Valued, valued, found, put_is, put_clear}
 use Rattle.purgatory_link.proofs.Putting.{put_known}
 use Rattle.purgatory_link.proofs.Relocating.{with_puts-one}

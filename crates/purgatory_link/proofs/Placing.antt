@@ -5,13 +5,14 @@ use Rattle.std.specs.List.{flat_map}
 use Rattle.std.proofs.Math.Seq.{drop-append-add}
 use Rattle.std.proofs.lemmas.List.{drop-drop, length-replicate, length-take-le, take-append-le, drop-append-le}
 use Rattle.sha2.proofs.Facts256.{length-sha256}
-use Rattle.kx_fields.specs.Fields.{zeros, bytes_at, with_bytes, IsApart}
+use Rattle.kx_fields.specs.Fields.{zeros, bytes_at, with_bytes}
+use Rattle.kx_fields.specs.inner.Fields.{IsApart}
 use Rattle.kx_fields.proofs.Fields.{bytes_back, length-with_bytes}
 use Rattle.segments.specs.Values.{SegmentValue}
-use Rattle.segments.specs.Rules.{IsBare}
+use Rattle.segments.specs.inner.Rules.{IsBare}
 use Rattle.segments.proofs.Laws.{AreSegments-from_IsBare}
 use Rattle.purgatory_link.specs.Regions.{others, row, region_table, digest}
-use Rattle.purgatory_link.specs.Tie.{HasRegions, HasPlaces, with_regions}
+use Rattle.purgatory_link.specs.inner.Tie.{HasRegions, HasPlaces, with_regions}
 use Rattle.purgatory_link.proofs.Digesting.{length-rows}
 use Rattle.purgatory_link.proofs.Tying.{few_others}
 use Rattle.purgatory_link.proofs.Replacing.{others_stay, digest_stays}

@@ -12,9 +12,10 @@ use Rattle.purgatory_link.specs.declared.put.Put.{Put}
 use Rattle.purgatory_link.specs.declared.relocate.LinkBuffer.{LinkBuffer}
 use Rattle.purgatory_link.specs.declared.fault.LinkFault.{LinkFault}
 use Rattle.kx_laws.specs.Results.{◌>>=◌}
-use Rattle.purgatory_link.specs.Relocs.{HasRoom, with_one, with_put, with_puts, put_of, puts_of, relocate}
-use Rattle.purgatory_link.specs.Taken.{AreTaken}
-use Rattle.purgatory_link.specs.Progress.{PutSo, ArePut, Refuses}
+use Rattle.purgatory_link.specs.Relocs.{with_one, with_puts, put_of, puts_of, relocate}
+use Rattle.purgatory_link.specs.inner.Relocs.{HasRoom, with_put}
+use Rattle.purgatory_link.specs.inner.Taken.{AreTaken}
+use Rattle.purgatory_link.specs.inner.Progress.{PutSo, ArePut, Refuses}
 
 pub room_more : (o : Relocatable) (starts : List (Option ℕ)) (n m : ℕ) → n ≤ m → HasRoom o starts n → HasRoom o starts m
 room_more o starts n m h r = record { fits = λ i s e. let f = r.fits i s e in omega (arith, f, h) }

@@ -7,9 +7,10 @@ use Rattle.sha2.specs.Sha256.{sha256}
 use Rattle.kx_pages.specs.Lists.{Has}
 use Rattle.kx_pages.specs.Bytes.{Wants, page_of}
 use Rattle.segments.specs.Values.{SegmentValue, is_page_of_segment, is_destination, bytes_from, want, pages, pages_of_segment}
-use Rattle.segments.specs.Rules.{IsBare, overlap_each_other}
+use Rattle.segments.specs.Rules.{overlap_each_other}
+use Rattle.segments.specs.inner.Rules.{IsBare}
 use Rattle.kx_pages.proofs.Lists.{Has-either, Each-slice_get}
-use Rattle.segments.specs.Shape.{IsPlaced, Apart}
+use Rattle.segments.specs.inner.Shape.{IsPlaced, Apart}
 use Rattle.segments.proofs.Laws.{AreSegments-from_IsBare, is_destination-from_Has}
 use Rattle.purgatory_link.specs.Regions.{others, wanted_bytes, digest}
 use Rattle.purgatory_link.proofs.Standing.{one_page}

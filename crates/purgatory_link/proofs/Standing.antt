@@ -11,16 +11,17 @@ use Rattle.kx_pages.specs.Lists.{Has}
 use Rattle.kx_fields.specs.Fields.{zeros, bytes_at}
 use Rattle.kx_pages.specs.Bytes.{Mem, page_of}
 use Rattle.segments.specs.Values.{SegmentValue, is_page_of_segment, bytes_from, want, pages, pages_of_segment}
-use Rattle.segments.specs.Rules.{IsBare, overlap_each_other}
+use Rattle.segments.specs.Rules.{overlap_each_other}
+use Rattle.segments.specs.inner.Rules.{IsBare}
 use Rattle.kx_pages.proofs.Lists.{range-Has, Has-left, Has-right, Has-either, Each-slice_get}
-use Rattle.segments.specs.Shape.{IsPlaced, Apart}
+use Rattle.segments.specs.inner.Shape.{IsPlaced, Apart}
 use Rattle.segments.proofs.Laws.{AreSegments-from_IsBare, pages-append}
 use Rattle.kx_pages.proofs.Bytes.{length-page_of}
 use Rattle.purgatory_link.specs.declared.region_test.RegionTest.TheVariants as answers
 use Rattle.purgatory_link.specs.Regions.{others}
 use Rattle.page_memory.specs.Addresses.{bytes_in}
 use Rattle.purgatory_link.specs.RegionTest.{test}
-use Rattle.purgatory_link.specs.Tie.{HasRegions, HasWanted}
+use Rattle.purgatory_link.specs.inner.Tie.{HasRegions, HasWanted}
 use Rattle.page_memory.proofs.Addresses.{bytes_in-both, length-bytes_in}
 use Rattle.purgatory_link.proofs.Tying.{page_bytes_in, same_where_digested}
 

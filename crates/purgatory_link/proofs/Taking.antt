@@ -5,7 +5,7 @@ use Rattle.std.specs.List.{list_any}
 use Rattle.std.proofs.lemmas.Bool.{cases_Bool, or_cases, or_left, or_right, or_parts, or_from, both_ways, lt-ltb, ltb-true}
 use Rattle.purgatory_link.specs.declared.put.Put.{Put}
 use Rattle.purgatory_link.specs.Relocs.{meets_one, meets}
-use Rattle.purgatory_link.specs.Taken.{is_taken, is_among, has, AreTaken}
+use Rattle.purgatory_link.specs.inner.Taken.{is_taken, is_among, has, AreTaken}
 use Rattle.purgatory_link.proofs.Bits.{inside, where_among}
 
 -- a byte that is shared is one of both

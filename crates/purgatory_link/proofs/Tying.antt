@@ -16,16 +16,16 @@ use Rattle.kx_fields.specs.Fields.{zeros, field}
 use Rattle.kx_fields.proofs.Fields.{field_behind}
 use Rattle.kx_pages.specs.Bytes.{Mem, Wants}
 use Rattle.segments.specs.Values.{SegmentValue, want, pages, pages_of_segment}
-use Rattle.segments.specs.Rules.{IsBare}
+use Rattle.segments.specs.inner.Rules.{IsBare}
 use Rattle.kx_pages.proofs.Lists.{Each-append, Each-left, Each-right, Has-left, Has-right}
-use Rattle.segments.specs.Shape.{IsPlaced}
+use Rattle.segments.specs.inner.Shape.{IsPlaced}
 use Rattle.segments.proofs.Laws.{AreSegments-from_IsBare, pages-append}
 use Rattle.purgatory_link.proofs.Wanted.{length-want}
 use Rattle.purgatory_link.specs.declared.region_test.RegionTest.TheVariants as answers
 use Rattle.purgatory_link.specs.Regions.{others, wanted_bytes, digest, row, region_table}
 use Rattle.page_memory.specs.Addresses.{bytes_in}
 use Rattle.purgatory_link.specs.RegionTest.{Region, nowhere, region, regions, regions_in, passes, is_wild, first_wild_region, verdict, unless_wild, test_table, test}
-use Rattle.purgatory_link.specs.Tie.{HoldsDigested}
+use Rattle.purgatory_link.specs.inner.Tie.{HoldsDigested}
 use Rattle.purgatory_link.proofs.Digesting.{length-row, wanted_both}
 use Rattle.page_memory.proofs.Addresses.{bytes_in-both, bytes_in-page}
 use Rattle.purgatory_link.proofs.Testing.{first_none, test_inside}

@@ -3,11 +3,8 @@ pub mod Layout
 pub mod Symbols
 pub mod Formulas
 pub mod Relocs
-pub mod Taken
-pub mod Progress
 pub mod Link
 pub mod Set
-pub mod Meaning
 pub mod Regions
 pub mod RegionTest
-pub mod Tie
+pub mod inner

@@ -1,6 +1,6 @@
 -- Relocations: the field of each, the number that it holds, and the first fault (x86-64 psABI, "Relocation"; ELF gABI,
 -- "Relocation").
-use Rattle.std.specs.Prelude.{◌≡◌, ℕ, ◌+◌, ◌<◌, ◌≤◌, ◌⊎◌, ◌^◌, ◌==◌, ◌&&◌, not, Bool, List, [], ◌∷◌, ◌++◌, nat_lt, min, max, ℤ, Option, Some, None, Result, Ok, Err, if◌then◌else◌}
+use Rattle.std.specs.Prelude.{ℕ, ◌+◌, ◌^◌, ◌==◌, ◌&&◌, not, Bool, List, [], ◌∷◌, ◌++◌, nat_lt, min, max, ℤ, Option, Some, None, Result, Ok, Err, if◌then◌else◌}
 use Rattle.std.specs.List.{slice_get, list_any}
 use Rattle.kx_fields.specs.Fields.{with_field}
 use Rattle.elf_image.specs.declared.section.Section.{Section}
@@ -11,7 +11,6 @@ use Rattle.purgatory_link.specs.declared.form.Form.TheVariants as forms
 use Rattle.purgatory_link.specs.declared.put.Put.{Put}
 use Rattle.purgatory_link.specs.declared.fault.LinkFault.{LinkFault}
 use Rattle.purgatory_link.specs.declared.fault.LinkFault.TheVariants as faults
-use Rattle.kx_laws.specs.Results.{◌>>=◌}
 use Rattle.purgatory_link.specs.Symbols.{start_at, symbol_value}
 use Rattle.purgatory_link.specs.Formulas.{form_of, wide, formula, fits, modulo}
 
@@ -87,24 +86,9 @@ unfoldable pub with_puts : List Put → List ℕ → List ℕ
 with_puts [] bytes = bytes
 with_puts (p ∷ ps) bytes = with_puts ps (with_field p.at p.wide p.value bytes)
 
--- each loaded section ends within n bytes
-pub record HasRoom (o : Relocatable) (starts : List (Option ℕ)) (n : ℕ) : Type 0 where
-  pub fits : (i s : ℕ) → start_at starts i ≡ Some s → s + size_at o i ≤ n
-
--- the bytes with the number of a field, if there is one
-abbrev pub with_put : Option Put → List ℕ → List ℕ
-with_put None bytes = bytes
-with_put (Some p) bytes = with_field p.at p.wide p.value bytes
-
 -- the bytes with what all relocations of the object in this file put, or the first fault
 unfoldable pub relocate : ℕ → Relocatable → List ℕ → List (Option ℕ) → List ℕ
     → Result (List ℕ) LinkFault
 relocate base o file starts bytes = do
   ps ← puts_of base o starts [] (relocs_of file o)
   Ok (with_puts ps bytes)
-
--- a field of 4 or 8 bytes that lies within n bytes, and whose number fits it
-pub record IsPut (n : ℕ) (p : Put) : Type 0 where
-  pub inside : p.at + p.wide ≤ n
-  pub wide : (p.wide ≡ 4) ⊎ (p.wide ≡ 8)
-  pub fits : p.value < 256 ^ p.wide

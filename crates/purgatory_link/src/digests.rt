@@ -6,7 +6,7 @@ ghost use Rattle.sha2.specs.Hashers.{Holds256};
 ghost use Rattle.sha2.specs.Sha256.{sha256};
 ghost use Rattle.kx_pages.specs.Bytes.{page_of};
 ghost use Rattle.segments.specs.Values.{SegmentValue, want, pages};
-ghost use Rattle.segments.specs.Rules.{IsBare};
+ghost use Rattle.segments.specs.inner.Rules.{IsBare};
 ghost use Rattle.purgatory_link.specs.Regions.{others, wanted_bytes, digest, region_table};
 
 use kx_fields::Block;

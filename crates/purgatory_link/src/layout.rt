@@ -1,7 +1,7 @@
 //! The layout of the linked bytes.
 
 ghost use Rattle.std.specs.Prelude.{◌≡◌, ℕ, ◌+◌, ◌-◌, ◌^◌, ◌<◌, ◌≤◌, ◌++◌, length, min, IfOk, OnOk};
-ghost use Rattle.elf_image.specs.Section.{IsInside};
+ghost use Rattle.elf_image.specs.inner.Section.{IsInside};
 ghost use Rattle.std.specs.List.{All};
 ghost use Rattle.purgatory_link.specs.Layout.{is_loaded, padding, start_behind, end_behind, starts, end, laid_behind, lay, fill_up, in_pages, has_bad_align, is_loaded_at, is_rel, linked_size};
 ghost use Rattle.purgatory_link.specs.declared.fault.LinkFault.TheVariants as faults;

@@ -1,14 +1,15 @@
 //! A linked object: how many bytes it has, how it is made, and its symbols.
 
 ghost use Rattle.std.specs.Prelude.{◌≡◌, ℕ, ◌+◌, ◌%◌, ◌^◌, ◌<◌, ◌≤◌, IfOk, OnOk, IfErr, OnErr, length, Ok, Err};
-ghost use Rattle.kx_laws.specs.Results.{Gives};
+ghost use Rattle.kx_laws.specs.inner.Results.{Gives};
 ghost use Rattle.kx_fields.specs.Fields.{with_bytes};
-ghost use Rattle.elf_image.specs.Object.{IsObject};
+ghost use Rattle.elf_image.specs.inner.Object.{IsObject};
 ghost use Rattle.purgatory_link.specs.declared.fault.LinkFault.TheVariants.{Memory};
 ghost use Rattle.purgatory_link.specs.Layout.{end, in_pages, linked_size};
 ghost use Rattle.purgatory_link.specs.Link.{link_at, linking};
-ghost use Rattle.purgatory_link.specs.Meaning.{AllHold, KeepsOthers};
-ghost use Rattle.purgatory_link.specs.Set.{symbol_of, is_inside, setting};
+ghost use Rattle.purgatory_link.specs.inner.Meaning.{AllHold, KeepsOthers};
+ghost use Rattle.purgatory_link.specs.Set.{symbol_of, is_inside};
+ghost use Rattle.purgatory_link.specs.inner.Set.{setting};
 
 use crate::fault::LinkFault;
 use crate::names::Names;
@@ -64,7 +65,7 @@ impl Linked {
     }
 
     /// Puts these bytes in place of the symbol of this name, which has as many.
-    #[tactic(auto, unfolding(crate::specs::Set::setting))]
+    #[tactic(auto, unfolding(crate::specs::inner::Set::setting))]
     pub fn set_symbol(&mut self, name: &[u8], bytes: &[u8]) -> Result<(), LinkFault>
         ensures set { OnOk result (setting self.old name.now bytes.now ≡ Ok self.new) }
         ensures refused { IfErr result (λ e. setting self.old name.now bytes.now ≡ Err e) }

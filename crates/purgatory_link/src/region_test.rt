@@ -7,9 +7,9 @@ ghost use Rattle.page_memory.specs.Contents.{at};
 ghost use Rattle.page_memory.specs.Addresses.{bytes_in};
 ghost use Rattle.kx_pages.specs.Bytes.{Mem};
 ghost use Rattle.segments.specs.Values.{SegmentValue};
-ghost use Rattle.segments.specs.Rules.{IsBare};
+ghost use Rattle.segments.specs.inner.Rules.{IsBare};
 ghost use Rattle.purgatory_link.specs.Regions.{others, digest};
-ghost use Rattle.purgatory_link.specs.Tie.{HoldsDigested, HasRegions, HasWanted, HasPlaces, with_regions};
+ghost use Rattle.purgatory_link.specs.inner.Tie.{HoldsDigested, HasRegions, HasWanted, HasPlaces, with_regions};
 ghost use Rattle.purgatory_link.specs.RegionTest.{regions, regions_in, passes, is_wild, first_wild_region, verdict, test_table, test};
 
 use crate::digests::digest_block;

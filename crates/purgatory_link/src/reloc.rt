@@ -4,8 +4,9 @@ ghost use Rattle.std.specs.Prelude.{◌≡◌, ℕ, List, ◌+◌, ◌<◌, ◌�
 ghost use Rattle.purgatory_link.specs.declared.put.Put.{Put};
 ghost use Rattle.purgatory_link.specs.Formulas.{formula, wide};
 ghost use Rattle.purgatory_link.specs.Symbols.{start_at};
-ghost use Rattle.purgatory_link.specs.Relocs.{HasRoom, size_at, test_place, put_value, put_of};
-ghost use Rattle.purgatory_link.specs.Taken.{AreTaken};
+ghost use Rattle.purgatory_link.specs.Relocs.{size_at, test_place, put_value, put_of};
+ghost use Rattle.purgatory_link.specs.inner.Relocs.{HasRoom};
+ghost use Rattle.purgatory_link.specs.inner.Taken.{AreTaken};
 
 use crate::fault::LinkFault;
 use crate::form::Form;

@@ -1,14 +1,16 @@
 //! All relocations.
 
 ghost use Rattle.std.specs.Prelude.{◌≡◌, ℕ, List, ◌<◌, ◌≤◌, ◌^◌, length, [], IfErr, IfOk, IfSome, OnOk};
-ghost use Rattle.elf_image.specs.Object.{IsObject};
-ghost use Rattle.elf_image.specs.Reloc.{AreInside, entries_of};
-ghost use Rattle.kx_laws.specs.Results.{Gives};
+ghost use Rattle.elf_image.specs.inner.Object.{IsObject};
+ghost use Rattle.elf_image.specs.Reloc.{entries_of};
+ghost use Rattle.elf_image.specs.inner.Reloc.{AreInside};
+ghost use Rattle.kx_laws.specs.inner.Results.{Gives};
 ghost use Rattle.purgatory_link.specs.declared.put.Put.{Put};
 ghost use Rattle.purgatory_link.specs.declared.fault.LinkFault.TheVariants.{Memory};
-ghost use Rattle.purgatory_link.specs.Relocs.{HasRoom, IsPut, with_one, with_put, relocate};
-ghost use Rattle.purgatory_link.specs.Taken.{room, AreTaken, IsRow};
-ghost use Rattle.purgatory_link.specs.Progress.{ArePut, Refuses};
+ghost use Rattle.purgatory_link.specs.Relocs.{with_one, relocate};
+ghost use Rattle.purgatory_link.specs.inner.Relocs.{HasRoom, IsPut, with_put};
+ghost use Rattle.purgatory_link.specs.inner.Taken.{room, AreTaken, IsRow};
+ghost use Rattle.purgatory_link.specs.inner.Progress.{ArePut, Refuses};
 
 use crate::fault::LinkFault;
 use crate::put::Put;

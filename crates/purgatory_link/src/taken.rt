@@ -6,7 +6,7 @@
 ghost use Rattle.std.specs.Prelude.{◌≡◌, ℕ, List, [], ◌∷◌, ◌++◌, ◌+◌, ◌^◌, ◌<◌, ◌≤◌, ◌||◌, true, false, IfOk};
 ghost use Rattle.purgatory_link.specs.declared.put.Put.{Put};
 ghost use Rattle.purgatory_link.specs.Relocs.{meets};
-ghost use Rattle.purgatory_link.specs.Taken.{is_set, is_taken, is_among, room, AreTaken};
+ghost use Rattle.purgatory_link.specs.inner.Taken.{is_set, is_taken, is_among, room, AreTaken};
 
 use crate::put::Put;
 use std::alloc::{AllocError, Global};

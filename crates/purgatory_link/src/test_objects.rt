@@ -2,9 +2,10 @@
 
 ghost use Rattle.std.specs.Prelude.{◌≡◌, ℕ, ◌<◌, List, true, length};
 ghost use Rattle.std.specs.List.{All};
-ghost use Rattle.elf_image.specs.Section.{IsInside};
-ghost use Rattle.elf_image.specs.Reloc.{AreInside, entry_of};
-ghost use Rattle.elf_image.specs.Object.{IsDefined, IsRelocSection, IsObject};
+ghost use Rattle.elf_image.specs.inner.Section.{IsInside};
+ghost use Rattle.elf_image.specs.Reloc.{entry_of};
+ghost use Rattle.elf_image.specs.inner.Reloc.{AreInside};
+ghost use Rattle.elf_image.specs.inner.Object.{IsDefined, IsRelocSection, IsObject};
 
 use crate::{LinkFault, Linked, link, size};
 use elf_image::{Object, Reloc, RelocSection, Section, Symbol};

@@ -8,7 +8,7 @@ use Rattle.std.specs.declared.cmp.Ordering.{Ordering}
 use Rattle.std.specs.declared.cmp.Ordering.TheVariants.{Less, Equal, Greater}
 use Rattle.std.specs.FinMap.{nat_cmp-IsAntisymmetric}
 use Rattle.std.proofs.lemmas.Bool.{cases_lt, or_parts, lt-ltb, both_ways}
-use Rattle.range_index.specs.Ranges.{Range, ranges_meet, meets_any, AreApart, AreWith}
+use Rattle.range_index.specs.inner.Ranges.{Range, ranges_meet, meets_any, AreApart, AreWith}
 use Rattle.range_index.proofs.Finding.{less_is}
 
 -- ranges that do not meet: one lies before the other

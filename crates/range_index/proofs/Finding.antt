@@ -9,7 +9,7 @@ use Rattle.std.specs.Cmp.{nat_cmp_total, eq_by_cmp_equiv}
 use Rattle.std.specs.FinMap.{nat_cmp-IsAntisymmetric}
 use Rattle.std.proofs.lemmas.Bool.{cases_lt, cases_eq, lt-ltb, le-ltb, both_ways, cond-true}
 use Rattle.kx_laws.proofs.Booleans.{is_eq-false}
-use Rattle.range_index.specs.Ranges.{Range, ranges_meet, meets_any, AreApart}
+use Rattle.range_index.specs.inner.Ranges.{Range, ranges_meet, meets_any, AreApart}
 
 -- the end of the range that starts at q
 abbrev end_at : ℕ → List Range → Option ℕ

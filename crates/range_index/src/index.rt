@@ -3,7 +3,7 @@
 ghost use Rattle.std.specs.Prelude.{◌≡◌, ℕ, ◌<◌, ◌≤◌, [], false, OnOk, OnErr, IfSome, IfNone, IsSome};
 ghost use Rattle.std.specs.Ordering.{nat_cmp};
 ghost use Rattle.std.specs.BTreeMap as tree;
-ghost use Rattle.range_index.specs.Ranges.{meets_any, AreApart, AreWith};
+ghost use Rattle.range_index.specs.inner.Ranges.{meets_any, AreApart, AreWith};
 
 use std::alloc::{AllocError, Global};
 use std::collections::BTreeMap;
@@ -19,7 +19,7 @@ pub struct RangeIndex {
 
 impl Model for RangeIndex {
     ghost use Rattle.std.specs.Prelude.{List};
-    ghost use Rattle.range_index.specs.Ranges.{Range, AreApart};
+    ghost use Rattle.range_index.specs.inner.Ranges.{Range, AreApart};
 
     ghost Value = { List Range };
 

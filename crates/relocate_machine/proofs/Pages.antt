@@ -4,7 +4,8 @@ use Rattle.std.specs.Prelude.{◌⊎◌, nat_le}
 use Rattle.kx_laws.proofs.Options.{some_same, none_some}
 use Rattle.kx_pages.specs.declared.image.Mode.{Mode}
 use Rattle.kx_pages.specs.declared.image.Mode.TheVariants.{Plain, Kept}
-use Rattle.page_memory.specs.Contents.{Contents, at, copy_page, IsHeld}
+use Rattle.page_memory.specs.Contents.{Contents, at, copy_page}
+use Rattle.page_memory.specs.inner.Contents.{IsHeld}
 use Rattle.page_memory.proofs.Laws.{get-insert_other, held-insert, held-insert_same, held-insert_only}
 use Rattle.relocate_machine.specs.declared.step.Step.{Step}
 use Rattle.relocate_machine.specs.declared.step.Step.TheVariants as steps
@@ -12,8 +13,9 @@ use Rattle.relocate_machine.specs.declared.step.Writes.{Writes}
 use Rattle.relocate_machine.specs.declared.word.WordKind.{WordKind}
 use Rattle.relocate_machine.specs.declared.word.WordKind.TheVariants as kinds
 use Rattle.relocate_machine.specs.Machine.{State, Registers, after_move, after_word, kind_of, next_word, past_word, step_by, step_of, word_address}
-use Rattle.relocate_machine.specs.Writes.{IsSameBut, IsWritten, move_writes, no_writes, word_writes, writes_by, writes_of}
-use Rattle.relocate_machine.specs.Run.{HoldsWritten, WritesAfter, WritesWithin, run_after, run_from}
+use Rattle.relocate_machine.specs.inner.Writes.{IsSameBut, IsWritten, move_writes, no_writes, word_writes, writes_by, writes_of}
+use Rattle.relocate_machine.specs.Run.{run_after, run_from}
+use Rattle.relocate_machine.specs.inner.Run.{HoldsWritten, WritesAfter, WritesWithin}
 use Rattle.relocate_machine.proofs.Held.{writes_of-source}
 use Rattle.relocate_machine.proofs.Stays.{run_from-stays}
 

@@ -12,8 +12,9 @@ use Rattle.relocate_machine.specs.declared.step.Outcome.TheVariants as outcomes
 use Rattle.relocate_machine.specs.declared.word.WordKind.{WordKind}
 use Rattle.relocate_machine.specs.declared.word.WordKind.TheVariants as kinds
 use Rattle.relocate_machine.specs.Machine.{State, after_word, kind_of, next_word, past_word, step_by, step_of, word_address}
-use Rattle.relocate_machine.specs.Reading.{GoesOn, IsIn, IsRead, place_past, standing}
-use Rattle.relocate_machine.specs.Run.{HeldAfter, HeldFrom, run_after, run_from}
+use Rattle.relocate_machine.specs.inner.Reading.{GoesOn, IsIn, IsRead, place_past, standing}
+use Rattle.relocate_machine.specs.Run.{run_after, run_from}
+use Rattle.relocate_machine.specs.inner.Run.{HeldAfter, HeldFrom}
 use Rattle.relocate_machine.proofs.More.{run_from-more}
 use Rattle.relocate_machine.proofs.Runs.{run_from-none, run_from-went, step_of-runs}
 

@@ -17,7 +17,7 @@ use Rattle.relocate_machine.specs.declared.step.Writes.{Writes}
 use Rattle.relocate_machine.specs.declared.word.WordKind.{WordKind}
 use Rattle.relocate_machine.specs.declared.word.WordKind.TheVariants as kinds
 use Rattle.relocate_machine.specs.Machine.{State, Registers, after_move, after_word, kind_of, next_word, past_word, step_by, step_of, word_address}
-use Rattle.relocate_machine.specs.Writes.{IsHeldFor, IsWritten, move_writes, no_writes, word_writes, writes_by, writes_of}
+use Rattle.relocate_machine.specs.inner.Writes.{IsHeldFor, IsWritten, move_writes, no_writes, word_writes, writes_by, writes_of}
 
 -- the word to handle, and what the step writes, in memories that read alike
 pub next_word-same : (first : Option ℕ) (cursor : ℕ) (m n : Contents) → Agree (at m) (at n)

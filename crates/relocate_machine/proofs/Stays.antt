@@ -11,7 +11,7 @@ use Rattle.relocate_machine.specs.declared.step.Outcome.{Outcome}
 use Rattle.relocate_machine.specs.declared.word.WordKind.{WordKind}
 use Rattle.relocate_machine.specs.declared.word.WordKind.TheVariants as kinds
 use Rattle.relocate_machine.specs.Machine.{State, Registers, after_move, after_word, step_by, next_word, past_word, kind_of, word_address, step_of}
-use Rattle.relocate_machine.specs.Writes.{Stays}
+use Rattle.relocate_machine.specs.inner.Writes.{Stays}
 use Rattle.relocate_machine.specs.Run.{run_from, run_after}
 
 pub stays_same : (m : Contents) → Stays m m

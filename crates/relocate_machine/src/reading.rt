@@ -3,7 +3,7 @@
 ghost use Rattle.std.specs.Prelude.{◌≡◌, ◌+◌, ◌%◌, ◌<◌, ◌≤◌, ◌^◌, length, IfSome};
 ghost use Rattle.page_memory.specs.Memory.{word};
 ghost use Rattle.relocate_machine.specs.Machine.{kind_of, word_address};
-ghost use Rattle.relocate_machine.specs.Reading.{IsIn, IsRead, place_past};
+ghost use Rattle.relocate_machine.specs.inner.Reading.{IsIn, IsRead, place_past};
 
 use crate::word::{WordKind, address, first_bit};
 use byteorder::{ByteOrder, LittleEndian};

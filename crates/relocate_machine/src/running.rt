@@ -1,10 +1,11 @@
 //! Runs of a list.
 
 ghost use Rattle.std.specs.Prelude.{◌≡◌, ℕ, ◌<◌, Some, IfSome, IfOk, OnOk, OnErr};
-ghost use Rattle.page_memory.specs.Contents.{IsHeld};
+ghost use Rattle.page_memory.specs.inner.Contents.{IsHeld};
 ghost use Rattle.relocate_machine.specs.Machine.{start_at};
-ghost use Rattle.relocate_machine.specs.Writes.{AreHeld, IsHeldFor, IsWritten, Stays};
-ghost use Rattle.relocate_machine.specs.Run.{HeldFrom, HoldsWritten, IsCutShort, run_of};
+ghost use Rattle.relocate_machine.specs.inner.Writes.{AreHeld, IsHeldFor, IsWritten, Stays};
+ghost use Rattle.relocate_machine.specs.Run.{run_of};
+ghost use Rattle.relocate_machine.specs.inner.Run.{HeldFrom, HoldsWritten, IsCutShort};
 
 use crate::step::{Machine, Outcome, Reading, Step, Writes};
 use kx_pages::{Mode, Page};

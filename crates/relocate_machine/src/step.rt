@@ -2,8 +2,8 @@
 
 ghost use Rattle.std.specs.Prelude.{◌≡◌, ℕ, ◌+◌, ◌-◌, ◌*◌, ◌/◌, ◌%◌, ◌<◌, ◌≤◌, ◌^◌, false, Some, IsNone, IfSome};
 ghost use Rattle.relocate_machine.specs.Machine.{State, start_of, next_word, past_word, after_word, after_move, step_of};
-ghost use Rattle.relocate_machine.specs.Writes.{AreHeld, HoldsWrites, IsSameBut, move_writes, word_writes, writes_by, writes_of};
-ghost use Rattle.relocate_machine.specs.Reading.{GoesOn, IsPageAt};
+ghost use Rattle.relocate_machine.specs.inner.Writes.{AreHeld, HoldsWrites, IsSameBut, move_writes, word_writes, writes_by, writes_of};
+ghost use Rattle.relocate_machine.specs.inner.Reading.{GoesOn, IsPageAt};
 
 use crate::reading::{PageReading, Place, read_page};
 use crate::word::{WordKind, address, first_bit};
@@ -101,7 +101,7 @@ impl Machine {
     }
 
     /// The pages that the next step writes: `step` leaves every other page. None where it moves nothing or is off.
-    #[tactic(auto, unfolding(crate::specs::Writes::writes_of))]
+    #[tactic(auto, unfolding(crate::specs::inner::Writes::writes_of))]
     pub fn writes(&self, memory: &Memory) -> Writes
         ensures { result ≡ writes_of record { machine = self.now; memory = memory.now } }
     {

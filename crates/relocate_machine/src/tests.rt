@@ -223,7 +223,7 @@ fn kept_moves_follow_each_other(rt: HostRuntime) -> Result<(), Fail> {
 }
 
 #[test]
-#[tactic(auto, unfolding(crate::specs::Writes::writes_of, crate::specs::Machine::kind_of, crate::specs::Machine::step_of, crate::specs::Run::HeldFrom))]
+#[tactic(auto, unfolding(crate::specs::inner::Writes::writes_of, crate::specs::Machine::kind_of, crate::specs::Machine::step_of, crate::specs::inner::Run::HeldFrom))]
 fn a_done_word_alone_takes_one_step(rt: HostRuntime) -> Result<(), Fail> {
     let mut memory = Memory::empty(rt.alloc());
     let outcome = run_held(&mut memory, 4, Mode::Plain, 1);

@@ -11,7 +11,8 @@ use Rattle.kx_pages.specs.declared.image.Wish.TheVariants.{Plain}
 use Rattle.segments.specs.declared.fault.SegFault.{SegFault}
 use Rattle.segments.specs.declared.fault.SegFault.TheVariants as faults
 use Rattle.segments.specs.Values.{SegmentValue, stop, page_count, pages_of_segment, pages, need}
-use Rattle.segments.specs.Rules.{where_true, at_first, is_bad_address, bad_address, overlap_each_other, overlap_after, overlap, is_too_full, too_full, bad_count, too_large, shape_refusal, bare_refusal, IsBare, Refuses}
+use Rattle.segments.specs.Rules.{where_true, at_first, is_bad_address, bad_address, overlap_each_other, overlap_after, overlap, is_too_full, too_full, bad_count, too_large, shape_refusal, bare_refusal}
+use Rattle.segments.specs.inner.Rules.{IsBare, Refuses}
 use Rattle.sample_load.specs.declared.drawn_segments.Shape.{Shape}
 use Rattle.sample_load.specs.Draws.{next_state, draw_from}
 use Rattle.sample_load.specs.DrawnSegments.{shape_of, second_state, third_state, byte_of, bytes_of, segment_of, page_behind, segments_from}

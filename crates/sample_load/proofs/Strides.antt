@@ -7,8 +7,10 @@ use Rattle.std.proofs.lemmas.List.FromFn.{take-map-range_with_len, length-map-ra
 use Rattle.std.proofs.lemmas.Option.{none-some}
 use Rattle.kx_laws.proofs.Options.{some_same}
 use Rattle.kx_pages.specs.Lists.{count}
-use Rattle.page_pool.specs.Repeats.{first_repeat, IsFirstRepeat}
-use Rattle.page_pool.specs.File.{each_once, unless_repeat, RepeatIsFirst}
+use Rattle.page_pool.specs.Repeats.{first_repeat}
+use Rattle.page_pool.specs.inner.Repeats.{IsFirstRepeat}
+use Rattle.page_pool.specs.File.{each_once, unless_repeat}
+use Rattle.page_pool.specs.inner.File.{RepeatIsFirst}
 use Rattle.page_pool.specs.declared.fault.PoolFault.{PoolFault}
 use Rattle.page_pool.specs.declared.fault.PoolFault.TheVariants as faults
 use Rattle.sample_load.specs.Samples.{pool_page, pool_pages}

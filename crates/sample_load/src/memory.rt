@@ -2,7 +2,8 @@
 
 ghost use Rattle.std.specs.Prelude.{◌≡◌, ℕ, ◌+◌, ◌%◌, ◌<◌, ◌≤◌, ◌^◌, IfOk};
 ghost use Rattle.std.specs.List.{range_with_len};
-ghost use Rattle.page_memory.specs.Contents.{IsHeld, at, zero_page};
+ghost use Rattle.page_memory.specs.Contents.{at, zero_page};
+ghost use Rattle.page_memory.specs.inner.Contents.{IsHeld};
 ghost use Rattle.page_memory.specs.Memory.{put};
 ghost use Rattle.sample_load.specs.Samples.{page_full_of, sample_memory};
 

@@ -6,7 +6,7 @@ use Rattle.std.specs.Option.{option_map, option_or}
 use Rattle.segments.specs.declared.fault.SegFault.TheVariants as faults
 use Rattle.segments.specs.Values.{SegmentValue, pages, is_destination}
 use Rattle.segments.specs.Rules.{is_bad_address, is_too_full, overlap_each_other, overlap_after, overlap, where_true, no_segments, too_many, bad_address, too_full, too_large, shape_refusal, bare_refusal}
-use Rattle.segments.specs.Sets.{HasPages}
+use Rattle.segments.specs.inner.Sets.{HasPages}
 use Rattle.kx_pages.specs.Spans.{Run}
 
 pub record Alike (s t : SegmentValue) : Type 0 where

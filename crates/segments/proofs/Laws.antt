@@ -13,10 +13,12 @@ use Rattle.kx_pages.proofs.Bytes.{page_of-take}
 use Rattle.segments.specs.declared.fault.SegFault.{SegFault}
 use Rattle.segments.specs.declared.fault.Kind.{Kind}
 use Rattle.kx_pages.specs.Spans.{Run}
-use Rattle.segments.specs.Values.{SegmentValue, stop, is_page_of_segment, is_destination, bytes_from, want, wanted, page_count, pages_of_segment, pages}
-use Rattle.segments.specs.Rules.{where_true, at_first, is_bad_address, bad_address, overlap_each_other, overlap_after, overlap, is_too_full, too_full, bad_count, no_segments, too_many, too_large, shape_refusal, bare_refusal, refusal, half_of_memory, misplaced, IsBare}
-pub use Rattle.segments.specs.Shape.{IsPlaced}
-use Rattle.segments.specs.Shape.{Apart, AreSegments}
+use Rattle.segments.specs.Values.{SegmentValue, stop, is_page_of_segment, is_destination, bytes_from, want, page_count, pages_of_segment, pages}
+use Rattle.segments.specs.inner.Values.{wanted}
+use Rattle.segments.specs.Rules.{where_true, at_first, is_bad_address, bad_address, overlap_each_other, overlap_after, overlap, is_too_full, too_full, bad_count, no_segments, too_many, too_large, shape_refusal, bare_refusal, refusal, half_of_memory, misplaced}
+use Rattle.segments.specs.inner.Rules.{IsBare}
+pub use Rattle.segments.specs.inner.Shape.{IsPlaced}
+use Rattle.segments.specs.inner.Shape.{Apart, AreSegments}
 use Rattle.std.proofs.lemmas.Grind.{flat_map-append}
 use Rattle.kx_pages.proofs.Lists.{Each-map, Each-left, Each-right, Has-left, Has-right, Has-either, Has-range, range-Has, Each-from_no_first}
 use Rattle.kx_pages.proofs.Counting.{Distinct-append, Distinct-range}

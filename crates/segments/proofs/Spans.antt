@@ -4,7 +4,8 @@ use Rattle.std.specs.Option.{option_map}
 use Rattle.std.proofs.Common.{ap, sym, ◌∙◌}
 use Rattle.kx_laws.proofs.Options.{none_some, some_same}
 use Rattle.kx_pages.specs.Spans.{Run}
-use Rattle.segments.specs.Values.{SegmentValue, span_of}
+use Rattle.segments.specs.Values.{SegmentValue}
+use Rattle.segments.specs.inner.Values.{span_of}
 
 -- the segment whose pages this run is
 pub segment_with_span : (ss : List SegmentValue) (i : ℕ) (run : Run) → option_map span_of (slice_get ss i) ≡ Some run → (s : SegmentValue) × (slice_get ss i ≡ Some s) × (span_of s ≡ run)

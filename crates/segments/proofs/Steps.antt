@@ -8,14 +8,17 @@ use Rattle.std.proofs.lemmas.Bool.Decides.{nat_tests}
 use Rattle.std.proofs.lemmas.List.Folds.{Any-from_list_any}
 use Rattle.std.proofs.lemmas.List.FromFn.{length-range_with_len}
 use Rattle.std.proofs.lemmas.Grind.{common_steps}
-use Rattle.kx_pages.specs.Spans.{Run, end, in_span, in_spans, IsMaximal}
+use Rattle.kx_pages.specs.Spans.{Run, end, in_span, in_spans}
+use Rattle.kx_pages.specs.inner.Spans.{IsMaximal}
 use Rattle.segments.specs.declared.fault.SegFault.{SegFault}
 use Rattle.segments.specs.declared.fault.SegFault.TheVariants as faults
 use Rattle.std.proofs.lemmas.Option.{slice_get-get_or}
 use Rattle.kx_laws.proofs.Options.{some_same}
-use Rattle.segments.specs.Values.{SegmentValue, page_count, pages_of_segment, pages, is_page_of_segment, is_destination, wanted, bytes_from}
+use Rattle.segments.specs.Values.{SegmentValue, page_count, pages_of_segment, pages, is_page_of_segment, is_destination, bytes_from}
+use Rattle.segments.specs.inner.Values.{wanted}
 use Rattle.kx_laws.specs.Results.{unless}
-use Rattle.segments.specs.Rules.{Refuses, Answers, overlap_after, overlap_each_other}
+use Rattle.segments.specs.Rules.{overlap_after, overlap_each_other}
+use Rattle.segments.specs.inner.Rules.{Refuses, Answers}
 use Rattle.kx_laws.proofs.Lists.{drop_read}
 
 -- the segment at place i, of a list under another name

@@ -1,4 +1,3 @@
 pub mod Values
 pub mod Rules
-pub mod Sets
-pub mod Shape
+pub mod inner

@@ -1,9 +1,8 @@
 -- The segments of a new kernel, as kexec_load(2) takes them, the pages that they consist of, and what each is to have.
-use Rattle.std.specs.Prelude.{◌≡◌, ℕ, ◌+◌, ◌-◌, ◌*◌, ◌/◌, ◌&&◌, Bool, List, [], ◌∷◌, length, take, drop, Some, None, if◌then◌else◌, nat_le, nat_lt, slice_get, slice_set, unwrap_or}
+use Rattle.std.specs.Prelude.{ℕ, ◌+◌, ◌-◌, ◌*◌, ◌/◌, ◌&&◌, Bool, List, [], ◌∷◌, length, drop, Some, None, if◌then◌else◌, nat_le, nat_lt, unwrap_or}
 use Rattle.std.specs.List.{list_any, flat_map, range_with_len}
 use Rattle.kx_pages.specs.declared.image.Wish.{Wish}
 use Rattle.kx_pages.specs.Needs.{need_of}
-use Rattle.kx_pages.specs.Spans.{Run}
 use Rattle.kx_pages.specs.Bytes.{Mem, Wants, page_of}
 
 -- a segment: its bytes, the address that they go to, and how many bytes of memory it takes from there on
@@ -35,13 +34,6 @@ abbrev pub want : List SegmentValue → Wants
 want [] p = None
 want (s ∷ ss) p = if is_page_of_segment s p then Some (page_of (bytes_from s p)) else want ss p
 
--- the bytes of that page before the zeros
-abbrev pub wanted : List SegmentValue → Wants
-wanted [] p = None
-wanted (s ∷ ss) p =
-    if is_page_of_segment s p then Some (take 4096 (bytes_from s p))
-    else wanted ss p
-
 -- how many pages a segment has
 abbrev pub page_count : SegmentValue → ℕ
 page_count s = s.memsz / 4096
@@ -49,10 +41,6 @@ page_count s = s.memsz / 4096
 -- its pages, rising
 abbrev pub pages_of_segment : SegmentValue → List ℕ
 pages_of_segment s = range_with_len (s.mem / 4096) (page_count s)
-
--- these pages as one run
-abbrev pub span_of : SegmentValue → Run
-span_of s = record { first = s.mem / 4096; count = page_count s }
 
 -- all pages, in the order of the segments and rising in each
 abbrev pub pages : List SegmentValue → List ℕ
@@ -65,13 +53,3 @@ overlay M W p = unwrap_or (W p) (M p)
 -- how many pool pages a load takes
 abbrev pub need : Wish → List SegmentValue → ℕ
 need wish ss = need_of wish (length ss) (length (pages ss))
-
--- the bytes are as many as those of segment i
-abbrev pub IsAsLong : List SegmentValue → ℕ → List ℕ → Type 0
-IsAsLong ss i bytes = (s : SegmentValue) → slice_get ss i ≡ Some s → length bytes ≡ length s.bytes
-
--- the bytes of segment i became these, and all else is as before
-abbrev pub IsReplaced : List SegmentValue → List SegmentValue → ℕ → List ℕ → Type 0
-IsReplaced old new i bytes =
-    (s : SegmentValue) → slice_get old i ≡ Some s
-    → new ≡ slice_set old i (record s { bytes = bytes })

@@ -1,7 +1,7 @@
 //! Why segments are refused.
 
 ghost use Rattle.std.specs.Prelude.{◌≡◌};
-ghost use Rattle.segments.specs.Rules.{errno};
+ghost use Rattle.segments.specs.inner.Rules.{errno};
 
 use kx_pages::Span;
 use std::alloc::{AllocError, AllocFailed};

@@ -4,8 +4,10 @@ ghost use Rattle.std.specs.Prelude.{◌≡◌, ℕ, ◌<◌, ◌≤◌, List, le
 ghost use Rattle.std.specs.Option.{option_map};
 ghost use Rattle.kx_pages.specs.Bytes.{page_of};
 ghost use Rattle.kx_pages.specs.Spans.{in_spans};
-ghost use Rattle.segments.specs.Values.{IsAsLong, IsReplaced, is_destination, span_of, want, wanted, pages, need};
-ghost use Rattle.segments.specs.Rules.{IsBare, Answers, bare_refusal, refusal};
+ghost use Rattle.segments.specs.Values.{is_destination, want, pages, need};
+ghost use Rattle.segments.specs.inner.Values.{IsAsLong, IsReplaced, span_of, wanted};
+ghost use Rattle.segments.specs.Rules.{bare_refusal, refusal};
+ghost use Rattle.segments.specs.inner.Rules.{IsBare, Answers};
 
 use crate::fault::{Kind, SegFault};
 use crate::rules::{page_set, test_all, test_bare, total};
@@ -25,7 +27,7 @@ pub struct Segments {
 impl Model for Segments {
     ghost use Rattle.std.specs.Prelude.{List};
     ghost use Rattle.segments.specs.Values.{SegmentValue};
-    ghost use Rattle.segments.specs.Sets.{HasPages};
+    ghost use Rattle.segments.specs.inner.Sets.{HasPages};
 
     ghost Value = { List SegmentValue };
 

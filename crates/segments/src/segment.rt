@@ -2,7 +2,8 @@
 
 ghost use Rattle.std.specs.Prelude.{◌≡◌, ℕ, ◌+◌, ◌-◌, ◌*◌, ◌/◌, ◌^◌, ◌<◌, ◌≤◌, IsTrue, false, length, take};
 ghost use Rattle.kx_pages.specs.Spans.{Run, in_span};
-ghost use Rattle.segments.specs.Values.{SegmentValue, stop, is_page_of_segment, page_count, span_of, bytes_from};
+ghost use Rattle.segments.specs.Values.{SegmentValue, stop, is_page_of_segment, page_count, bytes_from};
+ghost use Rattle.segments.specs.inner.Values.{span_of};
 ghost use Rattle.segments.specs.Rules.{is_bad_address, overlap_each_other, is_too_full, leaves};
 
 use kx_pages::{ADDRESS_LIMIT, PAGE_SIZE, Span};

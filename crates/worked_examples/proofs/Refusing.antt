@@ -3,7 +3,7 @@ use Rattle.std.proofs.Common.{ℕ, List, Option, refl}
 use Rattle.kx_pages.specs.Bytes.{Mem}
 use Rattle.segments.specs.Values.{SegmentValue, want, pages}
 use Rattle.segments.specs.Rules.{bare_refusal, shape_refusal}
-use Rattle.list_checker.specs.Laws.{ListsWanted}
+use Rattle.list_checker.specs.inner.Laws.{ListsWanted}
 use Rattle.list_checker.specs.declared.fault.Why.{Why}
 use Rattle.list_checker.proofs.Ending.{check_ends}
 use Rattle.list_checker.proofs.Wanted.{parts_listed}

@@ -4,7 +4,8 @@ use Rattle.std.specs.Prelude.{nat_le}
 use Rattle.kx_pages.specs.declared.image.Mode.{Mode}
 use Rattle.page_memory.specs.Contents.{Contents, at}
 use Rattle.kx_pages.specs.Bytes.{Mem}
-use Rattle.page_memory.specs.Memory.{word, copied_page}
+use Rattle.page_memory.specs.Memory.{word}
+use Rattle.page_memory.specs.inner.Memory.{copied_page}
 use Rattle.page_memory.proofs.Laws.{at-with_page}
 use Rattle.relocate_machine.specs.declared.step.Step.TheVariants as steps
 use Rattle.relocate_machine.specs.declared.step.Outcome.{Outcome}

@@ -4,7 +4,7 @@ use Rattle.std.specs.Prelude.{unwrap_or}
 use Rattle.kx_pages.specs.Lists.{Has}
 use Rattle.kx_pages.specs.Bytes.{Mem, Wants}
 use Rattle.segments.specs.Values.{overlay}
-use Rattle.list_checker.specs.Laws.{ListsWanted}
+use Rattle.list_checker.specs.inner.Laws.{ListsWanted}
 
 pub left_alone : (M : Mem) (W : Wants) (all : List ℕ) (p : ℕ) → ListsWanted W all → (Has p all → ⊥) → overlay M W p ≡ M p
 left_alone M W all p listed out = go (W p) refl

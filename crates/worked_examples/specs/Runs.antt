@@ -3,7 +3,7 @@ use Rattle.std.specs.Prelude.{◌≡◌, ℕ, List, [], ◌∷◌}
 use Rattle.kx_pages.specs.declared.image.Mode.{Mode}
 use Rattle.page_memory.specs.Contents.{Contents, at}
 use Rattle.kx_pages.specs.Bytes.{Mem}
-use Rattle.page_memory.specs.Memory.{copied_page}
+use Rattle.page_memory.specs.inner.Memory.{copied_page}
 use Rattle.relocate_machine.specs.declared.step.Outcome.{Outcome}
 use Rattle.relocate_machine.specs.Run.{run_of}
 

@@ -4,7 +4,8 @@ ghost use Rattle.std.specs.Prelude.{◌≡◌, ◌++◌, ◌∷◌, [], Some, No
 ghost use Rattle.kx_pages.specs.declared.image.Wish.TheVariants.{Plain, Kept};
 ghost use Rattle.kx_pages.specs.Bytes.{Mem};
 ghost use Rattle.segments.specs.Values.{need, want, overlay, pages};
-ghost use Rattle.segments.specs.Rules.{bare_refusal, refusal, errno};
+ghost use Rattle.segments.specs.Rules.{bare_refusal, refusal};
+ghost use Rattle.segments.specs.inner.Rules.{errno};
 ghost use Rattle.segments.specs.declared.fault.SegFault.TheVariants as faults;
 ghost use Rattle.segments.specs.declared.fault.Kind.TheVariants as kinds;
 ghost use Rattle.worked_examples.specs.Kernels.{three_bytes, two_pages, no_bytes, zeros, pages_at};

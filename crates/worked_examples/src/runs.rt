@@ -4,7 +4,7 @@ ghost use Rattle.std.specs.Prelude.{◌≡◌, ℕ, ◌∷◌, [], codes};
 ghost use Rattle.kx_pages.specs.declared.image.Mode.TheVariants.{Plain, Kept};
 ghost use Rattle.kx_pages.specs.Bytes.{page_of, Mem};
 ghost use Rattle.page_memory.specs.Contents.{Contents, at};
-ghost use Rattle.page_memory.specs.Memory.{copied_page};
+ghost use Rattle.page_memory.specs.inner.Memory.{copied_page};
 ghost use Rattle.segments.specs.Values.{want, overlay};
 ghost use Rattle.relocate_machine.specs.declared.step.Outcome.TheVariants.{Done, Running, Off};
 ghost use Rattle.load_states.specs.Exchange.{exchange};

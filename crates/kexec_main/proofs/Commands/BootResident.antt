@@ -8,11 +8,11 @@ use Rattle.kx_pages.specs.Modes.{swap_page}
 use Rattle.kx_pages.specs.declared.image.ImageType.TheVariants.{Raw}
 use Rattle.kx_pages.specs.declared.image.Mode.TheVariants.{Plain}
 use Rattle.page_memory.specs.Contents.{at}
-use Rattle.segments.specs.Rules.{IsBare}
+use Rattle.segments.specs.inner.Rules.{IsBare}
 use Rattle.segments.specs.Values.{want}
 use Rattle.list_checker.specs.Walk.{IsAccepted, links, pairs}
 use Rattle.load_states.specs.Ready.{Told}
-use Rattle.load_states.specs.Runs.{IsSameLoad}
+use Rattle.load_states.specs.inner.Runs.{IsSameLoad}
 use Rattle.load_states.specs.States.{Checked, Load}
 use Rattle.load_states.proofs.Alike.{tells_alike}
 use Rattle.load_states.proofs.Ready.{list_ends}

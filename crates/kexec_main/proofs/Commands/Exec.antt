@@ -19,7 +19,7 @@ use Rattle.kexec_main.specs.Outputs.{Made, IsTooHeavy, HasNoFile, IsFileOf}
 use Rattle.load_states.specs.Ready.{Told}
 use Rattle.kexec_words.specs.Values.{ExecValue}
 use Rattle.load_states.proofs.Ready.{list_ends}
-use Rattle.load_states.specs.Runs.{IsSameLoad}
+use Rattle.load_states.specs.inner.Runs.{IsSameLoad}
 use Rattle.kexec_main.specs.Check.{IsAcceptedLoad, IsInPlace}
 use Rattle.kexec_main.specs.CrashExec.{executes_place_as}
 use Rattle.kexec_main.specs.Exec.{CanExec, CanRun, CanRunInPlace, ExecInputs, HasExecutedLoad, RefusesFiles, exec_entry, exec_files, exec_of, executes_as, executes_by, is_not_kept, load_of, runs_asked}

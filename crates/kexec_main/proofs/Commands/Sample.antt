@@ -9,7 +9,7 @@ use Rattle.kx_pages.specs.declared.image.Start.{Start}
 use Rattle.page_memory.specs.Contents.{at}
 use Rattle.load_states.specs.States.{Checked}
 use Rattle.load_states.proofs.Ready.{list_ends}
-use Rattle.segments.specs.Rules.{IsBare}
+use Rattle.segments.specs.inner.Rules.{IsBare}
 use Rattle.file_commands.specs.Taking.{File, Refusal}
 use Rattle.file_commands.specs.Answers.{FilesPut, MeetsTold, Stands, done}
 use Rattle.kx_laws.proofs.Results.{ok_same}
@@ -18,7 +18,7 @@ use Rattle.sample_load.proofs.Rising.{IsBare-sample}
 use Rattle.kexec_main.specs.declared.running.Ran.{Ran}
 use Rattle.kexec_main.specs.declared.status.Reason.{Reason}
 use Rattle.kexec_main.specs.Runs.{after_runs, list_text}
-use Rattle.kexec_main.specs.Ran.{HasRun, ran_text}
+use Rattle.kexec_main.specs.inner.Ran.{HasRun, ran_text}
 use Rattle.kexec_main.specs.Sample.{HasSampled, IsSample, sample_entry, sample_text, samples}
 use Rattle.kexec_main.specs.Texts.{memory_line, ran_line}
 use Rattle.kexec_main.proofs.Ending.{machine_leaves}

@@ -1,7 +1,8 @@
 use Rattle.std.proofs.Common.{◌≡◌, length, ap, ◌∙◌, subst}
 use Rattle.memory_map.specs.Maps.{core_ranges}
-use Rattle.elf_headers.specs.FileHeader.{core_header, IsHeaderReadBack}
-use Rattle.elf_headers.specs.ProgramHeader.{AreReadBack}
+use Rattle.elf_headers.specs.FileHeader.{core_header}
+use Rattle.elf_headers.specs.inner.FileHeader.{IsHeaderReadBack}
+use Rattle.elf_headers.specs.inner.ProgramHeader.{AreReadBack}
 use Rattle.crash_headers.specs.Headers.{count_of, rows, headers, length_for}
 use Rattle.crash_headers.proofs.Rows.{headers_size, headers_ident, headers_file_header, headers_rows}
 use Rattle.crash_headers.proofs.headers.make.Goals as goal

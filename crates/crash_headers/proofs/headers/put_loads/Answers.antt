@@ -1,6 +1,7 @@
 use Rattle.std.proofs.Common.{◌++◌, ap, ◌∙◌, subst, arith}
-use Rattle.memory_map.specs.Rows.{IsBelow}
-use Rattle.elf_headers.specs.ProgramHeader.{row_text, IsRowReadBack}
+use Rattle.memory_map.specs.inner.Rows.{IsBelow}
+use Rattle.elf_headers.specs.ProgramHeader.{row_text}
+use Rattle.elf_headers.specs.inner.ProgramHeader.{IsRowReadBack}
 use Rattle.crash_headers.specs.ProgramHeader.{load_row}
 use Rattle.crash_headers.proofs.Rows.{no_row, each_at, row_more, rows_all, back_more, back_all}
 use Rattle.crash_headers.proofs.headers.put_loads.Goals as goal

@@ -1,6 +1,7 @@
 use Rattle.std.proofs.Common.{◌≡◌, ◌++◌, map, take}
 use Rattle.std.specs.List.{flat_map}
-use Rattle.elf_headers.specs.ProgramHeader.{row_text, AreReadBack}
+use Rattle.elf_headers.specs.ProgramHeader.{row_text}
+use Rattle.elf_headers.specs.inner.ProgramHeader.{AreReadBack}
 use Rattle.crash_headers.specs.ProgramHeader.{load_row}
 use Rattle.crash_headers.proofs.headers.put_loads.Given as goal
 

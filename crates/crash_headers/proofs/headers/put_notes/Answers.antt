@@ -1,5 +1,6 @@
 use Rattle.std.proofs.Common.{◌++◌, ap, ◌∙◌, subst, arith}
-use Rattle.elf_headers.specs.ProgramHeader.{row_text, IsRowReadBack}
+use Rattle.elf_headers.specs.ProgramHeader.{row_text}
+use Rattle.elf_headers.specs.inner.ProgramHeader.{IsRowReadBack}
 use Rattle.crash_headers.specs.ProgramHeader.{note_row}
 use Rattle.crash_headers.proofs.Rows.{row_more, rows_all, back_more, back_all}
 use Rattle.crash_headers.proofs.headers.put_notes.Goals as goal

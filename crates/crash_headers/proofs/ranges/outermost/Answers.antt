@@ -1,5 +1,5 @@
 use Rattle.std.proofs.Common.{get_or, subst}
-use Rattle.crash_headers.specs.Ranges.{IsBehind, IsNotBehind}
+use Rattle.crash_headers.specs.inner.Ranges.{IsBehind, IsNotBehind}
 use Rattle.crash_headers.proofs.Rows.{no_row}
 use Rattle.crash_headers.proofs.Order.{outer_push, outer_skip}
 use Rattle.crash_headers.proofs.ranges.outermost.Goals as goal

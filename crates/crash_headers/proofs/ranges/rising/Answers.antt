@@ -1,5 +1,5 @@
 use Rattle.std.proofs.Common.{subst}
-use Rattle.crash_headers.specs.Ranges.{HoldSameNotes}
+use Rattle.crash_headers.specs.inner.Ranges.{HoldSameNotes}
 use Rattle.crash_headers.proofs.Order.{same_sorted}
 use Rattle.crash_headers.proofs.ranges.rising.Goals as goal
 

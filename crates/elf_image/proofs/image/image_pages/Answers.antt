@@ -1,7 +1,7 @@
 use Rattle.std.proofs.Common.{◌≡◌, ◌^◌, ap, sym, ◌∙◌, subst, length, arith, inl}
 use Rattle.kx_pages.proofs.Spans.{passing_same}
 use Rattle.elf_image.specs.Image.{page_count, segments_of}
-use Rattle.elf_image.specs.Joined.{AreLoads, AreSound}
+use Rattle.elf_image.specs.inner.Joined.{AreLoads, AreSound}
 use Rattle.elf_image.specs.Loads.{Executable}
 use Rattle.elf_image.proofs.Pages.{segments_runs}
 use Rattle.elf_image.proofs.Sound.{exec_sound, image_large, image_made}

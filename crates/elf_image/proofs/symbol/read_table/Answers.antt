@@ -1,5 +1,5 @@
 use Rattle.std.proofs.Common.{subst, sym, ap, ◌∙◌}
-use Rattle.kx_laws.specs.Results.{Gives}
+use Rattle.kx_laws.specs.inner.Results.{Gives}
 use Rattle.elf_image.specs.declared.fault.ElfFault.TheVariants as faults
 use Rattle.elf_image.specs.Symbol.{entries_in}
 use Rattle.elf_image.proofs.Objects.{strings_told, strings_fail}

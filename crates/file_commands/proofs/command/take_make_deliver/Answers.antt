@@ -1,6 +1,6 @@
 use Rattle.std.proofs.Common.{rules, ◌≡◌}
 use Rattle.file_commands.specs.Answers.{command_of}
-use Rattle.file_commands.specs.Calls.{call_answer, make_answer, take_answer}
+use Rattle.file_commands.specs.inner.Calls.{call_answer, make_answer, take_answer}
 use Rattle.file_commands.proofs.Meeting.{meets_untaken, meets_unmade, meets_delivered}
 use Rattle.file_commands.proofs.command.take_make_deliver.Goals as goal
 

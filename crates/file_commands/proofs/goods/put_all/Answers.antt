@@ -2,7 +2,7 @@ use Rattle.std.proofs.Common.{rules, ◌≡◌, [], ◌∷◌, inl, refl}
 use Rattle.std.proofs.lemmas.List.{nil_from_length}
 use Rattle.std.specs.Vec.Iter.{into_iter_items}
 use Rattle.file_commands.specs.Answers.{PutsFile, CutsFile}
-use Rattle.file_commands.specs.Calls.{file_of}
+use Rattle.file_commands.specs.inner.Calls.{file_of}
 use Rattle.file_commands.proofs.Puts.{after_put}
 use Rattle.file_commands.proofs.goods.put_all.Goals as goal
 

@@ -1,6 +1,6 @@
 use Rattle.std.proofs.Common.{map}
 use Rattle.std.specs.Vec.Iter.{into_iter_items}
-use Rattle.file_commands.specs.Calls.{file_of}
+use Rattle.file_commands.specs.inner.Calls.{file_of}
 use Rattle.file_commands.proofs.Puts.{Between}
 use Rattle.file_commands.proofs.goods.put_all.Given as goal
 

@@ -1,7 +1,7 @@
 use Rattle.std.proofs.Common.{rules, arith, ◌≡◌, ◌∙◌, ◌∷◌, [], length, map, string_bytes, Err, ap}
 use Rattle.std.proofs.lemmas.List.{map-append, nil_from_length}
 use Rattle.std.specs.Vec.Iter.{into_iter_items}
-use Rattle.file_commands.specs.Calls.{file_of}
+use Rattle.file_commands.specs.inner.Calls.{file_of}
 use Rattle.file_commands.specs.declared.stop.TakeFault.TheVariants.{Memory}
 use Rattle.file_commands.proofs.Steps.{next, stopped, wanting, finished}
 use Rattle.file_commands.proofs.take.take_all.Goals as goal

@@ -1,6 +1,6 @@
 use Rattle.std.proofs.Common.{◌≤◌, map, string_bytes}
 use Rattle.std.specs.Vec.Iter.{into_iter_items}
-use Rattle.file_commands.specs.Calls.{file_of}
+use Rattle.file_commands.specs.inner.Calls.{file_of}
 use Rattle.file_commands.specs.Files.{all_files, more_files}
 use Rattle.file_commands.proofs.Steps.{Left}
 use Rattle.file_commands.proofs.take.take_all.Given as goal

@@ -1,10 +1,10 @@
 use Rattle.std.proofs.Common.{rules, ◌≡◌, ◌∙◌, Ok, Err, inl, inr, refl}
 use Rattle.page_memory.specs.Contents.{at}
 use Rattle.file_commands.specs.Taking.{by}
-use Rattle.file_commands.specs.Calls.{goods_of}
+use Rattle.file_commands.specs.inner.Calls.{goods_of}
 use Rattle.file_commands.proofs.Made.{handed_on_as}
 use Rattle.kexec_main.specs.Boot.{boots}
-use Rattle.kexec_main.specs.Views.{boot_inputs, plan_of}
+use Rattle.kexec_main.specs.inner.Views.{boot_inputs, plan_of}
 use Rattle.kexec_main.specs.Loading.{RefusesLoad}
 use Rattle.kexec_main.specs.Outputs.{HasNoFile}
 use Rattle.kexec_main.specs.Runs.{after_runs, checked_with, wish_of}

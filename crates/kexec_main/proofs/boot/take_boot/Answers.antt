@@ -1,8 +1,8 @@
 use Rattle.std.proofs.Common.{rules}
 use Rattle.file_commands.proofs.Steps.{start, next, stopped, finished}
-use Rattle.kexec_words.specs.Values.{boot_value}
+use Rattle.kexec_words.specs.inner.Values.{boot_value}
 use Rattle.kexec_main.specs.Boot.{boot_files}
-use Rattle.kexec_main.specs.Views.{boot_inputs}
+use Rattle.kexec_main.specs.inner.Views.{boot_inputs}
 use Rattle.kexec_main.proofs.boot.take_boot.Goals as goal
 
 pub returns-in_err-load : goal.returns-in_err-load

@@ -3,9 +3,9 @@ use Rattle.page_memory.specs.Contents.{at}
 use Rattle.list_checker.specs.Checked.{as_pair}
 use Rattle.file_commands.proofs.Made.{handed_on_as}
 use Rattle.kexec_plan.specs.Plan.{plan}
-use Rattle.kexec_plan.specs.Requests.{planned_of}
+use Rattle.kexec_plan.specs.inner.Requests.{planned_of}
 use Rattle.kexec_main.specs.BootResident.{HasNoList, RefusesResident}
-use Rattle.kexec_main.specs.Views.{IsKernel, inputs_of}
+use Rattle.kexec_main.specs.inner.Views.{IsKernel, inputs_of}
 use Rattle.kexec_main.proofs.Resident.{no_list_refuses}
 use Rattle.kexec_main.proofs.boot_resident.load_resident.Goals as goal
 

@@ -1,10 +1,10 @@
 use Rattle.std.proofs.Common.{rules, ◌≡◌, ◌∙◌, refl, Ok, Err, None, inl, inr}
 use Rattle.page_memory.specs.Contents.{at}
 use Rattle.file_commands.specs.Taking.{by}
-use Rattle.file_commands.specs.Calls.{goods_of}
+use Rattle.file_commands.specs.inner.Calls.{goods_of}
 use Rattle.file_commands.proofs.Made.{handed_on_as}
 use Rattle.kexec_main.specs.BootResident.{RefusesResident, boots_resident}
-use Rattle.kexec_main.specs.Views.{resident_inputs}
+use Rattle.kexec_main.specs.inner.Views.{resident_inputs}
 use Rattle.kexec_main.specs.Outputs.{HasNoFile}
 use Rattle.kexec_main.specs.Runs.{after_runs, checked_with}
 use Rattle.kexec_main.proofs.Outputs.{no_file_as, output_as}

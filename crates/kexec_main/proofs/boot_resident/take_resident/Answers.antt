@@ -1,12 +1,13 @@
 use Rattle.std.proofs.Common.{rules, ◌≡◌, [], Ok, ap, map, subst}
 use Rattle.std.specs.Prelude.{string_bytes}
 use Rattle.kx_pages.specs.declared.image.ImageType.TheVariants.{Raw}
-use Rattle.file_commands.specs.Calls.{TakesNot}
+use Rattle.file_commands.specs.inner.Calls.{TakesNot}
 use Rattle.file_commands.specs.Taking.{Took}
 use Rattle.file_commands.proofs.Steps.{start, next, stopped, finished}
-use Rattle.kexec_words.specs.Values.{InputsValue, boot_resident_value}
+use Rattle.kexec_words.specs.Values.{InputsValue}
+use Rattle.kexec_words.specs.inner.Values.{boot_resident_value}
 use Rattle.kexec_main.specs.BootResident.{resident_files}
-use Rattle.kexec_main.specs.Views.{resident_inputs, inputs_of}
+use Rattle.kexec_main.specs.inner.Views.{resident_inputs, inputs_of}
 use Rattle.kexec_main.specs.Inputs.{load_inputs}
 use Rattle.kexec_main.proofs.Resident.{no_modules}
 use Rattle.kexec_main.proofs.boot_resident.take_resident.Goals as goal

@@ -1,7 +1,7 @@
 use Rattle.std.proofs.Common.{◌≡◌, Bool, true, false, arith}
 use Rattle.std.specs.Prelude.{IfSome}
 use Rattle.kx_edge.specs.Edge.{Files, Rose}
-use Rattle.kx_edge.specs.Rooms.{told_where}
+use Rattle.kx_edge.specs.inner.Rooms.{told_where}
 use Rattle.kexec_main.proofs.calm.kexec_in_memory.Goals as goal
 
 -- what holds of the files that a shelf tells, where it tells them

@@ -1,8 +1,8 @@
 use Rattle.std.proofs.Common.{rules}
 use Rattle.file_commands.proofs.Steps.{start, next, stopped, finished}
-use Rattle.kexec_words.specs.Values.{core_value}
+use Rattle.kexec_words.specs.inner.Values.{core_value}
 use Rattle.kexec_main.specs.CoreFile.{core_files}
-use Rattle.kexec_main.specs.Views.{core_inputs}
+use Rattle.kexec_main.specs.inner.Views.{core_inputs}
 use Rattle.kexec_main.proofs.core_file.take_core.Goals as goal
 
 pub returns-in_err-memory : goal.returns-in_err-memory

@@ -4,7 +4,7 @@ use Rattle.page_memory.specs.Contents.{at}
 use Rattle.segments.specs.Values.{want}
 use Rattle.list_checker.specs.Crash.{AcceptedCrash}
 use Rattle.load_states.specs.States.{CrashLoad}
-use Rattle.file_commands.specs.Calls.{MakesOr, goods_of}
+use Rattle.file_commands.specs.inner.Calls.{MakesOr, goods_of}
 use Rattle.kexec_main.specs.CrashExec.{RunsInPlace}
 use Rattle.kexec_main.specs.Outputs.{HasNoFile}
 use Rattle.kexec_main.proofs.Places.{ran_in_place}

@@ -2,7 +2,7 @@ use Rattle.std.proofs.Common.{rules, ◌≡◌, ◌∙◌, Err, ap, refl}
 use Rattle.std.specs.Prelude.{string_bytes}
 use Rattle.page_memory.specs.Contents.{at}
 use Rattle.page_memory.specs.Memory.{Agree}
-use Rattle.file_commands.specs.Calls.{goods_of}
+use Rattle.file_commands.specs.inner.Calls.{goods_of}
 use Rattle.file_commands.proofs.Made.{handed_on_as}
 use Rattle.kexec_main.specs.CrashExec.{RunsInPlace}
 use Rattle.kexec_main.specs.Outputs.{HasNoFile}

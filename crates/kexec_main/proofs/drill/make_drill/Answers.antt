@@ -1,15 +1,16 @@
 use Rattle.std.proofs.Common.{rules, ◌≡◌, ◌∙◌, ◌∷◌, [], Ok, Err, List, ap, inl, inr, map, refl, sym, subst, ℕ, append-nil}
 use Rattle.kx_pages.specs.Bytes.{Mem}
 use Rattle.page_memory.specs.Contents.{at}
-use Rattle.image_slots.specs.Events.{event_of}
+use Rattle.image_slots.specs.inner.Events.{event_of}
 use Rattle.image_slots.specs.Pages.{all_pages}
 use Rattle.image_slots.specs.Sequences.{AreKept, after_events, replies_to}
-use Rattle.image_slots.specs.States.{State, state_of}
+use Rattle.image_slots.specs.States.{State}
+use Rattle.image_slots.specs.inner.States.{state_of}
 use Rattle.file_commands.specs.Taking.{by}
-use Rattle.file_commands.specs.Calls.{goods_of}
+use Rattle.file_commands.specs.inner.Calls.{goods_of}
 use Rattle.file_commands.proofs.Made.{handed_on_as}
 use Rattle.kexec_main.specs.Drill.{Meets, drills, meeting, start}
-use Rattle.kexec_main.specs.Views.{drill_inputs}
+use Rattle.kexec_main.specs.inner.Views.{drill_inputs}
 use Rattle.kexec_main.specs.Outputs.{HasNoFile}
 use Rattle.kexec_main.specs.Replies.{reply_lines}
 use Rattle.kexec_main.proofs.Outputs.{file_as, no_file_as}

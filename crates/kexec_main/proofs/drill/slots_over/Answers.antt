@@ -5,7 +5,7 @@ use Rattle.page_memory.specs.Contents.{at}
 use Rattle.page_pool.specs.Pages.{usable_of}
 use Rattle.image_slots.specs.Pages.{in_area}
 use Rattle.image_slots.specs.Sequences.{fresh}
-use Rattle.image_slots.specs.States.{state_of}
+use Rattle.image_slots.specs.inner.States.{state_of}
 use Rattle.kexec_main.proofs.drill.slots_over.Goals as goal
 
 pub returns-in-Ok : goal.returns-in-Ok

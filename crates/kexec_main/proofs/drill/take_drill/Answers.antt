@@ -1,8 +1,8 @@
 use Rattle.std.proofs.Common.{rules}
 use Rattle.file_commands.proofs.Steps.{start, next, stopped, finished}
-use Rattle.kexec_words.specs.Values.{drill_value}
+use Rattle.kexec_words.specs.inner.Values.{drill_value}
 use Rattle.kexec_main.specs.Drill.{drill_files}
-use Rattle.kexec_main.specs.Views.{drill_inputs}
+use Rattle.kexec_main.specs.inner.Views.{drill_inputs}
 use Rattle.kexec_main.proofs.drill.take_drill.Goals as goal
 
 pub returns-in_err-memory : goal.returns-in_err-memory

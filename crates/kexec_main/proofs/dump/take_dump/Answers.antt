@@ -1,7 +1,7 @@
 use Rattle.std.proofs.Common.{rules}
 use Rattle.file_commands.proofs.Steps.{start, next, stopped, finished}
-use Rattle.kexec_words.specs.Values.{load_names_value}
-use Rattle.kexec_main.specs.Views.{dump_inputs}
+use Rattle.kexec_words.specs.inner.Values.{load_names_value}
+use Rattle.kexec_main.specs.inner.Views.{dump_inputs}
 use Rattle.kexec_main.specs.Files.{load_files_of}
 use Rattle.kexec_main.proofs.dump.take_dump.Goals as goal
 

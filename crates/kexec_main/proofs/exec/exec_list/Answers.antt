@@ -1,9 +1,9 @@
 use Rattle.std.proofs.Common.{◌∙◌, sym, subst}
 use Rattle.std.specs.Prelude.{string_bytes}
-use Rattle.load_states.specs.Answers.{IsAcceptedAs}
-use Rattle.file_commands.specs.Calls.{MakesOr, goods_of}
+use Rattle.load_states.specs.inner.Answers.{IsAcceptedAs}
+use Rattle.file_commands.specs.inner.Calls.{MakesOr, goods_of}
 use Rattle.kexec_main.specs.Exec.{RefusesRun, RunsList, load_of}
-use Rattle.kexec_main.specs.Ran.{HasMode}
+use Rattle.kexec_main.specs.inner.Ran.{HasMode}
 use Rattle.kexec_main.proofs.Executes.{executed, runs_fit}
 use Rattle.kexec_main.proofs.exec.exec_list.Goals as goal
 

@@ -1,8 +1,8 @@
 use Rattle.std.proofs.Common.{rules}
 use Rattle.file_commands.proofs.Steps.{start, next, stopped, finished}
-use Rattle.kexec_words.specs.Values.{exec_value}
+use Rattle.kexec_words.specs.inner.Values.{exec_value}
 use Rattle.kexec_main.specs.Exec.{exec_files}
-use Rattle.kexec_main.specs.Views.{exec_inputs}
+use Rattle.kexec_main.specs.inner.Views.{exec_inputs}
 use Rattle.kexec_main.proofs.exec.take_exec.Goals as goal
 
 pub returns-in_err-load : goal.returns-in_err-load

@@ -1,9 +1,9 @@
 use Rattle.std.proofs.Common.{rules, ◌≡◌, []}
 use Rattle.std.specs.Prelude.{string_bytes}
 use Rattle.file_commands.proofs.Steps.{start, next, stopped, wanting, finished}
-use Rattle.kexec_words.specs.Values.{crash_inputs_value}
+use Rattle.kexec_words.specs.inner.Values.{crash_inputs_value}
 use Rattle.kexec_main.specs.CrashInputs.{crash_inputs}
-use Rattle.kexec_main.specs.Views.{crash_inputs_of}
+use Rattle.kexec_main.specs.inner.Views.{crash_inputs_of}
 use Rattle.kexec_main.proofs.inputs.take_crash_inputs.Goals as goal
 
 pub returns-in_err-memory : goal.returns-in_err-memory

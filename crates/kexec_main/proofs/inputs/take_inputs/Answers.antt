@@ -1,10 +1,11 @@
 use Rattle.std.proofs.Common.{rules, ◌∙◌, ap, sym}
 use Rattle.std.specs.Prelude.{is_some, string_bytes}
 use Rattle.file_commands.proofs.Steps.{start, next, stopped, wanting, finished}
-use Rattle.kexec_words.specs.Values.{inputs_value}
+use Rattle.kexec_words.specs.inner.Values.{inputs_value}
 use Rattle.kexec_main.specs.Inputs.{load_inputs}
-use Rattle.kexec_main.specs.Views.{inputs_of}
-use Rattle.kexec_plan.specs.Requests.{Asked, request_of}
+use Rattle.kexec_main.specs.inner.Views.{inputs_of}
+use Rattle.kexec_plan.specs.Requests.{Asked}
+use Rattle.kexec_plan.specs.inner.Requests.{request_of}
 use Rattle.kexec_main.proofs.Mapped.{is_some_map, request_mapped}
 use Rattle.kexec_main.proofs.inputs.take_inputs.Goals as goal
 

@@ -2,7 +2,7 @@ use Rattle.std.proofs.Common.{rules, ◌≡◌, ◌∙◌, ◌-◌, length, map,
 use Rattle.std.specs.Prelude.{option_map}
 use Rattle.file_commands.proofs.Steps.{start, next, stopped, finished}
 use Rattle.kexec_main.specs.Inputs.{kernel_files, left_after}
-use Rattle.kexec_main.specs.Views.{kernel_bytes}
+use Rattle.kexec_main.specs.inner.Views.{kernel_bytes}
 use Rattle.kexec_main.proofs.inputs.take_kernel.Goals as goal
 
 pub returns-in_err-kernel-clause-takes : goal.returns-in_err-kernel-clause-takes

@@ -2,10 +2,10 @@ use Rattle.std.proofs.Common.{rules, ◌≡◌, ◌∙◌, ◌++◌, ◌∷◌, 
 use Rattle.std.proofs.lemmas.List.{map-append}
 use Rattle.page_memory.specs.Contents.{at}
 use Rattle.file_commands.specs.Taking.{File, by}
-use Rattle.file_commands.specs.Calls.{file_of, goods_of}
+use Rattle.file_commands.specs.inner.Calls.{file_of, goods_of}
 use Rattle.file_commands.proofs.Made.{handed_on_as}
 use Rattle.kexec_main.specs.Load.{loads}
-use Rattle.kexec_main.specs.Views.{load_command, plan_of}
+use Rattle.kexec_main.specs.inner.Views.{load_command, plan_of}
 use Rattle.kexec_main.specs.Loading.{RefusesLoad}
 use Rattle.kexec_main.specs.Outputs.{HasNoFile}
 use Rattle.kexec_main.specs.Runs.{checked_with}

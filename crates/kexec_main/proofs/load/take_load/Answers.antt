@@ -1,8 +1,8 @@
 use Rattle.std.proofs.Common.{rules}
 use Rattle.file_commands.proofs.Steps.{start, next, stopped, finished}
-use Rattle.kexec_words.specs.Values.{load_value}
+use Rattle.kexec_words.specs.inner.Values.{load_value}
 use Rattle.kexec_main.specs.Load.{load_command_files}
-use Rattle.kexec_main.specs.Views.{load_command}
+use Rattle.kexec_main.specs.inner.Views.{load_command}
 use Rattle.kexec_main.proofs.load.take_load.Goals as goal
 
 pub returns-in_err-load : goal.returns-in_err-load

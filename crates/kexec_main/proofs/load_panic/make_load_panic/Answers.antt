@@ -2,9 +2,9 @@ use Rattle.std.proofs.Common.{rules, ◌≡◌, ◌∙◌, ◌++◌, ◌∷◌, 
 use Rattle.std.proofs.lemmas.List.{map-append}
 use Rattle.page_memory.specs.Contents.{at}
 use Rattle.file_commands.specs.Taking.{File, by}
-use Rattle.file_commands.specs.Calls.{file_of, goods_of}
+use Rattle.file_commands.specs.inner.Calls.{file_of, goods_of}
 use Rattle.file_commands.proofs.Made.{handed_on_as}
-use Rattle.kexec_main.specs.Views.{crash_plan_of, load_panic_command}
+use Rattle.kexec_main.specs.inner.Views.{crash_plan_of, load_panic_command}
 use Rattle.kexec_main.specs.LoadPanic.{loads_panic}
 use Rattle.kexec_main.specs.Loading.{HasNoPlan}
 use Rattle.kexec_main.specs.Outputs.{HasNoFile}

@@ -1,8 +1,8 @@
 use Rattle.std.proofs.Common.{rules}
 use Rattle.file_commands.proofs.Steps.{start, next, stopped, finished}
-use Rattle.kexec_words.specs.Values.{load_panic_value}
+use Rattle.kexec_words.specs.inner.Values.{load_panic_value}
 use Rattle.kexec_main.specs.LoadPanic.{load_panic_files}
-use Rattle.kexec_main.specs.Views.{load_panic_command}
+use Rattle.kexec_main.specs.inner.Views.{load_panic_command}
 use Rattle.kexec_main.proofs.load_panic.take_load_panic.Goals as goal
 
 pub returns-in_err-load : goal.returns-in_err-load

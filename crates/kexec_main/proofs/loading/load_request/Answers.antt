@@ -1,8 +1,8 @@
 use Rattle.std.proofs.Common.{rules, ◌≡◌, Ok, Err}
 use Rattle.file_commands.proofs.Made.{handed_on_as}
 use Rattle.kexec_plan.specs.Plan.{plan}
-use Rattle.kexec_plan.specs.Requests.{planned_of}
-use Rattle.kexec_main.specs.Views.{inputs_of, plan_of}
+use Rattle.kexec_plan.specs.inner.Requests.{planned_of}
+use Rattle.kexec_main.specs.inner.Views.{inputs_of, plan_of}
 use Rattle.kexec_main.specs.Loading.{IsLoaded, IsTooFew, RefusesLoad}
 use Rattle.kexec_main.proofs.Pages.{too_few_refuses}
 use Rattle.kexec_main.proofs.loading.load_request.Goals as goal

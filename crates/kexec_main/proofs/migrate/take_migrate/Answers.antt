@@ -1,8 +1,8 @@
 use Rattle.std.proofs.Common.{rules}
 use Rattle.file_commands.proofs.Steps.{start, next, stopped, finished}
-use Rattle.kexec_words.specs.Values.{migrate_value}
+use Rattle.kexec_words.specs.inner.Values.{migrate_value}
 use Rattle.kexec_main.specs.Migrate.{migrate_files}
-use Rattle.kexec_main.specs.Views.{migrate_inputs}
+use Rattle.kexec_main.specs.inner.Views.{migrate_inputs}
 use Rattle.kexec_main.proofs.migrate.take_migrate.Goals as goal
 
 pub returns-in_err-load_record : goal.returns-in_err-load_record

@@ -5,7 +5,7 @@ use Rattle.kexec_words.specs.declared.commands.Runs.TheVariants.{Once, Twice}
 use Rattle.list_checker.specs.Checked.{as_pair}
 use Rattle.load_states.specs.States.{Checked, swap_of}
 use Rattle.kexec_main.specs.declared.running.Ran.{Ran}
-use Rattle.kexec_main.specs.Ran.{HasRun}
+use Rattle.kexec_main.specs.inner.Ran.{HasRun}
 use Rattle.kexec_main.proofs.Again.{exchanged_again}
 use Rattle.kexec_main.proofs.running.run_kept.Goals as goal
 

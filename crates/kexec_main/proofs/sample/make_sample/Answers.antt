@@ -1,5 +1,5 @@
 use Rattle.std.proofs.Common.{◌∙◌, ap, map, refl}
-use Rattle.file_commands.specs.Calls.{file_of}
+use Rattle.file_commands.specs.inner.Calls.{file_of}
 use Rattle.sample_load.specs.Samples.{start_of}
 use Rattle.kexec_main.specs.Runs.{checked_with}
 use Rattle.kexec_main.proofs.Commands.Sample.{sampled_text}

@@ -2,11 +2,11 @@ use Rattle.std.proofs.Common.{rules, ◌≡◌, ◌∙◌, Ok, Err, ap, refl}
 use Rattle.page_memory.specs.Contents.{at}
 use Rattle.relocate_machine.specs.Run.{run_of}
 use Rattle.file_commands.specs.Taking.{by}
-use Rattle.file_commands.specs.Calls.{goods_of}
+use Rattle.file_commands.specs.inner.Calls.{goods_of}
 use Rattle.file_commands.proofs.Made.{handed_on_as}
 use Rattle.kexec_main.specs.Outputs.{HasNoFile}
 use Rattle.kexec_main.specs.Trace.{outcome_line, traces}
-use Rattle.kexec_main.specs.Views.{trace_inputs}
+use Rattle.kexec_main.specs.inner.Views.{trace_inputs}
 use Rattle.kexec_main.proofs.Outputs.{no_file_as, output_as}
 use Rattle.kexec_main.proofs.trace.make_trace.Goals as goal
 

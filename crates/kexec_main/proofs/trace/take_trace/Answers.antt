@@ -1,8 +1,8 @@
 use Rattle.std.proofs.Common.{rules}
 use Rattle.file_commands.proofs.Steps.{start, next, stopped, finished}
-use Rattle.kexec_words.specs.Values.{trace_value}
+use Rattle.kexec_words.specs.inner.Values.{trace_value}
 use Rattle.kexec_main.specs.Trace.{trace_files}
-use Rattle.kexec_main.specs.Views.{trace_inputs}
+use Rattle.kexec_main.specs.inner.Views.{trace_inputs}
 use Rattle.kexec_main.proofs.trace.take_trace.Goals as goal
 
 pub returns-in_err-memory : goal.returns-in_err-memory

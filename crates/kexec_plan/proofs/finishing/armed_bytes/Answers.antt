@@ -1,5 +1,5 @@
 use Rattle.std.proofs.Common.{◌≡◌, length, rules, subst, ap}
-use Rattle.kexec_plan.specs.Purgatory.{HasSymbols}
+use Rattle.kexec_plan.specs.inner.Purgatory.{HasSymbols}
 use Rattle.kexec_plan.proofs.finishing.armed_bytes.Goals as goal
 
 pub arm-requires-clause-symbols : goal.arm-requires-clause-symbols

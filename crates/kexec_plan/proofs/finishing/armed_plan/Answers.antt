@@ -1,8 +1,9 @@
 use Rattle.std.proofs.Common.{◌≡◌, ◌++◌, ◌∷◌, [], length, Ok, rules, subst}
 use Rattle.kexec_plan.specs.Parts.{segment_at}
-use Rattle.kexec_plan.specs.Purgatory.{Linkage, HasSymbols}
+use Rattle.kexec_plan.specs.Purgatory.{Linkage}
+use Rattle.kexec_plan.specs.inner.Purgatory.{HasSymbols}
 use Rattle.kexec_plan.specs.Rules.{test_segments}
-use Rattle.kexec_plan.specs.Requests.{planned_of}
+use Rattle.kexec_plan.specs.inner.Requests.{planned_of}
 use Rattle.kexec_plan.specs.Finish.{armed_plan}
 use Rattle.kexec_plan.proofs.Armed.{armed_is}
 use Rattle.kexec_plan.proofs.Last.{last_is, last_before, last_get}

@@ -1,7 +1,8 @@
 use Rattle.std.proofs.Common.{◌≡◌}
 use Rattle.std.specs.Vec.Iter.{into_iter_items}
 use Rattle.kx_pages.specs.Spans.{in_spans}
-use Rattle.kexec_plan.specs.Multiboot.{laid_of, modules_onto, EndLow}
+use Rattle.kexec_plan.specs.Multiboot.{modules_onto}
+use Rattle.kexec_plan.specs.inner.Multiboot.{laid_of, EndLow}
 use Rattle.kexec_plan.proofs.multiboot_plan.place_modules.Given as goal
 
 abbrev pub invariant-loop-asked : goal.invariant-loop-asked

@@ -1,6 +1,6 @@
 use Rattle.std.proofs.Common.{◌≡◌, drop, map, string_bytes}
-use Rattle.kexec_words.specs.Table.{argument_values}
-use Rattle.kexec_usage.specs.Reading.{reading_value, reading_of, begun}
+use Rattle.kexec_words.specs.inner.Table.{argument_values}
+use Rattle.kexec_usage.specs.inner.Reading.{reading_value, reading_of, begun}
 use Rattle.kexec_usage.proofs.given.read_given.Given as goal
 
 abbrev pub invariant-loop-word : goal.invariant-loop-word

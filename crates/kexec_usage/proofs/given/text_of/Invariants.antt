@@ -1,5 +1,5 @@
 use Rattle.std.proofs.Common.{◌≡◌, drop, map}
-use Rattle.kexec_usage.specs.Words.{given_value, text_in}
+use Rattle.kexec_usage.specs.inner.Words.{given_value, text_in}
 use Rattle.kexec_usage.proofs.given.text_of.Given as goal
 
 abbrev pub invariant-loop-one : goal.invariant-loop-one

@@ -1,7 +1,7 @@
 use Rattle.std.proofs.Common.{map, string_bytes}
 use Rattle.kexec_words.specs.Apps.{boot_resident_app}
 use Rattle.kexec_words.specs.Meaning.{boot_resident_in}
-use Rattle.kexec_words.specs.Values.{boot_resident_value}
+use Rattle.kexec_words.specs.inner.Values.{boot_resident_value}
 use Rattle.kexec_words.proofs.Taken.{answers_taken, answers_refused, exits}
 use Rattle.kexec_words.proofs.boot_resident.read_boot_resident.Goals as goal
 

@@ -1,7 +1,7 @@
 use Rattle.std.proofs.Common.{map, string_bytes}
 use Rattle.kexec_words.specs.Apps.{drill_app}
 use Rattle.kexec_words.specs.Meaning.{drill_in}
-use Rattle.kexec_words.specs.Values.{drill_value}
+use Rattle.kexec_words.specs.inner.Values.{drill_value}
 use Rattle.kexec_words.proofs.Taken.{answers_taken, answers_refused, exits}
 use Rattle.kexec_words.proofs.drill.read_drill.Goals as goal
 

@@ -1,5 +1,5 @@
 use Rattle.std.proofs.Common.{◌≡◌, map, take, string_bytes}
-use Rattle.kexec_words.specs.Found.{texts_in}
+use Rattle.kexec_words.specs.inner.Found.{texts_in}
 use Rattle.kexec_words.proofs.parsing.own_all.Given as goal
 
 abbrev pub invariant-loop-text : goal.invariant-loop-text

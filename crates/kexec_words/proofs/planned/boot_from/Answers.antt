@@ -1,8 +1,10 @@
 use Rattle.std.proofs.Common.{◌≡◌, ◌∙◌, sym, ap, subst, Bool, Ok, Err, Result, [], ◌∷◌, string_bytes}
 use Rattle.std.specs.Result.{IsErrAnd}
 use Rattle.clap.specs.Words.{Text}
-use Rattle.kexec_words.specs.Meaning.{Answers, boot_by, boot_with, files_of, has_same_name, image_where, map_answer}
-use Rattle.kexec_words.specs.Values.{InputsValue, inputs_value, boot_value}
+use Rattle.kexec_words.specs.Meaning.{boot_by, boot_with, files_of, has_same_name, image_where, map_answer}
+use Rattle.kexec_words.specs.inner.Meaning.{Answers}
+use Rattle.kexec_words.specs.Values.{InputsValue}
+use Rattle.kexec_words.specs.inner.Values.{inputs_value, boot_value}
 use Rattle.kexec_words.specs.declared.numbers.PlanNumbers.{PlanNumbers}
 use Rattle.kx_pages.specs.declared.image.ImageType.{ImageType}
 use Rattle.kexec_words.specs.declared.commands.Boot.{Boot}

@@ -1,8 +1,11 @@
 use Rattle.std.proofs.Common.{◌≡◌, ◌∙◌, ap, subst, Ok, Result, List, Option, codes, string_bytes}
 use Rattle.clap.specs.Words.{Text, Row, first_of, rows_of, found_of}
-use Rattle.kexec_words.specs.Found.{word_of, text_in}
-use Rattle.kexec_words.specs.Meaning.{Answers, boot_in, boot_with, inputs_of, plan_numbers_by}
-use Rattle.kexec_words.specs.Values.{InputsValue, boot_value, inputs_value}
+use Rattle.kexec_words.specs.Found.{word_of}
+use Rattle.kexec_words.specs.inner.Found.{text_in}
+use Rattle.kexec_words.specs.Meaning.{boot_in, boot_with, inputs_of, plan_numbers_by}
+use Rattle.kexec_words.specs.inner.Meaning.{Answers}
+use Rattle.kexec_words.specs.Values.{InputsValue}
+use Rattle.kexec_words.specs.inner.Values.{boot_value, inputs_value}
 use Rattle.kexec_words.specs.declared.commands.Boot.{Boot}
 use Rattle.kexec_words.specs.declared.numbers.PlanNumbers.{PlanNumbers}
 use Rattle.kexec_words.specs.declared.faults.WordsFault.{WordsFault}

@@ -1,8 +1,10 @@
 use Rattle.std.proofs.Common.{◌≡◌, subst, Ok, None, Result, List, Bool, codes, string_bytes}
 use Rattle.clap.specs.Words.{Text, Row, rows_of, found_of}
 use Rattle.kexec_words.specs.Found.{word_of, flag_of}
-use Rattle.kexec_words.specs.Meaning.{Answers, load_in, load_with, inputs_of, plan_numbers_by}
-use Rattle.kexec_words.specs.Values.{InputsValue, load_value, inputs_value}
+use Rattle.kexec_words.specs.Meaning.{load_in, load_with, inputs_of, plan_numbers_by}
+use Rattle.kexec_words.specs.inner.Meaning.{Answers}
+use Rattle.kexec_words.specs.Values.{InputsValue}
+use Rattle.kexec_words.specs.inner.Values.{load_value, inputs_value}
 use Rattle.kexec_words.specs.declared.commands.Load.{Load}
 use Rattle.kexec_words.specs.declared.numbers.PlanNumbers.{PlanNumbers}
 use Rattle.kexec_words.specs.declared.faults.WordsFault.{WordsFault}

@@ -1,7 +1,7 @@
 use Rattle.std.proofs.Common.{map, string_bytes}
 use Rattle.kexec_words.specs.Apps.{core_app}
 use Rattle.kexec_words.specs.Meaning.{core_in}
-use Rattle.kexec_words.specs.Values.{core_value}
+use Rattle.kexec_words.specs.inner.Values.{core_value}
 use Rattle.kexec_words.proofs.Taken.{answers_taken, answers_refused, exits}
 use Rattle.kexec_words.proofs.unplanned.read_core.Goals as goal
 

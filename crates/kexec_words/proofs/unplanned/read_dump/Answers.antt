@@ -1,7 +1,7 @@
 use Rattle.std.proofs.Common.{map, string_bytes}
 use Rattle.kexec_words.specs.Apps.{dump_app}
 use Rattle.kexec_words.specs.Meaning.{load_names_in}
-use Rattle.kexec_words.specs.Values.{load_names_value}
+use Rattle.kexec_words.specs.inner.Values.{load_names_value}
 use Rattle.kexec_words.proofs.Taken.{answers_taken, answers_refused, exits}
 use Rattle.kexec_words.proofs.unplanned.read_dump.Goals as goal
 

@@ -1,7 +1,7 @@
 use Rattle.std.proofs.Common.{map, string_bytes}
 use Rattle.kexec_words.specs.Apps.{exec_app}
 use Rattle.kexec_words.specs.Meaning.{exec_in}
-use Rattle.kexec_words.specs.Values.{exec_value}
+use Rattle.kexec_words.specs.inner.Values.{exec_value}
 use Rattle.kexec_words.proofs.Taken.{answers_taken, answers_refused, exits}
 use Rattle.kexec_words.proofs.unplanned.read_exec.Goals as goal
 

@@ -1,7 +1,7 @@
 use Rattle.std.proofs.Common.{map, string_bytes}
 use Rattle.kexec_words.specs.Apps.{migrate_app}
 use Rattle.kexec_words.specs.Meaning.{migrate_in}
-use Rattle.kexec_words.specs.Values.{migrate_value}
+use Rattle.kexec_words.specs.inner.Values.{migrate_value}
 use Rattle.kexec_words.proofs.Taken.{answers_taken, answers_refused, exits}
 use Rattle.kexec_words.proofs.unplanned.read_migrate.Goals as goal
 

@@ -1,7 +1,7 @@
 use Rattle.std.proofs.Common.{map, string_bytes}
 use Rattle.kexec_words.specs.Apps.{sample_app}
 use Rattle.kexec_words.specs.Meaning.{sample_in}
-use Rattle.kexec_words.specs.Values.{number_value}
+use Rattle.kexec_words.specs.inner.Values.{number_value}
 use Rattle.kexec_words.proofs.Taken.{answers_taken, answers_refused, exits}
 use Rattle.kexec_words.proofs.unplanned.read_sample.Goals as goal
 

@@ -1,7 +1,7 @@
 use Rattle.std.proofs.Common.{map, string_bytes}
 use Rattle.kexec_words.specs.Apps.{trace_app}
 use Rattle.kexec_words.specs.Meaning.{trace_in}
-use Rattle.kexec_words.specs.Values.{trace_value}
+use Rattle.kexec_words.specs.inner.Values.{trace_value}
 use Rattle.kexec_words.proofs.Taken.{answers_taken, answers_refused, exits}
 use Rattle.kexec_words.proofs.unplanned.read_trace.Goals as goal
 

@@ -1,7 +1,7 @@
 use Rattle.std.proofs.Common.{ap, ◌∙◌}
 use Rattle.page_memory.specs.Contents.{at}
 use Rattle.page_memory.proofs.Laws.{at-with_page}
-use Rattle.page_memory.specs.Memory.{set_word}
+use Rattle.page_memory.specs.inner.Memory.{set_word}
 use Rattle.kx_pages.specs.Items.{code}
 use Rattle.kx_pages.specs.declared.item.Item.TheVariants.{Source}
 use Rattle.kimage_list.proofs.Held.{held_before}

@@ -1,5 +1,6 @@
 use Rattle.std.proofs.Common.{ap, ◌∙◌, ◌/◌, ◌%◌}
-use Rattle.page_memory.specs.Contents.{at, page_with_word}
+use Rattle.page_memory.specs.Contents.{at}
+use Rattle.page_memory.specs.inner.Contents.{page_with_word}
 use Rattle.page_memory.proofs.Laws.{at-with_word}
 use Rattle.kimage_list.proofs.Held.{held_before}
 use Rattle.kimage_list.proofs.pages.write_word.Goals as goal

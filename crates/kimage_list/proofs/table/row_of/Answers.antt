@@ -1,7 +1,7 @@
 use Rattle.std.proofs.Common.{leb, rules}
 use Rattle.std.proofs.lemmas.Bool.{leb-true, leb-false}
 use Rattle.std.proofs.lemmas.List.Sorted.{IsPartitionPoint-from_clause, IsPartitionedBy-leb}
-use Rattle.kimage_list.specs.Tables.{row_end}
+use Rattle.kimage_list.specs.inner.Tables.{row_end}
 use Rattle.kimage_list.proofs.Tables.{ends_rise}
 use Rattle.kimage_list.proofs.table.row_of.Goals as goal
 

@@ -1,9 +1,9 @@
 use Rattle.std.proofs.Common.{◌∙◌, sym, ap, refl, [], ◌∷◌, subst, None}
 use Rattle.kx_pages.specs.declared.image.Mode.TheVariants.{Kept}
 use Rattle.kimage_list.specs.Load.{begun, give_page}
-use Rattle.kimage_list.specs.Drafts.{Renders, with_first}
-use Rattle.kimage_list.specs.Writers.{Writer, draft_of}
-use Rattle.kimage_list.specs.Calls.{writer_of}
+use Rattle.kimage_list.specs.inner.Drafts.{Renders, with_first}
+use Rattle.kimage_list.specs.inner.Writers.{Writer, draft_of}
+use Rattle.kimage_list.specs.inner.Calls.{writer_of}
 use Rattle.kimage_list.proofs.Beginning.{control_page, swap_page, plain_begun, kept_begun, no_pairs}
 use Rattle.kimage_list.proofs.writer.open.Goals as goal
 use Rattle.kimage_list.proofs.writer.open.Goals.{in-Plain, in-Kept}

@@ -1,5 +1,5 @@
 use Rattle.std.proofs.Common.{◌≡◌, ◌++◌, drop}
-use Rattle.kx_pages.specs.Edits.{without}
+use Rattle.kx_pages.specs.inner.Edits.{without}
 use Rattle.kx_pages.proofs.page_set.cut_out.Given as goal
 
 abbrev pub invariant-loop-s : goal.invariant-loop-s

@@ -1,5 +1,5 @@
 use Rattle.std.proofs.Common.{◌≡◌, ◌++◌, drop}
-use Rattle.kx_pages.specs.Edits.{join, with_rest}
+use Rattle.kx_pages.specs.inner.Edits.{join, with_rest}
 use Rattle.kx_pages.proofs.page_set.join.Given as goal
 
 abbrev pub invariant-loop-s : goal.invariant-loop-s

@@ -1,5 +1,5 @@
 use Rattle.std.proofs.Common.{ap, sym, ◌∙◌}
-use Rattle.kx_pages.specs.Edits.{reaching}
+use Rattle.kx_pages.specs.inner.Edits.{reaching}
 use Rattle.kx_pages.proofs.Reaching.{meets_by_reaching, found_meets}
 use Rattle.kx_pages.proofs.search.any_meets.Goals as goal
 

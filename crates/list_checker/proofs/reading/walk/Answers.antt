@@ -1,7 +1,7 @@
 use Rattle.std.proofs.Common.{◌≡◌, ℕ, [], None, refl, sym, subst}
 use Rattle.std.specs.BTreeSet.{BTreeSet}
 use Rattle.list_checker.specs.Faults.{nothing_earlier}
-use Rattle.list_checker.specs.Reading.{ShowsLinks}
+use Rattle.list_checker.specs.inner.Reading.{ShowsLinks}
 use Rattle.list_checker.proofs.Follow.{Reached, reached_first, reached_next, reached_nearer, next_here, ends_faulty, ends_whole}
 use Rattle.list_checker.proofs.reading.walk.Goals as goal
 

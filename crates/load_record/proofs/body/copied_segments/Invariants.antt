@@ -1,5 +1,6 @@
 use Rattle.std.proofs.Common.{◌≡◌, ◌-◌, ◌≤◌, length}
-use Rattle.load_record.specs.File.{made_digests, keep_segments, read_segments}
+use Rattle.load_record.specs.File.{read_segments}
+use Rattle.load_record.specs.inner.File.{made_digests, keep_segments}
 use Rattle.load_record.proofs.Walking.{onto}
 use Rattle.load_record.proofs.body.copied_segments.Given as goal
 

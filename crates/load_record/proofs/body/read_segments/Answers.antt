@@ -1,5 +1,5 @@
 use Rattle.std.proofs.Common.{◌≡◌, ◌-◌, arith, sym, subst}
-use Rattle.kx_laws.specs.Results.{Gives}
+use Rattle.kx_laws.specs.inner.Results.{Gives}
 use Rattle.load_record.specs.declared.fault.RecFault.TheVariants.{Memory}
 use Rattle.load_record.proofs.Walking.{all_read, all_fail}
 use Rattle.load_record.proofs.body.read_segments.Goals as goal

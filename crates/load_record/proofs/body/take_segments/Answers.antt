@@ -1,7 +1,8 @@
 use Rattle.std.proofs.Common.{◌≡◌, ◌-◌, suc, ◌∷◌, take, drop, cond, ◌⊎◌, Some, None, Err, arith, sym, ap, ◌∙◌, subst}
 use Rattle.std.specs.Prelude.{IfSome}
 use Rattle.load_record.specs.declared.fault.RecFault.TheVariants.{Memory}
-use Rattle.load_record.specs.File.{digests_of, file_segment, segment_of}
+use Rattle.load_record.specs.File.{file_segment, segment_of}
+use Rattle.load_record.specs.inner.File.{digests_of}
 use Rattle.load_record.proofs.Digests.{made_all}
 use Rattle.load_record.proofs.Walking.{first_fails, others_fail, others_read}
 use Rattle.load_record.proofs.Bodies.{right_ok}

@@ -1,12 +1,13 @@
 use Rattle.std.proofs.Common.{◌≡◌, ℕ, List, Option, sym, ap, ◌∙◌, subst, inl, inr, ⊎_elim}
 use Rattle.std.specs.Prelude.{IsSome, Some, is_some}
-use Rattle.page_memory.specs.Contents.{IsHeld, at}
+use Rattle.page_memory.specs.Contents.{at}
+use Rattle.page_memory.specs.inner.Contents.{IsHeld}
 use Rattle.segments.specs.Values.{want}
 use Rattle.segments.proofs.Laws.{is_some-want}
 use Rattle.kx_laws.proofs.Options.{some_same}
 use Rattle.list_checker.specs.Crash.{AcceptedCrash}
 use Rattle.load_states.specs.States.{CrashLoad}
-use Rattle.load_states.specs.Laying.{Lays}
+use Rattle.load_states.specs.inner.Laying.{Lays}
 use Rattle.load_states.proofs.Laying.{lays_more, laid_overlay}
 use Rattle.load_states.proofs.crash.load_crash.Goals as goal
 

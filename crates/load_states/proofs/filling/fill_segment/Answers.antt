@@ -2,16 +2,17 @@ use Rattle.std.proofs.Common.{◌≡◌, ◌≤◌, ◌<◌, ◌+◌, ◌/◌, [
 use Rattle.kx_pages.specs.Lists.{Has}
 use Rattle.kx_pages.specs.Spans.{Run}
 use Rattle.segments.specs.Values.{is_destination, page_count}
-use Rattle.kimage_list.specs.Load.{Move, pages_of}
+use Rattle.kimage_list.specs.Load.{Move}
+use Rattle.kimage_list.specs.inner.Load.{pages_of}
 use Rattle.segments.proofs.Spans.{segment_with_span}
 use Rattle.load_states.specs.Loads.{entries_of}
-use Rattle.load_states.specs.Fillings.{Fills}
+use Rattle.load_states.specs.inner.Fillings.{Fills}
 use Rattle.load_states.proofs.FillSteps.{some_left, started_few, so_far, so_far-goes, so_far-end, is_page, not_yet}
 use Rattle.load_states.proofs.Going.{Goes, goes_begun, goes_more}
 use Rattle.load_states.proofs.Holding.{hold_same_too}
 use Rattle.load_states.proofs.filling.fill_segment.Goals as goal
 use Rattle.kx_pages.proofs.Lists.{Each-slice_get}
-use Rattle.segments.specs.Shape.{IsPlaced}
+use Rattle.segments.specs.inner.Shape.{IsPlaced}
 
 pub from_number-requires : goal.from_number-requires
 from_number-requires c =

@@ -1,5 +1,5 @@
 use Rattle.std.proofs.Common.{◌≡◌, ◌≤◌, ◌+◌}
-use Rattle.kimage_list.specs.Held.{HoldSame}
+use Rattle.kimage_list.specs.inner.Held.{HoldSame}
 use Rattle.kimage_list.specs.Tracking.{whole_pool}
 use Rattle.load_states.proofs.Going.{Goes}
 use Rattle.load_states.proofs.filling.fill_segment.Given as goal

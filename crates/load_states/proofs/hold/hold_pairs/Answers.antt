@@ -1,7 +1,7 @@
 use Rattle.std.proofs.Common.{◌∙◌, subst}
 use Rattle.std.specs.Prelude.{◌⊎◌, map}
 use Rattle.kx_pages.specs.Lists.{Has}
-use Rattle.page_memory.specs.Contents.{IsHeld}
+use Rattle.page_memory.specs.inner.Contents.{IsHeld}
 use Rattle.list_checker.specs.Checked.{as_pair}
 use Rattle.load_states.proofs.Holding.{all_written, holds_written}
 use Rattle.load_states.proofs.hold.hold_pairs.Goals as goal

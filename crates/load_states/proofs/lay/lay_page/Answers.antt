@@ -1,9 +1,10 @@
 use Rattle.std.proofs.Common.{◌≡◌, sym, subst}
 use Rattle.std.specs.Prelude.{Some}
 use Rattle.kx_pages.specs.Bytes.{page_of}
-use Rattle.page_memory.specs.Contents.{Contents, IsHeld, at}
+use Rattle.page_memory.specs.Contents.{Contents, at}
+use Rattle.page_memory.specs.inner.Contents.{IsHeld}
 use Rattle.segments.specs.Values.{want}
-use Rattle.load_states.specs.Laying.{Lays}
+use Rattle.load_states.specs.inner.Laying.{Lays}
 use Rattle.load_states.proofs.Laying.{lays_page, right_page, set_holds}
 use Rattle.load_states.proofs.lay.lay_page.Goals as goal
 

@@ -1,9 +1,10 @@
 use Rattle.std.proofs.Common.{◌≡◌, ℕ, ◌+◌, ◌≤◌, ◌<◌, Some}
 use Rattle.std.specs.Prelude.{IsSome, slice_get}
 use Rattle.kx_pages.specs.Spans.{Run}
-use Rattle.page_memory.specs.Contents.{at, IsHeld}
+use Rattle.page_memory.specs.Contents.{at}
+use Rattle.page_memory.specs.inner.Contents.{IsHeld}
 use Rattle.segments.specs.Values.{want}
-use Rattle.load_states.specs.Laying.{Lays}
+use Rattle.load_states.specs.inner.Laying.{Lays}
 use Rattle.load_states.proofs.lay.lay_set.Given as goal
 
 abbrev pub invariant-loop-i : goal.invariant-loop-i

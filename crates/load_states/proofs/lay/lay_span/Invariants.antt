@@ -1,8 +1,9 @@
 use Rattle.std.proofs.Common.{◌≡◌, ℕ, ◌≤◌, ◌<◌, Some}
 use Rattle.std.specs.Prelude.{IsSome}
-use Rattle.page_memory.specs.Contents.{at, IsHeld}
+use Rattle.page_memory.specs.Contents.{at}
+use Rattle.page_memory.specs.inner.Contents.{IsHeld}
 use Rattle.segments.specs.Values.{want}
-use Rattle.load_states.specs.Laying.{Lays}
+use Rattle.load_states.specs.inner.Laying.{Lays}
 use Rattle.load_states.proofs.lay.lay_span.Given as goal
 
 abbrev pub invariant-loop-n : goal.invariant-loop-n

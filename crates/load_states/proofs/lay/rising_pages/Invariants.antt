@@ -1,5 +1,5 @@
 use Rattle.std.proofs.Common.{◌≡◌, take}
-use Rattle.load_states.specs.Laying.{pages_of_spans}
+use Rattle.load_states.specs.inner.Laying.{pages_of_spans}
 use Rattle.load_states.proofs.lay.rising_pages.Given as goal
 
 abbrev pub invariant-loop-i : goal.invariant-loop-i

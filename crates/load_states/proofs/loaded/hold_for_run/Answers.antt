@@ -2,11 +2,11 @@ use Rattle.std.proofs.Common.{List, subst}
 use Rattle.std.specs.List.{AllByRecursion}
 use Rattle.std.specs.Prelude.{◌⊎◌, map}
 use Rattle.kx_pages.specs.Lists.{Has}
-use Rattle.page_memory.specs.Contents.{IsHeld}
-use Rattle.relocate_machine.specs.Writes.{AreHeld, move_writes}
+use Rattle.page_memory.specs.inner.Contents.{IsHeld}
+use Rattle.relocate_machine.specs.inner.Writes.{AreHeld, move_writes}
 use Rattle.list_checker.specs.declared.earlier.Pair.{Pair}
 use Rattle.list_checker.specs.Checked.{as_pair}
-use Rattle.load_states.specs.Ready.{written_pages}
+use Rattle.load_states.specs.inner.Ready.{written_pages}
 use Rattle.load_states.proofs.Accepting.{accept_left, holds_no_other, made_accepted, made_held}
 use Rattle.load_states.proofs.loaded.hold_for_run.Goals as goal
 

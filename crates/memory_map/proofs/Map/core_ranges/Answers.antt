@@ -1,5 +1,5 @@
 use Rattle.std.proofs.Common.{ap, ◌∙◌}
-use Rattle.memory_map.specs.Rows.{covers}
+use Rattle.memory_map.specs.inner.Rows.{covers}
 use Rattle.memory_map.specs.Maps.{core_ranges}
 use Rattle.memory_map.proofs.Sets.{difference}
 use Rattle.memory_map.proofs.Map.core_ranges.Goals as goal

@@ -1,5 +1,5 @@
 use Rattle.std.proofs.Common.{inl}
-use Rattle.memory_map.specs.Reader.{map_value_of}
+use Rattle.memory_map.specs.inner.Reader.{map_value_of}
 use Rattle.memory_map.proofs.PageLemmas.{ram_count}
 use Rattle.memory_map.proofs.Reading.{reads, no_ram}
 use Rattle.memory_map.proofs.Map.read.Goals as goal

@@ -1,6 +1,7 @@
 use Rattle.std.proofs.Common.{◌-◌, ◌/◌, ap, ◌∙◌}
 use Rattle.memory_map.specs.Rows.{row_end}
-use Rattle.memory_map.specs.Maps.{if_some_pages, has_page}
+use Rattle.memory_map.specs.Maps.{if_some_pages}
+use Rattle.memory_map.specs.inner.Maps.{has_page}
 use Rattle.memory_map.proofs.PageLemmas.{has_whole}
 use Rattle.memory_map.proofs.pages.pages_inside.Goals as goal
 

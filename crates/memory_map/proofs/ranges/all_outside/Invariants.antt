@@ -1,6 +1,6 @@
 use Rattle.std.proofs.Common.{◌≡◌, ℕ, List, take}
 use Rattle.memory_map.specs.declared.row.Row.{Row}
-use Rattle.memory_map.specs.Rows.{covers, AreBelow}
+use Rattle.memory_map.specs.inner.Rows.{covers, AreBelow}
 use Rattle.memory_map.specs.Maps.{outside}
 use Rattle.memory_map.proofs.ranges.all_outside.Given as goal
 

@@ -1,5 +1,5 @@
 use Rattle.std.proofs.Common.{sym, ap, ◌∙◌}
-use Rattle.memory_map.specs.Rows.{covers}
+use Rattle.memory_map.specs.inner.Rows.{covers}
 use Rattle.memory_map.specs.Maps.{outside}
 use Rattle.memory_map.proofs.ranges.core_ranges.Goals as goal
 

@@ -1,6 +1,6 @@
 use Rattle.std.proofs.Common.{◌≡◌, ◌≤◌, ◌<◌, ℕ, length, take, get_or}
 use Rattle.memory_map.specs.declared.row.Row.{Row}
-use Rattle.memory_map.specs.Rows.{covers, AreParts, StartUpTo}
+use Rattle.memory_map.specs.inner.Rows.{covers, AreParts, StartUpTo}
 use Rattle.memory_map.proofs.ranges.merge_sorted.Given as goal
 
 abbrev pub invariant-loop-area : goal.invariant-loop-area

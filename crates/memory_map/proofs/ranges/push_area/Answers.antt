@@ -1,5 +1,5 @@
 use Rattle.std.proofs.Common.{subst}
-use Rattle.memory_map.specs.Rows.{AreParts}
+use Rattle.memory_map.specs.inner.Rows.{AreParts}
 use Rattle.memory_map.proofs.Parts.{up_to_more, last_end}
 use Rattle.memory_map.proofs.ranges.push_area.Goals as goal
 

@@ -1,5 +1,5 @@
 use Rattle.std.proofs.Common.{arith, refl, ap, ◌∙◌, ◌++◌, ◌∷◌, []}
-use Rattle.memory_map.specs.Rows.{covers}
+use Rattle.memory_map.specs.inner.Rows.{covers}
 use Rattle.memory_map.proofs.Parts.{longer_last, one_more, up_to_last, up_to_front, up_to_push, covers_hull}
 use Rattle.memory_map.proofs.ranges.push_behind.Goals as goal
 

@@ -1,6 +1,6 @@
 use Rattle.std.proofs.Common.{ap, sym, ◌∙◌, ◌++◌, ◌+◌, drop}
 use Rattle.memory_map.specs.Rows.{row_end}
-use Rattle.memory_map.specs.Walk.{walk}
+use Rattle.memory_map.specs.inner.Walk.{walk}
 use Rattle.memory_map.proofs.Parts.{walk_turn, walk_end, walk_is}
 use Rattle.memory_map.proofs.ranges.push_outside.Goals as goal
 

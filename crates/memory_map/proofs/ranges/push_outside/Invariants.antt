@@ -1,6 +1,7 @@
 use Rattle.std.proofs.Common.{◌≡◌, ◌++◌, ◌-◌, length, drop}
-use Rattle.memory_map.specs.Rows.{row_end, AreBelow}
-use Rattle.memory_map.specs.Walk.{walk}
+use Rattle.memory_map.specs.Rows.{row_end}
+use Rattle.memory_map.specs.inner.Rows.{AreBelow}
+use Rattle.memory_map.specs.inner.Walk.{walk}
 use Rattle.memory_map.proofs.ranges.push_outside.Given as goal
 
 abbrev pub invariant-loop-area : goal.invariant-loop-area

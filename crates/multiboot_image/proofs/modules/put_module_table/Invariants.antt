@@ -1,5 +1,6 @@
 use Rattle.std.proofs.Common.{◌≡◌, ◌++◌, drop}
-use Rattle.multiboot_image.specs.Modules.{module_table, AreBelow}
+use Rattle.multiboot_image.specs.Modules.{module_table}
+use Rattle.multiboot_image.specs.inner.Modules.{AreBelow}
 use Rattle.multiboot_image.proofs.modules.put_module_table.Given as goal
 
 abbrev pub invariant-loop-placed : goal.invariant-loop-placed

@@ -2,7 +2,7 @@ use Rattle.std.proofs.Common.{◌≡◌, sym, ap, ◌∙◌, arith, length, List
 use Rattle.std.specs.FinMap.{insert}
 use Rattle.page_memory.specs.Contents.{frame_at}
 use Rattle.page_memory.proofs.Laws.{frame_at-found, frame_at-none}
-use Rattle.page_memory.specs.Frames.{frame_in, put_frame, pages_in}
+use Rattle.page_memory.specs.inner.Frames.{frame_in, put_frame, pages_in}
 use Rattle.page_memory.proofs.Changes.{some_in}
 use Rattle.page_memory.proofs.Moves.{length-frame_in, page_of-nothing}
 use Rattle.page_memory.proofs.Tables.{none_held, some_held}

@@ -1,6 +1,6 @@
 use Rattle.std.proofs.Common.{◌≡◌, ◌++◌, take, drop, length, ap, ◌∙◌, arith}
 use Rattle.kx_pages.specs.Bytes.{page_of}
-use Rattle.page_memory.specs.Frames.{frame_in, put_frame}
+use Rattle.page_memory.specs.inner.Frames.{frame_in, put_frame}
 use Rattle.page_memory.proofs.Moves.{moved_up, moved_down, moved_nowhere, length-frame_in}
 use Rattle.page_memory.proofs.buffer.move_frame.Goals as goal
 

@@ -1,7 +1,7 @@
 use Rattle.std.proofs.Common.{ap, ◌++◌, take}
 use Rattle.std.proofs.lemmas.List.{drop-drop}
 use Rattle.byteorder.specs.Endian.{little_bytes}
-use Rattle.page_memory.specs.Contents.{page_with_word}
+use Rattle.page_memory.specs.inner.Contents.{page_with_word}
 use Rattle.page_memory.proofs.buffer.put_word.Goals as goal
 
 pub returns : goal.returns

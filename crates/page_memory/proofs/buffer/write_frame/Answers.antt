@@ -1,6 +1,6 @@
 use Rattle.std.proofs.Common.{◌≡◌, sym, ap, ◌∙◌, arith, length}
 use Rattle.kx_pages.specs.Bytes.{page_of}
-use Rattle.page_memory.specs.Frames.{frame_in, put_frame}
+use Rattle.page_memory.specs.inner.Frames.{frame_in, put_frame}
 use Rattle.kx_pages.proofs.Bytes.{length-page_of}
 use Rattle.page_memory.proofs.Tables.{none_held}
 use Rattle.page_memory.proofs.Frames.{inside_found, frame_in-put_same, other_page, pages_by-written, vec_back}

@@ -1,7 +1,8 @@
 use Rattle.std.proofs.Common.{◌≡◌, sym, ap, ◌∙◌, arith, length}
-use Rattle.page_memory.specs.Contents.{page_with_word, frame_at}
+use Rattle.page_memory.specs.Contents.{frame_at}
+use Rattle.page_memory.specs.inner.Contents.{page_with_word}
 use Rattle.page_memory.proofs.Laws.{frame_at-found}
-use Rattle.page_memory.specs.Frames.{frame_in, put_frame, pages_in}
+use Rattle.page_memory.specs.inner.Frames.{frame_in, put_frame, pages_in}
 use Rattle.page_memory.proofs.Bytes.{IsBlock-page_with_word}
 use Rattle.page_memory.proofs.Tables.{none_held, some_held}
 use Rattle.page_memory.proofs.Frames.{inside_found, frame_in-put_same, other_page, pages_by-written, vec_back, IsBlock-frame_in}

@@ -1,8 +1,8 @@
 use Rattle.std.proofs.Common.{◌≤◌, ap, ◌∙◌, ◌++◌, sym, length, subst}
 use Rattle.std.specs.BTreeMap.{IsOrdered}
 use Rattle.std.specs.Ordering.{nat_cmp}
-use Rattle.page_memory.specs.InPlace.{AreInSlots}
-use Rattle.page_memory.specs.Frames.{frame_entries}
+use Rattle.page_memory.specs.inner.InPlace.{AreInSlots}
+use Rattle.page_memory.specs.inner.Frames.{frame_entries}
 use Rattle.page_memory.proofs.Changes.{all_inside, AreInSlots-kept}
 use Rattle.page_memory.proofs.Stored.{frame_entries-kept, kept_in, length-kept, none_left}
 use Rattle.page_memory.proofs.file.stored_frames.Goals as goal

@@ -6,7 +6,7 @@ use Rattle.std.proofs.lemmas.List.{take_all, drop-drop, length-drop, length-take
 use Rattle.page_memory.specs.declared.fault.MemFault.TheVariants.{Memory, Trailing}
 use Rattle.page_memory.specs.File.{pages_onto}
 use Rattle.std.specs.FinMap as finite
-use Rattle.page_memory.specs.Frames.{pages_in, IsTable}
+use Rattle.page_memory.specs.inner.Frames.{pages_in, IsTable}
 use Rattle.kx_fields.proofs.Fields.{AreBytes-drop}
 use Rattle.kx_fields.proofs.Bytes.{AreBytes-take}
 use Rattle.page_memory.proofs.Reading.{pages_onto-ok, pages_onto-fails, pages_onto-end, pages_onto-trailing}

@@ -1,7 +1,7 @@
 use Rattle.std.proofs.Common.{◌≡◌, ◌≤◌, ℕ, ◌+◌, ◌*◌, ◌-◌, drop, take, length, None}
 use Rattle.std.specs.Ordering.{nat_cmp}
 use Rattle.std.specs.BTreeMap as tree
-use Rattle.page_memory.specs.Frames.{pages_in, IsTable}
+use Rattle.page_memory.specs.inner.Frames.{pages_in, IsTable}
 use Rattle.page_memory.specs.File.{pages_onto}
 use Rattle.std.specs.FinMap as finite
 use Rattle.page_memory.proofs.file.table_of.Given as goal

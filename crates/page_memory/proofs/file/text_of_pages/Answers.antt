@@ -3,7 +3,7 @@ use Rattle.std.specs.List.{flat_map}
 use Rattle.std.proofs.lemmas.List.{length-map}
 use Rattle.byteorder.specs.Endian.{little_bytes}
 use Rattle.page_memory.specs.File.{text_of, magic, page_text}
-use Rattle.page_memory.specs.Frames.{frame_entries, frame_in}
+use Rattle.page_memory.specs.inner.Frames.{frame_entries, frame_in}
 use Rattle.page_memory.proofs.file.text_of_pages.Goals as goal
 
 pub loop-p-init : goal.loop-p-init

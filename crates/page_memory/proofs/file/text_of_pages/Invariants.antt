@@ -1,7 +1,7 @@
 use Rattle.std.proofs.Common.{◌≡◌, ◌++◌, ◌+◌, ◌≤◌, length, drop}
 use Rattle.std.specs.List.{flat_map, AllByRecursion}
 use Rattle.page_memory.specs.File.{page_text, text_of}
-use Rattle.page_memory.specs.Frames.{frame_entries}
+use Rattle.page_memory.specs.inner.Frames.{frame_entries}
 use Rattle.page_memory.proofs.file.text_of_pages.Given as goal
 
 abbrev pub invariant-loop-p : goal.invariant-loop-p

@@ -1,5 +1,5 @@
 use Rattle.std.proofs.Common.{length}
-use Rattle.page_memory.specs.InPlace.{AreOwned, StillHold}
+use Rattle.page_memory.specs.inner.InPlace.{AreOwned, StillHold}
 use Rattle.page_memory.proofs.in_place.arrange.Given as goal
 
 abbrev pub invariant-loop-k : goal.invariant-loop-k

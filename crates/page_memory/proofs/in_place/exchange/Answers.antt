@@ -1,5 +1,5 @@
 use Rattle.std.proofs.Common.{take, drop, ap, ◌∙◌}
-use Rattle.page_memory.specs.Frames.{frame_in}
+use Rattle.page_memory.specs.inner.Frames.{frame_in}
 use Rattle.page_memory.proofs.InPlace.{exchanged}
 use Rattle.page_memory.proofs.in_place.exchange.Goals as goal
 

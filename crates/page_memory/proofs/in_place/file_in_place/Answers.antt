@@ -2,8 +2,8 @@ use Rattle.std.proofs.Common.{◌≡◌, ◌≤◌, ◌+◌, ◌*◌, ◌-◌, �
 use Rattle.std.specs.Prelude.{replicate}
 use Rattle.std.proofs.lemmas.List.{length-map}
 use Rattle.page_memory.specs.File.{text_of}
-use Rattle.page_memory.specs.InPlace.{slot_entries}
-use Rattle.page_memory.specs.Frames.{frame_entries, frame_in, stored_in}
+use Rattle.page_memory.specs.inner.InPlace.{slot_entries}
+use Rattle.page_memory.specs.inner.Frames.{frame_entries, frame_in, stored_in}
 use Rattle.page_memory.proofs.Frames.{vec_back}
 use Rattle.page_memory.proofs.InPlace.{AreGathered-named, slot_entries-cut}
 use Rattle.page_memory.proofs.in_place.file_in_place.Goals as goal

@@ -1,6 +1,6 @@
 use Rattle.std.proofs.Common.{◌<◌, ◌/◌, length, ◌∙◌, arith, ℕ}
 use Rattle.std.proofs.lemmas.List.{length-map}
-use Rattle.page_memory.specs.InPlace.{slots_of}
+use Rattle.page_memory.specs.inner.InPlace.{slots_of}
 use Rattle.page_memory.proofs.InPlace.{gathered, slots_below}
 use Rattle.page_memory.proofs.in_place.gather.Goals as goal
 

@@ -1,6 +1,6 @@
 use Rattle.std.proofs.Common.{◌≡◌, ◌<◌, ℕ, length}
 use Rattle.std.specs.Prelude.{slice_index}
-use Rattle.page_memory.specs.InPlace.{AreSlotsOf}
+use Rattle.page_memory.specs.inner.InPlace.{AreSlotsOf}
 use Rattle.page_memory.proofs.in_place.owners_of.Given as goal
 
 abbrev pub invariant-loop-j : goal.invariant-loop-j

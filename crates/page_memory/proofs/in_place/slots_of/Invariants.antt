@@ -1,5 +1,5 @@
 use Rattle.std.proofs.Common.{◌≡◌, ◌++◌, drop}
-use Rattle.page_memory.specs.InPlace.{slots_of}
+use Rattle.page_memory.specs.inner.InPlace.{slots_of}
 use Rattle.page_memory.proofs.in_place.slots_of.Given as goal
 
 abbrev pub invariant-loop-place : goal.invariant-loop-place

@@ -1,5 +1,5 @@
 use Rattle.std.proofs.Common.{drop, ap, ◌∙◌, arith}
-use Rattle.page_memory.specs.InPlace.{slot_entries}
+use Rattle.page_memory.specs.inner.InPlace.{slot_entries}
 use Rattle.page_memory.proofs.InPlace.{headed, length-slot_entries}
 use Rattle.page_memory.proofs.in_place.write_heads.Goals as goal
 

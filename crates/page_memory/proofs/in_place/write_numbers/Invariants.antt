@@ -1,7 +1,7 @@
 use Rattle.std.proofs.Common.{◌≡◌, ◌++◌, ◌+◌, ◌*◌, take, drop}
 use Rattle.std.specs.List.{flat_map}
 use Rattle.page_memory.specs.File.{page_text}
-use Rattle.page_memory.specs.InPlace.{slot_entries}
+use Rattle.page_memory.specs.inner.InPlace.{slot_entries}
 use Rattle.page_memory.proofs.in_place.write_numbers.Given as goal
 
 abbrev pub invariant-loop-p : goal.invariant-loop-p

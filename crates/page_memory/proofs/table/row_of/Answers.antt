@@ -2,7 +2,7 @@ use Rattle.std.proofs.Common.{◌∙◌, ◌≡◌, Some, sym, subst}
 use Rattle.std.specs.List.{AllByRecursion}
 use Rattle.std.specs.Ordering.{nat_cmp}
 use Rattle.std.specs.BTreeMap as tree
-use Rattle.page_memory.specs.Shortcuts.{AreInPlace, SayWhat}
+use Rattle.page_memory.specs.inner.Shortcuts.{AreInPlace, SayWhat}
 use Rattle.page_memory.proofs.Changes.{all_found}
 use Rattle.page_memory.proofs.Shortcuts.{none_alone, none_in_place, none_says, noted_again, noted_in_place}
 use Rattle.page_memory.proofs.table.row_of.Goals as goal

@@ -2,7 +2,7 @@ use Rattle.std.proofs.Common.{◌≡◌, Some}
 use Rattle.std.specs.List.{AllByRecursion}
 use Rattle.std.specs.Ordering.{nat_cmp}
 use Rattle.std.specs.BTreeMap as tree
-use Rattle.page_memory.specs.Shortcuts.{AreInPlace, SayWhat}
+use Rattle.page_memory.specs.inner.Shortcuts.{AreInPlace, SayWhat}
 use Rattle.page_memory.proofs.table.row_of.Given as goal
 
 abbrev pub invariant-loop-p : goal.invariant-loop-p

@@ -1,6 +1,6 @@
 use Rattle.std.proofs.Common.{◌≡◌, ◌∙◌, ◌<◌, Bool, true, false, get_or, length, subst, refl, ap, sym, arith}
 use Rattle.std.proofs.lemmas.List.{get_or_read}
-use Rattle.page_pool.specs.Queue.{is_waiting}
+use Rattle.page_pool.specs.inner.Queue.{is_waiting}
 use Rattle.kx_pages.specs.Lists.{Distinct}
 use Rattle.page_pool.proofs.Queueing.{queue_begun, queue_room, queue_front, queue_joined, queue_passed, found_waiting}
 use Rattle.page_pool.proofs.Pool.below.Goals.{then-is_waiting, else-is_waiting}

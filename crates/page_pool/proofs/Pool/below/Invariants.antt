@@ -1,5 +1,5 @@
 use Rattle.std.proofs.Common.{◌≡◌, take}
-use Rattle.page_pool.specs.Queue.{IsQueue}
+use Rattle.page_pool.specs.inner.Queue.{IsQueue}
 use Rattle.page_pool.proofs.Pool.below.Given as goal
 
 abbrev pub invariant-loop-place : goal.invariant-loop-place

@@ -2,8 +2,8 @@ use Rattle.std.proofs.Common.{◌≡◌, ℕ, ◌+◌, List, ◌∷◌, ◌++◌
 use Rattle.std.specs.Prelude.{set}
 use Rattle.std.proofs.lemmas.List.{get_or_read}
 use Rattle.page_pool.specs.Pages.{Pages, usable_of, usable_among}
-use Rattle.page_pool.specs.Queue.{pages_at}
-use Rattle.page_pool.specs.Marks.{IsPool, marks_of}
+use Rattle.page_pool.specs.inner.Queue.{pages_at}
+use Rattle.page_pool.specs.inner.Marks.{IsPool, marks_of}
 use Rattle.page_pool.proofs.Steps.{drawn_pool}
 use Rattle.page_pool.proofs.Queueing.{place_inside, gone_more, usable_split, none_left}
 use Rattle.page_pool.proofs.Pool.draw.Goals as goal

@@ -1,7 +1,7 @@
 use Rattle.std.proofs.Common.{◌+◌, ◌++◌, ◌∙◌, arith, ap, sym, subst, length, take}
 use Rattle.kx_pages.specs.Lists.{Distinct}
 use Rattle.page_pool.specs.Pages.{usable_of}
-use Rattle.page_pool.specs.Queue.{pages_at}
+use Rattle.page_pool.specs.inner.Queue.{pages_at}
 use Rattle.page_pool.proofs.Left.{parts_distinct}
 use Rattle.page_pool.proofs.Queueing.{left_are, parts_are}
 use Rattle.page_pool.proofs.Pool.left.Goals as goal

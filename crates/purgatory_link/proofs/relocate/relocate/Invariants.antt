@@ -1,8 +1,8 @@
 use Rattle.std.proofs.Common.{◌≡◌, ◌≤◌, drop, length}
 use Rattle.std.specs.List.{flat_map}
 use Rattle.elf_image.specs.Reloc.{entries_of}
-use Rattle.purgatory_link.specs.Progress.{PutSo}
-use Rattle.purgatory_link.specs.Taken.{room}
+use Rattle.purgatory_link.specs.inner.Progress.{PutSo}
+use Rattle.purgatory_link.specs.inner.Taken.{room}
 use Rattle.purgatory_link.proofs.Relocating.{all_of}
 use Rattle.purgatory_link.proofs.relocate.relocate.Given as goal
 

@@ -1,6 +1,7 @@
 use Rattle.std.proofs.Common.{◌∙◌, ap, sym, subst, length}
 use Rattle.elf_image.specs.Reloc.{entry_of}
-use Rattle.purgatory_link.specs.Relocs.{HasRoom, with_one, put_of}
+use Rattle.purgatory_link.specs.Relocs.{with_one, put_of}
+use Rattle.purgatory_link.specs.inner.Relocs.{HasRoom}
 use Rattle.purgatory_link.proofs.Found.{some_put}
 use Rattle.purgatory_link.proofs.Relocating.{one_put, entry_put, entry_refused, entries_put}
 use Rattle.purgatory_link.proofs.relocate.relocate_section.Goals as goal

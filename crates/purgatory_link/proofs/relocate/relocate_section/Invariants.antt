@@ -1,7 +1,7 @@
 use Rattle.std.proofs.Common.{◌≡◌, length, take}
 use Rattle.elf_image.specs.Reloc.{entries_of}
-use Rattle.purgatory_link.specs.Progress.{ArePut}
-use Rattle.purgatory_link.specs.Taken.{room, IsRow}
+use Rattle.purgatory_link.specs.inner.Progress.{ArePut}
+use Rattle.purgatory_link.specs.inner.Taken.{room, IsRow}
 use Rattle.purgatory_link.proofs.relocate.relocate_section.Given as goal
 
 abbrev pub invariant-loop-entry : goal.invariant-loop-entry

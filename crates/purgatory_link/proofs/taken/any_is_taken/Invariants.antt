@@ -1,5 +1,5 @@
 use Rattle.std.proofs.Common.{◌≡◌, ℕ, ◌*◌, ◌<◌, true, false}
-use Rattle.purgatory_link.specs.Taken.{is_taken, is_among}
+use Rattle.purgatory_link.specs.inner.Taken.{is_taken, is_among}
 use Rattle.purgatory_link.proofs.taken.any_is_taken.Given as goal
 
 abbrev pub invariant-loop-index : goal.invariant-loop-index

@@ -2,7 +2,7 @@ use Rattle.std.proofs.Common.{subst}
 use Rattle.std.specs.List.{All}
 use Rattle.std.proofs.lemmas.List.{take_all}
 use Rattle.std.proofs.lemmas.List.Elements.{All-more}
-use Rattle.elf_image.specs.Object.{IsRelocSection}
+use Rattle.elf_image.specs.inner.Object.{IsRelocSection}
 use Rattle.purgatory_link.proofs.test_objects.are_reloc_sections.Goals as goal
 
 pub loop-section-preserved : goal.loop-section-preserved

@@ -1,6 +1,6 @@
 use Rattle.std.proofs.Common.{◌≡◌, ◌+◌, ◌/◌, ◌^◌, ◌<◌, Some, sym, subst, arith}
 use Rattle.relocate_machine.specs.Machine.{kind_of, word_address}
-use Rattle.relocate_machine.specs.Reading.{place_past}
+use Rattle.relocate_machine.specs.inner.Reading.{place_past}
 use Rattle.relocate_machine.proofs.ReadSteps.{in_past, read_more, read_none}
 use Rattle.relocate_machine.proofs.reading.read_page.Goals as goal
 

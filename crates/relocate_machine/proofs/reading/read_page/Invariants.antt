@@ -1,4 +1,4 @@
-use Rattle.relocate_machine.specs.Reading.{IsIn, IsRead}
+use Rattle.relocate_machine.specs.inner.Reading.{IsIn, IsRead}
 use Rattle.relocate_machine.proofs.reading.read_page.Given as goal
 
 -- so many words were read up to this place

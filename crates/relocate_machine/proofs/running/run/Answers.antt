@@ -1,7 +1,7 @@
 use Rattle.std.proofs.Common.{◌≡◌, ◌-◌, ◌+◌, suc, ap, sym, ◌∙◌, subst, arith, refl}
 use Rattle.relocate_machine.specs.declared.step.Outcome.TheVariants.{Running}
 use Rattle.relocate_machine.specs.Machine.{State, start_at}
-use Rattle.relocate_machine.specs.Writes.{AreHeld, IsHeldFor, IsWritten, writes_of}
+use Rattle.relocate_machine.specs.inner.Writes.{AreHeld, IsHeldFor, IsWritten, writes_of}
 use Rattle.relocate_machine.specs.Run.{run_from}
 use Rattle.relocate_machine.proofs.Held.{writes_of-word}
 use Rattle.relocate_machine.proofs.More.{ends_after, goes_after}

@@ -1,6 +1,6 @@
 use Rattle.std.proofs.Common.{◌≡◌, ◌-◌, ◌≤◌, false}
 use Rattle.std.specs.Prelude.{IfSome}
-use Rattle.page_memory.specs.Contents.{IsHeld}
+use Rattle.page_memory.specs.inner.Contents.{IsHeld}
 use Rattle.relocate_machine.specs.declared.step.Outcome.TheVariants.{Running}
 use Rattle.relocate_machine.specs.Run.{run_of}
 use Rattle.relocate_machine.proofs.running.run.Given as goal

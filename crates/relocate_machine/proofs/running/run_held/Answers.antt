@@ -1,7 +1,8 @@
 use Rattle.std.proofs.Common.{◌≡◌, ◌-◌, ◌+◌, suc, ap, sym, ◌∙◌, subst, arith, refl}
 use Rattle.relocate_machine.specs.declared.step.Outcome.TheVariants.{Running}
 use Rattle.relocate_machine.specs.Machine.{State, start_at}
-use Rattle.relocate_machine.specs.Run.{HeldFrom, run_from}
+use Rattle.relocate_machine.specs.Run.{run_from}
+use Rattle.relocate_machine.specs.inner.Run.{HeldFrom}
 use Rattle.relocate_machine.proofs.More.{ends_after, goes_after}
 use Rattle.relocate_machine.proofs.ReadSteps.{HeldFrom-goes, goes-runs, runs_on}
 use Rattle.relocate_machine.proofs.Runs.{HeldFrom-now, HeldFrom-went, step_of-runs}

@@ -1,7 +1,8 @@
 use Rattle.std.proofs.Common.{◌≡◌, ◌-◌, ◌≤◌, false}
 use Rattle.relocate_machine.specs.declared.step.Outcome.TheVariants.{Running}
 use Rattle.relocate_machine.specs.Machine.{State}
-use Rattle.relocate_machine.specs.Run.{HeldFrom, run_of}
+use Rattle.relocate_machine.specs.Run.{run_of}
+use Rattle.relocate_machine.specs.inner.Run.{HeldFrom}
 use Rattle.relocate_machine.proofs.running.run_held.Given as goal
 
 -- k steps of the run left this

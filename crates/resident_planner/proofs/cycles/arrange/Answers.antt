@@ -3,7 +3,7 @@ use Rattle.std.specs.Ordering.{nat_cmp}
 use Rattle.std.specs.BTreeMap as tree
 use Rattle.resident_planner.specs.Cycles.{within}
 use Rattle.resident_planner.specs.Plan.{kept_source, other_than, source_step}
-use Rattle.resident_planner.specs.Stretches.{AreSteps}
+use Rattle.resident_planner.specs.inner.Stretches.{AreSteps}
 use Rattle.resident_planner.proofs.Ranks.{rank_enough, within_other}
 use Rattle.resident_planner.proofs.cycles.arrange.Goals as goal
 use Rattle.kx_pages.proofs.Lists.{Has-get_or}

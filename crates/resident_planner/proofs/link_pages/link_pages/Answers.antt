@@ -2,7 +2,7 @@ use Rattle.std.proofs.Common.{◌∙◌, ◌≤◌, ◌++◌, ap, sym, subst, le
 use Rattle.std.specs.Prelude.{All}
 use Rattle.std.proofs.lemmas.List.{get_or_read}
 use Rattle.resident_planner.specs.declared.link_pages.LinkPage.{LinkPage}
-use Rattle.resident_planner.specs.LinkPages.{laid_page, word_pages}
+use Rattle.resident_planner.specs.inner.LinkPages.{laid_page, word_pages}
 use Rattle.std.proofs.Common.{map, drop, ◌+◌}
 use Rattle.resident_planner.proofs.LinkWords.{short_link_page}
 use Rattle.resident_planner.proofs.Stepping.{link_pages_next, take_up_to, all_push}

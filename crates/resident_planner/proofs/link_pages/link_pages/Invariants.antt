@@ -1,6 +1,6 @@
 use Rattle.std.proofs.Common.{◌≡◌, ◌≤◌, ◌++◌, length, map, drop}
 use Rattle.std.specs.Prelude.{All}
-use Rattle.resident_planner.specs.LinkPages.{laid_page, word_pages}
+use Rattle.resident_planner.specs.inner.LinkPages.{laid_page, word_pages}
 use Rattle.resident_planner.proofs.link_pages.link_pages.Given as goal
 
 abbrev pub invariant-loop-i : goal.invariant-loop-i

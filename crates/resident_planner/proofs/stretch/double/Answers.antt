@@ -1,7 +1,7 @@
 use Rattle.std.proofs.Common.{◌+◌, ◌<◌, ℕ, length, get_or, None, ap, sym, subst, arith}
 use Rattle.std.proofs.lemmas.List.{length_push}
 use Rattle.resident_planner.specs.declared.stretch.Stretch.{Stretch}
-use Rattle.resident_planner.specs.Stretches.{IsStretch}
+use Rattle.resident_planner.specs.inner.Stretches.{IsStretch}
 use Rattle.resident_planner.proofs.Stretching.{each_more}
 use Rattle.resident_planner.proofs.stretch.double.Goals as goal
 

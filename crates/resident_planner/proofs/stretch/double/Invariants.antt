@@ -1,6 +1,6 @@
 use Rattle.std.proofs.Common.{◌≡◌, ◌+◌, ◌<◌, ℕ, List, length, get_or, Option}
 use Rattle.resident_planner.specs.declared.stretch.Stretch.{Stretch}
-use Rattle.resident_planner.specs.Stretches.{AreStretches, IsStretch}
+use Rattle.resident_planner.specs.inner.Stretches.{AreStretches, IsStretch}
 use Rattle.resident_planner.proofs.stretch.double.Given as goal
 
 abbrev pub invariant-loop-stretch : goal.invariant-loop-stretch

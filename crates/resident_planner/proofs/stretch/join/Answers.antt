@@ -1,6 +1,6 @@
 use Rattle.std.proofs.Common.{◌+◌, get_or, None, sym, subst}
 use Rattle.resident_planner.specs.declared.stretch.Stretch.{Stretch}
-use Rattle.resident_planner.specs.Stretches.{LeadsTo, IsStretch, after}
+use Rattle.resident_planner.specs.inner.Stretches.{LeadsTo, IsStretch, after}
 use Rattle.resident_planner.proofs.Stretching.{joined_some, joined_none}
 use Rattle.resident_planner.proofs.stretch.join.Goals as goal
 

@@ -1,7 +1,8 @@
 use Rattle.std.proofs.Common.{◌≡◌, ◌∙◌, ◌+◌, ◌%◌, ap}
 use Rattle.std.specs.Prelude.{replicate}
 use Rattle.kx_pages.specs.Bytes.{page_of}
-use Rattle.page_memory.specs.Contents.{at, after_set}
+use Rattle.page_memory.specs.Contents.{at}
+use Rattle.page_memory.specs.inner.Contents.{after_set}
 use Rattle.page_memory.specs.Memory.{put}
 use Rattle.page_memory.proofs.Laws.{at-after_set}
 use Rattle.sample_load.proofs.Filled.{page_of-full}

@@ -1,5 +1,6 @@
 use Rattle.std.proofs.Common.{ℕ, ◌≤◌, ◌<◌}
-use Rattle.page_memory.specs.Contents.{IsHeld, at}
+use Rattle.page_memory.specs.Contents.{at}
+use Rattle.page_memory.specs.inner.Contents.{IsHeld}
 use Rattle.page_memory.specs.Memory.{Agree}
 use Rattle.sample_load.specs.Samples.{filled_before}
 use Rattle.sample_load.proofs.memory.sample_memory.Given as goal

@@ -1,7 +1,8 @@
 use Rattle.std.proofs.Common.{◌∙◌, ap, subst, sym}
 use Rattle.kx_pages.specs.Lists.{Has}
 use Rattle.kx_pages.proofs.Lists.{Each-from_All, Each-at, range-Has}
-use Rattle.page_memory.specs.Contents.{IsHeld, at}
+use Rattle.page_memory.specs.Contents.{at}
+use Rattle.page_memory.specs.inner.Contents.{IsHeld}
 use Rattle.sample_load.proofs.Filled.{empty_zeros}
 use Rattle.sample_load.proofs.memory.zeros_from.Goals as goal
 

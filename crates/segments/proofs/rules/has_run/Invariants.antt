@@ -1,6 +1,7 @@
 use Rattle.std.proofs.Common.{◌≡◌, ℕ, ◌+◌, ◌<◌, ◌&&◌, false, Some}
 use Rattle.std.specs.Prelude.{slice_get, nat_le}
-use Rattle.kx_pages.specs.Spans.{Run, end, IsMaximal}
+use Rattle.kx_pages.specs.Spans.{Run, end}
+use Rattle.kx_pages.specs.inner.Spans.{IsMaximal}
 use Rattle.segments.proofs.rules.has_run.Given as goal
 
 -- no span so far has the whole run

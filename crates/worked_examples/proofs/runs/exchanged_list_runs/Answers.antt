@@ -2,7 +2,8 @@
 use Rattle.std.proofs.Common.{◌≡◌, refl, true, None}
 use Rattle.kx_pages.specs.declared.image.Mode.TheVariants.{Plain}
 use Rattle.page_memory.specs.Contents.{at}
-use Rattle.page_memory.specs.Memory.{word, copied_page}
+use Rattle.page_memory.specs.Memory.{word}
+use Rattle.page_memory.specs.inner.Memory.{copied_page}
 use Rattle.relocate_machine.specs.declared.step.Outcome.TheVariants.{Done}
 use Rattle.relocate_machine.specs.Machine.{kind_of, step_of}
 use Rattle.page_memory.specs.Contents.{copy_page}

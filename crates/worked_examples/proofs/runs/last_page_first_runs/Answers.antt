@@ -5,7 +5,8 @@ use Rattle.std.proofs.lemmas.Bool.Decides.{eqb_tells}
 use Rattle.kx_pages.specs.declared.image.Mode.TheVariants.{Plain}
 use Rattle.kx_pages.specs.Bytes.{page_of, Mem}
 use Rattle.page_memory.specs.Contents.{Contents, at}
-use Rattle.page_memory.specs.Memory.{word, copied_page}
+use Rattle.page_memory.specs.Memory.{word}
+use Rattle.page_memory.specs.inner.Memory.{copied_page}
 use Rattle.segments.specs.Values.{want, overlay, pages}
 use Rattle.relocate_machine.specs.declared.step.Outcome.TheVariants.{Done}
 use Rattle.relocate_machine.specs.Machine.{kind_of, step_of}

@@ -2,7 +2,7 @@
 use Rattle.std.specs.Prelude.{refl}
 use Rattle.page_memory.specs.Memory.{word}
 use Rattle.kx_pages.specs.Bytes.{page_of}
-use Rattle.page_memory.specs.Contents.{page_with_word}
+use Rattle.page_memory.specs.inner.Contents.{page_with_word}
 use Rattle.relocate_machine.specs.Machine.{kind_of}
 use Rattle.worked_examples.proofs.words.words_of_items.Goals as goal
 

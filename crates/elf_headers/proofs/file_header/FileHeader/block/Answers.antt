@@ -1,5 +1,5 @@
 use Rattle.std.proofs.Common.{arith}
-use Rattle.kx_fields.specs.Formats.{Fits}
+use Rattle.kx_fields.specs.inner.Formats.{Fits}
 use Rattle.elf_headers.specs.FileHeader.{file_header}
 use Rattle.elf_headers.proofs.Headers.{header_back}
 use Rattle.elf_headers.proofs.file_header.FileHeader.block.Goals as goal

@@ -1,5 +1,5 @@
 use Rattle.std.proofs.Common.{rules}
-use Rattle.kx_fields.specs.Formats.{Fits}
+use Rattle.kx_fields.specs.inner.Formats.{Fits}
 use Rattle.elf_headers.specs.ProgramHeader.{program_header}
 use Rattle.elf_headers.proofs.Headers.{row_back}
 use Rattle.elf_headers.proofs.program_header.ProgramHeader.block.Goals as goal

@@ -1,6 +1,6 @@
 use Rattle.std.proofs.Common.{rules, string_bytes, map}
 use Rattle.std.specs.Prelude.{option_map}
-use Rattle.file_commands.specs.Calls.{file_of}
+use Rattle.file_commands.specs.inner.Calls.{file_of}
 use Rattle.file_commands.specs.Files.{all_files, optional_file, whole_file}
 use Rattle.file_commands.specs.Taking.{ok, and_then}
 use Rattle.file_commands.proofs.Steps.{start, next, stopped, finished}

@@ -1,7 +1,7 @@
 use Rattle.std.proofs.Common.{◌∙◌, sym, ap}
 use Rattle.image_slots.specs.declared.reply.Reply.{Reply}
-use Rattle.image_slots.specs.Events.{event_of}
-use Rattle.image_slots.specs.States.{state_of}
+use Rattle.image_slots.specs.inner.Events.{event_of}
+use Rattle.image_slots.specs.inner.States.{state_of}
 use Rattle.image_slots.specs.Steps.{Outcome}
 use Rattle.image_slots.proofs.Sequences.{followed}
 use Rattle.image_slots.proofs.slots.Slots.answer.Goals as goal

@@ -1,9 +1,9 @@
 use Rattle.std.proofs.Common.{rules, ◌≡◌, ◌∙◌, ◌∷◌, [], map, refl, sym, append-nil}
 use Rattle.std.proofs.lemmas.List.{nil_from_length}
 use Rattle.std.specs.Vec.Iter.{into_iter_items}
-use Rattle.image_slots.specs.Events.{event_of}
+use Rattle.image_slots.specs.inner.Events.{event_of}
 use Rattle.image_slots.specs.Pages.{all_pages}
-use Rattle.image_slots.specs.States.{state_of}
+use Rattle.image_slots.specs.inner.States.{state_of}
 use Rattle.image_slots.proofs.Sequences.{are_kept, next_replies, next_state}
 use Rattle.image_slots.proofs.slots.Slots.apply_each.Goals as goal
 

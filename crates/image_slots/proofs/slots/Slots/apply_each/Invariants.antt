@@ -1,9 +1,9 @@
 use Rattle.std.proofs.Common.{◌≡◌, ◌++◌, map}
 use Rattle.std.specs.List.{AllByRecursion}
 use Rattle.std.specs.Vec.Iter.{into_iter_items}
-use Rattle.image_slots.specs.Events.{HasFewBytes, event_of}
+use Rattle.image_slots.specs.inner.Events.{HasFewBytes, event_of}
 use Rattle.image_slots.specs.Sequences.{after_events, replies_to}
-use Rattle.image_slots.specs.States.{state_of}
+use Rattle.image_slots.specs.inner.States.{state_of}
 use Rattle.image_slots.proofs.slots.Slots.apply_each.Given as goal
 
 abbrev pub invariant-loop-event : goal.invariant-loop-event

@@ -2,8 +2,8 @@ use Rattle.std.proofs.Common.{ap, ◌∙◌, ◌+◌, [], sym}
 use Rattle.page_memory.specs.Contents.{at}
 use Rattle.kimage_list.proofs.open_list.OpenList.add_start.Goals as goal
 use Rattle.kimage_list.proofs.Entering.{entered, steady_start, same_writes}
-use Rattle.kimage_list.specs.Drafts.{with_start}
-use Rattle.page_memory.specs.Memory.{set_word}
+use Rattle.kimage_list.specs.inner.Drafts.{with_start}
+use Rattle.page_memory.specs.inner.Memory.{set_word}
 
 pub returns-clause-written : goal.returns-clause-written
 returns-clause-written c = λ d e h r.

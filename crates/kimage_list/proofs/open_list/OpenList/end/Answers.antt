@@ -1,6 +1,6 @@
 use Rattle.std.proofs.Common.{arith, ap, ◌∙◌}
 use Rattle.page_memory.specs.Contents.{at}
-use Rattle.page_memory.specs.Memory.{set_word}
+use Rattle.page_memory.specs.inner.Memory.{set_word}
 use Rattle.kimage_list.proofs.open_list.OpenList.end.Goals as goal
 use Rattle.kimage_list.proofs.Finishing.{end_held, end_low, end_aligned, finished}
 

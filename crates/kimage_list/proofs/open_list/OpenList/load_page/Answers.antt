@@ -1,16 +1,18 @@
 use Rattle.std.proofs.Common.{◌≡◌, ℕ, ◌+◌, ◌∷◌, [], Some, sym, ap, ◌∙◌, subst, refl}
 use Rattle.std.specs.Prelude.{IsSome}
-use Rattle.page_memory.specs.Contents.{at, IsHeld}
+use Rattle.page_memory.specs.Contents.{at}
+use Rattle.page_memory.specs.inner.Contents.{IsHeld}
 use Rattle.kimage_list.proofs.open_list.OpenList.load_page.Goals as goal
 use Rattle.kimage_list.proofs.Arriving.{arrived, has_slot, home_of, hand_held, in_hand}
 use Rattle.kimage_list.proofs.Entering.{filled_in, steady_more, same_writes}
-use Rattle.kimage_list.specs.Drafts.{with_move, HeadIs}
+use Rattle.kimage_list.specs.inner.Drafts.{with_move, HeadIs}
 use Rattle.kimage_list.specs.Load.{Move}
-use Rattle.kimage_list.specs.Tables.{Slots, slot}
+use Rattle.kimage_list.specs.inner.Tables.{Slots, slot}
 use Rattle.kx_pages.specs.Items.{code}
 use Rattle.kx_pages.specs.declared.item.Item.TheVariants.{Source}
 use Rattle.kx_pages.specs.Bytes.{page_of}
-use Rattle.page_memory.specs.Memory.{put, set_word}
+use Rattle.page_memory.specs.Memory.{put}
+use Rattle.page_memory.specs.inner.Memory.{set_word}
 use Rattle.page_memory.proofs.Laws.{put-same}
 
 pub fill-requires-clause-held : goal.fill-requires-clause-held

@@ -1,13 +1,15 @@
 use Rattle.std.proofs.Common.{◌≡◌, ℕ, ◌*◌, ◌/◌, [], sym, ap, ◌∙◌, subst, arith}
-use Rattle.page_memory.specs.Contents.{at, IsHeld}
+use Rattle.page_memory.specs.Contents.{at}
+use Rattle.page_memory.specs.inner.Contents.{IsHeld}
 use Rattle.kimage_list.proofs.open_list.OpenList.take_link.Goals as goal
 use Rattle.kimage_list.proofs.open_list.OpenList.take_link.Goals.{then-self-eq0, else-self-eq0}
 use Rattle.kimage_list.proofs.Linking.{link_held, next_held, next_low, next_aligned, first, later, head_first, head_later}
-use Rattle.kimage_list.specs.Drafts.{Renders, with_link, HeadIs}
+use Rattle.kimage_list.specs.inner.Drafts.{Renders, with_link, HeadIs}
 use Rattle.kx_pages.specs.Items.{code}
 use Rattle.kx_pages.specs.declared.item.Item.TheVariants.{Link}
 use Rattle.kx_pages.specs.Bytes.{page_of}
-use Rattle.page_memory.specs.Memory.{put, set_word}
+use Rattle.page_memory.specs.Memory.{put}
+use Rattle.page_memory.specs.inner.Memory.{set_word}
 
 pub fill-requires-clause-held : goal.fill-requires-clause-held
 fill-requires-clause-held c =

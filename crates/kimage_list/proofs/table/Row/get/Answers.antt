@@ -1,6 +1,6 @@
 use Rattle.std.proofs.Common.{◌-◌, ◌≤◌, ◌<◌, ◌∙◌, sym, ap, arith}
 use Rattle.std.specs.List.{slice_get}
-use Rattle.kimage_list.specs.Tables.{SlotRow}
+use Rattle.kimage_list.specs.inner.Tables.{SlotRow}
 use Rattle.kimage_list.proofs.Tables.{one_before, one_from, copied_from}
 use Rattle.kimage_list.proofs.table.Row.get.Goals as goal
 

@@ -1,5 +1,5 @@
 use Rattle.std.proofs.Common.{◌++◌, ◌∷◌, [], ◌∙◌, sym, ap, subst, arith, map, take}
-use Rattle.kimage_list.specs.Tables.{slot, AreRising, fresh_row}
+use Rattle.kimage_list.specs.inner.Tables.{slot, AreRising, fresh_row}
 use Rattle.kimage_list.proofs.Tables.{fresh_rising, fresh_slots, more_rows, all_rows}
 use Rattle.kimage_list.proofs.table.Table.new.Goals as goal
 

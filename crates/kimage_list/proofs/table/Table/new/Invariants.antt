@@ -1,5 +1,5 @@
 use Rattle.std.proofs.Common.{◌≡◌, take, map}
-use Rattle.kimage_list.specs.Tables.{fresh_row}
+use Rattle.kimage_list.specs.inner.Tables.{fresh_row}
 use Rattle.kimage_list.proofs.table.Table.new.Given as goal
 
 abbrev pub invariant-loop-i : goal.invariant-loop-i

@@ -1,6 +1,6 @@
 use Rattle.std.proofs.Common.{◌-◌, Some, sym, subst, ap, refl}
-use Rattle.kimage_list.specs.Writers.{StandsAt, with_destination, draft_of}
-use Rattle.kimage_list.specs.Calls.{writer_of}
+use Rattle.kimage_list.specs.inner.Writers.{StandsAt, with_destination, draft_of}
+use Rattle.kimage_list.specs.inner.Calls.{writer_of}
 use Rattle.kimage_list.proofs.MakingRoom.{start_room, start_added}
 use Rattle.kimage_list.proofs.writer.ListWriter.add_destination.Goals as goal
 

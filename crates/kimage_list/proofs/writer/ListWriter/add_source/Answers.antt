@@ -1,7 +1,7 @@
 use Rattle.std.proofs.Common.{◌≡◌, ℕ, ◌∙◌, ◌+◌, Some, sym, subst, ap, refl}
 use Rattle.kx_pages.specs.Bytes.{page_of}
-use Rattle.kimage_list.specs.Writers.{History, Writer, StandsAt, IsAwaited, with_source, draft_of}
-use Rattle.kimage_list.specs.Calls.{writer_of}
+use Rattle.kimage_list.specs.inner.Writers.{History, Writer, StandsAt, IsAwaited, with_source, draft_of}
+use Rattle.kimage_list.specs.inner.Calls.{writer_of}
 use Rattle.kimage_list.proofs.Awaiting.{awaited, rebytes, source_ready, source_added, given_bytes, is_next}
 use Rattle.kimage_list.proofs.Standings.{starts_few}
 use Rattle.kimage_list.proofs.writer.ListWriter.add_source.Goals as goal

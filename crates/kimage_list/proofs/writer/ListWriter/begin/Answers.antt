@@ -1,10 +1,11 @@
 use Rattle.std.proofs.Common.{ℕ, ◌∙◌, ap, arith, subst, take}
 use Rattle.std.specs.Prelude.{◌⊎◌, ◌↔◌}
-use Rattle.page_memory.specs.Contents.{at, IsHeld}
+use Rattle.page_memory.specs.Contents.{at}
+use Rattle.page_memory.specs.inner.Contents.{IsHeld}
 use Rattle.page_pool.specs.Pages.{usable_of}
 use Rattle.kx_pages.specs.Lists.{Has}
-use Rattle.kimage_list.specs.Held.{HoldSame}
-use Rattle.kimage_list.specs.Calls.{load_begun}
+use Rattle.kimage_list.specs.inner.Held.{HoldSame}
+use Rattle.kimage_list.specs.inner.Calls.{load_begun}
 use Rattle.kimage_list.proofs.Beginning.{prepared}
 use Rattle.kimage_list.proofs.Held.{held_for}
 use Rattle.kimage_list.proofs.writer.ListWriter.begin.Goals as goal

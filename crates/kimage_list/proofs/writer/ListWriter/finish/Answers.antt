@@ -1,7 +1,7 @@
 use Rattle.std.proofs.Common.{◌≡◌, ◌∙◌, sym, subst, ap, drop}
 use Rattle.kimage_list.specs.Tracking.{whole_pool}
-use Rattle.kimage_list.specs.Writers.{StandsAt, Writer, draft_of, need}
-use Rattle.kimage_list.specs.Calls.{writer_of}
+use Rattle.kimage_list.specs.inner.Writers.{StandsAt, Writer, draft_of, need}
+use Rattle.kimage_list.specs.inner.Calls.{writer_of}
 use Rattle.kimage_list.proofs.DrawnPools.{has_drawn}
 use Rattle.kimage_list.proofs.WrittenLists.{has_link, list_written, image_with}
 use Rattle.kimage_list.proofs.writer.ListWriter.finish.Goals as goal

@@ -1,5 +1,6 @@
 use Rattle.std.proofs.Common.{ap, ◌∙◌, subst, ◌<◌, ◌^◌}
-use Rattle.kx_fields.specs.Fields.{field, signed, unsigned}
+use Rattle.kx_fields.specs.Fields.{field, signed}
+use Rattle.kx_fields.specs.inner.Fields.{unsigned}
 use Rattle.kx_fields.proofs.Formats.{unsigned-signed}
 use Rattle.kx_fields.proofs.block.Block.put_i64.Goals as goal
 

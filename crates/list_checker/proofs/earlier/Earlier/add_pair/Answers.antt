@@ -2,7 +2,8 @@ use Rattle.std.proofs.Common.{◌≡◌, ℕ, ◌+◌, ◌++◌, [], ◌∷◌, 
 use Rattle.std.specs.Prelude.{map, ◌&&◌}
 use Rattle.kx_pages.specs.Lists.{destinations, sources, has}
 use Rattle.list_checker.specs.Faults.{with_pair, is_kept}
-use Rattle.list_checker.specs.Checked.{Shows, as_pair}
+use Rattle.list_checker.specs.Checked.{as_pair}
+use Rattle.list_checker.specs.inner.Checked.{Shows}
 use Rattle.list_checker.proofs.Sets.{inserted, inserted_among, map-push}
 use Rattle.list_checker.proofs.earlier.Earlier.add_pair.Goals as goal
 

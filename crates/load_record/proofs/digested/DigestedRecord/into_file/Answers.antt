@@ -3,8 +3,10 @@ use Rattle.std.specs.List.{flat_map}
 use Rattle.segments.specs.Values.{SegmentValue}
 use Rattle.segments.proofs.Laws.{AreSegments-from_IsBare}
 use Rattle.load_record.specs.declared.version.Version.TheVariants.{Second}
-use Rattle.load_record.specs.Head.{IsInRange, head_text}
-use Rattle.load_record.specs.File.{IsWritable, Record, record_file, record_text, record_reading, segment_text, head_of_record}
+use Rattle.load_record.specs.Head.{head_text}
+use Rattle.load_record.specs.inner.Head.{IsInRange}
+use Rattle.load_record.specs.File.{Record, record_file, record_text, record_reading, segment_text, head_of_record}
+use Rattle.load_record.specs.inner.File.{IsWritable}
 use Rattle.load_record.proofs.Laws.{reading_text}
 use Rattle.load_record.proofs.digested.DigestedRecord.into_file.Goals as goal
 

@@ -1,5 +1,5 @@
 use Rattle.std.proofs.Common.{sym, subst}
-use Rattle.kx_laws.specs.Results.{Gives}
+use Rattle.kx_laws.specs.inner.Results.{Gives}
 use Rattle.load_record.specs.declared.fault.RecFault.TheVariants.{Memory}
 use Rattle.load_record.specs.File.{Record}
 use Rattle.load_record.proofs.Heads.{good_head, head_found}

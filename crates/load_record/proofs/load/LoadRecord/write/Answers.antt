@@ -3,7 +3,7 @@ use Rattle.std.specs.List.{flat_map}
 use Rattle.load_record.specs.declared.version.Version.TheVariants.{Second}
 use Rattle.load_record.specs.Head.{head_text}
 use Rattle.load_record.specs.File.{record_text, record_reading, segment_text}
-use Rattle.load_record.specs.Head.{IsInRange}
+use Rattle.load_record.specs.inner.Head.{IsInRange}
 use Rattle.load_record.proofs.Laws.{reading_text}
 use Rattle.load_record.proofs.load.LoadRecord.write.Goals as goal
 

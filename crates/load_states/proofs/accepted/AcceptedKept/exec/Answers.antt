@@ -1,9 +1,11 @@
 use Rattle.std.proofs.Common.{ap, sym, ◌∙◌, subst}
-use Rattle.page_memory.specs.Contents.{Contents, at, IsHeld}
-use Rattle.load_states.specs.States.{Load, Checked, checked_of, swap_of}
+use Rattle.page_memory.specs.Contents.{Contents, at}
+use Rattle.page_memory.specs.inner.Contents.{IsHeld}
+use Rattle.load_states.specs.States.{Load, Checked, swap_of}
+use Rattle.load_states.specs.inner.States.{checked_of}
 use Rattle.load_states.specs.Exchange.{exchange}
 use Rattle.segments.specs.Values.{want}
-use Rattle.load_states.specs.Runs.{RunsTo}
+use Rattle.load_states.specs.inner.Runs.{RunsTo}
 use Rattle.load_states.proofs.Ready.{kept_ends, kept_arrives, goes_back, runs_to}
 use Rattle.load_states.proofs.accepted.AcceptedKept.exec.Goals as goal
 

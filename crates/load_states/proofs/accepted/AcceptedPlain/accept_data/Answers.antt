@@ -1,6 +1,7 @@
 use Rattle.std.proofs.Common.{subst}
-use Rattle.load_states.specs.States.{Checked, checked_of}
-use Rattle.load_states.specs.Ready.{HoldsPairs}
+use Rattle.load_states.specs.States.{Checked}
+use Rattle.load_states.specs.inner.States.{checked_of}
+use Rattle.load_states.specs.inner.Ready.{HoldsPairs}
 use Rattle.load_states.specs.Runs.{EndsAfter}
 use Rattle.load_states.proofs.Ready.{plain_done, plain_held}
 use Rattle.load_states.proofs.accepted.AcceptedPlain.accept_data.Goals as goal

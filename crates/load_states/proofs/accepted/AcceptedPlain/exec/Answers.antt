@@ -1,8 +1,9 @@
 use Rattle.std.proofs.Common.{ap, ◌∙◌, subst}
 use Rattle.page_memory.specs.Contents.{Contents, at}
 use Rattle.segments.specs.Values.{overlay, want}
-use Rattle.load_states.specs.States.{Checked, Ran, checked_of}
-use Rattle.load_states.specs.Runs.{RunsTo}
+use Rattle.load_states.specs.States.{Checked}
+use Rattle.load_states.specs.inner.States.{Ran, checked_of}
+use Rattle.load_states.specs.inner.Runs.{RunsTo}
 use Rattle.load_states.proofs.Ready.{plain_ends, runs_to}
 use Rattle.load_states.proofs.accepted.AcceptedPlain.exec.Goals as goal
 

@@ -1,7 +1,8 @@
 use Rattle.std.proofs.Common.{ap, ◌∙◌, subst}
 use Rattle.page_memory.specs.Contents.{Contents, at}
-use Rattle.load_states.specs.States.{CrashLoad, Ran}
-use Rattle.load_states.specs.Runs.{CrashRunsTo}
+use Rattle.load_states.specs.States.{CrashLoad}
+use Rattle.load_states.specs.inner.States.{Ran}
+use Rattle.load_states.specs.inner.Runs.{CrashRunsTo}
 use Rattle.load_states.proofs.Ready.{crash_ends, crash_runs}
 use Rattle.load_states.proofs.crash.AcceptedCrash.exec.Goals as goal
 

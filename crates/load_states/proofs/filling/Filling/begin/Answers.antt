@@ -1,9 +1,10 @@
 use Rattle.std.proofs.Common.{ℕ, length, subst, arith, take, ◌++◌}
 use Rattle.std.specs.Prelude.{◌⊎◌, ◌↔◌}
 use Rattle.kx_pages.specs.Lists.{Has}
-use Rattle.page_memory.specs.Contents.{at, IsHeld}
+use Rattle.page_memory.specs.Contents.{at}
+use Rattle.page_memory.specs.inner.Contents.{IsHeld}
 use Rattle.page_pool.specs.Pages.{usable_of}
-use Rattle.kimage_list.specs.Calls.{Refuses}
+use Rattle.kimage_list.specs.inner.Calls.{Refuses}
 use Rattle.segments.proofs.Laws.{AreSegments-from_IsBare}
 use Rattle.load_states.proofs.FillSteps.{filling_begun, span_pages, need_same}
 use Rattle.kx_pages.proofs.Counting.{count-append, count-from_Distinct}

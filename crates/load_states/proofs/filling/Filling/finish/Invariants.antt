@@ -1,9 +1,9 @@
 use Rattle.std.proofs.Common.{◌≡◌, ℕ, List}
 use Rattle.kx_pages.specs.declared.image.Wish.{Wish}
 use Rattle.kx_pages.specs.Bytes.{Mem}
-use Rattle.kimage_list.specs.Held.{HoldSame}
+use Rattle.kimage_list.specs.inner.Held.{HoldSame}
 use Rattle.kimage_list.specs.Tracking.{whole_pool}
-use Rattle.load_states.specs.Fillings.{FillsFrom, left}
+use Rattle.load_states.specs.inner.Fillings.{FillsFrom, left}
 use Rattle.load_states.proofs.filling.Filling.finish.Given as goal
 
 abbrev pub invariant-loop-self : goal.invariant-loop-self

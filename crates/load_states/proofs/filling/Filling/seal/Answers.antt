@@ -1,5 +1,6 @@
 use Rattle.std.proofs.Common.{sym, subst}
-use Rattle.load_states.specs.Fillings.{Fill, FillsFrom, IsSealed}
+use Rattle.load_states.specs.Fillings.{IsSealed}
+use Rattle.load_states.specs.inner.Fillings.{Fill, FillsFrom}
 use Rattle.load_states.proofs.Sealing.{none_to_start, none_awaited, sealed}
 use Rattle.load_states.proofs.filling.Filling.seal.Goals as goal
 

@@ -1,8 +1,9 @@
 use Rattle.std.proofs.Common.{ap, ◌∙◌, subst}
 use Rattle.page_memory.specs.Contents.{Contents, at}
-use Rattle.load_states.specs.States.{Load, Checked, Returned, checked_of, swap_of}
+use Rattle.load_states.specs.States.{Load, Checked, swap_of}
+use Rattle.load_states.specs.inner.States.{Returned, checked_of}
 use Rattle.load_states.specs.Exchange.{exchange}
-use Rattle.load_states.specs.Runs.{RestoresOthers, RunsTo}
+use Rattle.load_states.specs.inner.Runs.{RestoresOthers, RunsTo}
 use Rattle.load_states.proofs.Outside.{restores_others}
 use Rattle.load_states.proofs.Ready.{Undoes, kept_ends, runs_to, undoes}
 use Rattle.load_states.proofs.ran.RanKept.back.Goals as goal

@@ -2,7 +2,8 @@ use Rattle.std.proofs.Common.{sym, subst}
 use Rattle.std.specs.Prelude.{IsSome}
 use Rattle.kx_pages.specs.Bytes.{page_of}
 use Rattle.segments.specs.Values.{want}
-use Rattle.load_states.specs.States.{Checked, checked_of}
+use Rattle.load_states.specs.States.{Checked}
+use Rattle.load_states.specs.inner.States.{checked_of}
 use Rattle.load_states.proofs.Ready.{wanted_held, touched}
 use Rattle.load_states.proofs.ran.RanKept.touch.Goals as goal
 

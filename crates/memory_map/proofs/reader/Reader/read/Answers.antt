@@ -2,7 +2,7 @@ use Rattle.std.proofs.Common.{◌≡◌, Err, sym, ◌∙◌, subst, arith}
 use Rattle.std.specs.Prelude.{◌⊎◌}
 use Rattle.text_lines.specs.Lines.{lines}
 use Rattle.memory_map.specs.declared.fault.MapFault.TheVariants as faults
-use Rattle.memory_map.specs.Reader.{map_value_of}
+use Rattle.memory_map.specs.inner.Reader.{map_value_of}
 use Rattle.memory_map.proofs.Adding.{onto_ok, onto_fails, onto_end}
 use Rattle.memory_map.proofs.reader.Reader.read.Goals as goal
 

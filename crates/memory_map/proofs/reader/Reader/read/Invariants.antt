@@ -2,7 +2,7 @@ use Rattle.std.proofs.Common.{◌≡◌, ◌≤◌, ◌+◌, length}
 use Rattle.text_lines.specs.Lines.{lines}
 use Rattle.memory_map.specs.Maps.{nothing}
 use Rattle.memory_map.specs.Text.{lines_onto}
-use Rattle.memory_map.specs.Reader.{IsReader, map_value_of}
+use Rattle.memory_map.specs.inner.Reader.{IsReader, map_value_of}
 use Rattle.memory_map.proofs.reader.Reader.read.Given as goal
 
 abbrev pub invariant-loop-here : goal.invariant-loop-here

@@ -1,7 +1,7 @@
 use Rattle.std.proofs.Common.{ap}
 use Rattle.page_memory.specs.Contents.{Contents, swap_pages}
 use Rattle.page_memory.proofs.Laws.{held-insert}
-use Rattle.page_memory.specs.Frames.{pages_in}
+use Rattle.page_memory.specs.inner.Frames.{pages_in}
 use Rattle.page_memory.proofs.Changes.{exchange_is_swap, some_in}
 use Rattle.page_memory.proofs.memory.Memory.exchange_frames.Goals as goal
 

@@ -1,4 +1,4 @@
-use Rattle.page_memory.specs.Frames.{pages_in}
+use Rattle.page_memory.specs.inner.Frames.{pages_in}
 use Rattle.page_memory.proofs.Spelled.{read_spelled}
 use Rattle.page_memory.proofs.memory.Memory.from_file.Goals as goal
 

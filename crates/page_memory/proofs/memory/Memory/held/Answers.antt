@@ -1,5 +1,5 @@
 use Rattle.std.proofs.Common.{ap}
-use Rattle.page_memory.specs.Frames.{frame_in}
+use Rattle.page_memory.specs.inner.Frames.{frame_in}
 use Rattle.page_memory.proofs.Tables.{get-shown, IsSome-option_map}
 use Rattle.page_memory.proofs.memory.Memory.held.Goals as goal
 

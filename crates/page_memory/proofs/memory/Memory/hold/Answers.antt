@@ -1,9 +1,10 @@
 use Rattle.std.proofs.Common.{ap, sym, ◌∙◌, subst, ◌≡◌, ◌⊎◌}
 use Rattle.std.specs.Prelude.{IsSome, is_some}
 use Rattle.std.specs.FinMap as finite
-use Rattle.page_memory.specs.Contents.{IsHeld, frame_at, zero_page}
+use Rattle.page_memory.specs.Contents.{frame_at, zero_page}
+use Rattle.page_memory.specs.inner.Contents.{IsHeld}
 use Rattle.page_memory.proofs.Laws.{held-insert, held-insert_same, held-insert_only, frame_at-insert_zeros}
-use Rattle.page_memory.specs.Frames.{frame_in}
+use Rattle.page_memory.specs.inner.Frames.{frame_in}
 use Rattle.page_memory.proofs.Bytes.{IsBlock-zero_page}
 use Rattle.page_memory.proofs.Tables.{none_held, some_held}
 use Rattle.page_memory.proofs.memory.Memory.hold.Goals as goal

@@ -3,7 +3,8 @@ use Rattle.std.specs.Prelude.{slice_index_or}
 use Rattle.std.proofs.Math.Logic.{⊎_elim}
 use Rattle.std.proofs.lemmas.Bool.{cases_lt}
 use Rattle.kx_pages.specs.Lists.{Has}
-use Rattle.page_memory.specs.Contents.{Contents, at, IsHeld}
+use Rattle.page_memory.specs.Contents.{Contents, at}
+use Rattle.page_memory.specs.inner.Contents.{IsHeld}
 use Rattle.page_memory.proofs.memory.Memory.hold_all.Invariants.{Held}
 use Rattle.page_memory.proofs.memory.Memory.hold_all.Goals as goal
 

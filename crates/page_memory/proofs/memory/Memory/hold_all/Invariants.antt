@@ -1,7 +1,8 @@
 use Rattle.std.proofs.Common.{◌≡◌, ℕ, ◌<◌, ◌⊎◌, List}
 use Rattle.std.specs.Prelude.{slice_index_or}
 use Rattle.kx_pages.specs.Lists.{Has}
-use Rattle.page_memory.specs.Contents.{Contents, at, IsHeld}
+use Rattle.page_memory.specs.Contents.{Contents, at}
+use Rattle.page_memory.specs.inner.Contents.{IsHeld}
 use Rattle.page_memory.proofs.memory.Memory.hold_all.Given as goal
 
 -- the pages before this one are held, and no page beside them that was not

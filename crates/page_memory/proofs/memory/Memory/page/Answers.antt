@@ -2,7 +2,7 @@ use Rattle.std.proofs.Common.{ap, sym, ◌∙◌, refl}
 use Rattle.std.specs.Prelude.{is_some}
 use Rattle.std.proofs.lemmas.Bool.{both_ways}
 use Rattle.std.specs.Option.{option_map}
-use Rattle.page_memory.specs.Frames.{frame_in}
+use Rattle.page_memory.specs.inner.Frames.{frame_in}
 use Rattle.page_memory.proofs.Tables.{get-shown}
 use Rattle.page_memory.proofs.Frames.{inside_found, IsBlock-frame_in}
 use Rattle.page_memory.proofs.memory.Memory.page.Goals as goal

@@ -1,5 +1,5 @@
 use Rattle.std.proofs.Common.{arith}
-use Rattle.page_memory.specs.Frames.{pages_in}
+use Rattle.page_memory.specs.inner.Frames.{pages_in}
 use Rattle.page_memory.proofs.Spelled.{read_spelled}
 use Rattle.page_memory.proofs.memory.Memory.read.Goals as goal
 

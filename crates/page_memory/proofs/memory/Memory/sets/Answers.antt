@@ -1,5 +1,5 @@
 use Rattle.std.proofs.Common.{ap}
-use Rattle.page_memory.specs.Frames.{frame_in}
+use Rattle.page_memory.specs.inner.Frames.{frame_in}
 use Rattle.page_memory.proofs.Tables.{each-shown}
 use Rattle.page_memory.proofs.Changes.{AreFrames-IsTable}
 use Rattle.page_memory.proofs.memory.Memory.sets.Goals as goal

@@ -1,7 +1,7 @@
 use Rattle.std.proofs.Common.{◌≡◌, sym, ap, ◌∙◌}
 use Rattle.std.specs.Prelude.{filter}
 use Rattle.page_memory.specs.File.{is_stored, stored_pages}
-use Rattle.page_memory.specs.Frames.{stored_in, frame_in}
+use Rattle.page_memory.specs.inner.Frames.{stored_in, frame_in}
 use Rattle.page_memory.proofs.Stored.{entries-pages_by}
 use Rattle.page_memory.proofs.memory.Memory.write.Goals as goal
 

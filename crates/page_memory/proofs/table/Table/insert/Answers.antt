@@ -1,6 +1,6 @@
 use Rattle.std.proofs.Common.{subst, sym}
-use Rattle.page_memory.specs.Frames.{Differs}
-use Rattle.page_memory.specs.Shortcuts.{AreInPlace, SayWhat}
+use Rattle.page_memory.specs.inner.Frames.{Differs}
+use Rattle.page_memory.specs.inner.Shortcuts.{AreInPlace, SayWhat}
 use Rattle.page_memory.proofs.Shortcuts.{noted_in_place, noted_says}
 use Rattle.page_memory.proofs.table.Table.insert.Goals as goal
 

@@ -1,5 +1,5 @@
 use Rattle.std.proofs.Common.{sym, subst, ◌∙◌}
-use Rattle.purgatory_link.specs.Taken.{AreTaken}
+use Rattle.purgatory_link.specs.inner.Taken.{AreTaken}
 use Rattle.purgatory_link.proofs.Taking.{meets_fields}
 use Rattle.purgatory_link.proofs.taken.Taken.meets.Goals as goal
 

@@ -1,5 +1,5 @@
 use Rattle.std.proofs.Common.{false, sym, ap, ◌∙◌, ◌≡◌, subst, arith}
-use Rattle.range_index.specs.Ranges.{meets_any, AreApart, AreWith}
+use Rattle.range_index.specs.inner.Ranges.{meets_any, AreApart, AreWith}
 use Rattle.range_index.proofs.Adding.{put_apart, put_with}
 use Rattle.range_index.proofs.index.RangeIndex.add.Goals as goal
 

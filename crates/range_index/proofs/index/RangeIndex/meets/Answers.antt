@@ -1,5 +1,5 @@
 use Rattle.std.proofs.Common.{◌<◌, sym, ap, ◌∙◌, arith}
-use Rattle.range_index.specs.Ranges.{meets_any}
+use Rattle.range_index.specs.inner.Ranges.{meets_any}
 use Rattle.range_index.proofs.Finding.{tells_last, tells_none, empty_meets}
 use Rattle.range_index.proofs.index.RangeIndex.meets.Goals as goal
 

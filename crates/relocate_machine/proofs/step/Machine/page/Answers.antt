@@ -3,7 +3,7 @@ use Rattle.page_memory.specs.Contents.{at}
 use Rattle.page_memory.proofs.Laws.{frame_at-found}
 use Rattle.std.specs.Option.{option_map}
 use Rattle.relocate_machine.specs.Machine.{Registers}
-use Rattle.relocate_machine.specs.Reading.{IsPageAt}
+use Rattle.relocate_machine.specs.inner.Reading.{IsPageAt}
 use Rattle.relocate_machine.proofs.ReadSteps.{if_some-more, is_none}
 use Rattle.relocate_machine.proofs.step.Machine.page.Goals as goal
 

@@ -1,6 +1,6 @@
 use Rattle.std.proofs.Common.{ap, sym, ◌∙◌, subst}
 use Rattle.relocate_machine.specs.Machine.{Registers, State, next_word}
-use Rattle.relocate_machine.specs.Reading.{GoesOn, IsPageAt, standing}
+use Rattle.relocate_machine.specs.inner.Reading.{GoesOn, IsPageAt, standing}
 use Rattle.relocate_machine.proofs.ReadSteps.{at_some, goes_none, stopped_at}
 use Rattle.relocate_machine.proofs.step.Machine.read_words.Goals as goal
 use Rattle.relocate_machine.proofs.step.Machine.read_words.Goals.{in-Some-word, in-None}

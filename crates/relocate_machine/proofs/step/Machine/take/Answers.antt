@@ -1,5 +1,5 @@
 use Rattle.std.proofs.Common.{◌∙◌, subst, sym}
-use Rattle.relocate_machine.specs.Writes.{AreHeld}
+use Rattle.relocate_machine.specs.inner.Writes.{AreHeld}
 use Rattle.relocate_machine.proofs.Held.{writes_of-source}
 use Rattle.relocate_machine.proofs.Pages.{source_others}
 use Rattle.relocate_machine.proofs.step.Machine.take.Goals as goal

@@ -1,6 +1,6 @@
 use Rattle.std.proofs.Common.{subst, sym}
 use Rattle.relocate_machine.specs.declared.word.WordKind.TheVariants.{Source}
-use Rattle.relocate_machine.specs.Writes.{AreHeld, word_writes}
+use Rattle.relocate_machine.specs.inner.Writes.{AreHeld, word_writes}
 use Rattle.relocate_machine.proofs.Held.{word_writes-move}
 use Rattle.relocate_machine.proofs.step.Machine.take_source.Goals as goal
 

@@ -1,7 +1,8 @@
 use Rattle.std.proofs.Common.{◌≡◌, false, sym, ap, ◌∙◌, subst, Some}
 use Rattle.std.specs.Option.{option_map}
-use Rattle.segments.specs.Values.{span_of}
-use Rattle.segments.specs.Rules.{IsBare, is_bad_address}
+use Rattle.segments.specs.inner.Values.{span_of}
+use Rattle.segments.specs.Rules.{is_bad_address}
+use Rattle.segments.specs.inner.Rules.{IsBare}
 use Rattle.segments.proofs.Laws.{addresses-from_IsBare}
 use Rattle.segments.proofs.Steps.{got}
 use Rattle.segments.proofs.list.Segments.span.Goals as goal

@@ -1,7 +1,8 @@
 use Rattle.std.proofs.Common.{◌≡◌, ℕ, Option, List, Some, None, sym, ap, ◌∙◌, arith, length, ◌≤◌}
 use Rattle.std.specs.Option.{option_map}
 use Rattle.kx_pages.specs.Bytes.{page_of}
-use Rattle.segments.specs.Values.{SegmentValue, want, wanted}
+use Rattle.segments.specs.Values.{SegmentValue, want}
+use Rattle.segments.specs.inner.Values.{wanted}
 use Rattle.segments.proofs.Laws.{want-wanted}
 use Rattle.segments.proofs.Steps.{want_here, drop_all}
 use Rattle.segments.proofs.list.Segments.wanted.Goals as goal

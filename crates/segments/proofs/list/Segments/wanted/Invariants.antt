@@ -1,5 +1,5 @@
 use Rattle.std.proofs.Common.{◌≡◌, drop}
-use Rattle.segments.specs.Values.{wanted}
+use Rattle.segments.specs.inner.Values.{wanted}
 use Rattle.segments.proofs.list.Segments.wanted.Given as goal
 
 abbrev pub invariant-loop-s : goal.invariant-loop-s

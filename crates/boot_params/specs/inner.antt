@@ -1,0 +1,2 @@
+-- What contracts inside the crates speak of, and no promise of the program reaches: nothing to be believed.
+pub mod Params

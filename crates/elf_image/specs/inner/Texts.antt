@@ -1,0 +1,13 @@
+-- The printed text of a part of a file (this project's own).
+-- Inside the crates only: no promise of the program reaches what stands here.
+use Rattle.std.specs.Prelude.{ℕ, ◌++◌, List, codes}
+use Rattle.std.specs.Fmt.{decimal}
+use Rattle.elf_image.specs.declared.fault.ElfPart.{ElfPart}
+use Rattle.elf_image.specs.declared.fault.ElfPart.TheVariants as parts
+
+abbrev pub part_text : ElfPart → List ℕ
+part_text parts.Header = codes "its header"
+part_text parts.ProgramTable = codes "its program headers"
+part_text parts.SectionTable = codes "its section headers"
+part_text (parts.Load i) = codes "PT_LOAD " ++ decimal i
+part_text (parts.Section i) = codes "section " ++ decimal i

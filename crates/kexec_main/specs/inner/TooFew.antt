@@ -1,0 +1,48 @@
+-- Loads for which the pool has too few pages (this project's own).
+-- Inside the crates only: no promise of the program reaches what stands here.
+use Rattle.std.specs.Prelude.{◌≡◌, ℕ, ◌<◌, length, Ok, ◌↔◌}
+use Rattle.kx_pages.specs.declared.image.Wish.{Wish}
+use Rattle.segments.specs.Values.{need}
+use Rattle.kexec_plan.specs.Requests.{Plan}
+use Rattle.kexec_plan.specs.Plan.{plan}
+use Rattle.kexec_main.specs.Inputs.{LoadInputs}
+use Rattle.kx_edge.specs.Edge.{Files}
+use Rattle.file_commands.specs.Taking.{by, reads}
+use Rattle.kexec_words.specs.Values.{BootValue, CommandValue, LoadValue}
+use Rattle.kexec_main.specs.declared.status.Reason.TheVariants.{NoPages}
+use Rattle.kexec_main.specs.Boot.{BootInputs, boot_files}
+use Rattle.kexec_main.specs.Call.{HasRefusal}
+use Rattle.kexec_main.specs.Load.{LoadCommand, load_command_files}
+use Rattle.kexec_main.specs.Runs.{wish_of}
+use Rattle.kexec_words.specs.Values as words
+
+-- The request has a plan, whose load takes more pages than the pool has usable: so many, and so many.
+abbrev pub LacksPages : Wish → LoadInputs → (pool need : ℕ) → Type 0
+LacksPages wish i pool n =
+    (p : Plan) × (plan i.request i.map ≡ Ok p) × (pool ≡ length i.usable)
+    × (n ≡ need wish p.segments) × (pool < n)
+
+-- a command is refused for pages, with both numbers
+abbrev pub IsRefusedForPages : CommandValue → Files → (pool need : ℕ) → Type 0
+IsRefusedForPages c held pool n = HasRefusal c held (by (NoPages pool n))
+
+-- the files are read, and the load of what they are takes more pages than the pool has usable: so many, and so many
+abbrev pub BootLacksPages : BootValue → Files → (pool need : ℕ) → Type 0
+BootLacksPages b held pool n =
+    (x : BootInputs) × (reads (boot_files b) held ≡ Ok x)
+    × LacksPages (wish_of x.runs) x.load pool n
+
+abbrev pub LoadLacksPages : LoadValue → Files → (pool need : ℕ) → Type 0
+LoadLacksPages l held pool n =
+    (x : LoadCommand) × (reads (load_command_files l) held ≡ Ok x) × LacksPages x.wish x.load pool n
+
+-- `boot` and `load` are refused for pages exactly where the pool has too few
+abbrev pub BootRefusesForPages : Type 0
+BootRefusesForPages =
+    (b : BootValue) (held : Files) (pool need : ℕ)
+    → IsRefusedForPages (words.boot b) held pool need ↔ BootLacksPages b held pool need
+
+abbrev pub LoadRefusesForPages : Type 0
+LoadRefusesForPages =
+    (l : LoadValue) (held : Files) (pool need : ℕ)
+    → IsRefusedForPages (words.load l) held pool need ↔ LoadLacksPages l held pool need

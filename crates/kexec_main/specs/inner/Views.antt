@@ -1,0 +1,144 @@
+-- What the commands took, as values of the program, seen as the definitions speak of them (this project's own). Contracts
+-- of the program's own calls use these views; no clause of `kexec` does.
+-- Inside the crates only: no promise of the program reaches what stands here.
+use Rattle.std.specs.Prelude.{ℕ, List, map, option_map, ◌≡◌, string_bytes}
+use Rattle.page_pool.specs.Pages.{usable_of}
+use Rattle.file_commands.specs.inner.Calls.{file_of}
+use Rattle.kexec_plan.specs.Requests.{Plan}
+use Rattle.kexec_plan.specs.inner.Requests.{request_of}
+use Rattle.kexec_main.specs.declared.inputs.KernelFiles.{KernelFiles as TakenFiles}
+use Rattle.kexec_main.specs.declared.load_inputs.LoadInputs.{LoadInputs as TakenLoadInputs}
+use Rattle.kexec_main.specs.Inputs.{KernelFiles, LoadInputs}
+use Rattle.kexec_main.specs.declared.load_inputs.CrashInputs.{CrashInputs as TakenCrashInputs}
+use Rattle.kexec_main.specs.CrashInputs.{CrashInputs}
+use Rattle.kexec_main.specs.declared.loading.LoadedKernel.{LoadedKernel}
+use Rattle.kexec_main.specs.declared.crash_loading.CrashKernel.{CrashKernel}
+use Rattle.kexec_main.specs.declared.boot.BootInputs.{BootInputs as TakenBootInputs}
+use Rattle.kexec_main.specs.Boot.{BootInputs}
+use Rattle.list_checker.specs.Checked.{as_pair}
+use Rattle.resident_planner.specs.declared.plan.Made.{Made as ResidentList}
+use Rattle.kexec_main.specs.declared.boot_resident.ResidentInputs.{ResidentInputs as TakenResidentInputs}
+use Rattle.kexec_main.specs.declared.boot_resident.ResidentKernel.{ResidentKernel}
+use Rattle.kexec_main.specs.BootResident.{IsResident, ResidentInputs, load_with}
+use Rattle.kexec_main.specs.declared.load.LoadCommand.{LoadCommand as TakenLoadCommand}
+use Rattle.kexec_main.specs.Load.{LoadCommand}
+use Rattle.kexec_main.specs.declared.load_panic.LoadPanicCommand.{LoadPanicCommand as TakenLoadPanicCommand}
+use Rattle.kexec_main.specs.LoadPanic.{LoadPanicCommand}
+use Rattle.kexec_main.specs.declared.dump.DumpInputs.{DumpInputs}
+use Rattle.kexec_main.specs.declared.files.TakenLoad.{TakenLoad}
+use Rattle.kexec_main.specs.Files.{load_by}
+use Rattle.kexec_main.specs.declared.exec.ExecInputs.{ExecInputs as TakenExecInputs}
+use Rattle.kexec_main.specs.Exec.{ExecInputs}
+use Rattle.kexec_main.specs.declared.trace.TraceInputs.{TraceInputs as TakenTraceInputs}
+use Rattle.kexec_main.specs.Trace.{TraceInputs}
+use Rattle.kexec_main.specs.declared.migrate_inputs.MigrateInputs.{MigrateInputs as TakenMigrateInputs}
+use Rattle.kexec_main.specs.Migrate.{MigrateInputs}
+use Rattle.image_slots.specs.inner.Events.{event_of}
+use Rattle.kexec_main.specs.declared.drill_inputs.DrillInputs.{DrillInputs as TakenDrillInputs}
+use Rattle.kexec_main.specs.Drill.{DrillInputs}
+use Rattle.kexec_main.specs.declared.core_inputs.CoreInputs.{CoreInputs as TakenCoreInputs}
+use Rattle.kexec_main.specs.CoreFile.{CoreInputs}
+
+-- the files of a kernel
+abbrev pub kernel_bytes : TakenFiles → KernelFiles
+kernel_bytes f = record {
+  kernel = f.kernel.items;
+  initrd = option_map (λ b. b.items) f.initrd;
+  purgatory = option_map (λ b. b.items) f.purgatory;
+  modules = map file_of f.modules.items;
+}
+
+-- what `boot` and `load` took
+abbrev pub inputs_of : TakenLoadInputs → LoadInputs
+inputs_of t =
+    record {
+      memory = t.memory;
+      usable = usable_of t.pool;
+      map = t.map;
+      request = request_of t.request;
+    }
+
+-- what `load-panic` took
+abbrev pub crash_inputs_of : TakenCrashInputs → CrashInputs
+crash_inputs_of t = record { memory = t.memory; map = t.map; request = request_of t.request }
+
+-- the plan of a load
+abbrev pub plan_of : LoadedKernel → Plan
+plan_of k =
+    record { segments = k.loaded.segments; start = k.start; regions = k.regions; digest = k.digest }
+
+-- the plan of a crash load
+abbrev pub crash_plan_of : CrashKernel → Plan
+crash_plan_of k = record {
+  segments = k.loaded.segments;
+  start = k.start;
+  regions = k.regions;
+  digest = k.digest;
+}
+
+abbrev pub boot_inputs : TakenBootInputs → BootInputs
+boot_inputs b = record { load = inputs_of b.load; runs = b.runs; out = string_bytes b.out }
+
+abbrev pub resident_inputs : TakenResidentInputs → ResidentInputs
+resident_inputs b = record {
+  load = inputs_of b.load;
+  pairs = map as_pair b.pairs.items;
+  out = string_bytes b.out;
+}
+
+-- what was made: the plan has this start, and the list is that of this load
+pub record IsKernel (i : LoadInputs) (rs : List (ℕ × ℕ)) (k : ResidentKernel) : Type 0 where
+  pub p : Plan
+  pub m : ResidentList
+  pub resident : IsResident i rs p m
+  pub start : k.start ≡ p.start
+  pub load : k.loaded ≡ load_with p m
+  pub copied : k.copied ≡ m.copied
+
+abbrev pub load_command : TakenLoadCommand → LoadCommand
+load_command l =
+    record {
+      load = inputs_of l.load;
+      wish = l.wish;
+      out = string_bytes l.out;
+      load_record = string_bytes l.load_record;
+    }
+
+abbrev pub load_panic_command : TakenLoadPanicCommand → LoadPanicCommand
+load_panic_command l = record {
+  load = crash_inputs_of l.load;
+  out = string_bytes l.out;
+  load_record = string_bytes l.load_record;
+}
+
+-- the load that `dump` took
+abbrev pub dump_inputs : DumpInputs → TakenLoad
+dump_inputs d = load_by d.memory d.load_record
+
+abbrev pub exec_inputs : TakenExecInputs → ExecInputs
+exec_inputs e = record { load = e.load; twice = e.twice; out = string_bytes e.out }
+
+abbrev pub trace_inputs : TakenTraceInputs → TraceInputs
+trace_inputs t =
+    record {
+      memory = t.memory;
+      head = t.head;
+      mode = t.mode;
+      limit = t.limit;
+      out = string_bytes t.out;
+    }
+
+abbrev pub migrate_inputs : TakenMigrateInputs → MigrateInputs
+migrate_inputs t = record { load_record = t.load_record; out = string_bytes t.out }
+
+abbrev pub drill_inputs : TakenDrillInputs → DrillInputs
+drill_inputs t = record {
+  memory = t.memory;
+  pool = usable_of t.pool;
+  map = t.map;
+  events = map event_of t.events.items;
+  out = string_bytes t.out;
+}
+
+abbrev pub core_inputs : TakenCoreInputs → CoreInputs
+core_inputs t = record { memory = t.memory; address = t.address; out = string_bytes t.out }

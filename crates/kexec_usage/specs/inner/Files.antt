@@ -1,0 +1,46 @@
+-- Files among the words that are given (this project's own).
+-- Inside the crates only: no promise of the program reaches what stands here.
+use Rattle.std.specs.Prelude.{Bool, true, false, List, [], ◌∷◌, Option, Some, None, if◌then◌else◌}
+use Rattle.std.specs.Borrow.{Bor}
+use Rattle.std.specs.Str.{bytes_eq}
+use Rattle.kexec_words.specs.inner.Table.{is_file}
+use Rattle.kexec_words.specs.declared.table.Kind.{Kind}
+use Rattle.kexec_words.specs.declared.table.Kind.TheVariants as kind
+use Rattle.kexec_usage.specs.inner.Words.{Text, GivenValue, given_value}
+use Rattle.kexec_usage.specs.declared.given.Given.{Given}
+
+-- the name of the first file with this text
+abbrev pub file_with : List GivenValue → Text → Option Text
+file_with [] text = None
+file_with (g ∷ gs) text =
+    if is_file g.kind then (if bytes_eq g.text text then Some g.name else file_with gs text)
+    else file_with gs text
+
+-- the name of another file with the text of this one
+abbrev pub other_with : List GivenValue → GivenValue → Option Text
+other_with [] file = None
+other_with (g ∷ gs) file =
+    if bytes_eq g.name file.name then other_with gs file
+    else (if is_file g.kind then
+    (if bytes_eq g.text file.text then Some g.name else other_with gs file)
+    else other_with gs file)
+
+-- a file that is written
+abbrev pub is_written : Kind → Bool
+is_written kind.Output = true
+is_written other = false
+
+abbrev pub or_shared_file : GivenValue → Option Text → Option (GivenValue × Text)
+    → Option (GivenValue × Text)
+or_shared_file g None later = later
+or_shared_file g (Some name) later = Some (g, name)
+
+-- the first of these files that is written and has the text of another of all that are given, and that one's name
+abbrev pub shared_among : List GivenValue → List GivenValue → Option (GivenValue × Text)
+shared_among [] given = None
+shared_among (g ∷ gs) given =
+    if is_written g.kind then or_shared_file g (other_with given g) (shared_among gs given)
+    else shared_among gs given
+
+abbrev pub shared_value : Given × Bor Text → GivenValue × Text
+shared_value s = (given_value s.0, s.1.now)

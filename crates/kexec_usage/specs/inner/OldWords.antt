@@ -1,0 +1,28 @@
+-- The words of kexec(8) that have a counterpart here. Source: kexec(8) of kexec-tools, OPTIONS; the counterparts are this
+-- project's own.
+-- Inside the crates only: no promise of the program reaches what stands here.
+use Rattle.std.specs.Prelude.{List, [], ◌∷◌, Option, Some, None, codes, if◌then◌else◌, unwrap_or}
+use Rattle.std.specs.Str.{bytes_eq}
+use Rattle.kexec_usage.specs.inner.Words.{Text}
+
+-- the command that does what an option of kexec(8) does
+abbrev pub command_for : Text → Option Text
+command_for w = if bytes_eq w (codes "-l") then Some (codes "load")
+    else (if bytes_eq w (codes "--load") then Some (codes "load")
+    else (if bytes_eq w (codes "-e") then Some (codes "exec")
+    else (if bytes_eq w (codes "--exec") then Some (codes "exec")
+    else (if bytes_eq w (codes "-p") then Some (codes "load-panic")
+    else (if bytes_eq w (codes "--load-panic") then Some (codes "load-panic") else None)))))
+
+-- the option that does what an option of kexec(8) does
+abbrev pub option_for : Text → Option Text
+option_for w = if bytes_eq w (codes "-t") then Some (codes "--type")
+    else (if bytes_eq w (codes "--append") then Some (codes "--command")
+    else (if bytes_eq w (codes "--command-line") then Some (codes "--command")
+    else (if bytes_eq w (codes "--ramdisk") then Some (codes "--initrd")
+    else (if bytes_eq w (codes "--load-preserve-context") then Some (codes "--kept") else None))))
+
+-- the command whose usage line belongs to these words
+abbrev pub meant_of : List Text → Text
+meant_of [] = []
+meant_of (word ∷ words) = unwrap_or (command_for word) word

@@ -1,0 +1,8 @@
+-- What a write of all bytes does to a writer whose bytes are known.
+-- Inside the crates only: no promise of the program reaches what stands here.
+use Rattle.std.specs.Prelude.{ℕ, ◌≤◌, List, take, length, Option}
+use Rattle.std.specs.Io.KnownBytes.{Appends}
+
+-- known bytes grow by some prefix of these
+abbrev pub AppendsPrefix : Option (List ℕ) → Option (List ℕ) → List ℕ → Type 0
+AppendsPrefix old new bytes = (n : ℕ) × (n ≤ length bytes) × Appends old new (take n bytes)

@@ -1,0 +1,25 @@
+-- Relocations: the field of each, the number that it holds, and the first fault (x86-64 psABI, "Relocation"; ELF gABI,
+-- "Relocation").
+-- Inside the crates only: no promise of the program reaches what stands here.
+use Rattle.std.specs.Prelude.{◌≡◌, ℕ, ◌+◌, ◌<◌, ◌≤◌, ◌⊎◌, ◌^◌, List, Option, Some, None}
+use Rattle.kx_fields.specs.Fields.{with_field}
+use Rattle.elf_image.specs.Object.{Relocatable}
+use Rattle.purgatory_link.specs.declared.put.Put.{Put}
+use Rattle.purgatory_link.specs.Symbols.{start_at}
+use Rattle.purgatory_link.specs.Formulas.{wide, fits}
+use Rattle.purgatory_link.specs.Relocs.{size_at}
+
+-- each loaded section ends within n bytes
+pub record HasRoom (o : Relocatable) (starts : List (Option ℕ)) (n : ℕ) : Type 0 where
+  pub fits : (i s : ℕ) → start_at starts i ≡ Some s → s + size_at o i ≤ n
+
+-- the bytes with the number of a field, if there is one
+abbrev pub with_put : Option Put → List ℕ → List ℕ
+with_put None bytes = bytes
+with_put (Some p) bytes = with_field p.at p.wide p.value bytes
+
+-- a field of 4 or 8 bytes that lies within n bytes, and whose number fits it
+pub record IsPut (n : ℕ) (p : Put) : Type 0 where
+  pub inside : p.at + p.wide ≤ n
+  pub wide : (p.wide ≡ 4) ⊎ (p.wide ≡ 8)
+  pub fits : p.value < 256 ^ p.wide

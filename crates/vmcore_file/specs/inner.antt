@@ -1,0 +1,5 @@
+-- What contracts inside the crates speak of, and no promise of the program reaches: nothing to be believed.
+pub mod Sound
+pub mod Layout
+pub mod File
+pub mod Made
