@@ -17,5 +17,5 @@ is_some_map f (Some x) = refl
 pub request_mapped : (r : Asked) (image : ImageType) (i : InputsValue) (map : Option MapValue) → r.crash ≡ false → r.image ≡ image → is_some r.purgatory ≡ is_some i.purgatory → is_some map ≡ is_some i.map → HasParts i image → IsMapped r map
 request_mapped r image i map crash type same there parts h =
     there ∙ parts.1
-        (sym (ap (needs_map image) same) ∙ sym (ap (λ t. needs_map t (is_some r.purgatory)) type)
-        ∙ sym (ap (λ b. b || needs_map r.image (is_some r.purgatory)) crash) ∙ h)
+    (sym (ap (needs_map image) same) ∙ sym (ap (λ t. needs_map t (is_some r.purgatory)) type)
+    ∙ sym (ap (λ b. b || needs_map r.image (is_some r.purgatory)) crash) ∙ h)

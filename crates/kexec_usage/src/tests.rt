@@ -65,10 +65,7 @@ fn names_the_word_that_is_refused(rt: HostRuntime) -> Result<(), Fail> {
             "boot --at 1000 --at=2000 m p o k",
             "--at is given twice, and may be given once",
         ),
-        (
-            "boot m p o k --map",
-            "--map needs a value: --map FILE",
-        ),
+        ("boot m p o k --map", "--map needs a value: --map FILE"),
         (
             "boot --kept --map f m p o k",
             "--kept needs a value: --kept RUNS",

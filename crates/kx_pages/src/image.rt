@@ -1,9 +1,9 @@
 //! What a load asks for, what a run takes, and where the new kernel starts.
 
-use crate::page::Page;
-
 ghost use Rattle.std.specs.Prelude.{◌≡◌};
 ghost use Rattle.kx_pages.specs.Types.{needs_map};
+
+use crate::page::Page;
 
 /// The type of a kernel's file.
 #[derive(Clone, Copy, Debug, PartialEq, Eq)]

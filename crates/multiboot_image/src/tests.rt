@@ -243,7 +243,11 @@ const ADDRESSES: [([u32; 4], Loaded); 16] = [
 fn addresses_give_a_segment_or_are_refused(rt: HostRuntime) -> Result<(), Fail> {
     for (addresses, wanted) in ADDRESSES {
         let kernel = file(rt.alloc(), 64, &[(0, &KERNEL), (12, &addresses)])?;
-        assert_eq!(rt; loaded_length(rt.alloc(), &kernel), wanted, "with {addresses:?}");
+        assert_eq!(rt;
+            loaded_length(rt.alloc(), &kernel),
+            wanted,
+            "with {addresses:?}"
+        );
     }
     Ok(())
 }
