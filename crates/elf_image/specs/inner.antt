@@ -1,4 +1,4 @@
--- What contracts inside the crates speak of, and no promise of the program reaches: nothing to be believed.
+-- What laws, and contracts inside the crates, speak of. No clause of `kexec` reaches it: it need not be believed.
 pub mod Gathered
 pub mod Loads
 pub mod Index

@@ -1,7 +1,7 @@
 -- The parameter segment: the zero page, the command and a NUL, and behind them the rows of the memory map that the zero
 -- page has no room for (Linux/x86 boot protocol, "The Kernel Command Line" and "Zero Page"; that they stand together, the
 -- limit of rows and the order of faults are this project's own).
--- Inside the crates only: no promise of the program reaches what stands here.
+-- No clause of `kexec` reaches what stands here: it serves laws, and contracts inside the crates.
 use Rattle.std.specs.Prelude.{◌≡◌, ℕ, ◌+◌, ◌-◌, ◌*◌, ◌%◌, ◌<◌, ◌≤◌, true, ◌++◌, List, [], ◌∷◌, length, min, take, slice_index, slice_index_or, Option}
 use Rattle.kx_fields.specs.Fields.{bytes_at}
 use Rattle.kx_fields.specs.inner.Fields.{IsApart}

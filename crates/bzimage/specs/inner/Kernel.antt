@@ -1,7 +1,7 @@
 -- What a bzImage reads as, or its first fault (Linux/x86 boot protocol, "The Real-Mode Kernel Header" and "Loading The
 -- Rest of The Kernel"; the order of faults, and the limits of the header's end and of the alignment, are this project's
 -- own).
--- Inside the crates only: no promise of the program reaches what stands here.
+-- No clause of `kexec` reaches what stands here: it serves laws, and contracts inside the crates.
 use Rattle.std.specs.Prelude.{ℕ, ◌-◌, ◌^◌, ◌<◌, ◌≤◌, IsTrue, length}
 use Rattle.std.specs.Int.{IsPowerOfTwo}
 use Rattle.bzimage.specs.declared.setup_header.SetupHeader.{SetupHeader}

@@ -1,6 +1,6 @@
 -- The headers of an ELF64 core file (ELF gABI, chapters 4 and 5): the file header, a PT_NOTE for each note, a PT_LOAD
 -- for each range. The limit and the order of faults are this project's own.
--- Inside the crates only: no promise of the program reaches what stands here.
+-- No clause of `kexec` reaches what stands here: it serves laws, and contracts inside the crates.
 use Rattle.std.specs.Prelude.{◌≡◌, ℕ, ◌+◌, ◌*◌, ◌<◌, List, length, take, slice_index_or}
 use Rattle.kx_fields.specs.Fields.{bytes_at}
 use Rattle.kx_fields.specs.Formats.{read}

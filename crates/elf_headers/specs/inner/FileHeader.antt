@@ -1,6 +1,6 @@
 -- The file header of an ELF64 file (ELF gABI, chapter 4, "ELF Header": Elf64_Ehdr), behind its identification, and that
 -- of a core file.
--- Inside the crates only: no promise of the program reaches what stands here.
+-- No clause of `kexec` reaches what stands here: it serves laws, and contracts inside the crates.
 use Rattle.std.specs.Prelude.{◌≡◌}
 use Rattle.kx_fields.specs.Formats.{read}
 use Rattle.elf_headers.specs.declared.file_header.FileHeader.{FileHeader}

@@ -1,5 +1,5 @@
 -- The program headers of an ELF64 file (ELF gABI, chapter 5, "Program Header": Elf64_Phdr).
--- Inside the crates only: no promise of the program reaches what stands here.
+-- No clause of `kexec` reaches what stands here: it serves laws, and contracts inside the crates.
 use Rattle.std.specs.Prelude.{◌≡◌, List}
 use Rattle.std.specs.List.{AllByRecursion}
 use Rattle.kx_fields.specs.Formats.{read}

@@ -1,6 +1,6 @@
 -- The file header (ELF gABI, chapter 4, "ELF Header": Elf64_Ehdr and Elf32_Ehdr; the values of x86-64 and i386 from
 -- their psABIs), and its tests. All numbers are little endian.
--- Inside the crates only: no promise of the program reaches what stands here.
+-- No clause of `kexec` reaches what stands here: it serves laws, and contracts inside the crates.
 use Rattle.std.specs.Prelude.{ℕ, ◌+◌, ◌*◌, ◌≤◌}
 use Rattle.elf_image.specs.declared.file_header.Header.{Header}
 use Rattle.elf_image.specs.FileHeader.{entry_size}

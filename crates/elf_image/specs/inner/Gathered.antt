@@ -1,5 +1,5 @@
 -- What is read of each of some things, one after another, or the first refusal (this project's own).
--- Inside the crates only: no promise of the program reaches what stands here.
+-- No clause of `kexec` reaches what stands here: it serves laws, and contracts inside the crates.
 use Rattle.std.specs.Prelude.{◌++◌, List, Result, Ok}
 use Rattle.kx_laws.specs.Results.{◌>>=◌}
 use Rattle.kx_laws.specs.inner.Results.{Gives}

@@ -1,6 +1,6 @@
 -- The image of an executable: which bytes stand at which addresses (ELF gABI, chapter 5, Program Loading), and the
 -- segments that hold them, one for each run of pages (this project's own). A page has 4,096 bytes.
--- Inside the crates only: no promise of the program reaches what stands here.
+-- No clause of `kexec` reaches what stands here: it serves laws, and contracts inside the crates.
 use Rattle.std.specs.Prelude.{◌≡◌, ℕ, ◌/◌, Bool, List}
 use Rattle.kx_pages.specs.Spans.{Run, in_spans, AreApart}
 use Rattle.segments.specs.Values.{SegmentValue}

@@ -1,6 +1,6 @@
 -- The PT_LOADs of an executable: their faults, and what a file reads as (ELF gABI, "Program Header"; the limit of
 -- addresses and the order of faults are this project's own).
--- Inside the crates only: no promise of the program reaches what stands here.
+-- No clause of `kexec` reaches what stands here: it serves laws, and contracts inside the crates.
 use Rattle.std.specs.Prelude.{ℕ, Bool, List, Option, Some, None, Result, Ok}
 use Rattle.std.specs.List.{list_any}
 use Rattle.elf_image.specs.declared.load.Load.{Load}

@@ -1,6 +1,6 @@
 -- A relocatable object (ELF gABI, "Sections", "Symbol Table", "Relocation"; the order of the refusals is this project's
 -- own).
--- Inside the crates only: no promise of the program reaches what stands here.
+-- No clause of `kexec` reaches what stands here: it serves laws, and contracts inside the crates.
 use Rattle.std.specs.Prelude.{◌≡◌, ℕ, ◌<◌, ◌⊎◌, List, length}
 use Rattle.std.specs.List.{All}
 use Rattle.elf_image.specs.declared.reloc.RelocSection.{RelocSection}

@@ -1,5 +1,5 @@
 -- Relocations with addends (ELF gABI, "Relocation": Elf64_Rela).
--- Inside the crates only: no promise of the program reaches what stands here.
+-- No clause of `kexec` reaches what stands here: it serves laws, and contracts inside the crates.
 use Rattle.std.specs.Prelude.{ℕ, ◌+◌, ◌*◌, ◌≤◌, List, length}
 use Rattle.elf_image.specs.declared.reloc.RelocSection.{RelocSection}
 

@@ -1,5 +1,5 @@
 -- Sections and their headers (ELF gABI, "Section Header": Elf64_Shdr).
--- Inside the crates only: no promise of the program reaches what stands here.
+-- No clause of `kexec` reaches what stands here: it serves laws, and contracts inside the crates.
 use Rattle.std.specs.Prelude.{◌≡◌, ℕ, ◌+◌, ◌*◌, ◌≤◌, List, length}
 use Rattle.std.specs.List.{All}
 use Rattle.elf_image.specs.declared.section.Section.{Section}

@@ -1,5 +1,5 @@
 -- The printed text of a part of a file (this project's own).
--- Inside the crates only: no promise of the program reaches what stands here.
+-- No clause of `kexec` reaches what stands here: it serves laws, and contracts inside the crates.
 use Rattle.std.specs.Prelude.{ℕ, ◌++◌, List, codes}
 use Rattle.std.specs.Fmt.{decimal}
 use Rattle.elf_image.specs.declared.fault.ElfPart.{ElfPart}

@@ -1,5 +1,5 @@
 -- What the calls that take, make and deliver answer, read plainly: names are the bytes of the names. This project's own.
--- Inside the crates only: no promise of the program reaches what stands here.
+-- No clause of `kexec` reaches what stands here: it serves laws, and contracts inside the crates.
 use Rattle.std.specs.Prelude.{ℕ, List, ◌++◌, map, string_bytes, Result, Ok, Err}
 use Rattle.file_commands.specs.declared.take.FileParts.{FileParts}
 use Rattle.kx_edge.specs.declared.edge.Shelf.{Ghosts as Shelf}

@@ -1,6 +1,6 @@
 -- What a command takes of a shelf, file after file, and what is made of their bytes: one value, from which it follows what
 -- is read of files that are told, which takes were made, and which of them failed. This project's own.
--- Inside the crates only: no promise of the program reaches what stands here.
+-- No clause of `kexec` reaches what stands here: it serves laws, and contracts inside the crates.
 use Rattle.std.specs.Prelude.{ℕ, List, [], unwrap_or}
 use Rattle.std.specs.FinMap.{get}
 use Rattle.kx_edge.specs.Edge.{Files}

@@ -1,5 +1,5 @@
 -- Addresses that fit, and the best of them (this project's own). A page has 4,096 bytes.
--- Inside the crates only: no promise of the program reaches what stands here.
+-- No clause of `kexec` reaches what stands here: it serves laws, and contracts inside the crates.
 use Rattle.std.specs.Prelude.{◌≡◌, ℕ, ◌+◌, ◌-◌, ◌/◌, ◌%◌, ◌≤◌, Bool, false, IsTrue, Option, Some, None}
 use Rattle.hole_search.specs.declared.search.Wanted.{Wanted}
 use Rattle.hole_search.specs.declared.search.End.{End}

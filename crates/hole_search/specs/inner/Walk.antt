@@ -1,5 +1,5 @@
 -- What a walk along spans that rise keeps (this project's own).
--- Inside the crates only: no promise of the program reaches what stands here.
+-- No clause of `kexec` reaches what stands here: it serves laws, and contracts inside the crates.
 use Rattle.std.specs.Prelude.{◌≡◌, ℕ, ◌*◌, ◌/◌, ◌%◌, ◌<◌, ◌≤◌, ◌^◌, Bool, false, List, take, drop}
 use Rattle.kx_pages.specs.Spans.{Run, in_spans}
 use Rattle.hole_search.specs.declared.search.Wanted.{Wanted}

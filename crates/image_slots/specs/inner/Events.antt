@@ -1,5 +1,5 @@
 -- Events, as plain data (this project's own).
--- Inside the crates only: no promise of the program reaches what stands here.
+-- No clause of `kexec` reaches what stands here: it serves laws, and contracts inside the crates.
 use Rattle.std.specs.Prelude.{◌≤◌, length}
 use Rattle.image_slots.specs.declared.event.Event.{Event}
 use Rattle.image_slots.specs.declared.event.Event.TheVariants as events

@@ -1,5 +1,5 @@
 -- Events one after another (this project's own).
--- Inside the crates only: no promise of the program reaches what stands here.
+-- No clause of `kexec` reaches what stands here: it serves laws, and contracts inside the crates.
 use Rattle.std.specs.Prelude.{Bool, true, false}
 use Rattle.image_slots.specs.declared.reply.Reply.{Reply}
 use Rattle.image_slots.specs.declared.reply.Reply.TheVariants.{Memory}

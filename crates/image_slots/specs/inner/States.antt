@@ -1,5 +1,5 @@
 -- What contracts see of the slots (this project's own).
--- Inside the crates only: no promise of the program reaches what stands here.
+-- No clause of `kexec` reaches what stands here: it serves laws, and contracts inside the crates.
 use Rattle.std.specs.Prelude.{ℕ, List, Bool, Option}
 use Rattle.kx_pages.specs.Spans.{Run}
 use Rattle.page_memory.specs.Contents.{Contents, at}

@@ -1,5 +1,5 @@
 -- The step of each event: what is answered, and the state after it (this project's own).
--- Inside the crates only: no promise of the program reaches what stands here.
+-- No clause of `kexec` reaches what stands here: it serves laws, and contracts inside the crates.
 use Rattle.std.specs.Prelude.{◌≡◌, ℕ, ◌++◌, ◌⊎◌, [], ◌∷◌, Option, Some, None, if◌then◌else◌}
 use Rattle.segments.specs.Values.{SegmentValue}
 use Rattle.segments.specs.declared.fault.SegFault.{SegFault}

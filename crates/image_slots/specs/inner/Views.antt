@@ -1,5 +1,5 @@
 -- The parts of the slots as states (this project's own).
--- Inside the crates only: no promise of the program reaches what stands here.
+-- No clause of `kexec` reaches what stands here: it serves laws, and contracts inside the crates.
 use Rattle.std.specs.Prelude.{option_map}
 use Rattle.page_pool.specs.Pages.{usable_of}
 use Rattle.image_slots.specs.declared.stage.NormalImage.{NormalImage}

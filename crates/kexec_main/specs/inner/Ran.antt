@@ -1,6 +1,6 @@
 -- What ran, as a value of the program, and what is said of it (this project's own). Contracts of the program's own calls
 -- use these; no clause of `kexec` does.
--- Inside the crates only: no promise of the program reaches what stands here.
+-- No clause of `kexec` reaches what stands here: it serves laws, and contracts inside the crates.
 use Rattle.std.specs.Prelude.{◌≡◌, ℕ, List, ◌++◌, length, Option, Some, None}
 use Rattle.kx_pages.specs.declared.image.Start.{Start}
 use Rattle.kx_pages.specs.declared.image.Mode.{Mode}

@@ -1,5 +1,5 @@
 -- What is known of the events that were read (this project's own).
--- Inside the crates only: no promise of the program reaches what stands here.
+-- No clause of `kexec` reaches what stands here: it serves laws, and contracts inside the crates.
 use Rattle.std.specs.Prelude.{List, length, map, Bool, true, not, nat_lt}
 use Rattle.std.specs.List.{list_all}
 use Rattle.image_slots.specs.declared.event.Event.{Event}

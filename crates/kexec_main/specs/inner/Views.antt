@@ -1,6 +1,6 @@
 -- What the commands took, as values of the program, seen as the definitions speak of them (this project's own). Contracts
 -- of the program's own calls use these views; no clause of `kexec` does.
--- Inside the crates only: no promise of the program reaches what stands here.
+-- No clause of `kexec` reaches what stands here: it serves laws, and contracts inside the crates.
 use Rattle.std.specs.Prelude.{ℕ, List, map, option_map, ◌≡◌, string_bytes}
 use Rattle.page_pool.specs.Pages.{usable_of}
 use Rattle.file_commands.specs.inner.Calls.{file_of}

@@ -1,6 +1,6 @@
 -- The end of every plan: the purgatory is linked, the segments are tested, and the purgatory gets what it is to find (this
 -- project's own).
--- Inside the crates only: no promise of the program reaches what stands here.
+-- No clause of `kexec` reaches what stands here: it serves laws, and contracts inside the crates.
 use Rattle.std.specs.Prelude.{◌≡◌, ℕ, List, Some}
 use Rattle.std.specs.List.{slice_get}
 use Rattle.kx_pages.specs.declared.image.Start.{Start}

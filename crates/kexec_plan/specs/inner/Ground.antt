@@ -1,5 +1,5 @@
 -- What is known of the memory that a kernel is loaded into (this project's own).
--- Inside the crates only: no promise of the program reaches what stands here.
+-- No clause of `kexec` reaches what stands here: it serves laws, and contracts inside the crates.
 use Rattle.std.specs.Prelude.{ℕ, Bool, false}
 use Rattle.kx_pages.specs.Spans.{in_span}
 use Rattle.kexec_plan.specs.declared.ground.Known.{Known}

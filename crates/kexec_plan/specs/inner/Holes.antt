@@ -1,6 +1,6 @@
 -- The hole of a search as a value, so that a plan can go on with it. It is the hole of hole_search, the least or the
 -- greatest address that fits (IsHole): the law places_are_holes says so of every rule (this project's own).
--- Inside the crates only: no promise of the program reaches what stands here.
+-- No clause of `kexec` reaches what stands here: it serves laws, and contracts inside the crates.
 use Rattle.std.specs.Prelude.{ℕ, Bool, Option}
 use Rattle.hole_search.specs.inner.Holes.{IsHole}
 use Rattle.kexec_plan.specs.declared.places.PlaceRule.{PlaceRule}

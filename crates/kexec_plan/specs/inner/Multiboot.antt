@@ -1,6 +1,6 @@
 -- A Multiboot kernel with its command and its modules (Multiboot Specification 0.6.96: eax holds 0x2badb002 at the start,
 -- and ebx the address of the information; the order of places is this project's own).
--- Inside the crates only: no promise of the program reaches what stands here.
+-- No clause of `kexec` reaches what stands here: it serves laws, and contracts inside the crates.
 use Rattle.std.specs.Prelude.{◌+◌, ◌^◌, ◌<◌, List}
 use Rattle.std.specs.List.{AllByRecursion}
 use Rattle.kx_pages.specs.Spans.{in_spans}

@@ -1,7 +1,7 @@
 -- The purgatory: code that runs between the old kernel and the new one. It finds the registers of the new kernel, the
 -- regions that it tests and their digest in three symbols, and starts at a fourth (names, sizes and the
 -- order of the registers are those of Linux's own purgatory, arch/x86/purgatory).
--- Inside the crates only: no promise of the program reaches what stands here.
+-- No clause of `kexec` reaches what stands here: it serves laws, and contracts inside the crates.
 use Rattle.std.specs.Prelude.{◌≡◌, ℕ, ◌+◌, ◌%◌, ◌^◌, ◌<◌, ◌≤◌, Option, Some, None, Ok}
 use Rattle.elf_image.specs.inner.Object.{IsObject}
 use Rattle.purgatory_link.specs.Layout.{linked_size}

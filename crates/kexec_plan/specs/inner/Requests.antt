@@ -1,5 +1,5 @@
 -- What is to be loaded, and the plan of it, as contracts see them (this project's own).
--- Inside the crates only: no promise of the program reaches what stands here.
+-- No clause of `kexec` reaches what stands here: it serves laws, and contracts inside the crates.
 use Rattle.std.specs.Prelude.{◌≡◌, true, ◌||◌, Option, is_some, option_map}
 use Rattle.std.specs.Borrow.{Bor}
 use Rattle.memory_map.specs.Maps.{MapValue}

@@ -1,6 +1,6 @@
 -- The words of kexec(8) that have a counterpart here. Source: kexec(8) of kexec-tools, OPTIONS; the counterparts are this
 -- project's own.
--- Inside the crates only: no promise of the program reaches what stands here.
+-- No clause of `kexec` reaches what stands here: it serves laws, and contracts inside the crates.
 use Rattle.std.specs.Prelude.{List, [], ◌∷◌, Option, Some, None, codes, if◌then◌else◌, unwrap_or}
 use Rattle.std.specs.Str.{bytes_eq}
 use Rattle.kexec_usage.specs.inner.Words.{Text}

@@ -1,5 +1,5 @@
 -- What the words of a command are taken to be (this project's own), by what clap states of simple commands.
--- Inside the crates only: no promise of the program reaches what stands here.
+-- No clause of `kexec` reaches what stands here: it serves laws, and contracts inside the crates.
 use Rattle.std.specs.Prelude.{◌≡◌, [], Option, Result, Ok, Err, option_map, map, List}
 use Rattle.std.specs.Borrow.{Bor}
 use Rattle.clap.specs.Words.{App, Text, fault_of, matches_of, rows_of, found_of}

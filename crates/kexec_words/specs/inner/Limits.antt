@@ -1,5 +1,5 @@
 -- What callers may rely on in a command that is read (this project's own).
--- Inside the crates only: no promise of the program reaches what stands here.
+-- No clause of `kexec` reaches what stands here: it serves laws, and contracts inside the crates.
 use Rattle.std.specs.Prelude.{◌≡◌, ◌<◌, ◌≤◌, ◌^◌, ◌%◌, true, false, length, is_some, IfSome, [], ◌∷◌}
 use Rattle.kexec_words.specs.Values.{InputsValue, TraceValue, CommandValue}
 use Rattle.kexec_words.specs.Values.{boot, load, load_panic, check, dump, exec, trace, migrate, sample, boot_resident, drill, core}

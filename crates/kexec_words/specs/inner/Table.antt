@@ -1,5 +1,5 @@
 -- What the table says of an argument, as the contracts see it (this project's own).
--- Inside the crates only: no promise of the program reaches what stands here.
+-- No clause of `kexec` reaches what stands here: it serves laws, and contracts inside the crates.
 use Rattle.std.specs.Prelude.{Bool, true, false, List, map}
 use Rattle.kexec_words.specs.declared.table.Argument.{Argument}
 use Rattle.kexec_words.specs.declared.table.Form.{Form}

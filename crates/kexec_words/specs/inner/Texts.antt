@@ -1,5 +1,5 @@
 -- How options and words are named in texts, and what the table says of which words (this project's own).
--- Inside the crates only: no promise of the program reaches what stands here.
+-- No clause of `kexec` reaches what stands here: it serves laws, and contracts inside the crates.
 use Rattle.std.specs.Prelude.{ℕ, List, [], ◌∷◌, codes, Option, Some, None}
 use Rattle.kexec_words.specs.declared.faults.Which.{Which}
 use Rattle.kexec_words.specs.declared.faults.Which.TheVariants as which

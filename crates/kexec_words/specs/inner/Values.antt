@@ -1,5 +1,5 @@
 -- The commands as values: the names of files and the kernel's command line as bytes (this project's own).
--- Inside the crates only: no promise of the program reaches what stands here.
+-- No clause of `kexec` reaches what stands here: it serves laws, and contracts inside the crates.
 use Rattle.std.specs.Prelude.{ℕ, map, option_map, string_bytes}
 use Rattle.kexec_words.specs.declared.commands.Inputs.{Inputs}
 use Rattle.kexec_words.specs.declared.commands.CrashInputs.{CrashInputs}

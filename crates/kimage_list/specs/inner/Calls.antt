@@ -1,5 +1,5 @@
 -- What the writer's calls begin with, and what they leave (this project's own).
--- Inside the crates only: no promise of the program reaches what stands here.
+-- No clause of `kexec` reaches what stands here: it serves laws, and contracts inside the crates.
 use Rattle.std.specs.Prelude.{◌≡◌, ℕ, ◌+◌, ◌≤◌, ◌<◌, ◌^◌, List, [], take, drop, false, None, Some}
 use Rattle.page_memory.specs.Contents.{at}
 use Rattle.kx_pages.specs.Bytes.{Mem}

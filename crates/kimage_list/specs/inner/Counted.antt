@@ -1,5 +1,5 @@
 -- How the pages of a load are counted (this project's own).
--- Inside the crates only: no promise of the program reaches what stands here.
+-- No clause of `kexec` reaches what stands here: it serves laws, and contracts inside the crates.
 use Rattle.std.specs.Prelude.{◌≡◌, ℕ, ◌+◌, ◌≤◌, ◌*◌, List, ◌++◌, length, take, true, false, Some, None}
 use Rattle.std.specs.List.{AllByRecursion}
 use Rattle.kx_pages.specs.Lists.{Has, count, destinations}

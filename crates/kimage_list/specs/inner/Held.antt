@@ -1,5 +1,5 @@
 -- Which pages a memory holds before and after a call (this project's own).
--- Inside the crates only: no promise of the program reaches what stands here.
+-- No clause of `kexec` reaches what stands here: it serves laws, and contracts inside the crates.
 use Rattle.std.specs.Prelude.{ℕ, List, take, ◌↔◌}
 use Rattle.page_memory.specs.Contents.{Contents}
 use Rattle.page_memory.specs.inner.Contents.{IsHeld}

@@ -1,6 +1,6 @@
 -- What is claimed of loads, in the clauses of laws.rt (this project's own): taking never fails, each call can be made,
 -- and all is drawn in the end.
--- Inside the crates only: no promise of the program reaches what stands here.
+-- No clause of `kexec` reaches what stands here: it serves laws, and contracts inside the crates.
 use Rattle.std.specs.Prelude.{◌≡◌, ℕ, ◌+◌, ◌<◌, ◌≤◌, ◌/◌, List, [], ◌∷◌, ◌++◌, length, take, drop, Bool, true, Some, None, not, filter}
 use Rattle.kx_pages.specs.Bytes.{Mem, Wants}
 use Rattle.kx_pages.specs.Lists.{Has, count}

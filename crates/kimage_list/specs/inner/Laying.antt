@@ -1,6 +1,6 @@
 -- What a load lays in memory: the words of its list over the link pages, as the kernel's kexec core has them
 -- (kimage_entry_t), and the destinations' bytes at the sources. Which page is which is this project's own.
--- Inside the crates only: no promise of the program reaches what stands here.
+-- No clause of `kexec` reaches what stands here: it serves laws, and contracts inside the crates.
 use Rattle.std.specs.Prelude.{◌≡◌, ℕ, List}
 use Rattle.std.specs.List.{AllByRecursion}
 use Rattle.kx_pages.specs.Bytes.{Mem}

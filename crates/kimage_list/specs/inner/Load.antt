@@ -1,7 +1,7 @@
 -- Which pages a load takes: its entries, the requests for pages that they make, and how the pool serves them. The rules
 -- and their order are this project's own; they follow the kernel's kexec core, which keeps a drawn destination page for
 -- its own request (kimage_alloc_page).
--- Inside the crates only: no promise of the program reaches what stands here.
+-- No clause of `kexec` reaches what stands here: it serves laws, and contracts inside the crates.
 use Rattle.std.specs.Prelude.{ℕ, suc, List, [], ◌∷◌}
 use Rattle.kimage_list.specs.Load.{Entry, Move, Start}
 

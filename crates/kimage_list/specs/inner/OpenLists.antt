@@ -1,5 +1,5 @@
 -- A list while it is written (this project's own).
--- Inside the crates only: no promise of the program reaches what stands here.
+-- No clause of `kexec` reaches what stands here: it serves laws, and contracts inside the crates.
 use Rattle.std.specs.Prelude.{ℕ, List, []}
 use Rattle.kimage_list.specs.declared.open_list.OpenList.{OpenList}
 use Rattle.kimage_list.specs.inner.Drafts.{Draft, Renders}

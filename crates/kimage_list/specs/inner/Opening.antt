@@ -1,5 +1,5 @@
 -- The list while it is written: no done word yet, and the last link page has room or is full (this project's own).
--- Inside the crates only: no promise of the program reaches what stands here.
+-- No clause of `kexec` reaches what stands here: it serves laws, and contracts inside the crates.
 use Rattle.std.specs.Prelude.{ℕ, suc, ◌≤◌, ◌-◌, ◌+◌, ◌*◌, ◌/◌, ◌%◌, List, [], ◌∷◌, ◌++◌, map, length, take, drop, slice_index, if◌then◌else◌, ◌==◌}
 use Rattle.kx_pages.specs.Bytes.{Mem, Wants, page_of}
 use Rattle.kx_pages.specs.Items.{code}

@@ -1,5 +1,5 @@
 -- Where a pool and a table stand while a list is written (this project's own).
--- Inside the crates only: no promise of the program reaches what stands here.
+-- No clause of `kexec` reaches what stands here: it serves laws, and contracts inside the crates.
 use Rattle.std.specs.Prelude.{◌≡◌, ℕ, ◌+◌, ◌≤◌, List, Bool, true, false, Option, Some, None, is_some}
 use Rattle.page_pool.specs.Pages.{Pages, is_filed, usable_of}
 use Rattle.kx_pages.specs.Lists.{has, count}

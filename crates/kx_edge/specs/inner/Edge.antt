@@ -1,5 +1,5 @@
 -- What shelves and sinks mean, this project's own: files by name, bytes said, and counts of faults.
--- Inside the crates only: no promise of the program reaches what stands here.
+-- No clause of `kexec` reaches what stands here: it serves laws, and contracts inside the crates.
 use Rattle.std.specs.Prelude.{◌≡◌, ℕ, List, Option, IfSome}
 use Rattle.kx_edge.specs.Edge.{Files, read_of}
 

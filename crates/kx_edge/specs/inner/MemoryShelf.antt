@@ -1,5 +1,5 @@
 -- What a shelf in memory that fails by a list is seen as, and what its calls answer and leave. This project's own.
--- Inside the crates only: no promise of the program reaches what stands here.
+-- No clause of `kexec` reaches what stands here: it serves laws, and contracts inside the crates.
 use Rattle.std.specs.Prelude.{◌≡◌, Bool, false, ℕ, ◌/◌, List, take, length, Contains, Option, None, IsSome, ◌⊎◌, refl}
 use Rattle.std.specs.FinMap.{get, insert, code}
 use Rattle.std.specs.Coded.{Coded, code_by, coded×, coded_ℕ, coded_bool, coded_list}

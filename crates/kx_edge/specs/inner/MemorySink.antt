@@ -1,5 +1,5 @@
 -- What a sink in memory that fails by a list is seen as, and what its calls leave. This project's own.
--- Inside the crates only: no promise of the program reaches what stands here.
+-- No clause of `kexec` reaches what stands here: it serves laws, and contracts inside the crates.
 use Rattle.std.specs.Prelude.{ℕ, ◌-◌, ◌<◌, List, ◌++◌, length, Contains, ◌⊎◌}
 use Rattle.kx_laws.specs.Counts.{next_count}
 

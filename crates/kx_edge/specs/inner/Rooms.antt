@@ -1,5 +1,5 @@
 -- The rooms that were reserved in a shelf in memory, and the files that it was given. This project's own.
--- Inside the crates only: no promise of the program reaches what stands here.
+-- No clause of `kexec` reaches what stands here: it serves laws, and contracts inside the crates.
 use Rattle.std.specs.Prelude.{Bool, ℕ, ◌<◌, max, List, length, map, Option, Some, None, String, Vec, string_bytes, unwrap_or, if◌then◌else◌}
 use Rattle.std.specs.Ordering.{nat_cmp}
 use Rattle.std.specs.Cmp.Lexicographic.{slice_cmp}

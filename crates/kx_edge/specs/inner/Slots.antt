@@ -1,6 +1,6 @@
 -- How a shelf in memory keeps what was reserved and put: a list of slots, over the files that were given (this
 -- project's own).
--- Inside the crates only: no promise of the program reaches what stands here.
+-- No clause of `kexec` reaches what stands here: it serves laws, and contracts inside the crates.
 use Rattle.std.specs.Prelude.{◌≡◌, ℕ, zero, suc, List, [], ◌∷◌, string_bytes, if◌then◌else◌}
 use Rattle.std.specs.FinMap.{insert, empty}
 use Rattle.kx_edge.specs.Edge.{Files}

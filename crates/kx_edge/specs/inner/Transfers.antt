@@ -1,5 +1,5 @@
 -- What a write of all bytes does to a writer whose bytes are known.
--- Inside the crates only: no promise of the program reaches what stands here.
+-- No clause of `kexec` reaches what stands here: it serves laws, and contracts inside the crates.
 use Rattle.std.specs.Prelude.{ℕ, ◌≤◌, List, take, length, Option}
 use Rattle.std.specs.Io.KnownBytes.{Appends}
 

@@ -1,6 +1,6 @@
 -- Fields in a list of bytes: numbers of whole bytes at a place, the lowest byte first (little endian), as the ELF
 -- gABI's ELFDATA2LSB, the Linux/x86 boot protocol and the files of this project have them.
--- Inside the crates only: no promise of the program reaches what stands here.
+-- No clause of `kexec` reaches what stands here: it serves laws, and contracts inside the crates.
 use Rattle.std.specs.Prelude.{ℕ, ◌+◌, ◌≤◌, ◌⊎◌, ℤ}
 use Rattle.std.specs.Int.{cast_unsigned, w64}
 

@@ -1,6 +1,6 @@
 -- Formats: what stands at which place of some bytes, said once. A format of S lists where the numbers of an S stand;
 -- reading, writing and all laws follow from it. All of this is this project's own.
--- Inside the crates only: no promise of the program reaches what stands here.
+-- No clause of `kexec` reaches what stands here: it serves laws, and contracts inside the crates.
 use Rattle.std.specs.Prelude.{◌≡◌, ℕ, ◌+◌, ◌<◌, ◌^◌, Bool, true, List, [], ◌∷◌, ◌++◌, nat_le, nat_lt, nat_eq, ◌&&◌, ◌||◌, if◌then◌else◌}
 use Rattle.byteorder.specs.Endian.{little_bytes}
 use Rattle.kx_fields.specs.Fields.{field}

@@ -1,5 +1,5 @@
 -- A block that has a field of each kind, none at the front (this project's own).
--- Inside the crates only: no promise of the program reaches what stands here.
+-- No clause of `kexec` reaches what stands here: it serves laws, and contracts inside the crates.
 use Rattle.std.specs.Prelude.{[], ◌∷◌}
 use Rattle.kx_fields.specs.Fields.{signed}
 use Rattle.kx_fields.specs.inner.Fields.{unsigned}

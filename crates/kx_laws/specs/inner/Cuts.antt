@@ -1,5 +1,5 @@
 -- Bytes cut in two parts (this project's own).
--- Inside the crates only: no promise of the program reaches what stands here.
+-- No clause of `kexec` reaches what stands here: it serves laws, and contracts inside the crates.
 use Rattle.std.specs.Prelude.{◌≡◌, ◌⊎◌, ℕ, ◌<◌, List, [], length}
 
 -- the first part has `at` bytes, or it has fewer and is all of them

@@ -1,5 +1,5 @@
 -- What readers answer: a value, or the first refusal (this project's own).
--- Inside the crates only: no promise of the program reaches what stands here.
+-- No clause of `kexec` reaches what stands here: it serves laws, and contracts inside the crates.
 use Rattle.std.specs.Prelude.{◌≡◌, ◌⊎◌, Result, Ok, Err}
 
 -- The answer of a call, whose value is seen by `view`, is the one that is defined; or the call wants memory, and answers

@@ -1,5 +1,5 @@
 -- What adding and cutting make of a list of spans (this project's own).
--- Inside the crates only: no promise of the program reaches what stands here.
+-- No clause of `kexec` reaches what stands here: it serves laws, and contracts inside the crates.
 use Rattle.std.specs.Prelude.{ℕ, ◌-◌, Bool, if◌then◌else◌, nat_lt, List, [], ◌∷◌, ◌++◌, min, max, Option, Some, None}
 use Rattle.std.specs.List.{find}
 use Rattle.kx_pages.specs.Spans.{Run, end}

@@ -1,6 +1,6 @@
 -- How a list is run, told by its swap page: plain moves have none (this project's own; the kernel's kexec core takes a swap
 -- page for KEXEC_PRESERVE_CONTEXT alone).
--- Inside the crates only: no promise of the program reaches what stands here.
+-- No clause of `kexec` reaches what stands here: it serves laws, and contracts inside the crates.
 use Rattle.std.specs.Prelude.{ℕ, Option, Some, None}
 use Rattle.kx_pages.specs.declared.image.Mode.{Mode}
 use Rattle.kx_pages.specs.declared.image.Mode.TheVariants.{Plain, Kept}

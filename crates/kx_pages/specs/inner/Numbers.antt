@@ -1,5 +1,5 @@
 -- Page numbers and addresses. The limit of addresses is this project's own.
--- Inside the crates only: no promise of the program reaches what stands here.
+-- No clause of `kexec` reaches what stands here: it serves laws, and contracts inside the crates.
 use Rattle.std.specs.Prelude.{ℕ, ◌<◌, ◌^◌}
 
 -- addresses lie below 2 ^ 46, so page numbers below 2 ^ 34

@@ -1,5 +1,5 @@
 -- Ranges of addresses and the pages that they meet, and bytes in whole pages (this project's own). A page has 4,096 bytes.
--- Inside the crates only: no promise of the program reaches what stands here.
+-- No clause of `kexec` reaches what stands here: it serves laws, and contracts inside the crates.
 use Rattle.std.specs.Prelude.{ℕ, ◌/◌, ◌^◌, min}
 use Rattle.kx_pages.specs.Spans.{Run}
 use Rattle.kx_pages.specs.Ranges.{count_met}

@@ -1,5 +1,5 @@
 -- Sets of pages, as the spans that they are made of (this project's own).
--- Inside the crates only: no promise of the program reaches what stands here.
+-- No clause of `kexec` reaches what stands here: it serves laws, and contracts inside the crates.
 use Rattle.std.specs.Prelude.{◌≡◌, ℕ, ◌+◌, ◌<◌, false, IsTrue, List}
 use Rattle.kx_pages.specs.Spans.{Run, end, in_span, in_spans}
 

@@ -1,5 +1,5 @@
 -- The fault of a record whose segments are refused. Want of memory stays want of memory. This project's own.
--- Inside the crates only: no promise of the program reaches what stands here.
+-- No clause of `kexec` reaches what stands here: it serves laws, and contracts inside the crates.
 use Rattle.segments.specs.declared.fault.SegFault.{SegFault}
 use Rattle.segments.specs.declared.fault.SegFault.TheVariants as segment_faults
 use Rattle.load_record.specs.declared.fault.RecFault.{RecFault}

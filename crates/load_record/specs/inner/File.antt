@@ -1,6 +1,6 @@
 -- The file of a load record (this project's own): the head, and the segments one after another. In the second version
 -- the SHA-256 (FIPS 180-4) of its bytes stands before the bytes of each segment; the first version has no digests.
--- Inside the crates only: no promise of the program reaches what stands here.
+-- No clause of `kexec` reaches what stands here: it serves laws, and contracts inside the crates.
 use Rattle.std.specs.Prelude.{◌≡◌, ℕ, ◌^◌, ◌<◌, true, List, [], map, Option, Some, None, Result, Ok}
 use Rattle.std.specs.List.{slice_get}
 use Rattle.std.specs.Option.{option_map, option_or}

@@ -1,5 +1,5 @@
 -- The head of a record's file (this project's own): 96 bytes, all numbers little endian.
--- Inside the crates only: no promise of the program reaches what stands here.
+-- No clause of `kexec` reaches what stands here: it serves laws, and contracts inside the crates.
 use Rattle.kx_fields.specs.inner.Formats.{Fits}
 use Rattle.load_record.specs.declared.head.Head.{Head}
 use Rattle.load_record.specs.Head.{head_format}

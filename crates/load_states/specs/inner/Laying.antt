@@ -1,5 +1,5 @@
 -- Putting pages in their place (this project's own).
--- Inside the crates only: no promise of the program reaches what stands here.
+-- No clause of `kexec` reaches what stands here: it serves laws, and contracts inside the crates.
 use Rattle.std.specs.Prelude.{◌≡◌, ◌⊎◌, ℕ, List, Some}
 use Rattle.std.specs.List.{flat_map, range_with_len}
 use Rattle.kx_pages.specs.Spans.{Run}

@@ -1,5 +1,5 @@
 -- Accepted lists in the memory that a state owns.
--- Inside the crates only: no promise of the program reaches what stands here.
+-- No clause of `kexec` reaches what stands here: it serves laws, and contracts inside the crates.
 use Rattle.std.specs.Prelude.{◌≡◌, ℕ, ◌<◌, ◌^◌, ◌++◌, List, [], ◌∷◌, length}
 use Rattle.std.specs.List.{AllByRecursion}
 use Rattle.kx_pages.specs.declared.item.Item.{Item}

@@ -1,5 +1,5 @@
 -- What the runs of a load's list leave, and what is the same of loads that read alike (this project's own).
--- Inside the crates only: no promise of the program reaches what stands here.
+-- No clause of `kexec` reaches what stands here: it serves laws, and contracts inside the crates.
 use Rattle.std.specs.Prelude.{◌≡◌, ℕ, List, None, take}
 use Rattle.kx_pages.specs.Lists.{count}
 use Rattle.kx_pages.specs.declared.image.Wish.{Wish}

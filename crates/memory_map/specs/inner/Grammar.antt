@@ -1,6 +1,6 @@
 -- Which texts are lines of a memory map, said apart from the steps of the reader. The form is that of /proc/iomem, as the
 -- Linux kernel writes it; that a number has 1 to 16 digits is this project's own.
--- Inside the crates only: no promise of the program reaches what stands here.
+-- No clause of `kexec` reaches what stands here: it serves laws, and contracts inside the crates.
 use Rattle.std.specs.Prelude.{◌≡◌, ℕ, ◌++◌, ◌==◌, true, List, codes, Some}
 use Rattle.std.specs.List.{list_all}
 use Rattle.text_lines.specs.Lines.{number}

@@ -1,6 +1,6 @@
 -- What the named lines of a memory map say: rows (with the E820 types of the Linux/x86 boot protocol), crash areas, and
 -- the RAM outside of them (this project's own).
--- Inside the crates only: no promise of the program reaches what stands here.
+-- No clause of `kexec` reaches what stands here: it serves laws, and contracts inside the crates.
 use Rattle.std.specs.Prelude.{◌≡◌, ℕ, Bool, false, List, Option, Some, None}
 use Rattle.kx_pages.specs.Spans.{Run, in_span, in_spans}
 use Rattle.memory_map.specs.declared.row.Row.{Row}

@@ -1,5 +1,5 @@
 -- The rows and areas so far, with the System RAM rows in order (this project's own).
--- Inside the crates only: no promise of the program reaches what stands here.
+-- No clause of `kexec` reaches what stands here: it serves laws, and contracts inside the crates.
 use Rattle.memory_map.specs.declared.reader.Reader.{Reader}
 use Rattle.memory_map.specs.inner.Index.{IsIndex}
 use Rattle.memory_map.specs.inner.Rows.{AreBelow, HaveBytes}

@@ -1,5 +1,5 @@
 -- Ranges of bytes, and what they say of single bytes and pages (this project's own). A page has 4,096 bytes.
--- Inside the crates only: no promise of the program reaches what stands here.
+-- No clause of `kexec` reaches what stands here: it serves laws, and contracts inside the crates.
 use Rattle.std.specs.Prelude.{◌≡◌, ℕ, ◌<◌, ◌+◌, ◌≤◌, ◌^◌, Bool, List, [], ◌∷◌}
 use Rattle.std.specs.List.{list_any, AllByRecursion}
 use Rattle.memory_map.specs.declared.row.Row.{Row}

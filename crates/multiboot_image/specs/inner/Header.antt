@@ -1,5 +1,5 @@
 -- The Multiboot header (Multiboot Specification 0.6.96, sections 3.1.1 to 3.1.3).
--- Inside the crates only: no promise of the program reaches what stands here.
+-- No clause of `kexec` reaches what stands here: it serves laws, and contracts inside the crates.
 use Rattle.std.specs.Prelude.{ℕ, ◌+◌, ◌&&◌, List, length, nat_le, if◌then◌else◌, Option, Some, None}
 use Rattle.multiboot_image.specs.declared.header.Head.{Head}
 use Rattle.multiboot_image.specs.Header.{is_head, head_at}

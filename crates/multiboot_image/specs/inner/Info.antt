@@ -1,7 +1,7 @@
 -- The information that a Multiboot kernel finds at its start (Multiboot Specification 0.6.96, section 3.3), at the address
 -- `at`: a structure of 88 bytes and behind it, without gaps, the map, the module table, the command, the loader's name and
 -- the modules' texts (the order is this project's own).
--- Inside the crates only: no promise of the program reaches what stands here.
+-- No clause of `kexec` reaches what stands here: it serves laws, and contracts inside the crates.
 use Rattle.std.specs.Prelude.{ℕ, ◌+◌, ◌*◌, ◌^◌, ◌<◌, ◌≤◌, List, length}
 use Rattle.memory_map.specs.declared.row.Row.{Row}
 use Rattle.multiboot_image.specs.declared.info.Places.{Places}

@@ -1,6 +1,6 @@
 -- Modules in the information of a Multiboot kernel: their table and their texts (Multiboot Specification 0.6.96, section
 -- 3.3, mods_addr).
--- Inside the crates only: no promise of the program reaches what stands here.
+-- No clause of `kexec` reaches what stands here: it serves laws, and contracts inside the crates.
 use Rattle.std.specs.Prelude.{ℕ, ◌+◌, ◌^◌, ◌<◌, List, [], ◌∷◌, length}
 use Rattle.multiboot_image.specs.Modules.{PlacedModule}
 

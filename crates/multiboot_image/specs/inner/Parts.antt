@@ -1,6 +1,6 @@
 -- What a Multiboot kernel is loaded as (Multiboot Specification 0.6.96, sections 3.1.3 and 3.2): by the addresses in its
 -- header, or as an ELF32 executable.
--- Inside the crates only: no promise of the program reaches what stands here.
+-- No clause of `kexec` reaches what stands here: it serves laws, and contracts inside the crates.
 use Rattle.std.specs.Prelude.{◌≡◌, ℕ, Bool, List, IfSome}
 use Rattle.kx_pages.specs.Ranges.{meets_page}
 use Rattle.segments.specs.Values.{is_destination}

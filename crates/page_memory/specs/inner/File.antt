@@ -1,5 +1,5 @@
 -- The memory file, this project's own: the magic, the count, and the pages in rising order, none of them all zeros.
--- Inside the crates only: no promise of the program reaches what stands here.
+-- No clause of `kexec` reaches what stands here: it serves laws, and contracts inside the crates.
 use Rattle.std.specs.Prelude.{◌≡◌, ◌≢◌, ℕ, ◌<◌, ◌≤◌, List, length, Ok}
 use Rattle.page_memory.specs.declared.fault.HeavyFault.{HeavyFault}
 use Rattle.page_memory.specs.declared.fault.HeavyFault.TheVariants as heavy

@@ -1,6 +1,6 @@
 -- Memory as a function, and how it changes. The definitions of lists, loads and runs speak of memory so. This project's
 -- own.
--- Inside the crates only: no promise of the program reaches what stands here.
+-- No clause of `kexec` reaches what stands here: it serves laws, and contracts inside the crates.
 use Rattle.std.specs.Prelude.{ℕ, ◌/◌, ◌%◌}
 use Rattle.kx_pages.specs.Bytes.{Mem}
 use Rattle.page_memory.specs.inner.Contents.{page_with_word}

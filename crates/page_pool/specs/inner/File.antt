@@ -1,6 +1,6 @@
 -- The pool file (this project's own): each line a page number, or the first and the last page of a range, in
 -- hexadecimal.
--- Inside the crates only: no promise of the program reaches what stands here.
+-- No clause of `kexec` reaches what stands here: it serves laws, and contracts inside the crates.
 use Rattle.std.specs.Prelude.{ℕ, ◌≡◌, Bool, List, [], Some, None, Result, Ok, Err}
 use Rattle.std.specs.BTreeMap as tree
 use Rattle.page_pool.specs.Repeats.{first_repeat}

@@ -1,5 +1,5 @@
 -- Which texts are lines of a pool file, said apart from the steps of the reader (this project's own).
--- Inside the crates only: no promise of the program reaches what stands here.
+-- No clause of `kexec` reaches what stands here: it serves laws, and contracts inside the crates.
 use Rattle.std.specs.Prelude.{◌≡◌, ℕ, ◌++◌, ◌⊎◌, List, codes, Some}
 use Rattle.text_lines.specs.Lines.{number}
 

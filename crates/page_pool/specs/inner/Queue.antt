@@ -1,5 +1,5 @@
 -- The queue of a pool (this project's own).
--- Inside the crates only: no promise of the program reaches what stands here.
+-- No clause of `kexec` reaches what stands here: it serves laws, and contracts inside the crates.
 use Rattle.std.specs.Prelude.{◌≡◌, ℕ, ◌<◌, ◌≤◌, ◌++◌, ◌&&◌, Bool, not, false, List, length, take, map, get_or}
 use Rattle.std.specs.List.{AllByRecursion}
 use Rattle.kx_pages.specs.Lists.{Distinct, has}

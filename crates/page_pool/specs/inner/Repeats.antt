@@ -1,5 +1,5 @@
 -- The first page that stands twice (this project's own).
--- Inside the crates only: no promise of the program reaches what stands here.
+-- No clause of `kexec` reaches what stands here: it serves laws, and contracts inside the crates.
 use Rattle.std.specs.Prelude.{◌≡◌, ℕ, ◌≤◌, List, Some, take}
 use Rattle.std.specs.List.{slice_get}
 use Rattle.kx_pages.specs.Lists.{Distinct, count}

@@ -1,6 +1,6 @@
 -- What the linked bytes are (x86-64 psABI, "Relocation"): each relocated field holds its formula's value, and every
 -- other byte is its section's, or zero.
--- Inside the crates only: no promise of the program reaches what stands here.
+-- No clause of `kexec` reaches what stands here: it serves laws, and contracts inside the crates.
 use Rattle.std.specs.Prelude.{◌≡◌, ℕ, ◌+◌, ◌-◌, ◌^◌, ◌&&◌, Bool, false, List, [], ◌∷◌, nat_le, nat_lt, slice_index, Option, Some, None, Ok, if◌then◌else◌}
 use Rattle.std.specs.List.{list_any, AllByRecursion}
 use Rattle.kx_fields.specs.Fields.{field}

@@ -1,6 +1,6 @@
 -- Relocations: the field of each, the number that it holds, and the first fault (x86-64 psABI, "Relocation"; ELF gABI,
 -- "Relocation").
--- Inside the crates only: no promise of the program reaches what stands here.
+-- No clause of `kexec` reaches what stands here: it serves laws, and contracts inside the crates.
 use Rattle.std.specs.Prelude.{◌≡◌, ℕ, ◌+◌, ◌<◌, ◌≤◌, ◌⊎◌, ◌^◌, List, Option, Some, None}
 use Rattle.kx_fields.specs.Fields.{with_field}
 use Rattle.elf_image.specs.Object.{Relocatable}

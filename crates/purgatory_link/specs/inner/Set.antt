@@ -1,5 +1,5 @@
 -- Symbols of a linked object, by their names, and bytes that are put in their place (this project's own).
--- Inside the crates only: no promise of the program reaches what stands here.
+-- No clause of `kexec` reaches what stands here: it serves laws, and contracts inside the crates.
 use Rattle.std.specs.Prelude.{ℕ, ◌-◌, ◌==◌, not, List, length, Option, Some, None, Result, Ok, Err, if◌then◌else◌}
 use Rattle.kx_fields.specs.Fields.{with_bytes}
 use Rattle.purgatory_link.specs.declared.fault.LinkFault.{LinkFault}

@@ -1,5 +1,5 @@
 -- What ties the test of regions to what was digested (this project's own).
--- Inside the crates only: no promise of the program reaches what stands here.
+-- No clause of `kexec` reaches what stands here: it serves laws, and contracts inside the crates.
 use Rattle.std.specs.Prelude.{◌≡◌, ℕ, ◌+◌, ◌-◌, ◌≤◌, ◌⊎◌, ◌^◌, List, Some, length, slice_get}
 use Rattle.kx_pages.specs.Lists.{Has}
 use Rattle.kx_fields.specs.Fields.{bytes_at, with_bytes}

@@ -1,5 +1,5 @@
 -- Ranges of numbers, and lists of ranges that do not meet (this project's own).
--- Inside the crates only: no promise of the program reaches what stands here.
+-- No clause of `kexec` reaches what stands here: it serves laws, and contracts inside the crates.
 use Rattle.std.specs.Prelude.{◌≡◌, ℕ, ◌<◌, ◌≤◌, ◌||◌, Bool, List, [], ◌∷◌, nat_lt, min, max}
 use Rattle.std.specs.List.{list_any}
 

@@ -1,5 +1,5 @@
 -- Words that only read: they move no page, and the run goes on in the page that it reads (this project's own).
--- Inside the crates only: no promise of the program reaches what stands here.
+-- No clause of `kexec` reaches what stands here: it serves laws, and contracts inside the crates.
 use Rattle.std.specs.Prelude.{◌≡◌, ℕ, ◌+◌, ◌/◌, ◌%◌, ◌<◌, ◌≤◌, ◌^◌, List, length, Option, Some, None, ◌==◌, if◌then◌else◌}
 use Rattle.page_memory.specs.Contents.{Contents, at}
 use Rattle.relocate_machine.specs.declared.reading.Place.{Place}

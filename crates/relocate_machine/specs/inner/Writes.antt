@@ -1,5 +1,5 @@
 -- Which pages a step writes (this project's own).
--- Inside the crates only: no promise of the program reaches what stands here.
+-- No clause of `kexec` reaches what stands here: it serves laws, and contracts inside the crates.
 use Rattle.std.specs.Prelude.{◌≡◌, ◌⊎◌, ℕ, ◌/◌, ◌^◌, Some, None, IfSome, Result, Ok, Err, nat_le, if◌then◌else◌}
 use Rattle.std.specs.FinMap as finite
 use Rattle.kx_pages.specs.declared.image.Mode.{Mode}

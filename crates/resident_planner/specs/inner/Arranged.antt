@@ -1,6 +1,6 @@
 -- What the planner finds of the wanted pages before it takes a page of the pool (this project's
 -- own).
--- Inside the crates only: no promise of the program reaches what stands here.
+-- No clause of `kexec` reaches what stands here: it serves laws, and contracts inside the crates.
 use Rattle.std.specs.Prelude.{◌≡◌, ℕ, ◌<◌, ◌≤◌, ◌++◌, List, [], ◌∷◌, length, map, get_or, Option, Some, None}
 use Rattle.list_checker.specs.declared.earlier.Pair.{Pair}
 use Rattle.list_checker.specs.Checked.{as_pair}

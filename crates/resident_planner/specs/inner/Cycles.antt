@@ -1,7 +1,7 @@
 -- Pages whose bytes lie in memory already, and the cycles among them: this project's own. r tells
 -- of a wanted page which page holds its bytes already, its resident page, where there is one; D
 -- lists the wanted pages, each once.
--- Inside the crates only: no promise of the program reaches what stands here.
+-- No clause of `kexec` reaches what stands here: it serves laws, and contracts inside the crates.
 use Rattle.std.specs.Prelude.{◌≡◌, ℕ, zero, suc, Option, Some}
 
 -- m steps of s lead from p to q

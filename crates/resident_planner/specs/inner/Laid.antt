@@ -1,5 +1,5 @@
 -- The list that a plan lays, and the memory in which it stands: this project's own.
--- Inside the crates only: no promise of the program reaches what stands here.
+-- No clause of `kexec` reaches what stands here: it serves laws, and contracts inside the crates.
 use Rattle.std.specs.Prelude.{◌≡◌, ◌≢◌, ℕ, ◌*◌, ◌^◌, ◌<◌, ◌≤◌, List, ◌∷◌, ◌++◌, length, Option, Some, true, false}
 use Rattle.std.specs.List.{AllByRecursion}
 use Rattle.kx_pages.specs.Lists.{has, Distinct}

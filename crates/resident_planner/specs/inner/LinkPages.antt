@@ -1,5 +1,5 @@
 -- The link pages of a list, by its words (this project's own).
--- Inside the crates only: no promise of the program reaches what stands here.
+-- No clause of `kexec` reaches what stands here: it serves laws, and contracts inside the crates.
 use Rattle.std.specs.Prelude.{ℕ, List, [], ◌∷◌, ◌++◌, take, drop}
 use Rattle.kx_pages.specs.Bytes.{page_of}
 use Rattle.kimage_list.specs.Laying.{in_bytes}

@@ -1,7 +1,7 @@
 -- The pairs of a list that takes each wanted page from its resident page where it can: this
 -- project's own. r tells of a wanted page its resident page, where there is one; D lists the wanted
 -- pages in rising order.
--- Inside the crates only: no promise of the program reaches what stands here.
+-- No clause of `kexec` reaches what stands here: it serves laws, and contracts inside the crates.
 use Rattle.std.specs.Prelude.{◌≡◌, ◌≢◌, ℕ, List, Option, Some, true, false}
 use Rattle.kx_pages.specs.Lists.{has}
 

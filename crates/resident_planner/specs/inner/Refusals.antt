@@ -1,6 +1,6 @@
 -- Why no list is made that takes resident pages as sources, the first reason in its order (this
 -- project's own). A pair is a destination and the page that holds what it is to have.
--- Inside the crates only: no promise of the program reaches what stands here.
+-- No clause of `kexec` reaches what stands here: it serves laws, and contracts inside the crates.
 use Rattle.std.specs.Prelude.{◌≡◌, ◌⊎◌, ℕ, ◌<◌, List}
 use Rattle.std.specs.Ordering.{nat_cmp}
 use Rattle.std.specs.BTreeMap as tree

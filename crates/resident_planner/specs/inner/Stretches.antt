@@ -1,6 +1,6 @@
 -- Stretches of steps from page to page, as the planner keeps them (this project's own). D lists the
 -- wanted pages in rising order; a page is told by its place there.
--- Inside the crates only: no promise of the program reaches what stands here.
+-- No clause of `kexec` reaches what stands here: it serves laws, and contracts inside the crates.
 use Rattle.std.specs.Prelude.{◌≡◌, ℕ, zero, suc, ◌^◌, ◌<◌, ◌≤◌, List, [], ◌∷◌, length, min, get_or, Option, Some, None, false, IfSome}
 use Rattle.kx_pages.specs.Lists.{has}
 use Rattle.resident_planner.specs.declared.stretch.Stretch.{Stretch}

@@ -1,7 +1,7 @@
 -- The rules that segments have to meet: those of kexec_load(2) and of the kernel's kexec core (sanity_check_segment_list),
 -- and two of this project's own. Each rule is tested over all segments before the next one. The first refusal is
 -- answered, with the least segment and then the least earlier one.
--- Inside the crates only: no promise of the program reaches what stands here.
+-- No clause of `kexec` reaches what stands here: it serves laws, and contracts inside the crates.
 use Rattle.std.specs.Prelude.{◌≡◌, ◌⊎◌, ℕ, List, Option, Some, None, Result, Ok, Err}
 use Rattle.segments.specs.declared.fault.SegFault.{SegFault}
 use Rattle.segments.specs.declared.fault.SegFault.TheVariants as faults

@@ -1,5 +1,5 @@
 -- What each value of Segments is. This project's own, and no public clause speaks of it.
--- Inside the crates only: no promise of the program reaches what stands here.
+-- No clause of `kexec` reaches what stands here: it serves laws, and contracts inside the crates.
 use Rattle.std.specs.Prelude.{◌≡◌, ℕ, List}
 use Rattle.kx_pages.specs.Spans.{Run, in_spans}
 use Rattle.segments.specs.Values.{SegmentValue, is_destination}

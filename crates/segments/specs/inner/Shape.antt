@@ -1,5 +1,5 @@
 -- What segments are that no rule refuses (this project's own).
--- Inside the crates only: no promise of the program reaches what stands here.
+-- No clause of `kexec` reaches what stands here: it serves laws, and contracts inside the crates.
 use Rattle.std.specs.Prelude.{◌≡◌, ◌+◌, ◌%◌, ◌^◌, ◌<◌, ◌≤◌, List, [], ◌∷◌, length, false}
 use Rattle.std.specs.List.{AllByRecursion}
 use Rattle.segments.specs.Values.{SegmentValue, pages}

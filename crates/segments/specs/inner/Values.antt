@@ -1,5 +1,5 @@
 -- The segments of a new kernel, as kexec_load(2) takes them, the pages that they consist of, and what each is to have.
--- Inside the crates only: no promise of the program reaches what stands here.
+-- No clause of `kexec` reaches what stands here: it serves laws, and contracts inside the crates.
 use Rattle.std.specs.Prelude.{◌≡◌, ℕ, ◌/◌, List, [], ◌∷◌, length, take, Some, None, if◌then◌else◌, slice_get, slice_set}
 use Rattle.kx_pages.specs.Spans.{Run}
 use Rattle.kx_pages.specs.Bytes.{Wants}

@@ -1,5 +1,5 @@
 -- The core file (ELF gABI, chapters 4 and 5).
--- Inside the crates only: no promise of the program reaches what stands here.
+-- No clause of `kexec` reaches what stands here: it serves laws, and contracts inside the crates.
 use Rattle.std.specs.Prelude.{◌≡◌, ℕ, ◌+◌, ◌*◌, ◌<◌, ◌≤◌, ◌&&◌, false, Bool, List, length, map, take, filter, slice_index, nat_le, nat_lt}
 use Rattle.std.specs.List.{range_with_len, list_any, AllByRecursion}
 use Rattle.kx_fields.specs.Fields.{bytes_at}

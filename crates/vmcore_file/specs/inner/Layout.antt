@@ -1,7 +1,7 @@
 -- The places of a core file's parts (this project's own): the file header and the rows, the notes at the next multiple of
 -- 4,096, and each load at the next place that is its address but for a multiple of 4,096, as a page of memory asks it of a
 -- file that is mapped (ELF gABI, chapter 5, "Program Header": p_vaddr and p_offset are the same, modulo the page size).
--- Inside the crates only: no promise of the program reaches what stands here.
+-- No clause of `kexec` reaches what stands here: it serves laws, and contracts inside the crates.
 use Rattle.std.specs.Prelude.{List, ◌∷◌, length}
 use Rattle.crash_headers.specs.declared.note.Note.{Note}
 use Rattle.elf_headers.specs.declared.program_header.ProgramHeader.{ProgramHeader}

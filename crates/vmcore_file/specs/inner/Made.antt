@@ -1,5 +1,5 @@
 -- Cores by the headers that crash_headers makes (this project's own).
--- Inside the crates only: no promise of the program reaches what stands here.
+-- No clause of `kexec` reaches what stands here: it serves laws, and contracts inside the crates.
 use Rattle.std.specs.Prelude.{◌≡◌, ◌⊎◌, ℕ, ◌+◌, ◌-◌, ◌^◌, ◌≤◌, ◌&&◌, Bool, true, List, [], ◌∷◌, filter, length, slice_index, nat_le, nat_lt, Result, Ok, MatchResult}
 use Rattle.kx_laws.specs.Results.{◌>>=◌, unless}
 use Rattle.kx_pages.specs.Bytes.{Mem}
