@@ -1,6 +1,7 @@
 //! Why a request has no plan.
 
 ghost use Rattle.std.specs.Prelude.{◌≡◌};
+ghost use Rattle.kexec_plan.specs.declared.fault.PlanFault.TheVariants.{Memory};
 ghost use Rattle.kexec_plan.specs.Faults.{of_elf, of_object, of_multiboot, of_bzimage, of_crash, of_link, of_params};
 
 use boot_params::ParamsFault;
@@ -112,7 +113,7 @@ impl PlanFault {
 }
 
 impl From<AllocError> for PlanFault {
-    ghost from_gives = { λ _ e. e ≡ PlanFault.Memory };
+    ghost from_gives = { λ _ e. e ≡ Memory };
 
     fn from(_: AllocError) -> PlanFault {
         PlanFault::Memory
@@ -120,7 +121,7 @@ impl From<AllocError> for PlanFault {
 }
 
 impl<T: Drop> From<AllocFailed<T>> for PlanFault {
-    ghost from_gives = { λ _ e. e ≡ PlanFault.Memory };
+    ghost from_gives = { λ _ e. e ≡ Memory };
 
     fn from(_: AllocFailed<T>) -> PlanFault {
         PlanFault::Memory
