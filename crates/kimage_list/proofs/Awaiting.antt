@@ -69,7 +69,7 @@ rebytes h l w d b z o = record {
   first = o.first;
   links = o.links;
   writes = record {
-    tracks = record { left = o.writes.tracks.left; filed = o.writes.tracks.filed; wanted = o.writes.tracks.wanted; loading_after = o.writes.tracks.loaded; once = o.writes.tracks.once };
+    tracks = record { left = o.writes.tracks.left; filed = o.writes.tracks.filed; wanted = o.writes.tracks.wanted; loaded = o.writes.tracks.loaded; once = o.writes.tracks.once };
     order = o.writes.order;
     spare = o.writes.spare;
     tight = o.writes.tight;
