@@ -2,8 +2,10 @@
 
 ghost use Rattle.std.specs.Prelude.{◌≡◌, ◌<◌, ◌^◌, length, option_map, IfOk};
 ghost use Rattle.kx_laws.specs.inner.Results.{Gives};
+ghost use Rattle.kx_pages.specs.Spans.{in_spans};
 ghost use Rattle.bzimage.specs.inner.Kernel.{IsSound};
 ghost use Rattle.kexec_plan.specs.inner.Requests.{request_of};
+ghost use Rattle.kexec_plan.specs.Places.{nothing};
 ghost use Rattle.kexec_plan.specs.Purgatory.{purgatory_rule};
 ghost use Rattle.kexec_plan.specs.inner.Purgatory.{IsLinkable};
 ghost use Rattle.kexec_plan.specs.Table.{initrd_rule, parameters_rule};
@@ -13,11 +15,12 @@ ghost use Rattle.kexec_plan.specs.inner.Linux.{AreLow};
 use crate::command::{command_of, told_command};
 use crate::fault::PlanFault;
 use crate::ground::Ground;
-use crate::places::{Site, place, place_some, taken_by};
+use crate::places::{Site, place, place_some};
 use crate::purgatory::{Purgatory, some_purgatory_rule};
 use crate::request::Request;
 use crate::table::{initrd_rule, kernel_rule, parameters_rule};
 use bzimage::BzImage;
+use kx_pages::PageSet;
 use std::alloc::Global;
 use std::marker::Model;
 
@@ -53,6 +56,13 @@ impl Model for LinuxPlaces {
     } };
 }
 
+// No page.
+fn no_pages(alloc: Global) -> PageSet
+    ensures { in_spans result ≡ nothing }
+{
+    PageSet::new(alloc)
+}
+
 /// Places the parts of a bzImage, each apart from those before: kernel, initrd, crash headers, boot parameters and
 /// purgatory.
 #[tactic(auto, unfolding(crate::specs::Linux::linux_places, crate::specs::Places::taking_some), using(crate::proofs::Parameters::parameters_low))]
@@ -70,7 +80,7 @@ pub(crate) fn linux_places(
         (linux_places ground.now image.now (linux_of (request_of request.now)) purgatory.now) }
 {
     let ram = ground.ram();
-    let mut taken = taken_by(alloc, &[])?;
+    let mut taken = no_pages(alloc);
     let kernel = place(ram, &mut taken, kernel_rule(image, request.kernel.len()))?;
     let initrd_rule = request
         .initrd
