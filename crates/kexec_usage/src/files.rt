@@ -59,7 +59,7 @@ fn shared_among<'a>(files: &[Given<'a>], given: &[Given<'a>]) -> Option<(Given<'
 }
 
 /// The first file that is written and has the text of another file, and that one's name.
-pub(crate) fn shared<'a>(given: &[Given<'a>]) -> Option<(Given<'a>, &'a str)>
+pub(crate) fn shared_file<'a>(given: &[Given<'a>]) -> Option<(Given<'a>, &'a str)>
     ensures { option_map shared_value result
         ≡ shared_among (map given_value given.now) (map given_value given.now) }
 {
