@@ -4,7 +4,7 @@
 use Rattle.std.specs.Prelude.{ℕ, ◌+◌, ◌-◌, ◌*◌, ◌++◌, ◌==◌, List, ◌∷◌, length, take, drop, nat_lt, if◌then◌else◌, Option, Some, Result, Ok}
 use Rattle.std.specs.Option.{option_map}
 use Rattle.std.specs.List.{position}
-use Rattle.kx_laws.specs.Results.{unless}
+use Rattle.kx_laws.specs.Results.{◌>>=◌, unless}
 use Rattle.bzimage.specs.Kernel.{Kernel}
 use Rattle.memory_map.specs.declared.row.Row.{Row}
 use Rattle.boot_params.specs.declared.fault.ParamsFault.{ParamsFault}

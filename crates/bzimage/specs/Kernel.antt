@@ -3,7 +3,7 @@
 -- own).
 use Rattle.std.specs.Prelude.{ℕ, ◌+◌, ◌-◌, ◌*◌, ◌^◌, ◌==◌, ◌&&◌, ◌||◌, not, Bool, List, length, take, nat_lt, nat_le, bit_and, if◌then◌else◌, Option, Some, None, Result, Ok, Err}
 use Rattle.std.specs.Int.{is_power_of_two}
-use Rattle.kx_laws.specs.Results.{unless}
+use Rattle.kx_laws.specs.Results.{◌>>=◌, unless}
 use Rattle.kx_fields.specs.Fields.{bytes_at}
 use Rattle.kx_fields.specs.Formats.{read}
 use Rattle.bzimage.specs.declared.fault.BzFault.{BzFault}

@@ -8,7 +8,7 @@ use Rattle.elf_image.specs.declared.fault.ElfFault.{ElfFault}
 use Rattle.elf_image.specs.declared.fault.ElfFault.TheVariants as faults
 use Rattle.elf_image.specs.declared.fault.ElfPart.TheVariants as parts
 use Rattle.elf_image.specs.declared.file_header.Header.{Header}
-use Rattle.kx_laws.specs.Results.{unless}
+use Rattle.kx_laws.specs.Results.{◌>>=◌, unless}
 use Rattle.elf_image.specs.FileHeader.{exec_header}
 use Rattle.elf_image.specs.ProgramHeader.{loads_of}
 

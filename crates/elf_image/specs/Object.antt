@@ -2,6 +2,7 @@
 -- own).
 use Rattle.std.specs.Prelude.{ℕ, List, length, map, Result, Ok}
 use Rattle.std.specs.List.{flat_map}
+use Rattle.kx_laws.specs.Results.{◌>>=◌}
 use Rattle.elf_image.specs.declared.fault.ElfFault.{ElfFault}
 use Rattle.elf_image.specs.declared.section.Section.{Section}
 use Rattle.elf_image.specs.declared.reloc.Reloc.{Reloc}

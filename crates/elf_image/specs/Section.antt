@@ -9,7 +9,7 @@ use Rattle.elf_image.specs.declared.section.SectionHeader.{SectionHeader}
 use Rattle.elf_image.specs.declared.fault.ElfFault.{ElfFault}
 use Rattle.elf_image.specs.declared.fault.ElfFault.TheVariants as faults
 use Rattle.elf_image.specs.declared.fault.ElfPart.TheVariants as parts
-use Rattle.kx_laws.specs.Results.{unless_at}
+use Rattle.kx_laws.specs.Results.{◌>>=◌, unless_at}
 use Rattle.elf_image.specs.Numbers.{sht_null, sht_nobits}
 use Rattle.elf_image.specs.FileHeader.{object_header}
 use Rattle.elf_image.specs.Table.{Table}

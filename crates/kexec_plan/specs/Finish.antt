@@ -1,6 +1,7 @@
 -- The end of every plan: the purgatory is linked, the segments are tested, and the purgatory gets what it is to find (this
 -- project's own).
 use Rattle.std.specs.Prelude.{ℕ, ◌+◌, ◌≤◌, ◌⊎◌, ◌++◌, List, [], ◌∷◌, length, Option, Some, None, Result, Ok}
+use Rattle.kx_laws.specs.Results.{◌>>=◌}
 use Rattle.kx_pages.specs.declared.image.Start.{Start}
 use Rattle.segments.specs.Values.{SegmentValue}
 use Rattle.kexec_plan.specs.Ground.{Ground}

@@ -1,6 +1,7 @@
 -- A bzImage with its initrd and its command (Linux/x86 boot protocol, "64-bit Boot Protocol": the kernel is entered 0x200
 -- bytes behind its start, with the address of the boot parameters in rsi; the order of places is this project's own).
 use Rattle.std.specs.Prelude.{ℕ, ◌+◌, ◌/◌, ◌++◌, codes, decimal, List, [], ◌∷◌, length, drop, Option, Some, None, option_map, unwrap_or, Result, Ok}
+use Rattle.kx_laws.specs.Results.{◌>>=◌}
 use Rattle.kx_pages.specs.declared.image.Start.{Start}
 use Rattle.memory_map.specs.declared.row.Row.{Row}
 use Rattle.segments.specs.Values.{SegmentValue}

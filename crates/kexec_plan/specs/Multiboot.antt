@@ -1,6 +1,7 @@
 -- A Multiboot kernel with its command and its modules (Multiboot Specification 0.6.96: eax holds 0x2badb002 at the start,
 -- and ebx the address of the information; the order of places is this project's own).
 use Rattle.std.specs.Prelude.{ℕ, ◌+◌, ◌++◌, Bool, List, [], ◌∷◌, length, Result, Ok}
+use Rattle.kx_laws.specs.Results.{◌>>=◌}
 use Rattle.kx_pages.specs.declared.image.Start.{Start}
 use Rattle.segments.specs.Values.{SegmentValue}
 use Rattle.memory_map.specs.declared.row.Row.{Row}

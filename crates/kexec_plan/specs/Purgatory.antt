@@ -2,6 +2,7 @@
 -- regions that it tests and their digest in three symbols, and starts at a fourth (names, sizes and the
 -- order of the registers are those of Linux's own purgatory, arch/x86/purgatory).
 use Rattle.std.specs.Prelude.{ℕ, ◌-◌, ◌==◌, not, List, [], ◌∷◌, codes, if◌then◌else◌, Option, Some, None, Result, Ok, Err}
+use Rattle.kx_laws.specs.Results.{◌>>=◌}
 use Rattle.kx_fields.specs.Fields.{zeros, with_bytes}
 use Rattle.kx_fields.specs.Formats.{Format, written}
 use Rattle.kx_pages.specs.declared.image.Start.{Start}

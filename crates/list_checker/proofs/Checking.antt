@@ -13,7 +13,8 @@ use Rattle.page_memory.specs.Memory.{word}
 use Rattle.kx_pages.specs.Items.{code, decode}
 use Rattle.kx_pages.specs.Lists.{Has, Distinct, destinations, sources, has}
 use Rattle.list_checker.specs.Walk.{Reads, Walk, links, DestinationFirst, pairs_from, pairs, InOrder, Accepted, IsAccepted}
-use Rattle.list_checker.specs.Faults.{Earlier, nothing_earlier, with_item, following, are_wanted, is_swap, is_kept, reasons, swap_meets_control, Faultless}
+use Rattle.list_checker.specs.Faults.{Earlier, nothing_earlier, with_item, following, are_wanted, is_swap, is_kept, reasons, swap_meets_control}
+use Rattle.list_checker.specs.inner.Faults.{Faultless}
 use Rattle.list_checker.specs.inner.Laws.{AcceptedWith, CheckExact}
 use Rattle.list_checker.proofs.Lists.{none_holds, none_first, equal-same_bytes, wanted_bytes, InOrder-push, InOrder-split}
 use Rattle.list_checker.proofs.Kept.{Keeps, keeps_none, keeps_link, keeps_pair, link_keeps, pair_keeps}

@@ -12,7 +12,8 @@ use Rattle.kx_pages.specs.Bytes.{Mem, Wants}
 use Rattle.page_memory.specs.Memory.{word}
 use Rattle.kx_pages.specs.Items.{decode}
 use Rattle.kx_pages.specs.Lists.{Distinct}
-use Rattle.list_checker.specs.Faults.{Earlier, nothing_earlier, with_item, with_pair, following, reason, reasons, Faulty, Faultless}
+use Rattle.list_checker.specs.Faults.{Earlier, nothing_earlier, with_item, with_pair, following, reasons, Faulty}
+use Rattle.list_checker.specs.inner.Faults.{reason, Faultless}
 use Rattle.list_checker.specs.inner.Laws.{CheckEnds}
 use Rattle.kx_laws.proofs.Options.{some_same}
 use Rattle.list_checker.proofs.Lists.{none_holds}

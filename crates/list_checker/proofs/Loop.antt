@@ -16,7 +16,8 @@ use Rattle.list_checker.specs.declared.earlier.Accept.{Accept}
 use Rattle.list_checker.specs.declared.earlier.Earlier.{Earlier as Sets}
 use Rattle.page_memory.specs.Memory.{word}
 use Rattle.kx_pages.specs.Items.{decode}
-use Rattle.list_checker.specs.Faults.{Earlier, nothing_earlier, with_item, with_pair, following, is_wanted, reasons, pair_reasons, Faulty, Faultless}
+use Rattle.list_checker.specs.Faults.{Earlier, nothing_earlier, with_item, with_pair, following, is_wanted, reasons, pair_reasons, Faulty}
+use Rattle.list_checker.specs.inner.Faults.{Faultless}
 use Rattle.list_checker.specs.Checked.{as_pair, IsFirstFault}
 use Rattle.list_checker.specs.inner.Checked.{Shows, why_refused, Fits, Leads, IsPlace, IsAccept}
 use Rattle.list_checker.proofs.Lists.{none_holds}

@@ -10,7 +10,8 @@ use Rattle.page_memory.specs.Memory.{word}
 use Rattle.kx_pages.specs.Items.{code, decode}
 use Rattle.list_checker.specs.Walk.{Reads, Walk, links}
 use Rattle.kx_pages.specs.Lists.{Distinct}
-use Rattle.list_checker.specs.Faults.{Reasons, Earlier, nothing_earlier, with_item, with_pair, following, why_by, walk_reasons, FaultyBy, FaultlessBy}
+use Rattle.list_checker.specs.Faults.{Reasons, Earlier, nothing_earlier, with_item, with_pair, following, why_by, walk_reasons, FaultyBy}
+use Rattle.list_checker.specs.inner.Faults.{FaultlessBy}
 use Rattle.kx_laws.proofs.Options.{some_same}
 use Rattle.list_checker.proofs.Lists.{none_first}
 use Rattle.list_checker.proofs.Checking.{decode-code}

@@ -100,14 +100,6 @@ module _ (M : Mem) (R : Reasons) where
       (i : Item) × (decode w ≡ Some i) × (why_by R place s (Some i) ≡ None) × ((p : ℕ) → i ≢ Done p)
       × FaultyBy (Some (following place i)) (with_item s i) (word M (following place i)) n why
 
-  -- no word has a reason, and before the done word, n places on, this came
-  abbrev pub FaultlessBy : Option ℕ → Earlier → ℕ → ℕ → Earlier → Type 0
-  FaultlessBy place s w zero last =
-      (p : ℕ) × (decode w ≡ Some (Done p)) × (why_by R place s (Some (Done p)) ≡ None) × (s ≡ last)
-  FaultlessBy place s w (suc n) last =
-      (i : Item) × (decode w ≡ Some i) × (why_by R place s (Some i) ≡ None) × ((p : ℕ) → i ≢ Done p)
-      × FaultlessBy (Some (following place i)) (with_item s i) (word M (following place i)) n last
-
 -- why a word cannot be followed, whatever the list is for
 abbrev pub walk_reasons : Reasons
 walk_reasons place s (Link p) = (leb (2 ^ 34) p, PastLimit) ∷ (has p s.links, LinkAgain) ∷ []
@@ -155,11 +147,5 @@ module _ (M : Mem) (W : Wants) (all : List ℕ) (control : ℕ) (swap : Option �
       ∷ pair_reasons s.next s p
   reasons place s (Done p) = done_reasons all control swap place s
 
-  abbrev pub reason : Option ℕ → Earlier → Option Item → Option Why
-  reason place s i = why_by reasons place s i
-
   abbrev pub Faulty : Option ℕ → Earlier → ℕ → ℕ → Why → Type 0
   Faulty place s w n why = FaultyBy M reasons place s w n why
-
-  abbrev pub Faultless : Option ℕ → Earlier → ℕ → ℕ → Earlier → Type 0
-  Faultless place s w n last = FaultlessBy M reasons place s w n last

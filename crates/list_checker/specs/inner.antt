@@ -3,3 +3,4 @@ pub mod Laws
 pub mod Checked
 pub mod Reading
 pub mod Texts
+pub mod Faults

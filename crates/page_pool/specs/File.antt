@@ -2,6 +2,7 @@
 -- hexadecimal.
 use Rattle.std.specs.Prelude.{ℕ, ◌+◌, ◌-◌, ◌^◌, ◌++◌, List, [], ◌∷◌, length, nat_lt, nat_le, if◌then◌else◌, Option, Some, None, Result, Ok, Err}
 use Rattle.std.specs.List.{range_with_len}
+use Rattle.kx_laws.specs.Results.{◌>>=◌}
 use Rattle.text_lines.specs.Lines.{lines, cut, number}
 use Rattle.page_pool.specs.Repeats.{first_repeat}
 use Rattle.page_pool.specs.declared.fault.PoolFault.{PoolFault}

@@ -2,6 +2,7 @@
 -- "Relocation").
 use Rattle.std.specs.Prelude.{ℕ, ◌+◌, ◌^◌, ◌==◌, ◌&&◌, not, Bool, List, [], ◌∷◌, ◌++◌, nat_lt, min, max, ℤ, Option, Some, None, Result, Ok, Err, if◌then◌else◌}
 use Rattle.std.specs.List.{slice_get, list_any}
+use Rattle.kx_laws.specs.Results.{◌>>=◌}
 use Rattle.kx_fields.specs.Fields.{with_field}
 use Rattle.elf_image.specs.declared.section.Section.{Section}
 use Rattle.elf_image.specs.declared.reloc.Reloc.{Reloc}

@@ -6,7 +6,8 @@ use Rattle.kx_pages.specs.Bytes.{Mem}
 use Rattle.page_memory.specs.Memory.{word}
 use Rattle.segments.specs.Values.{SegmentValue, want, pages}
 use Rattle.list_checker.specs.Walk.{IsAccepted}
-use Rattle.list_checker.specs.Faults.{Faulty, Earlier, nothing_earlier, reason}
+use Rattle.list_checker.specs.Faults.{Faulty, Earlier, nothing_earlier}
+use Rattle.list_checker.specs.inner.Faults.{reason}
 use Rattle.list_checker.specs.declared.fault.Why.{Why}
 
 -- M has these words from address a on

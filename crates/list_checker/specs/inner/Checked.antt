@@ -16,7 +16,8 @@ use Rattle.list_checker.specs.declared.earlier.Earlier.{Earlier as Sets}
 use Rattle.kx_pages.specs.Items.{decode}
 use Rattle.kx_pages.specs.Lists.{destinations, sources, has}
 use Rattle.list_checker.specs.Walk.{links, pairs, IsAccepted}
-use Rattle.list_checker.specs.Faults.{Earlier, is_head, is_kept, in_last_slot, reason, link_reasons, pair_reasons, done_reasons}
+use Rattle.list_checker.specs.Faults.{Earlier, is_head, is_kept, in_last_slot, link_reasons, pair_reasons, done_reasons}
+use Rattle.list_checker.specs.inner.Faults.{reason}
 use Rattle.list_checker.specs.declared.fault.CheckFault.TheVariants as faults
 use Rattle.kx_pages.specs.Modes.{swap_page}
 use Rattle.list_checker.specs.Checked.{as_pair, IsFirstFault}

@@ -6,7 +6,8 @@ use Rattle.list_checker.specs.declared.fault.Why.{Why}
 use Rattle.kx_pages.specs.Bytes.{Mem, Wants}
 use Rattle.kx_pages.specs.Lists.{Has}
 use Rattle.list_checker.specs.Walk.{Walk, IsAccepted, links, pairs}
-use Rattle.list_checker.specs.Faults.{Faulty, Faultless, Earlier, nothing_earlier}
+use Rattle.list_checker.specs.Faults.{Faulty, Earlier, nothing_earlier}
+use Rattle.list_checker.specs.inner.Faults.{Faultless}
 
 -- all lists the wanted pages
 pub record ListsWanted (W : Wants) (all : List ℕ) : Type 0 where

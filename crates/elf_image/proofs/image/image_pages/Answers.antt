@@ -7,8 +7,8 @@ use Rattle.elf_image.proofs.Pages.{segments_runs}
 use Rattle.elf_image.proofs.Sound.{exec_sound, image_large, image_made}
 use Rattle.elf_image.proofs.image.image_pages.Goals as goal
 
-pub met_set-requires : goal.met_set-requires
-met_set-requires c =
+pub pages_of-requires : goal.pages_of-requires
+pages_of-requires c =
     let n = length c.args.bytes.now in
     let same : c.deref.result.now ≡ c.args.exec.loads = c.deref.ensures.value ∙ ap (λ (e : Executable). e.loads) c.exec.view_is in
     (n, subst (AreLoads n) (sym same) (exec_sound c.args.bytes.now c.args.exec c.requires).each)
