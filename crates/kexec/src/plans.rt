@@ -47,7 +47,7 @@ fn write_raw<W: Write>(
     }
 }
 
-// A fault of the segments where the kernel's file says where it lies. A segment that is no RAM is one of the kernel's own:
+// A fault of the segments where the kernel's file says where it lies. A segment that is not RAM is one of the kernel's own:
 // every other part of a load is put on whole pages of RAM that nothing else takes.
 fn write_placed<W: Write>(
     fault: &SegFault,

@@ -146,7 +146,7 @@ fn what_the_system_said_is_told(rt: HostRuntime) -> Result<(), Fail> {
             cause: Some(io::Error::from_raw_os_error(*number)),
             hint: None,
         };
-        // A command of the new kernel is no file, whatever it is called.
+        // A command of the new kernel is not a file, whatever it is called.
         let line = "boot --command p m p o k";
         assert!(rt; is_told(&rt, line, status, beside, *wanted)?);
     }

@@ -116,7 +116,7 @@ fn names_the_word_that_is_refused(rt: HostRuntime) -> Result<(), Fail> {
 }
 
 #[test]
-fn tells_what_has_to_be_given(rt: HostRuntime) -> Result<(), Fail> {
+fn tells_what_must_be_given(rt: HostRuntime) -> Result<(), Fail> {
     let alloc = rt.alloc();
     for (line, want) in [
         (
