@@ -50,7 +50,7 @@ impl Display for Notice<'_> {
 
 /// What is known of a refusal beside its status.
 #[derive(Clone, Copy)]
-pub(crate) struct Beside {
+pub(crate) struct Details {
     /// What the system said of the file or the output that failed.
     pub(crate) cause: Option<io::Error>,
     /// What the front of the refused file tells.
@@ -62,7 +62,7 @@ fn notice_of<'a>(
     alloc: Global,
     words: &'a [String],
     status: &'a Status,
-    beside: Beside,
+    details: Details,
 ) -> Notice<'a> {
     let is_usage = matches!(status, Status::Usage { .. });
     if is_usage && asks_for_help(words) {
@@ -77,8 +77,8 @@ fn notice_of<'a>(
         status,
         words,
         answer: read_answer(alloc, words),
-        cause: beside.cause,
-        hint: beside.hint,
+        cause: details.cause,
+        hint: details.hint,
     };
     if !is_usage {
         return Notice::Refusal { report };
@@ -113,7 +113,7 @@ impl<'a> Ending<'a> {
         alloc: Global,
         words: &'a [String],
         status: &'a Status,
-        beside: Beside,
+        details: Details,
     ) -> Ending<'a>
         // The exit status is the one of the answer.
         ensures code { result.code ≡ code_of status.now }
@@ -126,7 +126,7 @@ impl<'a> Ending<'a> {
         let notice = if code == 0 {
             None
         } else {
-            Some(notice_of(alloc, words, status, beside))
+            Some(notice_of(alloc, words, status, details))
         };
         Ending { code, notice }
     }

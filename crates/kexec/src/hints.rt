@@ -83,7 +83,7 @@ pub(crate) fn hint_in(status: &Status, is_memory: bool, front: &[u8]) -> Option<
 }
 
 // The name of the file to look at, and whether it is the memory file.
-fn looked_at<'a>(
+fn file_to_look_at<'a>(
     status: &'a Status,
     file: Option<&'a str>,
     memory: Option<&'a str>,
@@ -117,7 +117,7 @@ pub(crate) fn hint_of<R: Files + AllocGlobal>(
     let answer = read_answer(rt.alloc(), words);
     let memory = text_of(&answer.given, "MEMORY");
     let file = file_of(status, &answer.given).map(|file| file.text);
-    let (name, is_memory) = looked_at(status, file, memory);
+    let (name, is_memory) = file_to_look_at(status, file, memory);
     let mut front = [0u8; FRONT];
     let count = read_front(rt, name?, &mut front);
     hint_in(status, is_memory, front.get(..count)?)

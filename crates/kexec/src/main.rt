@@ -16,7 +16,7 @@ mod words;
 #[cfg(test)]
 mod words_tests;
 
-use ending::{Beside, Ending};
+use ending::{Details, Ending};
 use hints::hint_of;
 use kexec_main::kexec;
 use kx_edge::{HostShelf, StdSink};
@@ -42,9 +42,9 @@ fn main(rt: HostRuntime) -> ExitCode {
     let mut shelf = HostShelf::new(&rt);
     let mut sink = StdSink::new(&rt);
     let status = kexec(rt.alloc(), &words, &mut shelf, &mut sink);
-    let beside = Beside {
+    let details = Details {
         cause: shelf.cause().or(sink.cause()),
         hint: hint_of(&rt, &words, &status),
     };
-    finish(&rt, &Ending::of(rt.alloc(), &words, &status, beside))
+    finish(&rt, &Ending::of(rt.alloc(), &words, &status, details))
 }

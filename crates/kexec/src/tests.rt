@@ -1,4 +1,4 @@
-use crate::ending::{Beside, Ending};
+use crate::ending::{Details, Ending};
 use crate::hints::hint_in;
 use boot_params::ParamsFault;
 use kexec_main::{InputFault, Status, kexec};
@@ -14,7 +14,7 @@ use std::fs;
 use std::io::{self, ErrorKind};
 use std::test::Fail;
 
-const NOTHING: Beside = Beside {
+const NOTHING: Details = Details {
     cause: None,
     hint: None,
 };
@@ -33,11 +33,11 @@ fn is_told(
     rt: &HostRuntime,
     line: &str,
     status: &Status,
-    beside: Beside,
+    details: Details,
     (code, wanted): (u8, &str),
 ) -> Result<bool, Fail> {
     let words = words_of(rt.alloc(), line)?;
-    let ending = Ending::of(rt.alloc(), &words, status, beside);
+    let ending = Ending::of(rt.alloc(), &words, status, details);
     let is_said = match &ending.notice {
         None => wanted.is_empty(),
         Some(notice) => notice.to_string(rt.alloc())?.as_str() == wanted,
@@ -142,13 +142,13 @@ fn what_the_system_said_is_told(rt: HostRuntime) -> Result<(), Fail> {
         ),
     ];
     for (status, number, wanted) in &rows {
-        let beside = Beside {
+        let details = Details {
             cause: Some(io::Error::from_raw_os_error(*number)),
             hint: None,
         };
         // A command of the new kernel is not a file, whatever it is called.
         let line = "boot --command p m p o k";
-        assert!(rt; is_told(&rt, line, status, beside, *wanted)?);
+        assert!(rt; is_told(&rt, line, status, details, *wanted)?);
     }
     Ok(())
 }
