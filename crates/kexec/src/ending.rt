@@ -4,6 +4,7 @@ ghost use Rattle.std.specs.Prelude.{◌≡◌, IsSome, IsNone};
 ghost use Rattle.kexec_main.specs.inner.ExitStatuses.{code_of};
 
 use crate::report::Report;
+use crate::words::WordsError;
 use kexec_main::Status;
 use kexec_usage::{asks_for_help, asks_for_version, meant_of, read_answer};
 use kexec_words::{Help, Usage, help_of, usage_of};
@@ -18,13 +19,13 @@ const NO_WORDS: u8 = 65;
 const VERSION: &str = "\
 Kernelyet 1.0, a kexec over memory files
 proved by rattle-kit-13f, logic dac8208d650f15bf
-kexec --help lists the commands, and kexec COMMAND --help tells what one takes.";
+kexec --help lists the commands, and kexec COMMAND --help describes one.";
 
 /// What is said on standard error.
 #[derive(Drop)]
 pub(crate) enum Notice<'a> {
-    /// The system did not give the words.
-    NoWords,
+    /// Why the system did not give the words.
+    NoWords { error: WordsError },
     /// The version that was asked for.
     Version,
     /// The help that was asked for.
@@ -38,9 +39,7 @@ pub(crate) enum Notice<'a> {
 impl Display for Notice<'_> {
     fn fmt<W: Write>(&self, f: &mut Formatter<W>) -> fmt::Result {
         match self {
-            Notice::NoWords => f.write_str(
-                "kexec: no words: an argument is not text in UTF-8, or there is not enough memory for the arguments",
-            ),
+            Notice::NoWords { error } => write!(f, "kexec: {error}"),
             Notice::Version => f.write_str(VERSION),
             Notice::Help { help } => write!(f, "{help}"),
             Notice::Usage { usage, report } => write!(f, "{usage}\n{report}"),
@@ -51,7 +50,7 @@ impl Display for Notice<'_> {
 
 /// What is known of a refusal beside its status.
 #[derive(Clone, Copy)]
-pub(crate) struct Beside {
+pub(crate) struct Details {
     /// What the system said of the file or the output that failed.
     pub(crate) cause: Option<io::Error>,
     /// What the front of the refused file tells.
@@ -63,7 +62,7 @@ fn notice_of<'a>(
     alloc: Global,
     words: &'a [String],
     status: &'a Status,
-    beside: Beside,
+    details: Details,
 ) -> Notice<'a> {
     let is_usage = matches!(status, Status::Usage { .. });
     if is_usage && asks_for_help(words) {
@@ -78,8 +77,8 @@ fn notice_of<'a>(
         status,
         words,
         answer: read_answer(alloc, words),
-        cause: beside.cause,
-        hint: beside.hint,
+        cause: details.cause,
+        hint: details.hint,
     };
     if !is_usage {
         return Notice::Refusal { report };
@@ -99,13 +98,13 @@ pub(crate) struct Ending<'a> {
 
 impl<'a> Ending<'a> {
     /// The system did not give the words.
-    pub(crate) fn without_words() -> Ending<'a>
+    pub(crate) fn without_words(error: WordsError) -> Ending<'a>
         ensures code { result.code ≡ 65 }
         ensures told { IsSome result.notice }
     {
         Ending {
             code: NO_WORDS,
-            notice: Some(Notice::NoWords),
+            notice: Some(Notice::NoWords { error }),
         }
     }
 
@@ -114,7 +113,7 @@ impl<'a> Ending<'a> {
         alloc: Global,
         words: &'a [String],
         status: &'a Status,
-        beside: Beside,
+        details: Details,
     ) -> Ending<'a>
         // The exit status is the one of the answer.
         ensures code { result.code ≡ code_of status.now }
@@ -127,7 +126,7 @@ impl<'a> Ending<'a> {
         let notice = if code == 0 {
             None
         } else {
-            Some(notice_of(alloc, words, status, beside))
+            Some(notice_of(alloc, words, status, details))
         };
         Ending { code, notice }
     }

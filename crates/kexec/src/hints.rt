@@ -14,17 +14,17 @@ use std::rt::Files;
 /// How many bytes of a file are looked at.
 const FRONT: usize = 4096;
 
-// The program that unpacks a file, by the magic number in front: RFC 1952, section 2.3.1; the .xz file format, section
+// The program that decompresses a file, by the magic number in front: RFC 1952, section 2.3.1; the .xz file format, section
 // 2.1.1.1; RFC 8878, section 3.1.1.
-fn unpack_hint(front: &[u8]) -> Option<&'static str> {
+fn compression_hint(front: &[u8]) -> Option<&'static str> {
     if front.starts_with(&[0x1f, 0x8b]) {
-        return Some("it is packed: unpack it first, by gzip -dc");
+        return Some("it is compressed: decompress it first, with gzip -dc");
     }
     if front.starts_with(b"\xfd7zXZ\0") {
-        return Some("it is packed: unpack it first, by xz -dc");
+        return Some("it is compressed: decompress it first, with xz -dc");
     }
     if front.starts_with(&[0x28, 0xb5, 0x2f, 0xfd]) {
-        return Some("it is packed: unpack it first, by zstd -dc");
+        return Some("it is compressed: decompress it first, with zstd -dc");
     }
     None
 }
@@ -50,7 +50,7 @@ fn is_unmarked(fault: &PlanFault) -> bool {
 // A line ends with a carriage return, which no text file here may have.
 fn line_hint(front: &[u8]) -> Option<&'static str> {
     if front.contains(&b'\r') {
-        Some("its lines end with carriage returns: take them off, by tr -d '\\r'")
+        Some("its lines end with carriage returns: remove these with tr -d '\\r'")
     } else {
         None
     }
@@ -67,7 +67,7 @@ fn memory_hint(front: &[u8]) -> Option<&'static str> {
 /// What these first bytes of the refused file tell.
 pub(crate) fn hint_in(status: &Status, is_memory: bool, front: &[u8]) -> Option<&'static str> {
     match status {
-        Status::Plan { fault } if is_unmarked(fault) => unpack_hint(front),
+        Status::Plan { fault } if is_unmarked(fault) => compression_hint(front),
         Status::Input { fault } => match fault {
             InputFault::Mem { .. } => memory_hint(front),
             InputFault::Rec { .. } => None,
@@ -83,7 +83,7 @@ pub(crate) fn hint_in(status: &Status, is_memory: bool, front: &[u8]) -> Option<
 }
 
 // The name of the file to look at, and whether it is the memory file.
-fn looked_at<'a>(
+fn file_to_look_at<'a>(
     status: &'a Status,
     file: Option<&'a str>,
     memory: Option<&'a str>,
@@ -117,7 +117,7 @@ pub(crate) fn hint_of<R: Files + AllocGlobal>(
     let answer = read_answer(rt.alloc(), words);
     let memory = text_of(&answer.given, "MEMORY");
     let file = file_of(status, &answer.given).map(|file| file.text);
-    let (name, is_memory) = looked_at(status, file, memory);
+    let (name, is_memory) = file_to_look_at(status, file, memory);
     let mut front = [0u8; FRONT];
     let count = read_front(rt, name?, &mut front);
     hint_in(status, is_memory, front.get(..count)?)

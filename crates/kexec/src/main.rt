@@ -12,19 +12,16 @@ mod remedies;
 mod report;
 #[cfg(test)]
 mod tests;
+mod words;
+#[cfg(test)]
+mod words_tests;
 
-use ending::{Beside, Ending};
+use ending::{Details, Ending};
 use hints::hint_of;
 use kexec_main::kexec;
 use kx_edge::{HostShelf, StdSink};
-use std::env::Env;
 use std::process::ExitCode;
-use std::{env, io};
-
-// The words after the program's name.
-fn read_words(rt: &(impl Env + AllocGlobal)) -> io::Result<Vec<String>> {
-    Ok(env::args(rt)?.skip(1).collect(rt.alloc())?)
-}
+use words::read_words;
 
 // Says what there is to say on standard error, and gives the exit status. Where standard error takes nothing, the status
 // stays what it is.
@@ -38,15 +35,16 @@ fn finish(rt: &impl Eprint, ending: &Ending<'_>) -> ExitCode
 }
 
 fn main(rt: HostRuntime) -> ExitCode {
-    let Ok(words) = read_words(&rt) else {
-        return finish(&rt, &Ending::without_words());
+    let words = match read_words(&rt) {
+        Ok(words) => words,
+        Err(error) => return finish(&rt, &Ending::without_words(error)),
     };
     let mut shelf = HostShelf::new(&rt);
     let mut sink = StdSink::new(&rt);
     let status = kexec(rt.alloc(), &words, &mut shelf, &mut sink);
-    let beside = Beside {
+    let details = Details {
         cause: shelf.cause().or(sink.cause()),
         hint: hint_of(&rt, &words, &status),
     };
-    finish(&rt, &Ending::of(rt.alloc(), &words, &status, beside))
+    finish(&rt, &Ending::of(rt.alloc(), &words, &status, details))
 }

@@ -34,20 +34,20 @@ fn write_raw<W: Write>(
     match fault {
         SegFault::BadAddress { i: 0 } => write!(
             f,
-            "--at {at}: a raw kernel must begin at a multiple of 1000 and end below 400000000000, both in hexadecimal"
+            "--at {at}: a raw kernel must begin at a multiple of 0x1000 and end below 0x400000000000"
         ),
         SegFault::NotRam { i: 0 } => {
             let map = map_of(given);
             write!(
                 f,
-                "--at {at}: the kernel has a page there that is no System RAM of the memory map {map:?}"
+                "--at {at}: the kernel has a page there that is not System RAM in the memory map {map:?}"
             )
         }
         fault => write!(f, "the kernel at --at {at} cannot be placed: {fault}"),
     }
 }
 
-// A fault of the segments where the kernel's file says where it lies. A segment that is no RAM is one of the kernel's own:
+// A fault of the segments where the kernel's file says where it lies. A segment that is not RAM is one of the kernel's own:
 // every other part of a load is put on whole pages of RAM that nothing else takes.
 fn write_placed<W: Write>(
     fault: &SegFault,
@@ -56,7 +56,7 @@ fn write_placed<W: Write>(
 ) -> fmt::Result {
     match fault {
         SegFault::TooMany => f.write_str(
-            "the kernel and the parts beside it have more than 16 segments",
+            "the kernel and the parts loaded with it have more than 16 segments",
         ),
         SegFault::NotRam { i } => {
             let map = map_of(given);
@@ -67,7 +67,7 @@ fn write_placed<W: Write>(
         }
         SegFault::TooLarge { pages } => write!(
             f,
-            "the kernel and the parts beside it have {pages} pages together, and at most 65536 are allowed"
+            "the kernel and the parts loaded with it have {pages} pages together, and at most 65536 are allowed"
         ),
         fault => write!(f, "the kernel cannot be placed: {fault}"),
     }
@@ -81,7 +81,7 @@ fn write_option<W: Write>(option: &str, text: Option<&str>, f: &mut Formatter<W>
     }
 }
 
-// What this option or word gives, which kernels of this type take none of.
+// What this option or word gives, and kernels of this type do not take.
 fn write_none_taken<W: Write>(
     option: &str,
     what: &str,
@@ -93,19 +93,19 @@ fn write_none_taken<W: Write>(
         Some(kind) if kind != "auto" => write!(f, "a kernel of type {kind} takes no {what}"),
         _ => write!(
             f,
-            "a kernel of the type of {:?} takes no {what}",
+            "the kernel {:?} is of a type that takes no {what}",
             text_of(given, "KERNEL").unwrap_or("")
         ),
     }
 }
 
-// A part that kernels of this type take none of.
+// A part that kernels of this type do not take.
 fn write_unused<W: Write>(part: &Part, given: &[Given<'_>], f: &mut Formatter<W>) -> fmt::Result {
     match part {
         Part::Initrd => write_none_taken("--initrd", "initrd", given, f),
         Part::Module => write_none_taken("MODULES", "module", given, f),
         Part::Command => write_none_taken("--command", "command line", given, f),
-        part => write!(f, "{part} is given, and a kernel of this type takes none"),
+        part => write!(f, "{part} is given, but a kernel of this type takes none"),
     }
 }
 
@@ -130,7 +130,7 @@ pub(crate) fn write_plan<W: Write>(
         }
         PlanFault::Unused { part } => write_unused(part, given, f),
         PlanFault::NoReserved => f.write_str(
-            "the memory map has no line Crash kernel with a whole page: boot the kernel whose map this is, the one that runs now, with crashkernel=",
+            "the memory map has no line Crash kernel with a whole page: boot the running kernel, whose map this is, with crashkernel=",
         ),
         fault => write!(f, "{fault}"),
     }

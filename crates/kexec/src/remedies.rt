@@ -23,7 +23,7 @@ fn elf_remedy(fault: &ElfFault, wanted: &'static str) -> Option<&'static str> {
 fn bzimage_remedy(fault: &BzFault) -> Option<&'static str> {
     match fault {
         BzFault::OldVersion { .. } | BzFault::No64Entry | BzFault::NotRelocatable => {
-            Some("take a kernel for x86-64, Linux 3.8 or later, with CONFIG_RELOCATABLE")
+            Some("use a kernel for x86-64, Linux 3.8 or later, built with CONFIG_RELOCATABLE")
         }
         _ => None,
     }
@@ -40,7 +40,7 @@ fn link_remedy(fault: &LinkFault) -> Option<&'static str> {
         LinkFault::UnknownReloc { .. } | LinkFault::DoesNotFit { .. } => {
             Some("compile it with -fno-pic -mcmodel=large")
         }
-        LinkFault::Undefined { .. } => Some("link all its objects into one by ld -r"),
+        LinkFault::Undefined { .. } => Some("link all its objects into one with ld -r"),
         LinkFault::Common { .. } => Some("compile it with -fno-common"),
         _ => None,
     }
@@ -49,10 +49,10 @@ fn link_remedy(fault: &LinkFault) -> Option<&'static str> {
 fn params_remedy(fault: &ParamsFault, is_crash: bool) -> Option<&'static str> {
     match fault {
         ParamsFault::TooManyRanges { .. } => {
-            Some("join ranges of the map that touch, or leave small ones out")
+            Some("join adjacent ranges of the map, or leave small ones out")
         }
         ParamsFault::CommandTooLong { .. } if is_crash => {
-            Some("the word elfcorehdr= counts too, which is added to it")
+            Some("the parameter elfcorehdr=, which is added to it, counts too")
         }
         _ => None,
     }
@@ -62,11 +62,11 @@ fn plan_remedy(fault: &PlanFault, is_crash: bool) -> Option<&'static str> {
     match fault {
         PlanFault::Elf { fault } => elf_remedy(
             fault,
-            "a kernel must be an executable (ET_EXEC), in ELF64 for x86-64",
+            "a kernel must be an ELF64 executable (ET_EXEC) for x86-64",
         ),
         PlanFault::Object { fault } => elf_remedy(
             fault,
-            "a purgatory must be an object (ET_REL), in ELF64 for x86-64",
+            "a purgatory must be an ELF64 object (ET_REL) for x86-64",
         ),
         PlanFault::Bzimage { fault } => bzimage_remedy(fault),
         PlanFault::Link { fault } => link_remedy(fault),
@@ -85,11 +85,11 @@ fn input_remedy(fault: &InputFault) -> Option<&'static str> {
     match fault {
         InputFault::Rec {
             fault: RecFault::WrongDigest { .. },
-        } => Some("load the kernel again, or fetch the load record again"),
+        } => Some("load the kernel again, or copy the load record again"),
         InputFault::Pool {
             fault: PoolFault::PastLimit { .. } | PoolFault::TooMany { .. },
         } => Some(
-            "a pool has page numbers, not addresses: leave the last three digits of an address out",
+            "a pool lists page numbers, not addresses: leave out the last three digits of an address",
         ),
         _ => None,
     }
@@ -106,7 +106,7 @@ fn resident_remedy(fault: &ResidentFault) -> Option<&'static str> {
 fn core_remedy(fault: &CoreFault) -> Option<&'static str> {
     match fault {
         CoreFault::NotHeaders => Some(
-            "load-panic puts them at N times 1024, in hexadecimal, where the kernel's command ends with elfcorehdr=NK",
+            "load-panic puts them at N times 1024, where the kernel's command line ends with elfcorehdr=NK; ADDRESS is hexadecimal",
         ),
         CoreFault::TooLarge { .. } => {
             Some("load the crash kernel with a memory map that has less System RAM")
@@ -120,7 +120,7 @@ fn core_remedy(fault: &CoreFault) -> Option<&'static str> {
 pub(crate) fn budget_remedy(word: &str) -> Option<&'static str> {
     match word {
         "KERNEL" | "--initrd" | "MODULES" => Some(
-            "the kernel, the initrd and the modules have 268435456 bytes together",
+            "the kernel, the initrd and the modules may have 268435456 bytes together",
         ),
         _ => None,
     }

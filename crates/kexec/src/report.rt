@@ -21,10 +21,10 @@ pub(crate) struct Report<'a> {
     pub(crate) hint: Option<&'static str>,
 }
 
-// Standard output failed. A reader that has ended, as `head` does, is no want of room.
+// Standard output failed. A reader that has closed the pipe, as `head` does, is not a want of room.
 fn write_unsaid<W: Write>(cause: io::Error, f: &mut Formatter<W>) -> fmt::Result {
     if cause.kind() == ErrorKind::BrokenPipe {
-        return f.write_str("standard output cannot be written: its reader has ended");
+        return f.write_str("standard output cannot be written: its reader has closed the pipe");
     }
     write!(f, "standard output cannot be written: {cause}")
 }
@@ -34,7 +34,7 @@ fn write_below<W: Write>(pool: u64, need: u64, limit: &str, f: &mut Formatter<W>
     let more = need.saturating_sub(pool);
     write!(
         f,
-        "the pool has too few usable pages below --below {limit}: {pool} where the load takes {need}; give it at least {more} more there, or raise the limit"
+        "the pool has too few usable pages below the limit {limit}: {pool} where the load takes {need}; give it at least {more} more there, or raise --below"
     )
 }
 

@@ -1,4 +1,4 @@
-use crate::ending::{Beside, Ending};
+use crate::ending::{Details, Ending};
 use crate::hints::hint_in;
 use boot_params::ParamsFault;
 use kexec_main::{InputFault, Status, kexec};
@@ -14,7 +14,7 @@ use std::fs;
 use std::io::{self, ErrorKind};
 use std::test::Fail;
 
-const NOTHING: Beside = Beside {
+const NOTHING: Details = Details {
     cause: None,
     hint: None,
 };
@@ -33,11 +33,11 @@ fn is_told(
     rt: &HostRuntime,
     line: &str,
     status: &Status,
-    beside: Beside,
+    details: Details,
     (code, wanted): (u8, &str),
 ) -> Result<bool, Fail> {
     let words = words_of(rt.alloc(), line)?;
-    let ending = Ending::of(rt.alloc(), &words, status, beside);
+    let ending = Ending::of(rt.alloc(), &words, status, details);
     let is_said = match &ending.notice {
         None => wanted.is_empty(),
         Some(notice) => notice.to_string(rt.alloc())?.as_str() == wanted,
@@ -137,18 +137,18 @@ fn what_the_system_said_is_told(rt: HostRuntime) -> Result<(), Fail> {
             32,
             (
                 5,
-                "kexec: standard output cannot be written: its reader has ended",
+                "kexec: standard output cannot be written: its reader has closed the pipe",
             ),
         ),
     ];
     for (status, number, wanted) in &rows {
-        let beside = Beside {
+        let details = Details {
             cause: Some(io::Error::from_raw_os_error(*number)),
             hint: None,
         };
-        // A command of the new kernel is no file, whatever it is called.
+        // A command of the new kernel is not a file, whatever it is called.
         let line = "boot --command p m p o k";
-        assert!(rt; is_told(&rt, line, status, beside, *wanted)?);
+        assert!(rt; is_told(&rt, line, status, details, *wanted)?);
     }
     Ok(())
 }
@@ -162,7 +162,7 @@ fn a_file_that_is_too_long_is_told_with_its_limit(rt: HostRuntime) -> Result<(),
         ),
         (
             "i",
-            "kexec: --initrd \"i\" is longer than 9 bytes, which is the most that it can have here; the kernel, the initrd and the modules have 268435456 bytes together",
+            "kexec: --initrd \"i\" is longer than 9 bytes, which is the most that it can have here; the kernel, the initrd and the modules may have 268435456 bytes together",
         ),
     ];
     for (name, wanted) in rows {
@@ -181,7 +181,7 @@ fn the_pool_below_a_limit_is_told(rt: HostRuntime) -> Result<(), Fail> {
     let status = Status::NoPages { pool: 2, need: 5 };
     let wanted = (
         9,
-        "kexec: POOL \"p\": the pool has too few usable pages below --below 100000: 2 where the load takes 5; give it at least 3 more there, or raise the limit",
+        "kexec: POOL \"p\": the pool has too few usable pages below the limit 100000: 2 where the load takes 5; give it at least 3 more there, or raise --below",
     );
     let line = "boot --below 100000 m p o k";
     assert!(rt; is_told(&rt, line, &status, NOTHING, wanted)?);
@@ -201,7 +201,7 @@ fn a_refused_file_is_named(rt: HostRuntime) -> Result<(), Fail> {
             input(InputFault::Pool {
                 fault: PoolFault::PastLimit { line: 2 },
             }),
-            "kexec: POOL \"p\": line 2 of the pool file names a page that is not below 0x400000000; a pool has page numbers, not addresses: leave the last three digits of an address out",
+            "kexec: POOL \"p\": line 2 of the pool file names a page that is not below 0x400000000; a pool lists page numbers, not addresses: leave out the last three digits of an address",
         ),
         (
             input(InputFault::Map {
@@ -251,20 +251,6 @@ fn a_request_without_a_plan_says_what_is_in_the_way(rt: HostRuntime) -> Result<(
     Ok(())
 }
 
-// Asked for, the help is all that is said; the status is that of words that are refused.
-#[test]
-fn without_words_there_is_a_sentence(rt: HostRuntime) -> Result<(), Fail> {
-    let ending = Ending::without_words();
-    assert_eq!(rt; ending.code, 65);
-    let notice = ending.notice.ok_or("a sentence")?;
-    let text = notice.to_string(rt.alloc())?;
-    assert_eq!(rt;
-        text.as_str(),
-        "kexec: no words: an argument is not text in UTF-8, or there is not enough memory for the arguments"
-    );
-    Ok(())
-}
-
 // Magic numbers of RFC 1952, the .xz file format and RFC 8878.
 #[test]
 fn the_front_of_a_file_tells_its_kind(rt: HostRuntime) {
@@ -278,9 +264,9 @@ fn the_front_of_a_file_tells_its_kind(rt: HostRuntime) {
     let pool = input(InputFault::Pool {
         fault: PoolFault::BadLine { line: 1 },
     });
-    let gzip = Some("it is packed: unpack it first, by gzip -dc");
-    let xz = Some("it is packed: unpack it first, by xz -dc");
-    let zstd = Some("it is packed: unpack it first, by zstd -dc");
+    let gzip = Some("it is compressed: decompress it first, with gzip -dc");
+    let xz = Some("it is compressed: decompress it first, with xz -dc");
+    let zstd = Some("it is compressed: decompress it first, with zstd -dc");
     let rows: [(&Status, &[u8], Option<&str>); 11] = [
         (&unknown, &[0x1f, 0x8b, 8], gzip),
         (&unknown, &[0xfd, 0x37, 0x7a, 0x58, 0x5a, 0], xz),
@@ -291,7 +277,7 @@ fn the_front_of_a_file_tells_its_kind(rt: HostRuntime) {
         (
             &map,
             b"0-fff : System RAM\r\n",
-            Some("its lines end with carriage returns: take them off, by tr -d '\\r'"),
+            Some("its lines end with carriage returns: remove these with tr -d '\\r'"),
         ),
         (
             &memory,
@@ -302,7 +288,7 @@ fn the_front_of_a_file_tells_its_kind(rt: HostRuntime) {
         (
             &pool,
             b"10-13\r\n",
-            Some("its lines end with carriage returns: take them off, by tr -d '\\r'"),
+            Some("its lines end with carriage returns: remove these with tr -d '\\r'"),
         ),
         (&pool, b"10 13\n", None),
     ];

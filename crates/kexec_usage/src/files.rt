@@ -2,7 +2,7 @@
 
 ghost use Rattle.std.specs.Prelude.{◌≡◌, map, option_map};
 ghost use Rattle.kexec_usage.specs.inner.Words.{given_value};
-ghost use Rattle.kexec_usage.specs.inner.Files.{file_with, other_with, is_written, shared_among, shared_value};
+ghost use Rattle.kexec_usage.specs.inner.Files.{file_with, other_with, is_written, first_shared_file, shared_value};
 
 use crate::given::Given;
 use kexec_words::Kind;
@@ -45,9 +45,9 @@ fn is_written(kind: Kind) -> bool
 }
 
 // The first of these files that is written and has the text of another of all that are given, and that one's name.
-fn shared_among<'a>(files: &[Given<'a>], given: &[Given<'a>]) -> Option<(Given<'a>, &'a str)>
+fn first_shared_file<'a>(files: &[Given<'a>], given: &[Given<'a>]) -> Option<(Given<'a>, &'a str)>
     ensures { option_map shared_value result
-        ≡ shared_among (map given_value files.now) (map given_value given.now) }
+        ≡ first_shared_file (map given_value files.now) (map given_value given.now) }
 {
     let (first, rest) = files.split_first()?;
     if is_written(first.kind) {
@@ -55,13 +55,13 @@ fn shared_among<'a>(files: &[Given<'a>], given: &[Given<'a>]) -> Option<(Given<'
             return Some((*first, other));
         }
     }
-    shared_among(rest, given)
+    first_shared_file(rest, given)
 }
 
 /// The first file that is written and has the text of another file, and that one's name.
-pub(crate) fn shared<'a>(given: &[Given<'a>]) -> Option<(Given<'a>, &'a str)>
+pub(crate) fn shared_file<'a>(given: &[Given<'a>]) -> Option<(Given<'a>, &'a str)>
     ensures { option_map shared_value result
-        ≡ shared_among (map given_value given.now) (map given_value given.now) }
+        ≡ first_shared_file (map given_value given.now) (map given_value given.now) }
 {
-    shared_among(given, given)
+    first_shared_file(given, given)
 }

@@ -2,7 +2,7 @@
 
 ghost use Rattle.std.specs.Prelude.{◌≡◌, IfOk, map, option_map, string_bytes, is_some};
 ghost use Rattle.kexec_words.specs.inner.Table.{argument_value, argument_values};
-ghost use Rattle.kexec_usage.specs.inner.Reading.{reading_value, mistake_value, answer_value, is_option, split_value, value_step, word_step, flag_step, valued_step, known_step, option_step, awaited_step, free_step, step, want, begun, reading_of, rest_of, answer_of, IsRead};
+ghost use Rattle.kexec_usage.specs.inner.Reading.{reading_value, mistake_value, answer_value, is_option, split_value, value_step, word_step, flag_step, valued_step, known_step, option_step, awaited_step, free_step, step, want, reading_start, reading_of, rest_of, answer_of, IsRead};
 ghost use Rattle.kexec_usage.specs.inner.Words.{given_value, text_in};
 
 use crate::lookup::{is_repeated, next_word, option_in};
@@ -181,7 +181,7 @@ impl<'a> Reading<'a> {
         self.push(argument, word)
     }
 
-    // A word that is no value of an option, before two hyphens.
+    // A word that is not a value of an option, before two hyphens.
     fn read_free(&mut self, word: &'a str) -> Result<Option<Mistake<'a>>, AllocError>
         ensures { IfOk result (λ m. (reading_value self.new, option_map mistake_value m)
             ≡ free_step (reading_value self.old) word.now) }
@@ -234,7 +234,7 @@ fn read_given<'a>(
     words: &'a [String],
 ) -> Result<Answer<'a>, AllocError>
     ensures { IfOk result (λ a. answer_value a
-        ≡ reading_of (begun (argument_values arguments.now)) (map string_bytes words.now)) }
+        ≡ reading_of (reading_start (argument_values arguments.now)) (map string_bytes words.now)) }
 {
     let mut reading = Reading {
         arguments,

@@ -11,7 +11,7 @@ use crate::old_words::{command_for, has_no_counterpart, option_for};
 use kexec_words::{Argument, UsageWhy, Which, arguments_of};
 use std::fmt::{self, Display, Formatter, Write};
 
-// The sign is no part of a number.
+// A sign is not part of a number.
 const UNSIGNED: &str = "a number must have no sign";
 
 fn write_command<W: Write>(
@@ -61,13 +61,13 @@ fn write_unknown<W: Write>(
     if let Some(other) = counterpart_of(arguments, option) {
         return write!(
             f,
-            "{option} is not an option of this command; {other} stands for it"
+            "{option} is not an option of this command: the option here is {other}"
         );
     }
     if has_no_counterpart(option) {
         return write!(
             f,
-            "{option} is not an option of this command; that of kexec(8) has no counterpart here"
+            "{option} is not an option of this command: the option of kexec(8) has no counterpart here"
         );
     }
     write!(f, "{option:?} is not an option of this command")?;
@@ -85,7 +85,7 @@ fn write_no_value<W: Write>(
     let name = argument.name;
     match next {
         Some(word) if argument.kind.is_number() && is_signed(word) => {
-            write!(f, "{name}: {word:?} is given, and {UNSIGNED}")
+            write!(f, "{name}: {word:?} is given, but {UNSIGNED}")
         }
         _ => {
             let value = argument.value;
@@ -104,14 +104,14 @@ fn write_mistake<W: Write>(
         Mistake::Unknown { option } => write_unknown(arguments, option, f),
         Mistake::Again { argument } => {
             let name = argument.name;
-            write!(f, "{name} is given twice, and may be given once")
+            write!(f, "{name} is given twice: give it once")
         }
         Mistake::NoValue { argument, next } => write_no_value(argument, *next, f),
         Mistake::HasValue { argument } => {
             let name = argument.name;
-            write!(f, "{name} takes no value, and must stand alone")
+            write!(f, "{name} takes no value: leave out = and the value")
         }
-        Mistake::Surplus { word } => write!(f, "{word:?} is an argument too many"),
+        Mistake::Surplus { word } => write!(f, "{word:?} is one argument too many"),
         Mistake::Missing { argument } => {
             let name = argument.name;
             write!(f, "{name} is missing")
@@ -158,7 +158,10 @@ fn write_same_name<W: Write>(given: &[Given<'_>], f: &mut Formatter<W>) -> fmt::
 // The words that may be given several times.
 fn write_modules<W: Write>(given: &[Given<'_>], f: &mut Formatter<W>) -> fmt::Result {
     let count = given.iter().filter(|one| one.name == "MODULES").count();
-    write!(f, "{count} modules are given, and a kernel gets at most 12")
+    write!(
+        f,
+        "{count} modules are given, but a kernel takes at most 12"
+    )
 }
 
 /// Why words are refused, as a sentence that names the word which stood there.

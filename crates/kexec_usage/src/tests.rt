@@ -44,7 +44,7 @@ fn names_the_word_that_is_refused(rt: HostRuntime) -> Result<(), Fail> {
         ("check m r", ""),
         ("boot m", "POOL is missing"),
         ("load-panic --map f m o r", "KERNEL is missing"),
-        ("check m r more", "\"more\" is an argument too many"),
+        ("check m r more", "\"more\" is one argument too many"),
         (
             "boot --reset m p o k",
             "\"--reset\" is not an option of this command",
@@ -55,15 +55,15 @@ fn names_the_word_that_is_refused(rt: HostRuntime) -> Result<(), Fail> {
         ),
         (
             "boot --append=q m p o k",
-            "--append is not an option of this command; --command stands for it",
+            "--append is not an option of this command: the option here is --command",
         ),
         (
             "load --load-preserve-context m p o r k",
-            "--load-preserve-context is not an option of this command; --kept stands for it",
+            "--load-preserve-context is not an option of this command: the option here is --kept",
         ),
         (
             "boot --at 1000 --at=2000 m p o k",
-            "--at is given twice, and may be given once",
+            "--at is given twice: give it once",
         ),
         ("boot m p o k --map", "--map needs a value: --map FILE"),
         (
@@ -72,7 +72,7 @@ fn names_the_word_that_is_refused(rt: HostRuntime) -> Result<(), Fail> {
         ),
         (
             "load --kept=1 m p o r k",
-            "--kept takes no value, and must stand alone",
+            "--kept takes no value: leave out = and the value",
         ),
         ("exec -- --twice m", "OUT is missing"),
         ("boot-resident m p o k", "PAIRS is missing"),
@@ -82,19 +82,19 @@ fn names_the_word_that_is_refused(rt: HostRuntime) -> Result<(), Fail> {
         ),
         (
             "trace - o 4 ten",
-            "LIMIT is not a decimal number of 1 to 9 digits, at most 100000000: \"ten\" is given",
+            "LIMIT must be a decimal number of 1 to 9 digits, at most 100000000: \"ten\" is given",
         ),
         (
             "boot --type raw --at 0X2000 m p o k",
-            "--at is not a hexadecimal number of 1 to 16 digits: \"0X2000\" is given; leave out 0x",
+            "--at must be a hexadecimal number of 1 to 16 digits: \"0X2000\" is given; leave out 0x",
         ),
         (
             "boot --type raw --at=-1 m p o k",
-            "--at is not a hexadecimal number of 1 to 16 digits: \"-1\" is given; a number must have no sign",
+            "--at must be a hexadecimal number of 1 to 16 digits: \"-1\" is given; a number must have no sign",
         ),
         (
             "boot --type raw --at -1 m p o k",
-            "--at: \"-1\" is given, and a number must have no sign",
+            "--at: \"-1\" is given, but a number must have no sign",
         ),
         (
             "trace m o 4 -1",
@@ -102,11 +102,11 @@ fn names_the_word_that_is_refused(rt: HostRuntime) -> Result<(), Fail> {
         ),
         (
             "boot --reuse-cmdline m p o k",
-            "--reuse-cmdline is not an option of this command; that of kexec(8) has no counterpart here",
+            "--reuse-cmdline is not an option of this command: the option of kexec(8) has no counterpart here",
         ),
         (
             "sample 0x10",
-            "NUMBER is not a decimal number of 1 to 18 digits: \"0x10\" is given",
+            "NUMBER must be a decimal number of 1 to 18 digits: \"0x10\" is given",
         ),
     ] {
         let said = sentence(alloc, line)?;
@@ -116,7 +116,7 @@ fn names_the_word_that_is_refused(rt: HostRuntime) -> Result<(), Fail> {
 }
 
 #[test]
-fn tells_what_has_to_be_given(rt: HostRuntime) -> Result<(), Fail> {
+fn tells_what_must_be_given(rt: HostRuntime) -> Result<(), Fail> {
     let alloc = rt.alloc();
     for (line, want) in [
         (
@@ -133,7 +133,7 @@ fn tells_what_has_to_be_given(rt: HostRuntime) -> Result<(), Fail> {
         ),
         (
             "boot --map f m p o k 1 2 3 4 5 6 7 8 9 10 11 12 13 14",
-            "14 modules are given, and a kernel gets at most 12",
+            "14 modules are given, but a kernel takes at most 12",
         ),
         (
             "boot --map f m p f k",
@@ -145,11 +145,11 @@ fn tells_what_has_to_be_given(rt: HostRuntime) -> Result<(), Fail> {
         ),
         (
             "boot --type raw m p o k",
-            "--at ADDRESS is needed, the address of a raw kernel",
+            "--at ADDRESS is missing: a raw kernel has no address of its own",
         ),
         (
             "boot-resident m p o k q",
-            "--at ADDRESS is needed, the address of a raw kernel",
+            "--at ADDRESS is missing: a raw kernel has no address of its own",
         ),
         (
             "drill m p o o",
@@ -158,7 +158,7 @@ fn tells_what_has_to_be_given(rt: HostRuntime) -> Result<(), Fail> {
         ("core m 2000 2000", ""),
         (
             "boot m p o k",
-            "--map FILE is needed: only boot and load with --type raw, and without --purgatory, go without a memory map; `cat /proc/iomem`, as root, prints the map of this machine",
+            "--map FILE is missing: only boot and load with --type raw and without --purgatory go without a memory map; `cat /proc/iomem`, as root, prints the map of this machine",
         ),
     ] {
         let said = sentence(alloc, line)?;

@@ -74,6 +74,8 @@ pub(crate) fn read_boot_resident(
     ensures { Answers boot_resident_value
         (answer_by boot_resident_app boot_resident_in (map string_bytes words.now)) result }
 {
-    let matches = matches_for(alloc, "boot-resident", BOOT_RESIDENT, words)?;
-    boot_resident_in(alloc, &matches)
+    match matches_for(alloc, "boot-resident", BOOT_RESIDENT, words) {
+        Ok(matches) => boot_resident_in(alloc, &matches),
+        Err(fault) => Err(fault),
+    }
 }

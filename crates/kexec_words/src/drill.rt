@@ -61,6 +61,8 @@ pub(crate) fn read_drill(alloc: Global, words: &[String]) -> Result<Drill, Words
     ensures { Answers drill_value
         (answer_by drill_app drill_in (map string_bytes words.now)) result }
 {
-    let matches = matches_for(alloc, "drill", DRILL, words)?;
-    drill_in(alloc, &matches)
+    match matches_for(alloc, "drill", DRILL, words) {
+        Ok(matches) => drill_in(alloc, &matches),
+        Err(fault) => Err(fault),
+    }
 }

@@ -10,7 +10,7 @@ use std::alloc::AllocError;
 use std::fmt::{self, Display, Formatter, Write};
 use thiserror::Error;
 
-/// The option or the word whose text has not its form, in the order in which they are tried.
+/// The option or the word whose text does not have its form, in the order in which they are tried.
 #[derive(Clone, Copy, Debug, PartialEq, Eq)]
 pub enum Which {
     /// `--type`: raw, elf, bzimage or multiboot.
@@ -41,11 +41,11 @@ pub enum UsageWhy {
     /// There is no word, or the first one names no command.
     #[error("the first argument must be a command: boot, load, load-panic, check, dump, exec, trace, migrate, sample, boot-resident, drill or core")]
     Command,
-    /// The words after the first are not those that the command takes; asking for help is such a refusal.
-    #[error("the arguments after the command are not those that it takes")]
+    /// The command does not take the words after it; asking for help is such a refusal.
+    #[error("the command does not take the arguments after it")]
     Parse,
-    /// A number or a type has not its form.
-    #[error("{which} is not {form}", form = .which.form())]
+    /// A number or a type does not have its form.
+    #[error("{which} must be {form}", form = .which.form())]
     Number { which: Which },
     /// There are more than 12 modules.
     #[error("more than 12 modules are given")]
@@ -54,10 +54,10 @@ pub enum UsageWhy {
     #[error("an output file has the name of an input file or of the other output file")]
     SameName,
     /// `--at` is not given, and the type is raw or the command is `boot-resident`.
-    #[error("--at ADDRESS is needed, the address of a raw kernel")]
+    #[error("--at ADDRESS is missing: a raw kernel has no address of its own")]
     NeedsAt,
     /// `--map` is not given, and the command is `load-panic` or `drill`, the type is not raw, or there is a purgatory.
-    #[error("--map FILE is needed: only boot and load with --type raw, and without --purgatory, go without a memory map")]
+    #[error("--map FILE is missing: only boot and load with --type raw and without --purgatory go without a memory map")]
     NeedsMap,
 }
 
@@ -91,20 +91,20 @@ impl Which {
         }
     }
 
-    // The form that is wanted.
+    // The form that it must have.
     fn form(self) -> &'static str {
         match self {
             Which::Type => TYPE_WORDS,
             Which::Kept => RUNS_WORDS,
             Which::At | Which::Entry | Which::Head => "a hexadecimal number of 1 to 16 digits",
             Which::Below =>
-                "a limit of addresses: 1 to 16 hexadecimal digits, a multiple of 0x1000 up to 0x400000000000",
+                "a hexadecimal number of 1 to 16 digits, a multiple of 0x1000 up to 0x400000000000",
             Which::Swap =>
-                "the address of a page: 1 to 16 hexadecimal digits, a multiple of 0x1000 below 0x400000000000",
+                "a hexadecimal number of 1 to 16 digits, a multiple of 0x1000 below 0x400000000000",
             Which::Limit => "a decimal number of 1 to 9 digits, at most 100000000",
             Which::Number => "a decimal number of 1 to 18 digits",
             Which::Address =>
-                "the address of crash headers: 1 to 16 hexadecimal digits, a multiple of 8 below 0x400000000000",
+                "a hexadecimal number of 1 to 16 digits, a multiple of 8 below 0x400000000000",
         }
     }
 }

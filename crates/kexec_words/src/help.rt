@@ -86,7 +86,7 @@ fn write_notes<W: Write>(notes: &[&str], f: &mut Formatter<W>) -> fmt::Result {
     Ok(())
 }
 
-// What is said of a command behind its usage line.
+// What is said of a command after its usage line.
 fn write_command<W: Write>(name: Name, f: &mut Formatter<W>) -> fmt::Result {
     let text = text_by(name);
     let arguments = arguments_by(name);
@@ -118,7 +118,7 @@ fn write_program<W: Write>(f: &mut Formatter<W>) -> fmt::Result {
     write_paragraph(texts::PROGRAM, f)?;
     write_commands(f)?;
     write_files(f)?;
-    f.write_str("\n\nkexec COMMAND --help tells what a command takes.")
+    f.write_str("\n\nkexec COMMAND --help describes a command.")
 }
 
 impl Display for Usage {

@@ -15,7 +15,7 @@ pub(crate) const RUNS: Argument = Argument {
     form: Form::Value,
     kind: Kind::Choice,
     what: RUNS_WORDS,
-    text: "preserve context and run the list so many times: into the new kernel, and for 2 back again; default: one run in plain mode",
+    text: "preserve context and run the list this many times: into the new kernel, and with 2 back again; default: one run in plain mode",
 };
 
 pub(crate) const KEPT: Argument = Argument {
@@ -35,7 +35,7 @@ pub(crate) const BELOW: Argument = Argument {
     form: Form::Value,
     kind: Kind::Address,
     what: "",
-    text: "take only pages of the pool that lie below this address, a multiple of 0x1000 up to 0x400000000000; default: each page may be taken",
+    text: "use only pages of the pool below this address, a multiple of 0x1000 up to 0x400000000000; default: all pages of the pool",
 };
 
 pub(crate) const MAP: Argument = Argument {
@@ -45,7 +45,7 @@ pub(crate) const MAP: Argument = Argument {
     form: Form::Value,
     kind: Kind::Input,
     what: "file",
-    text: "the memory map, as /proc/iomem prints it; needed for each type but raw, and for --purgatory",
+    text: "the memory map, as /proc/iomem prints it; required for every type but raw, and with --purgatory",
 };
 
 pub(crate) const NEEDED_MAP: Argument = Argument {
@@ -55,7 +55,7 @@ pub(crate) const NEEDED_MAP: Argument = Argument {
     form: Form::Needed,
     kind: Kind::Input,
     what: "file",
-    text: "the memory map, as /proc/iomem prints it; always needed",
+    text: "the memory map, as /proc/iomem prints it; required",
 };
 
 pub(crate) const TYPE: Argument = Argument {
@@ -65,7 +65,7 @@ pub(crate) const TYPE: Argument = Argument {
     form: Form::Value,
     kind: Kind::Choice,
     what: TYPE_WORDS,
-    text: "the type of the kernel; default: what the file's own header tells",
+    text: "the type of the kernel; default: the type that the file's header shows",
 };
 
 pub(crate) const AT: Argument = Argument {
@@ -75,7 +75,7 @@ pub(crate) const AT: Argument = Argument {
     form: Form::Value,
     kind: Kind::Address,
     what: "",
-    text: "the address of a raw kernel; needed for it, and without effect for the other types",
+    text: "the address of a raw kernel; required for it, and without effect for the other types",
 };
 
 pub(crate) const NEEDED_AT: Argument = Argument {
@@ -85,7 +85,7 @@ pub(crate) const NEEDED_AT: Argument = Argument {
     form: Form::Needed,
     kind: Kind::Address,
     what: "",
-    text: "the address of the kernel, where it is entered: a hexadecimal number of 1 to 16 digits, without 0x; always needed",
+    text: "the address of the kernel, where it is entered: a hexadecimal number of 1 to 16 digits, without 0x; required",
 };
 
 pub(crate) const ENTRY: Argument = Argument {
@@ -95,7 +95,7 @@ pub(crate) const ENTRY: Argument = Argument {
     form: Form::Value,
     kind: Kind::Address,
     what: "",
-    text: "the address where a raw kernel is entered; default: that of --at; without effect for the other types",
+    text: "the address where a raw kernel is entered; default: the address of --at; without effect for the other types",
 };
 
 pub(crate) const COMMAND: Argument = Argument {
@@ -135,7 +135,7 @@ pub(crate) const NOTES: Argument = Argument {
     form: Form::Value,
     kind: Kind::Input,
     what: "file",
-    text: "the ELF notes for the crash headers, on each line an address and a size in bytes, both hexadecimal; default: none",
+    text: "the places of the ELF notes for the crash headers; on each line an address and a size in bytes, both hexadecimal; default: none",
 };
 
 pub(crate) const TWICE: Argument = Argument {
@@ -145,7 +145,7 @@ pub(crate) const TWICE: Argument = Argument {
     form: Form::Flag,
     kind: Kind::Presence,
     what: "",
-    text: "run the list a second time, back into the old kernel, which needs a load with context preserved; default: one run",
+    text: "run the list a second time, back into the old kernel, which the load must have preserved; default: one run",
 };
 
 pub(crate) const SWAP: Argument = Argument {

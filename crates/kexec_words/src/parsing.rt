@@ -37,7 +37,10 @@ fn command_with<'a>(
 {
     let mut command = Command::new(alloc, name).no_binary_name(true);
     for argument in arguments {
-        command = command.arg(arg_of(alloc, *argument))?;
+        match command.arg(arg_of(alloc, *argument)) {
+            Ok(longer) => command = longer,
+            Err(error) => return Err(error),
+        }
     }
     Ok(command)
 }
@@ -53,7 +56,9 @@ pub(crate) fn matches_for<'a>(
     ensures { Parses (app_taking name.entry.now (argument_values arguments.now))
         (map string_bytes words.entry.now) result }
 {
-    let command = command_with(alloc, name, arguments)?;
+    let Ok(command) = command_with(alloc, name, arguments) else {
+        return Err(WordsFault::Memory);
+    };
     match command.try_get_matches_from(words) {
         Ok(matches) => Ok(matches),
         Err(error) if error.kind() == ErrorKind::OutOfMemory => Err(WordsFault::Memory),

@@ -120,8 +120,10 @@ fn boot_in(alloc: Global, matches: &ArgMatches<'_>) -> Result<Boot, WordsFault>
 pub(crate) fn read_boot(alloc: Global, words: &[String]) -> Result<Boot, WordsFault>
     ensures { Answers boot_value (answer_by boot_app boot_in (map string_bytes words.now)) result }
 {
-    let matches = matches_for(alloc, "boot", BOOT, words)?;
-    boot_in(alloc, &matches)
+    match matches_for(alloc, "boot", BOOT, words) {
+        Ok(matches) => boot_in(alloc, &matches),
+        Err(fault) => Err(fault),
+    }
 }
 
 fn load_from(
@@ -159,6 +161,8 @@ fn load_in(alloc: Global, matches: &ArgMatches<'_>) -> Result<Load, WordsFault>
 pub(crate) fn read_load(alloc: Global, words: &[String]) -> Result<Load, WordsFault>
     ensures { Answers load_value (answer_by load_app load_in (map string_bytes words.now)) result }
 {
-    let matches = matches_for(alloc, "load", LOAD, words)?;
-    load_in(alloc, &matches)
+    match matches_for(alloc, "load", LOAD, words) {
+        Ok(matches) => load_in(alloc, &matches),
+        Err(fault) => Err(fault),
+    }
 }

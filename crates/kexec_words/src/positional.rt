@@ -49,7 +49,7 @@ pub(crate) const STOPPED_MEMORY: Argument = Argument {
     form: Form::Word,
     kind: Kind::Input,
     what: "memory file",
-    text: "the memory of the machine that stopped",
+    text: "the memory of the stopped machine",
 };
 
 pub(crate) const POOL: Argument = Argument {
@@ -59,7 +59,7 @@ pub(crate) const POOL: Argument = Argument {
     form: Form::Word,
     kind: Kind::Input,
     what: "pool file",
-    text: "the free pages in the order of their use, on each line a hexadecimal page number or first-last",
+    text: "the free pages in the order of their use; on each line a hexadecimal page number or a range first-last",
 };
 
 pub(crate) const RUN_OUT: Argument = Argument {
@@ -69,7 +69,7 @@ pub(crate) const RUN_OUT: Argument = Argument {
     form: Form::Word,
     kind: Kind::Output,
     what: "memory file",
-    text: "the memory after the last run; none of the files that are read",
+    text: "the memory after the last run; not a file that is read",
 };
 
 pub(crate) const LOADED_OUT: Argument = Argument {
@@ -79,7 +79,7 @@ pub(crate) const LOADED_OUT: Argument = Argument {
     form: Form::Word,
     kind: Kind::Output,
     what: "memory file",
-    text: "the memory after the load; none of the files that are read",
+    text: "the memory after the load; not a file that is read",
 };
 
 pub(crate) const TRACED_OUT: Argument = Argument {
@@ -99,7 +99,7 @@ pub(crate) const DRILLED_OUT: Argument = Argument {
     form: Form::Word,
     kind: Kind::Output,
     what: "memory file",
-    text: "the memory after the last event; none of the files that are read",
+    text: "the memory after the last event; not a file that is read",
 };
 
 pub(crate) const MIGRATED_OUT: Argument = Argument {
@@ -109,7 +109,7 @@ pub(crate) const MIGRATED_OUT: Argument = Argument {
     form: Form::Word,
     kind: Kind::Output,
     what: "load record",
-    text: "the load as version 2 has it; not RECORD",
+    text: "the load in version 2; not RECORD",
 };
 
 pub(crate) const CORE_OUT: Argument = Argument {
@@ -129,7 +129,7 @@ pub(crate) const RECORD: Argument = Argument {
     form: Form::Word,
     kind: Kind::Input,
     what: "load record",
-    text: "the load as load or load-panic wrote it",
+    text: "the load, as load or load-panic wrote it",
 };
 
 pub(crate) const LOADED_RECORD: Argument = Argument {
@@ -139,7 +139,7 @@ pub(crate) const LOADED_RECORD: Argument = Argument {
     form: Form::Word,
     kind: Kind::Output,
     what: "load record",
-    text: "the load as check, dump and exec read it; not OUT, and none of the files that are read",
+    text: "the load, as check, dump and exec read it; neither OUT nor a file that is read",
 };
 
 pub(crate) const KERNEL: Argument = Argument {
@@ -189,7 +189,7 @@ pub(crate) const EVENTS: Argument = Argument {
     form: Form::Word,
     kind: Kind::Input,
     what: "file",
-    text: "on each line an event, as open 1 normal or panic",
+    text: "on each line an event, such as open 1 normal or panic",
 };
 
 pub(crate) const HEAD: Argument = Argument {
@@ -209,7 +209,7 @@ pub(crate) const LIMIT: Argument = Argument {
     form: Form::Word,
     kind: Kind::Count,
     what: "",
-    text: "the most steps: a decimal number of 1 to 9 digits, at most 100000000",
+    text: "the maximum number of steps: a decimal number of 1 to 9 digits, at most 100000000",
 };
 
 pub(crate) const NUMBER: Argument = Argument {
@@ -219,7 +219,7 @@ pub(crate) const NUMBER: Argument = Argument {
     form: Form::Word,
     kind: Kind::Count,
     what: "",
-    text: "the number to begin with: a decimal number of 1 to 18 digits",
+    text: "the number that the sample is made from: a decimal number of 1 to 18 digits",
 };
 
 pub(crate) const ADDRESS: Argument = Argument {

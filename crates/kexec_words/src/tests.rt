@@ -191,7 +191,7 @@ fn says_what_is_wrong_and_what_is_wanted(rt: HostRuntime) -> Result<(), Fail> {
     let alloc = rt.alloc();
     let why = UsageWhy::Number { which: Which::At };
     let text = format!(in alloc; "{}", WordsFault::Usage { why })?;
-    assert!(rt; text.as_str() == "--at is not a hexadecimal number of 1 to 16 digits");
+    assert!(rt; text.as_str() == "--at must be a hexadecimal number of 1 to 16 digits");
     Ok(())
 }
 
@@ -237,13 +237,13 @@ after the last run.
 
 Arguments:
   MEMORY  memory file to read: the memory after the load
-  RECORD  load record to read: the load as load or load-panic wrote it
-  OUT     memory file to write: the memory after the last run; none of the files
-          that are read
+  RECORD  load record to read: the load, as load or load-panic wrote it
+  OUT     memory file to write: the memory after the last run; not a file that
+          is read
 
 Options:
-  --twice  run the list a second time, back into the old kernel, which needs a
-           load with context preserved; default: one run";
+  --twice  run the list a second time, back into the old kernel, which the load
+           must have preserved; default: one run";
     assert!(rt; said.as_str() == want, "{said}");
     Ok(())
 }

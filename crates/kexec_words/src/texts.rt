@@ -3,16 +3,16 @@
 use crate::table::CommandText;
 
 const OPTION_NOTE: &str =
-    "An option is given at most once, as --map FILE or --map=FILE, anywhere before an argument --, behind which nothing is an option.";
+    "Each option is given at most once, as --map FILE or --map=FILE, anywhere before an argument --, after which nothing is an option.";
 
 const ADDRESS_NOTE: &str = "ADDRESS is a hexadecimal number of 1 to 16 digits, without 0x.";
 
 const CRASH_NOTE: &str =
-    "The crash kernel is told where its headers lie, and gets no memory below 1 MiB. Users add memmap=0x9e000@0x1000 to its command, and memmap=4K$0xADDRESS with the address of the headers.";
+    "The crash kernel is told where its headers lie, and gets no memory below 1 MiB: add memmap=0x9e000@0x1000 to its command line, and memmap=4K$0xADDRESS with the address of the headers.";
 
 /// What the program does.
 pub(crate) const PROGRAM: &str =
-    "Loads a new kernel into a memory that a file holds, as kexec_load(2) and the kernel's kexec core do, checks the list of page copies, and runs it.";
+    "Loads a new kernel into a memory that is kept in a file, as kexec_load(2) and the kernel's kexec core do, checks the list of page copies, and runs it.";
 
 /// The length of the longest name of a command, and of a kind of file.
 pub(crate) const LONGEST_NAME: usize = BOOT_RESIDENT.name.len();
@@ -27,7 +27,7 @@ pub(crate) const FILES: [(&str, &str); 4] = [
     ),
     (
         "pool file",
-        "free pages, on each line a hexadecimal page number or first-last",
+        "free pages; on each line a hexadecimal page number or a range first-last",
     ),
     (
         "load record",
@@ -35,7 +35,7 @@ pub(crate) const FILES: [(&str, &str); 4] = [
     ),
     (
         "memory map",
-        "the text of /proc/iomem, which Linux gives whole to root alone",
+        "the text of /proc/iomem, which Linux shows in full only to root",
     ),
 ];
 
@@ -63,7 +63,7 @@ pub(crate) const LOAD_PANIC: CommandText = CommandText {
 pub(crate) const CHECK: CommandText = CommandText {
     name: "check",
     brief: "say whether the list of a load record is accepted",
-    about: "Says whether the list of a load record is accepted in a memory, or the first word with a fault. It writes no file.",
+    about: "Says whether the list of a load record is accepted in a memory, or names its first word with a fault. It writes no file.",
     notes: &[],
 };
 
@@ -97,28 +97,28 @@ pub(crate) const MIGRATE: CommandText = CommandText {
 
 pub(crate) const SAMPLE: CommandText = CommandText {
     name: "sample",
-    brief: "load and run what is made from a number",
+    brief: "load and run a sample that is made from a number",
     about: "Makes a memory, a pool and segments from a number, loads and runs them, and prints the SHA-256 of the memory after the run. It reads and writes no file.",
     notes: &[],
 };
 
 pub(crate) const BOOT_RESIDENT: CommandText = CommandText {
     name: "boot-resident",
-    brief: "load a raw kernel of which pages stand in memory already, and run it",
-    about: "Loads a raw kernel of which pages stand in memory already, so that these are not copied before the run, runs it, and writes the memory after the run.",
+    brief: "load and run a raw kernel, some of whose pages lie in memory already",
+    about: "Loads a raw kernel, some of whose pages lie in memory already, without copying these before the run, runs it, and writes the memory after the run.",
     notes: &[],
 };
 
 pub(crate) const DRILL: CommandText = CommandText {
     name: "drill",
     brief: "apply events of several callers one after another",
-    about: "Applies events of several callers one after another to one memory and one pool, says the reply to each, and writes the memory after the last event.",
+    about: "Applies events of several callers one after another to one memory and one pool, prints the reply to each, and writes the memory after the last event.",
     notes: &[],
 };
 
 pub(crate) const CORE: CommandText = CommandText {
     name: "core",
-    brief: "write the core file of a memory, by its crash headers",
-    about: "Writes the memory of a machine that stopped as one ELF core file, by the crash headers that stand in that memory: the notes of all processors, and a load for each range of memory.",
+    brief: "write the core file of a stopped machine's memory",
+    about: "Writes the memory of a stopped machine as one ELF core file, by the crash headers in that memory: the notes of all processors, and a PT_LOAD for each range of memory.",
     notes: &[],
 };

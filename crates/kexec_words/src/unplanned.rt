@@ -73,8 +73,10 @@ pub(crate) fn read_load_panic(alloc: Global, words: &[String]) -> Result<LoadPan
     ensures { Answers load_panic_value
         (answer_by load_panic_app load_panic_in (map string_bytes words.now)) result }
 {
-    let matches = matches_for(alloc, "load-panic", LOAD_PANIC, words)?;
-    load_panic_in(alloc, &matches)
+    match matches_for(alloc, "load-panic", LOAD_PANIC, words) {
+        Ok(matches) => load_panic_in(alloc, &matches),
+        Err(fault) => Err(fault),
+    }
 }
 
 fn loaded_names(alloc: Global, matches: &ArgMatches<'_>) -> Result<LoadNames, AllocError>
@@ -98,8 +100,10 @@ pub(crate) fn read_check(alloc: Global, words: &[String]) -> Result<LoadNames, W
     ensures { Answers load_names_value
         (answer_by check_app load_names_in (map string_bytes words.now)) result }
 {
-    let matches = matches_for(alloc, "check", LOADED, words)?;
-    loaded_in(alloc, &matches)
+    match matches_for(alloc, "check", LOADED, words) {
+        Ok(matches) => loaded_in(alloc, &matches),
+        Err(fault) => Err(fault),
+    }
 }
 
 // The words after `dump`.
@@ -107,8 +111,10 @@ pub(crate) fn read_dump(alloc: Global, words: &[String]) -> Result<LoadNames, Wo
     ensures { Answers load_names_value
         (answer_by dump_app load_names_in (map string_bytes words.now)) result }
 {
-    let matches = matches_for(alloc, "dump", LOADED, words)?;
-    loaded_in(alloc, &matches)
+    match matches_for(alloc, "dump", LOADED, words) {
+        Ok(matches) => loaded_in(alloc, &matches),
+        Err(fault) => Err(fault),
+    }
 }
 
 fn exec_names(alloc: Global, matches: &ArgMatches<'_>) -> Result<Exec, AllocError>
@@ -144,8 +150,10 @@ fn exec_in(alloc: Global, matches: &ArgMatches<'_>) -> Result<Exec, WordsFault>
 pub(crate) fn read_exec(alloc: Global, words: &[String]) -> Result<Exec, WordsFault>
     ensures { Answers exec_value (answer_by exec_app exec_in (map string_bytes words.now)) result }
 {
-    let matches = matches_for(alloc, "exec", EXEC, words)?;
-    exec_in(alloc, &matches)
+    match matches_for(alloc, "exec", EXEC, words) {
+        Ok(matches) => exec_in(alloc, &matches),
+        Err(fault) => Err(fault),
+    }
 }
 
 fn trace_numbers_in(matches: &ArgMatches<'_>) -> Result<TraceNumbers, Which>
@@ -190,8 +198,10 @@ pub(crate) fn read_trace(alloc: Global, words: &[String]) -> Result<Trace, Words
     ensures { Answers trace_value
         (answer_by trace_app trace_in (map string_bytes words.now)) result }
 {
-    let matches = matches_for(alloc, "trace", TRACE, words)?;
-    trace_in(alloc, &matches)
+    match matches_for(alloc, "trace", TRACE, words) {
+        Ok(matches) => trace_in(alloc, &matches),
+        Err(fault) => Err(fault),
+    }
 }
 
 fn migrate_names(alloc: Global, matches: &ArgMatches<'_>) -> Result<Migrate, AllocError>
@@ -226,8 +236,10 @@ pub(crate) fn read_migrate(alloc: Global, words: &[String]) -> Result<Migrate, W
     ensures { Answers migrate_value
         (answer_by migrate_app migrate_in (map string_bytes words.now)) result }
 {
-    let matches = matches_for(alloc, "migrate", MIGRATE, words)?;
-    migrate_in(alloc, &matches)
+    match matches_for(alloc, "migrate", MIGRATE, words) {
+        Ok(matches) => migrate_in(alloc, &matches),
+        Err(fault) => Err(fault),
+    }
 }
 
 fn sample_number_in(matches: &ArgMatches<'_>) -> Result<u64, Which>
@@ -247,8 +259,10 @@ pub(crate) fn read_sample(alloc: Global, words: &[String]) -> Result<u64, WordsF
     ensures { Answers number_value
         (answer_by sample_app sample_in (map string_bytes words.now)) result }
 {
-    let matches = matches_for(alloc, "sample", SAMPLE, words)?;
-    sample_in(&matches)
+    match matches_for(alloc, "sample", SAMPLE, words) {
+        Ok(matches) => sample_in(&matches),
+        Err(fault) => Err(fault),
+    }
 }
 
 fn core_address_in(matches: &ArgMatches<'_>) -> Result<u64, Which>
@@ -286,6 +300,8 @@ fn core_in(alloc: Global, matches: &ArgMatches<'_>) -> Result<Core, WordsFault>
 pub(crate) fn read_core(alloc: Global, words: &[String]) -> Result<Core, WordsFault>
     ensures { Answers core_value (answer_by core_app core_in (map string_bytes words.now)) result }
 {
-    let matches = matches_for(alloc, "core", CORE, words)?;
-    core_in(alloc, &matches)
+    match matches_for(alloc, "core", CORE, words) {
+        Ok(matches) => core_in(alloc, &matches),
+        Err(fault) => Err(fault),
+    }
 }

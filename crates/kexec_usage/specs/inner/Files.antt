@@ -36,11 +36,11 @@ or_shared_file g None later = later
 or_shared_file g (Some name) later = Some (g, name)
 
 -- the first of these files that is written and has the text of another of all that are given, and that one's name
-abbrev pub shared_among : List GivenValue → List GivenValue → Option (GivenValue × Text)
-shared_among [] given = None
-shared_among (g ∷ gs) given =
-    if is_written g.kind then or_shared_file g (other_with given g) (shared_among gs given)
-    else shared_among gs given
+abbrev pub first_shared_file : List GivenValue → List GivenValue → Option (GivenValue × Text)
+first_shared_file [] given = None
+first_shared_file (g ∷ gs) given =
+    if is_written g.kind then or_shared_file g (other_with given g) (first_shared_file gs given)
+    else first_shared_file gs given
 
 abbrev pub shared_value : Given × Bor Text → GivenValue × Text
 shared_value s = (given_value s.0, s.1.now)

@@ -152,7 +152,7 @@ awaited_step r a word =
     if is_option word then (r, Some (no_value a (Some word)))
     else value_step (record r { awaited = None }) a word
 
--- a word that is no value of an option, before two hyphens
+-- a word that is not a value of an option, before two hyphens
 abbrev pub free_step : ReadingValue → Text → Step
 free_step r word =
     if bytes_eq word (codes "--") then (record r { is_behind_hyphens = true }, None)
@@ -187,8 +187,8 @@ reading_of r (word ∷ words) =
     else reading_of (step r word).0 words
 
 -- before the first word of a command with these arguments
-abbrev pub begun : List ArgumentValue → ReadingValue
-begun arguments = record {
+abbrev pub reading_start : List ArgumentValue → ReadingValue
+reading_start arguments = record {
   arguments = arguments;
   left = arguments;
   given = [];
@@ -202,7 +202,7 @@ rest_of (word ∷ words) = words
 
 -- all words, of which the first names the command
 abbrev pub answer_of : List Text → AnswerValue
-answer_of words = reading_of (begun (arguments_of (first_name words))) (rest_of words)
+answer_of words = reading_of (reading_start (arguments_of (first_name words))) (rest_of words)
 
 -- this is answered, or that memory is wanting
 abbrev pub IsRead : AnswerValue → Answer → Type 0

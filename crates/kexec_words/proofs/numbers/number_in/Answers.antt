@@ -18,10 +18,10 @@ read base most bs n ne short h =
     subst (λ (t : List ℕ). (IsNumeral base t × (digits_value base t < 2 ^ 64)) × (n ≡ digits_value base t)) same h in
     ((there.0.0, short), there.1)
 
-refused : (base most : ℕ) (bs : List ℕ) → 2 ≤ base → base ^ most ≤ 2 ^ 64 → get_or bs 0 0 ≢ 43
+refuses : (base most : ℕ) (bs : List ℕ) → 2 ≤ base → base ^ most ≤ 2 ^ 64 → get_or bs 0 0 ≢ 43
     → ((IsNumeral base (without_leading_plus bs) × (digits_value base (without_leading_plus bs) < 2 ^ 64)) → ⊥)
     → (IsNumeral base bs × (length bs ≤ most)) → ⊥
-refused base most bs two fits ne h p =
+refuses base most bs two fits ne h p =
     let same : without_leading_plus bs ≡ bs = without_leading_plus_none bs ne in
     let not : (IsNumeral base bs × (digits_value base bs < 2 ^ 64)) → ⊥ = subst (λ (t : List ℕ). (IsNumeral base t × (digits_value base t < 2 ^ 64)) → ⊥) same h in
     let below : digits_value base bs < base ^ length bs = digits_value-lt base bs p.0.1 in
@@ -49,4 +49,4 @@ pub returns-in-Ok : goal.returns-in-Ok
 returns-in-Ok c = number_yes _ _ _ _ (read _ _ c.args.text.now c.in-Ok.number (rw c.as_bytes.ensures.value at c.if-as_bytes-eq43.false) (omega arith) c.in-Ok.ensures.value)
 
 pub returns-in-Err : goal.returns-in-Err
-returns-in-Err c = number_no _ _ _ (refused _ _ c.args.text.now c.requires.radix.0 c.requires.fits (rw c.as_bytes.ensures.value at c.if-as_bytes-eq43.false) c.in-Err.ensures.value)
+returns-in-Err c = number_no _ _ _ (refuses _ _ c.args.text.now c.requires.radix.0 c.requires.fits (rw c.as_bytes.ensures.value at c.if-as_bytes-eq43.false) c.in-Err.ensures.value)

@@ -14,20 +14,20 @@ use Rattle.kexec_words.specs.declared.faults.WordsFault.TheVariants.{Usage}
 use Rattle.kexec_words.proofs.Taken.{exits_mapped}
 use Rattle.kexec_words.proofs.planned.boot_from.Goals as goal
 
-refused : (i : InputsValue) (o : Text) (n : PlanNumbers) (b : Bool) (w : UsageWhy) (r : Result Boot WordsFault)
+refuses : (i : InputsValue) (o : Text) (n : PlanNumbers) (b : Bool) (w : UsageWhy) (r : Result Boot WordsFault)
     → b ≡ has_same_name (o ∷ []) (files_of i) → Err w ≡ image_where i b n → IsErrAnd r (λ e. e ≡ Usage w)
     → Answers boot_value (boot_with i o n) r
-refused i o n b w r same h g =
+refuses i o n b w r same h g =
     exits_mapped boot_value (boot_by i o n) (image_where i (has_same_name (o ∷ []) (files_of i)) n) w r g (h ∙ ap (λ x. image_where i x n) same)
 
-taken : (i : InputsValue) (o : Text) (n : PlanNumbers) (b : Bool) (image : ImageType)
+takes : (i : InputsValue) (o : Text) (n : PlanNumbers) (b : Bool) (image : ImageType)
     → b ≡ has_same_name (o ∷ []) (files_of i) → Ok image ≡ image_where i b n → boot_with i o n ≡ Ok (boot_by i o n image)
-taken i o n b image same h = ap (map_answer (boot_by i o n)) (sym (h ∙ ap (λ x. image_where i x n) same))
+takes i o n b image same h = ap (map_answer (boot_by i o n)) (sym (h ∙ ap (λ x. image_where i x n) same))
 
 pub returns-in_err-image : goal.returns-in_err-image
-returns-in_err-image c = refused (inputs_value c.args.inputs) (string_bytes c.args.out) c.args.numbers c.is_input.result _ c.from_residual.result
+returns-in_err-image c = refuses (inputs_value c.args.inputs) (string_bytes c.args.out) c.args.numbers c.is_input.result _ c.from_residual.result
     (subst (λ t. c.is_input.result ≡ has_same_name (t ∷ []) (files_of (inputs_value c.args.inputs))) c.deref.ensures c.is_input.ensures) c.in_err-image.ensures c.from_residual.ensures.1
 
 pub returns : goal.returns
-returns c = taken (inputs_value c.args.inputs) (string_bytes c.args.out) c.args.numbers c.is_input.result _
+returns c = takes (inputs_value c.args.inputs) (string_bytes c.args.out) c.args.numbers c.is_input.result _
     (subst (λ t. c.is_input.result ≡ has_same_name (t ∷ []) (files_of (inputs_value c.args.inputs))) c.deref.ensures c.is_input.ensures) c.in_ok-image.ensures

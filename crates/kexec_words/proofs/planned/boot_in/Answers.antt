@@ -12,10 +12,10 @@ use Rattle.kexec_words.specs.declared.faults.WordsFault.{WordsFault}
 use Rattle.kexec_words.proofs.Taken.{goes_on}
 use Rattle.kexec_words.proofs.planned.boot_in.Goals as goal
 
-found : (rows : List Row) (k : Option Text) (n : PlanNumbers) (i : InputsValue) (o : Text) (r : Result Boot WordsFault)
+answers_rows : (rows : List Row) (k : Option Text) (n : PlanNumbers) (i : InputsValue) (o : Text) (r : Result Boot WordsFault)
     → Ok n ≡ plan_numbers_by k rows → k ≡ first_of (codes "kept") rows → i ≡ inputs_of n.below rows → o ≡ word_of (codes "OUT") rows
     → Answers boot_value (boot_with i o n) r → Answers boot_value (boot_in rows) r
-found rows k n i o r numbers kept inputs out h =
+answers_rows rows k n i o r numbers kept inputs out h =
     let first : Answers boot_value (boot_with (inputs_of n.below rows) o n) r = subst (λ x. Answers boot_value (boot_with x o n) r) inputs h in
     let second : Answers boot_value (boot_with (inputs_of n.below rows) (word_of (codes "OUT") rows) n) r =
     subst (λ x. Answers boot_value (boot_with (inputs_of n.below rows) x n) r) out first in
@@ -23,5 +23,5 @@ found rows k n i o r numbers kept inputs out h =
     (numbers ∙ ap (λ x. plan_numbers_by x rows) kept) second
 
 pub returns : goal.returns
-returns c = found (rows_of (found_of c.args.matches.now)) (text_in c.option_in.result) c.in_ok-numbers.numbers (inputs_value c.in_ok-inputs.inputs) (string_bytes c.in_ok-out.out) c.boot_from.result
+returns c = answers_rows (rows_of (found_of c.args.matches.now)) (text_in c.option_in.result) c.in_ok-numbers.numbers (inputs_value c.in_ok-inputs.inputs) (string_bytes c.in_ok-out.out) c.boot_from.result
     c.in_ok-numbers.ensures c.option_in.ensures c.in_ok-inputs.ensures c.in_ok-out.ensures c.boot_from.ensures

@@ -11,10 +11,10 @@ use Rattle.kexec_words.specs.declared.faults.WordsFault.{WordsFault}
 use Rattle.kexec_words.proofs.Taken.{goes_on}
 use Rattle.kexec_words.proofs.planned.load_in.Goals as goal
 
-found : (rows : List Row) (n : PlanNumbers) (i : InputsValue) (o q : Text) (k : Bool) (r : Result Load WordsFault)
+answers_rows : (rows : List Row) (n : PlanNumbers) (i : InputsValue) (o q : Text) (k : Bool) (r : Result Load WordsFault)
     → Ok n ≡ plan_numbers_by None rows → i ≡ inputs_of n.below rows → o ≡ word_of (codes "OUT") rows → q ≡ word_of (codes "RECORD") rows
     → k ≡ flag_of (codes "kept") rows → Answers load_value (load_with i o q k n) r → Answers load_value (load_in rows) r
-found rows n i o q k r numbers inputs out file kept h =
+answers_rows rows n i o q k r numbers inputs out file kept h =
     let first : Answers load_value (load_with (inputs_of n.below rows) o q k n) r = subst (λ x. Answers load_value (load_with x o q k n) r) inputs h in
     let second : Answers load_value (load_with (inputs_of n.below rows) (word_of (codes "OUT") rows) q k n) r = subst (λ x. Answers load_value (load_with (inputs_of n.below rows) x q k n) r) out first in
     let third : Answers load_value (load_with (inputs_of n.below rows) (word_of (codes "OUT") rows) (word_of (codes "RECORD") rows) k n) r =
@@ -24,5 +24,5 @@ found rows n i o q k r numbers inputs out file kept h =
     goes_on load_value (λ n. load_with (inputs_of n.below rows) (word_of (codes "OUT") rows) (word_of (codes "RECORD") rows) (flag_of (codes "kept") rows) n) (plan_numbers_by None rows) n r numbers fourth
 
 pub returns : goal.returns
-returns c = found (rows_of (found_of c.args.matches.now)) c.in_ok-numbers.numbers (inputs_value c.in_ok-inputs.inputs) (string_bytes c.in_ok-out.out) (string_bytes c.in_ok-load_record.load_record) c.flag_in.result c.load_from.result
+returns c = answers_rows (rows_of (found_of c.args.matches.now)) c.in_ok-numbers.numbers (inputs_value c.in_ok-inputs.inputs) (string_bytes c.in_ok-out.out) (string_bytes c.in_ok-load_record.load_record) c.flag_in.result c.load_from.result
     c.in_ok-numbers.ensures c.in_ok-inputs.ensures c.in_ok-out.ensures c.in_ok-load_record.ensures c.flag_in.ensures c.load_from.ensures
