@@ -126,7 +126,7 @@ def messages(folder, core, console):
     yield f"{what}, by makedumpfile", fault
     said_by(["makedumpfile", "-d", "31", core, "small-core"], folder)
     with open(f"{folder}/small-core", "rb") as small:
-        yield "the smaller file of makedumpfile -d 31", unless(small.read(8) == b"KDUMP   ", "it is no kdump file")
+        yield "the smaller file of makedumpfile -d 31", unless(small.read(8) == b"KDUMP   ", "it is not a kdump file")
 
 
 def crash_release(folder, core, told):

@@ -66,7 +66,7 @@ def number_of(text, base, what):
     try:
         return int(text, base)
     except ValueError:
-        raise Wrong(f"{what} is no {'hexadecimal ' * (base == 16)}number: {text!r}") from None
+        raise Wrong(f"{what} is not a {'hexadecimal ' * (base == 16)}number: {text!r}") from None
 
 
 def runs(numbers):
@@ -100,7 +100,7 @@ class Memory:
         size = os.fstat(self.file.fileno()).st_size
         head = os.pread(self.file.fileno(), 16, 0)
         if head[:8] != b"KXMEM001" or len(head) < 16:
-            raise Wrong(f"{path} is no memory file: it does not begin with KXMEM001 and a number of pages")
+            raise Wrong(f"{path} is not a memory file: it does not begin with KXMEM001 and a number of pages")
         (count,) = struct.unpack_from("<Q", head, 8)
         if count > MOST_PAGES or size != 16 + 4104 * count:
             raise Wrong(f"{path} has {size} bytes, which is not {counted(count, 'page')}: it is cut off or goes on")
@@ -159,7 +159,7 @@ DIGESTS = {b"KXREC001": 0, b"KXREC002": 32}
 def segments_of(record):
     """The segments of a load record, each as the bytes of its numbers and its own."""
     if record[:8] not in DIGESTS or len(record) < 96:
-        raise Wrong("this is no load record: it does not begin with KXREC002 or KXREC001 and its numbers")
+        raise Wrong("this is not a load record: it does not begin with KXREC002 or KXREC001 and its numbers")
     (count,) = struct.unpack_from("<Q", record, 88)
     if count > 16:
         raise Wrong(f"the load record has {count} segments, and at most 16 are allowed")

@@ -115,7 +115,7 @@ def read_pool(path):
 
 
 def why_not_free(page, rows):
-    """Why a page is no free RAM."""
+    """Why a page is not free RAM."""
     first, last = page * PAGE, page * PAGE + PAGE - 1
     met = [what for low, high, what in rows if what in TAKEN and low <= last and first <= high]
     if met:
@@ -125,7 +125,7 @@ def why_not_free(page, rows):
 
 
 def check_pool(pool, rows):
-    """The runs (first, last, why) of pool pages that are no free RAM, rising."""
+    """The runs (first, last, why) of pool pages that are not free RAM, rising."""
     free, found = free_runs(rows), []
     borders = sorted({edge // PAGE for row in rows for edge in (row[0], row[0] + PAGE - 1, row[1], row[1] + 1)})
     for first, last in sorted(pool):
@@ -167,5 +167,5 @@ def size_of(text):
     unit = {"K": 10, "M": 20, "G": 30, "T": 40}.get(text[-1:].upper())
     digits = text[:-1] if unit else text
     if not digits.isdigit() or int(digits) == 0:
-        raise Wrong(f"{text!r} is no size: give a number of bytes, or 256M, 8G")
+        raise Wrong(f"{text!r} is not a size: give a number of bytes, or 256M, 8G")
     return int(digits) << (unit or 0)

@@ -24,7 +24,7 @@ def ram_for(memory):
 
 
 def offset_of(page, ram):
-    """Where a page lies in the file of a machine's memory of so many MiB; None where it is no RAM."""
+    """Where a page lies in the file of a machine's memory of so many MiB; None where it is not RAM."""
     address = page * PAGE
     low = min(ram * MIB, LOW_END)
     if address < low:
