@@ -42,7 +42,7 @@ module _ {S O : Type 0} (D : Shelf S) (E : Sink O) (held : Files) (s : S) (o : O
       let n = subst (λ f. executes_as x e.twice e.out goods f) fault m.1 in
       let r = n in
       let c = checked_with (load_of x) r.0 r.1 r.2 in
-      let mode = x.load_record.image.mode in
+      let mode = x.image.mode in
       let bare = exec_bare e held x read in
       record {
         checked = c;
