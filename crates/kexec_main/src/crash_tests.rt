@@ -218,7 +218,8 @@ fn each_fault_of_a_crash_load_is_told(rt: HostRuntime) -> Result<(), Fail> {
     Ok(())
 }
 
-/// Crash loads that are refused, with the exit status and the status.
+/// Crash loads that are refused, with the exit status and the status. The map has two ranges of RAM beside the area: with
+/// 1,023 notes they are one more than the headers can tell.
 const REFUSALS: &[(&str, u8, &str)] = &[
     (
         "load-panic --map no_area --notes notes m o r kernel",
@@ -239,6 +240,11 @@ const REFUSALS: &[(&str, u8, &str)] = &[
         "load-panic --map map --notes in_area m o r kernel",
         8,
         "Plan { fault: Crash { fault: NotesOutside { i: 0 } } }",
+    ),
+    (
+        "load-panic --map map --notes many_notes m o r kernel",
+        8,
+        "Plan { fault: Crash { fault: TooManyRanges { count: 1025 } } }",
     ),
     (
         "load-panic --map map --notes empty_note m o r kernel",
