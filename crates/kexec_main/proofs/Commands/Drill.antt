@@ -10,7 +10,9 @@ use Rattle.kx_pages.specs.Spans.{Run}
 use Rattle.kx_pages.proofs.Same.{same_spans}
 use Rattle.image_slots.specs.declared.fault.SlotsFault.TheVariants as slots
 use Rattle.file_commands.specs.Taking.{Refusal, by, too_long, ok, reads, ◌>>=◌}
-use Rattle.file_commands.specs.Answers.{MeetsTold, RefusesFor, Stands, done}
+use Rattle.file_commands.specs.Answers.{MeetsTold, done}
+use Rattle.file_commands.specs.inner.Order.{Stands}
+use Rattle.file_commands.proofs.Meeting.{RefusesFor}
 use Rattle.file_commands.proofs.Steps.{reads_cases}
 use Rattle.kexec_words.specs.Values.{DrillValue}
 use Rattle.kexec_main.specs.declared.status.Reason.{Reason}

@@ -8,7 +8,8 @@ use Rattle.page_memory.specs.Contents.{at}
 use Rattle.list_checker.specs.declared.fault.ListFault.{ListFault}
 use Rattle.load_states.specs.States.{Load}
 use Rattle.file_commands.specs.Taking.{Refusal, by, too_long, ok, reads}
-use Rattle.file_commands.specs.Answers.{GoesOut, MeetsTold, Stands, done}
+use Rattle.file_commands.specs.Answers.{GoesOut, MeetsTold, done}
+use Rattle.file_commands.specs.inner.Order.{Stands}
 use Rattle.file_commands.proofs.Steps.{reads_cases}
 use Rattle.kexec_main.specs.declared.files.TakenLoad.{TakenLoad}
 use Rattle.kexec_main.specs.declared.files.TakenLoad.TheVariants.{Normal, Crash}

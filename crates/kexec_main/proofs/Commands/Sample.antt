@@ -11,7 +11,8 @@ use Rattle.load_states.specs.States.{Checked}
 use Rattle.load_states.proofs.Ready.{list_ends}
 use Rattle.segments.specs.inner.Rules.{IsBare}
 use Rattle.file_commands.specs.Taking.{File, Refusal}
-use Rattle.file_commands.specs.Answers.{FilesPut, MeetsTold, Stands, done}
+use Rattle.file_commands.specs.Answers.{FilesPut, MeetsTold, done}
+use Rattle.file_commands.specs.inner.Order.{Stands}
 use Rattle.kx_laws.proofs.Results.{ok_same}
 use Rattle.sample_load.specs.Samples.{sample_segments, start_of}
 use Rattle.sample_load.proofs.Rising.{IsBare-sample}
