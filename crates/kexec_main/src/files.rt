@@ -30,7 +30,7 @@ pub(crate) const TEXT_LIMIT: usize = 1_048_576;
 const RECORD_LIMIT: usize = 268_436_448;
 
 /// A file is refused by its reader.
-pub(crate) fn refused_by(fault: InputFault) -> TakeFault<Reason>
+pub(crate) fn refusal_by(fault: InputFault) -> TakeFault<Reason>
     ensures { result ≡ TakeFault.Refused (Reason.Input fault) }
 {
     TakeFault::Refused {
@@ -51,7 +51,7 @@ pub(crate) fn take_memory<S: Shelf>(
     match Memory::from_file(alloc, bytes) {
         Ok(memory) => Ok(memory),
         Err(MemFault::Memory) => Err(TakeFault::Memory),
-        Err(fault) => Err(refused_by(InputFault::Mem { fault })),
+        Err(fault) => Err(refusal_by(InputFault::Mem { fault })),
     }
 }
 
@@ -72,7 +72,7 @@ fn take_pages<S: Shelf>(
     match Pool::read(alloc, &bytes) {
         Ok(pool) => Ok(pool),
         Err(PoolFault::Memory) => Err(TakeFault::Memory),
-        Err(fault) => Err(refused_by(InputFault::Pool { fault })),
+        Err(fault) => Err(refusal_by(InputFault::Pool { fault })),
     }
 }
 
@@ -120,7 +120,7 @@ pub(crate) fn take_map_file<S: Shelf>(
     match Map::read(alloc, &bytes) {
         Ok(map) => Ok(map),
         Err(MapFault::Memory) => Err(TakeFault::Memory),
-        Err(fault) => Err(refused_by(InputFault::Map { fault })),
+        Err(fault) => Err(refusal_by(InputFault::Map { fault })),
     }
 }
 
@@ -155,7 +155,7 @@ fn take_notes_file<S: Shelf>(
     match read_notes(alloc, &bytes) {
         Ok(notes) => Ok(notes),
         Err(NoteFault::Memory) => Err(TakeFault::Memory),
-        Err(fault) => Err(refused_by(InputFault::Notes { fault })),
+        Err(fault) => Err(refusal_by(InputFault::Notes { fault })),
     }
 }
 
@@ -190,7 +190,7 @@ pub(crate) fn take_record<S: Shelf>(
     match LoadRecord::from_file(alloc, &front, rest) {
         Ok(record) => Ok(record),
         Err(RecFault::Memory) => Err(TakeFault::Memory),
-        Err(fault) => Err(refused_by(InputFault::Rec { fault })),
+        Err(fault) => Err(refusal_by(InputFault::Rec { fault })),
     }
 }
 
@@ -209,7 +209,7 @@ pub(crate) fn take_digested_record<S: Shelf>(
     match DigestedRecord::from_file(alloc, &front, rest) {
         Ok(record) => Ok(record),
         Err(RecFault::Memory) => Err(TakeFault::Memory),
-        Err(fault) => Err(refused_by(InputFault::Rec { fault })),
+        Err(fault) => Err(refusal_by(InputFault::Rec { fault })),
     }
 }
 

@@ -5,7 +5,7 @@ use crate::crash_example::LINUX_KERNEL;
 use crate::first_example::{ABC, MAP, NO_PAGES};
 use crate::kernel_files::{ELF32, ELF64, MULTIBOOT, PURGATORY};
 use crate::scene::Piece::Bytes;
-use crate::scene::{Files, Pieces, add, joined, named, patch, refuse, shelf};
+use crate::scene::{Files, Pieces, add, join, make_files, patch, refuse, shelf};
 use std::alloc::Global;
 use std::process::Abort;
 use std::test::Fail;
@@ -207,11 +207,11 @@ fn refuse_changed(
     changes: Changes,
     reason: &str,
 ) -> Result<(), Fail> {
-    let mut file = joined(alloc, kernel)?;
+    let mut file = join(alloc, kernel)?;
     for (place, bytes) in changes {
         patch(&mut file, *place, bytes);
     }
-    let mut files = named(alloc, FILES)?;
+    let mut files = make_files(alloc, FILES)?;
     add(alloc, &mut files, "k", file)?;
     let mut shelf = shelf(alloc, files, &[])?;
     let status = format!(in alloc; "Plan {{ fault: {reason} }}")?;
