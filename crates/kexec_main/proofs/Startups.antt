@@ -1,6 +1,8 @@
 -- What a plan says of the start is what the record tells.
-use Rattle.std.proofs.Common.{◌≡◌, ◌∙◌, ℕ, zero, suc, Bool, true, false, length, ap, refl}
+use Rattle.std.proofs.Common.{◌≡◌, ◌∙◌, ℕ, Bool, true, false, length, ap, arith, refl}
 use Rattle.std.specs.Prelude.{◌==◌, ◌&&◌, Option, Some, None, if◌then◌else◌}
+use Rattle.std.proofs.lemmas.Bool.Decides.{nat_tests}
+use Rattle.kx_laws.proofs.Booleans.{and_parts}
 use Rattle.kx_pages.specs.declared.image.Mode.TheVariants.{Plain}
 use Rattle.segments.specs.Values.{pages}
 use Rattle.kexec_plan.specs.Requests.{Plan}
@@ -20,11 +22,16 @@ use Rattle.kexec_main.specs.Texts.{crash_lines}
 abbrev places_if : Bool → (regions digest : ℕ) → Option PurgatoryPlaces
 places_if none regions digest = if none then None else Some (record { regions = regions; digest = digest })
 
+zero_of : (n : ℕ) → (n == 0) ≡ true → 0 ≡ n
+zero_of n e = grind (arith, nat_tests, e)
+
 -- the addresses of the places at two addresses are these
 back_if : (none : Bool) (regions digest : ℕ) → ((regions == 0) && (digest == 0)) ≡ none → place_addresses (places_if none regions digest) ≡ (regions, digest)
-back_if true zero zero e = refl
-back_if true zero (suc d) e = cc
-back_if true (suc r) d e = cc
+back_if true regions digest e =
+    let both = and_parts (regions == 0) (digest == 0) e in
+    let table : 0 ≡ regions = zero_of regions both.0 in
+    let sum : 0 ≡ digest = zero_of digest both.1 in
+    λ i. (table i, sum i)
 back_if false regions digest e = refl
 
 addresses_back : (regions digest : ℕ) → place_addresses (purgatory_places regions digest) ≡ (regions, digest)

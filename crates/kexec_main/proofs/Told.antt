@@ -1,5 +1,5 @@
 -- What is told of a run, in the words of its list.
-use Rattle.std.proofs.Common.{◌≡◌, ◌∙◌, ℕ, ◌++◌, Option, Some, None, ap, refl}
+use Rattle.std.proofs.Common.{◌≡◌, ◌∙◌, ◌++◌, Option, Some, None, ap, refl}
 use Rattle.kx_pages.specs.declared.image.Start.{Start}
 use Rattle.page_memory.specs.Contents.{at}
 use Rattle.kx_pages.specs.Bytes.{Mem}

@@ -15,3 +15,14 @@ returns-in_err-loaded c =
     let e : c.from_residual-in_err-loaded.result ≡ Err c.in_err-loaded.field-0.0 = search rules in
     handed_on_as (IsLoadedKernel c.args.wish i) (RefusesLoad c.args.wish i) (IsTooFew i.usable c.args.wish p.segments) _ _ e
     (too_few_refuses c.args.wish i p planned) c.in_err-loaded.ensures
+
+pub returns : goal.returns
+returns c =
+    let i = inputs_of c.args.inputs in
+    let p = planned_of c.in_ok-planned.planned in
+    let planned : plan i.request i.map ≡ Ok p = search rules in
+    record {
+      p = p;
+      load = record { planned = planned; enough = c.in_ok-loaded.ensures.0; laid = c.in_ok-loaded.ensures.1 };
+      startup = c.of_plan-startup.ensures;
+    }
