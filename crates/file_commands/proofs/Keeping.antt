@@ -7,9 +7,10 @@ use Rattle.kx_edge.specs.Edge.{Files, Rose, Said}
 use Rattle.kx_edge.specs.declared.edge.Shelf.{Ghosts as Shelf}
 use Rattle.kx_edge.specs.declared.edge.Sink.{Ghosts as Sink}
 use Rattle.file_commands.specs.Taking.{File, Refusal, Took, ok, reads}
-use Rattle.file_commands.specs.Answers.{Answer, Command, FilesPut, Goods, Meets, MeetsTold, PutUpTo, RefusesFor, Stands, done, memory, not_accepted, refused, unread, unsaid, unwritten}
+use Rattle.file_commands.specs.Answers.{Answer, Command, FilesPut, Goods, Meets, MeetsTold, PutUpTo, done, memory, not_accepted, refused, unread, unsaid, unwritten}
 use Rattle.file_commands.specs.Entry.{Entry, EndsAlone, IsDone, IsReady, IsRefused, NeedsNoFiles}
-use Rattle.file_commands.proofs.Meeting.{alone_told, fails_none, refuses, stands_told, took_none}
+use Rattle.file_commands.specs.inner.Order.{Stands}
+use Rattle.file_commands.proofs.Meeting.{RefusesFor, alone_told, fails_none, refuses, stands_told, took_none}
 
 -- the laws of a command
 pub record Keeps {F R : Type 0} (e : Entry F R) : Type 1 where

@@ -1,5 +1,5 @@
 -- What calls make, and why they make nothing.
-use Rattle.std.proofs.Common.{◌≡◌, Result, Ok, Err, sym, subst}
+use Rattle.std.proofs.Common.{◌≡◌, Result, Err, sym, subst}
 use Rattle.file_commands.specs.declared.stop.MakeFault.{MakeFault}
 use Rattle.file_commands.specs.declared.stop.MakeFault.TheVariants as makes
 use Rattle.file_commands.specs.inner.Calls.{RefusedBy, MakesOr}

@@ -11,9 +11,10 @@ use Rattle.file_commands.specs.declared.stop.MakeFault.{MakeFault}
 use Rattle.file_commands.specs.declared.stop.MakeFault.TheVariants as makes
 use Rattle.file_commands.specs.declared.goods.Goods.{Goods as MadeGoods}
 use Rattle.file_commands.specs.Taking.{Refusal, FailedAt, ok, reads, Same, Took}
-use Rattle.file_commands.specs.Answers.{Answer, Command, Goods, FilesPut, FilesCut, PutAll, PutUpTo, SaysText, BreaksText, GoesOut, EndsAtOutput, EndsAtText, Delivers, Meets, MeetsTold, RefusesFor, Stands, InOrder, Completes, done, not_accepted, unread, unwritten, unsaid, memory, refused}
+use Rattle.file_commands.specs.Answers.{Answer, Command, Goods, FilesPut, FilesCut, PutAll, PutUpTo, SaysText, BreaksText, GoesOut, EndsAtOutput, EndsAtText, Delivers, Meets, MeetsTold, done, not_accepted, unread, unwritten, unsaid, memory, refused}
 use Rattle.file_commands.proofs.Puts.{puts_files, puts_calm, torn_files, torn_rose}
 use Rattle.file_commands.specs.inner.Calls.{Takes, TakesNot, Makes, goods_of, take_answer, make_answer}
+use Rattle.file_commands.specs.inner.Order.{Completes, InOrder, Stands}
 use Rattle.file_commands.proofs.Steps.{took_same, took_told, failed_rose, failed_files}
 
 module _ {S O X F R : Type 0} (D : Shelf S) (E : Sink O) (c : Command X F R) (s : S) (o : O) where
@@ -124,7 +125,11 @@ module _ {S O X F R : Type 0} (D : Shelf S) (E : Sink O) (c : Command X F R) (s 
   meets_told (refused a) s' o' (inl h, same) = told (D.files s) (λ held r. (inl r, took_same D c.takes s s' _ h)) (took_told D c.takes s s' _ h)
   meets_told (refused a) s' o' (inr h, same) = told (D.files s) (λ held r. (inr (h.0, r, h.2), took_same D c.takes s s' _ h.1)) (took_told D c.takes s s' _ h.1)
 
--- Where nothing but one refusal comes of what was read, it is the answer, or memory is wanted.
+-- nothing but this refusal comes of what was read
+abbrev pub RefusesFor : {X F R : Type 0} → Command X F R → X → Refusal R → Type 0
+RefusesFor {F = F} {R = R} c x why = (r : Result (Goods F) (Refusal R)) → c.makes x r → r ≡ Err why
+
+-- Where this is so, the refusal is the answer, or memory is wanted.
 module _ {S O X F R : Type 0} (D : Shelf S) (E : Sink O) (c : Command X F R) (held : Files) (x : X) (why : Refusal R) where
   one_made : (y : X) (r : Result (Goods F) (Refusal R)) → reads c.takes held ≡ Ok x → reads c.takes held ≡ Ok y → RefusesFor c x why → c.makes y r → r ≡ Err why
   one_made y r read again only m = only r (subst (λ z. c.makes z r) (ok_same y x (sym again ∙ read)) m)

@@ -4,7 +4,7 @@ use Rattle.std.specs.FinMap.{insert}
 use Rattle.kx_edge.specs.Edge.{Files, Rose, PutFile, PutPrefix, Said, SaidPrefix}
 use Rattle.kx_edge.specs.declared.edge.Shelf.{Ghosts as Shelf}
 use Rattle.kx_edge.specs.declared.edge.Sink.{Ghosts as Sink}
-use Rattle.file_commands.specs.Taking.{File, Refusal, Take, Took, FailedAt, Same, ok, reads}
+use Rattle.file_commands.specs.Taking.{File, Refusal, Take, Took, FailedAt, Same, reads}
 
 -- how a command ended
 pub data Answer (F R : Type 0) : Type 0 where
@@ -155,25 +155,3 @@ MeetsTold D E c held s o memory s' o' = Same D s s'
 MeetsTold {X = X} D E c held s o (refused a) s' o' =
     ((reads c.takes held ≡ Err a) ⊎ ((x : X) × (reads c.takes held ≡ Ok x) × c.makes x (Err a)))
     × Same D s s'
-
--- nothing but this refusal comes of what was read
-abbrev pub RefusesFor : {X F R : Type 0} → Command X F R → X → Refusal R → Type 0
-RefusesFor {F = F} {R = R} c x why = (r : Result (Goods F) (Refusal R)) → c.makes x r → r ≡ Err why
-
--- nothing refuses what was read, and it has no fault
-pub record Stands {X F R : Type 0} (c : Command X F R) (x : X) : Type 0 where
-  pub unrefused : (a : Refusal R) → c.makes x (Err a) → ⊥
-  pub whole : (goods : Goods F) → c.makes x (Ok goods) → goods.fault ≡ None
-
--- a command is in order over these files: they are read, and what they are stands. Over files that are not told it is
--- where it takes none.
-abbrev pub InOrder : {X F R : Type 0} → Command X F R → Option Files → Type 0
-InOrder {X} c (Some held) = (x : X) × (reads c.takes held ≡ Ok x) × Stands c x
-InOrder {X} c None = (x : X) × (c.takes ≡ ok x) × Stands c x
-
--- what is in order is done where no device fails, or memory is wanted
-abbrev pub Completes : {S O X F R : Type 0} → Shelf S → Sink O → Command X F R → S → O → Answer F R
-    → S → O → Type 0
-Completes D E c s o a s' o' =
-    InOrder c (D.files s) → (Rose (D.faults s) (D.faults s') → ⊥)
-    → (Rose (E.faults o) (E.faults o') → ⊥) → (a ≡ done) ⊎ (a ≡ memory)

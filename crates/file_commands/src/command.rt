@@ -2,8 +2,9 @@
 
 ghost use Rattle.std.specs.Prelude.{◌≡◌, IfSome, Result};
 ghost use Rattle.file_commands.specs.Taking.{Refusal, Take};
-ghost use Rattle.file_commands.specs.Answers.{Completes, Goods as GoodsOf, Meets, MeetsTold, command_of};
+ghost use Rattle.file_commands.specs.Answers.{Goods as GoodsOf, Meets, MeetsTold, command_of};
 ghost use Rattle.file_commands.specs.inner.Calls.{Makes, Takes, call_answer};
+ghost use Rattle.file_commands.specs.inner.Order.{Completes};
 
 use crate::goods::{Goods, deliver};
 use crate::stop::{MakeFault, Stop, TakeFault};

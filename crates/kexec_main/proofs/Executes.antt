@@ -20,7 +20,7 @@ runs_fit true (Kept swap) = tt
 
 -- what runs the list of the files is what `exec` makes
 pub executed : (x : LoadFiles) (twice : Bool) (out : List ℕ) (result : Result (MadeGoods ListFault) (MakeFault Reason)) → is_not_kept twice x ≡ false
-    → MakesOr (λ g. RunsList (runs_asked twice x) (load_of x) x.load_record.start x.load_record.regions x.load_record.digest out (goods_of g)) (RefusesRun (runs_asked twice x) (load_of x)) result
+    → MakesOr (λ g. RunsList (runs_asked twice x) (load_of x) x.startup out (goods_of g)) (RefusesRun (runs_asked twice x) (load_of x)) result
     → Makes (λ x. executes_list x twice out) x result
 executed x twice out (Ok g) e m = (e, subst (λ fault. executes_as x twice out (goods_of g) fault) (sym m.5) m)
 executed x twice out (Err (makes.Refused why)) e m = inr (e, m)

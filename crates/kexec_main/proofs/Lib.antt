@@ -1,3 +1,4 @@
+pub mod Startups
 pub mod Told
 pub mod Outputs
 pub mod Lines

@@ -18,14 +18,13 @@ use Rattle.file_commands.specs.inner.Taking.{file_at}
 use Rattle.file_commands.proofs.Measured.{measured_reads}
 use Rattle.file_commands.proofs.Steps.{reads_cases}
 use Rattle.kexec_words.specs.Values.{ExecValue}
-use Rattle.kexec_main.specs.declared.files.CrashFiles.{CrashFiles}
 use Rattle.kexec_main.specs.declared.files.LoadFiles.{LoadFiles}
 use Rattle.kexec_main.specs.declared.files.TakenLoad.TheVariants.{Crash, Normal}
 use Rattle.kexec_main.specs.declared.status.InputFault.TheVariants as inputs
 use Rattle.kexec_main.specs.declared.status.Reason.{Reason}
 use Rattle.kexec_main.specs.declared.status.Reason.TheVariants.{Input}
 use Rattle.kexec_main.specs.Exec.{ExecInputs, exec_files, exec_of}
-use Rattle.kexec_main.specs.Files.{load_by, load_files, load_record_file, memory_file, memory_limit, record_limit}
+use Rattle.kexec_main.specs.Files.{crash_files, list_files, load_by, load_files, load_record_file, memory_file, memory_limit, record_limit}
 
 -- a whole file is what the name holds
 whole_found : (limit : ℕ) (name : List ℕ) (held : Files) (bytes : List ℕ) → reads {R = Reason} (whole_file limit name) held ≡ Ok bytes → file_at held name ≡ bytes
@@ -48,32 +47,37 @@ record_found name held r h =
     let k = reads_cases (whole_file record_limit name) (λ bytes. from_reader (λ e. Input (inputs.Rec e)) (record_reading bytes)) held r h in
     subst (λ bytes. record_reading bytes ≡ Ok r) (sym (whole_found record_limit name held k.0 k.1)) (reader_found (λ e. Input (inputs.Rec e)) (record_reading k.0) held r k.2)
 
-abbrev crash_of : Contents → Record → CrashFiles
-crash_of m r = record { memory = m; head = r.image.head; segments = r.segments; start = r.start; regions = r.regions; digest = r.digest }
-
 -- the load that the files tell, by the kind of the record
-by_kind : (m : Contents) (r : Record) (b : Bool) → r.crash ≡ b → (if b then Crash (crash_of m r) else Normal (record { memory = m; load_record = r })) ≡ load_by m r
-by_kind m r true e = ap (λ b. if b then Crash (crash_of m r) else Normal (record { memory = m; load_record = r })) (sym e)
-by_kind m r false e = ap (λ b. if b then Crash (crash_of m r) else Normal (record { memory = m; load_record = r })) (sym e)
+by_kind : (m : Contents) (r : Record) (b : Bool) → r.crash ≡ b → (if b then Crash (crash_files m r) else Normal (list_files m r)) ≡ load_by m r
+by_kind m r true e = ap (λ b. if b then Crash (crash_files m r) else Normal (list_files m r)) (sym e)
+by_kind m r false e = ap (λ b. if b then Crash (crash_files m r) else Normal (list_files m r)) (sym e)
 
 -- a load that is normal is that of the memory and the record
-normal_by : (m : Contents) (r : Record) (x : LoadFiles) (b : Bool) → r.crash ≡ b → load_by m r ≡ Normal x → (m ≡ x.memory) × (r ≡ x.load_record)
+normal_by : (m : Contents) (r : Record) (x : LoadFiles) (b : Bool) → r.crash ≡ b → load_by m r ≡ Normal x → list_files m r ≡ x
 normal_by m r x true e h = let k = by_kind m r true e ∙ h in cc
-normal_by m r x false e h =
-    let k = by_kind m r false e ∙ h in
-    let same : record { memory = m; load_record = r } ≡ x = cc in
-    (ap (λ (y : LoadFiles). y.memory) same, ap (λ (y : LoadFiles). y.load_record) same)
+normal_by m r x false e h = let k = by_kind m r false e ∙ h in cc
 
 -- what `exec` read of a normal load, file by file
-pub exec_read : (e : ExecValue) (held : Files) (x : LoadFiles) → reads (exec_files e) held ≡ Ok (exec_of e (Normal x))
-    → (reads (memory_file e.memory) held ≡ Ok x.memory) × (reads (load_record_file e.load_record) held ≡ Ok x.load_record)
+pub record IsReadAs (e : ExecValue) (held : Files) (x : LoadFiles) : Type 0 where
+  pub m : Contents
+  pub r : Record
+  pub memory : reads (memory_file e.memory) held ≡ Ok m
+  pub load_record : reads (load_record_file e.load_record) held ≡ Ok r
+  pub same : list_files m r ≡ x
+
+pub exec_read : (e : ExecValue) (held : Files) (x : LoadFiles) → reads (exec_files e) held ≡ Ok (exec_of e (Normal x)) → IsReadAs e held x
 exec_read e held x h =
     let k = reads_cases (load_files e.memory e.load_record) (λ load. ok (exec_of e load)) held (exec_of e (Normal x)) h in
     let m = reads_cases (memory_file e.memory) (λ m. load_record_file e.load_record >>= (λ r. ok (load_by m r))) held k.0 k.1 in
     let r = reads_cases (load_record_file e.load_record) (λ r. ok (load_by m.0 r)) held k.0 m.2 in
     let load : k.0 ≡ Normal x = ap (λ (i : ExecInputs). i.load) (ok_same {F = Refusal Reason} (exec_of e k.0) (exec_of e (Normal x)) k.2) in
-    let same = normal_by m.0 r.0 x r.0.crash refl (ok_same {F = Refusal Reason} (load_by m.0 r.0) k.0 r.2 ∙ load) in
-    (m.1 ∙ ap Ok same.0, r.1 ∙ ap Ok same.1)
+    record {
+      m = m.0;
+      r = r.0;
+      memory = m.1;
+      load_record = r.1;
+      same = normal_by m.0 r.0 x r.0.crash refl (ok_same {F = Refusal Reason} (load_by m.0 r.0) k.0 r.2 ∙ load);
+    }
 
 -- the segments of a record that was read break no rule
 ruled_bare : (h : Head) (ss : List SegmentValue) (first : Option SegFault) (r : Record) → bare_refusal ss ≡ first → record_by h ss first ≡ Ok r → IsBare r.segments
@@ -87,5 +91,7 @@ record_bare bytes r h =
     let list = bind_ok (tested_segments (version_of bytes) (length bytes) head.0.segments (drop 96 bytes)) _ r head.2 in
     ruled_bare head.0 list.0 (bare_refusal list.0) r refl list.2
 
-pub exec_bare : (e : ExecValue) (held : Files) (x : LoadFiles) → reads (exec_files e) held ≡ Ok (exec_of e (Normal x)) → IsBare x.load_record.segments
-exec_bare e held x h = record_bare (file_at held e.load_record) x.load_record (record_found e.load_record held x.load_record (exec_read e held x h).1)
+pub exec_bare : (e : ExecValue) (held : Files) (x : LoadFiles) → reads (exec_files e) held ≡ Ok (exec_of e (Normal x)) → IsBare x.segments
+exec_bare e held x h =
+    let k = exec_read e held x h in
+    subst (λ (x : LoadFiles). IsBare x.segments) k.same (record_bare (file_at held e.load_record) k.r (record_found e.load_record held k.r k.load_record))

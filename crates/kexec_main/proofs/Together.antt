@@ -18,7 +18,7 @@ use Rattle.page_memory.proofs.OneFile.{file-agree}
 use Rattle.page_memory.proofs.RoundTrip.{file_read}
 use Rattle.segments.specs.Values.{SegmentValue}
 use Rattle.kimage_list.specs.Laying.{image_of, mode_with, swap_of}
-use Rattle.load_record.specs.File.{Record, record_file, record_reading}
+use Rattle.load_record.specs.File.{record_file, record_reading}
 use Rattle.load_record.specs.declared.fault.RecFault.{RecFault}
 use Rattle.load_states.specs.Fillings.{IsSealed}
 use Rattle.load_states.specs.Loads.{memory_of}
@@ -36,17 +36,20 @@ use Rattle.kexec_plan.specs.Plan.{plan}
 use Rattle.kexec_plan.specs.declared.fault.PlanFault.{PlanFault}
 use Rattle.kexec_main.specs.declared.files.LoadFiles.{LoadFiles}
 use Rattle.kexec_main.specs.declared.files.TakenLoad.TheVariants.{Normal}
+use Rattle.kexec_main.specs.declared.startup.Startup.{Startup}
 use Rattle.kexec_main.specs.declared.status.Reason.{Reason}
 use Rattle.kexec_main.specs.Boot.{BootInputs, HasBooted, boot_files}
 use Rattle.kexec_main.specs.Exec.{HasExecuted, exec_files, exec_of, files_text, runs_asked, runs_of}
+use Rattle.kexec_main.specs.Files.{list_files}
 use Rattle.kexec_main.specs.Inputs.{LoadInputs, load_inputs}
 use Rattle.kexec_main.specs.Load.{HasLoaded, LoadCommand, load_command_files, load_wish, record_of_load}
 use Rattle.kexec_main.specs.Loads.{IsLaid, NormalLoad}
 use Rattle.kexec_main.specs.Outputs.{IsFileOf}
 use Rattle.kexec_main.specs.Runs.{after_runs, list_text, run_text, wish_of}
+use Rattle.kexec_main.specs.Startup.{planned_startup}
 use Rattle.kexec_main.specs.Texts.{load_lines, purgatory_line, ran_line}
 use Rattle.kexec_main.specs.inner.Together.{AskTogether, LoadThenExecIsBoot, booted_text, is_twice}
-use Rattle.kexec_main.proofs.Reread.{exec_read, memory_found, record_found}
+use Rattle.kexec_main.proofs.Reread.{IsReadAs, exec_read, memory_found, record_found}
 
 -- a load of segments over a pool is one
 pub sealed_alike : (M : Mem) (pool : List ℕ) (wish : Wish) (ss : List SegmentValue) (r s : Load) → IsSealed M pool wish ss r → IsSealed M pool wish ss s → IsSameLoad r s
@@ -99,10 +102,10 @@ same_after (Some Twice) c d s = s.twice
 same_list : (c d : Checked) (start : Start) → IsSameCheck c d → d.load.image ≡ c.load.image → list_text d start ≡ list_text c start
 same_list c d start s image = λ i. load_lines (s.words i) (s.links i) (length (s.pairs i)) (image i) start
 
-same_text : (runs : Option Runs) (c d : Checked) (start : Start) (table digest : ℕ) → IsSameCheck c d → d.load.image ≡ c.load.image → run_text runs d start table digest ≡ run_text runs c start table digest
-same_text None c d start table digest s image = λ i. (same_list c d start s image i ++ ran_line (s.words i)) ++ purgatory_line (s.plain i) table digest
-same_text (Some Once) c d start table digest s image = λ i. (same_list c d start s image i ++ ran_line (s.words i)) ++ purgatory_line (s.once i) table digest
-same_text (Some Twice) c d start table digest s image = λ i. (same_list c d start s image i ++ ran_line (s.words i)) ++ ran_line (s.words i)
+same_text : (runs : Option Runs) (c d : Checked) (t : Startup) → IsSameCheck c d → d.load.image ≡ c.load.image → run_text runs d t ≡ run_text runs c t
+same_text None c d t s image = λ i. (same_list c d t.start s image i ++ ran_line (s.words i)) ++ purgatory_line (s.plain i) t.purgatory
+same_text (Some Once) c d t s image = λ i. (same_list c d t.start s image i ++ ran_line (s.words i)) ++ purgatory_line (s.once i) t.purgatory
+same_text (Some Twice) c d t s image = λ i. (same_list c d t.start s image i ++ ran_line (s.words i)) ++ ran_line (s.words i)
 
 module _ {S O : Type 0} (D : Shelf S) (E : Sink O) (held after : Files) (s t u s' t' u' : S) (o p q o' p' q' : O) (b : BootValue) (l : LoadValue) (e : ExecValue)
     (ask : AskTogether b l e)
@@ -124,21 +127,29 @@ module _ {S O : Type 0} (D : Shelf S) (E : Sink O) (held after : Files) (s t u s
   alike = loads_alike (wish_of b.kept) (load_wish l) x.load y.load boot.planned load.planned boot.checked load.checked ask.wish same_inputs boot.load load.load boot_laid load_laid
 
   -- the record and the memory that `exec` read are those that `load` put
-  record_is : files.load_record ≡ record_of_load load.checked.load load.planned
+  read_as : IsReadAs e after files
+  read_as = exec_read e after files files_read
+
+  record_is : read_as.r ≡ record_of_load load.checked.load load.planned
   record_is =
-      let read : record_reading (file_at after e.load_record) ≡ Ok files.load_record = record_found e.load_record after files.load_record (exec_read e after files files_read).1 in
-      ok_same {F = RecFault} files.load_record (record_of_load load.checked.load load.planned) (sym read ∙ ap record_reading (ap (file_at after) ask.load_record ∙ record_put) ∙ load.read_back)
+      let read : record_reading (file_at after e.load_record) ≡ Ok read_as.r = record_found e.load_record after read_as.r read_as.load_record in
+      ok_same {F = RecFault} read_as.r (record_of_load load.checked.load load.planned) (sym read ∙ ap record_reading (ap (file_at after) ask.load_record ∙ record_put) ∙ load.read_back)
+
+  -- so the files are those of this memory and this record
+  files_are : list_files read_as.m (record_of_load load.checked.load load.planned) ≡ files
+  files_are = ap (list_files read_as.m) (sym record_is) ∙ read_as.same
 
   memory_is : Agree (at files.memory) (at load.checked.load.memory)
   memory_is =
-      file_agrees (at load.checked.load.memory) load.output files.memory load.is_memory
-      (subst (λ bytes. reading bytes ≡ Ok files.memory) (ap (file_at after) ask.memory ∙ memory_put) (memory_found e.memory after files.memory (exec_read e after files files_read).0))
+      let agree = file_agrees (at load.checked.load.memory) load.output read_as.m load.is_memory
+      (subst (λ bytes. reading bytes ≡ Ok read_as.m) (ap (file_at after) ask.memory ∙ memory_put) (memory_found e.memory after read_as.m read_as.memory)) in
+      λ p. ap (λ (x : LoadFiles). at x.memory p) (sym files_are) ∙ agree p
 
   read_alike : IsSameLoad load.checked.load exec.checked.load
   read_alike = record {
     reads = λ page. ap (λ (s : Load). at s.memory page) exec.of_files ∙ memory_is page;
-    image = ap (λ (s : Load). s.image) exec.of_files ∙ ap (λ (r : Record). r.image) record_is;
-    segments = ap (λ (s : Load). s.segments) exec.of_files ∙ ap (λ (r : Record). r.segments) record_is;
+    image = ap (λ (s : Load). s.image) exec.of_files ∙ ap (λ (x : LoadFiles). x.image) (sym files_are);
+    segments = ap (λ (s : Load). s.segments) exec.of_files ∙ ap (λ (x : LoadFiles). x.segments) (sym files_are);
   }
 
   whole : IsSameLoad boot.checked.load exec.checked.load
@@ -150,7 +161,7 @@ module _ {S O : Type 0} (D : Shelf S) (E : Sink O) (held after : Files) (s t u s
   runs : runs_asked e.twice files ≡ b.kept
   runs =
       let laid = boot_laid in
-      same_runs b.kept (swap_of laid.loading) e.twice files.load_record.image.mode
+      same_runs b.kept (swap_of laid.loading) e.twice files.image.mode
       ask.twice
       (ap (λ (s : Load). s.image.mode) (sym exec.of_files) ∙ ap (λ i. i.mode) whole.image ∙ ap (λ i. i.mode) laid.image)
 
@@ -161,9 +172,9 @@ module _ {S O : Type 0} (D : Shelf S) (E : Sink O) (held after : Files) (s t u s
 
   said_same : files_text e.twice files exec.checked ≡ booted_text b.kept boot.checked boot.planned
   said_same =
-      ap (λ (r : Record). run_text (runs_asked e.twice files) exec.checked r.start r.regions r.digest) record_is
-      ∙ ap (λ r. run_text r exec.checked load.planned.start load.planned.regions load.planned.digest) runs
-      ∙ same_text b.kept boot.checked exec.checked load.planned.start load.planned.regions load.planned.digest check whole.image
+      ap (λ (x : LoadFiles). run_text (runs_asked e.twice files) exec.checked x.startup) (sym files_are)
+      ∙ ap (λ r. run_text r exec.checked (planned_startup load.planned)) runs
+      ∙ same_text b.kept boot.checked exec.checked (planned_startup load.planned) check whole.image
       ∙ ap (λ (p : Plan). booted_text b.kept boot.checked p) alike.0
 
 pub load_then_exec : {S O : Type 0} (D : Shelf S) (E : Sink O) → LoadThenExecIsBoot D E

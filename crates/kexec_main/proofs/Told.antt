@@ -1,5 +1,5 @@
 -- What is told of a run, in the words of its list.
-use Rattle.std.proofs.Common.{◌≡◌, ◌∙◌, ℕ, ◌++◌, Option, Some, None, ap, refl}
+use Rattle.std.proofs.Common.{◌≡◌, ◌∙◌, ◌++◌, Option, Some, None, ap, refl}
 use Rattle.kx_pages.specs.declared.image.Start.{Start}
 use Rattle.page_memory.specs.Contents.{at}
 use Rattle.kx_pages.specs.Bytes.{Mem}
@@ -8,6 +8,7 @@ use Rattle.kexec_words.specs.declared.commands.Runs.{Runs}
 use Rattle.kexec_words.specs.declared.commands.Runs.TheVariants.{Once, Twice}
 use Rattle.load_states.specs.States.{Checked}
 use Rattle.kexec_main.specs.declared.running.Ran.{Ran}
+use Rattle.kexec_main.specs.declared.startup.Startup.{Startup}
 use Rattle.kexec_main.specs.Runs.{after_runs, list_text, run_text}
 use Rattle.kexec_main.specs.inner.Ran.{HasRun, last_line, ran_text, second_steps}
 use Rattle.kexec_main.specs.Texts.{load_lines, purgatory_line, ran_line}
@@ -19,16 +20,16 @@ first_text runs c r start h = rw (h.words, h.links, h.pairs, h.image, h.ends) re
 pub one_memory : (N M : Mem) → Agree N M → N ≡ M
 one_memory N M h = λ i p. h p i
 
-by_runs : (runs : Option Runs) (c : Checked) (start : Start) (table digest : ℕ)
-    → last_line (second_steps runs c.words) (list_text c start ++ ran_line c.words) (purgatory_line (after_runs runs c) table digest) ≡ run_text runs c start table digest
-by_runs None c start table digest = refl
-by_runs (Some Once) c start table digest = refl
-by_runs (Some Twice) c start table digest = refl
+by_runs : (runs : Option Runs) (c : Checked) (s : Startup)
+    → last_line (second_steps runs c.words) (list_text c s.start ++ ran_line c.words) (purgatory_line (after_runs runs c) s.purgatory) ≡ run_text runs c s
+by_runs None c s = refl
+by_runs (Some Once) c s = refl
+by_runs (Some Twice) c s = refl
 
 -- the text of a run is that of its list and its runs
-pub text_of : (runs : Option Runs) (c : Checked) (r : Ran) (start : Start) (table digest : ℕ) → HasRun runs c r → ran_text r start table digest ≡ run_text runs c start table digest
-text_of runs c r start table digest h =
-    ap (λ second. last_line second (load_lines r.words r.links r.pairs r.image start ++ ran_line r.steps) (purgatory_line (at r.memory) table digest)) h.ends_again
-    ∙ ap (λ text. last_line (second_steps runs c.words) text (purgatory_line (at r.memory) table digest)) (first_text runs c r start h)
-    ∙ ap (λ N. last_line (second_steps runs c.words) (list_text c start ++ ran_line c.words) (purgatory_line N table digest)) (one_memory (at r.memory) (after_runs runs c) h.memory)
-    ∙ by_runs runs c start table digest
+pub text_of : (runs : Option Runs) (c : Checked) (r : Ran) (s : Startup) → HasRun runs c r → ran_text r s ≡ run_text runs c s
+text_of runs c r s h =
+    ap (λ second. last_line second (load_lines r.words r.links r.pairs r.image s.start ++ ran_line r.steps) (purgatory_line (at r.memory) s.purgatory)) h.ends_again
+    ∙ ap (λ text. last_line (second_steps runs c.words) text (purgatory_line (at r.memory) s.purgatory)) (first_text runs c r s.start h)
+    ∙ ap (λ N. last_line (second_steps runs c.words) (list_text c s.start ++ ran_line c.words) (purgatory_line N s.purgatory)) (one_memory (at r.memory) (after_runs runs c) h.memory)
+    ∙ by_runs runs c s

@@ -20,6 +20,7 @@ use Rattle.purgatory_link.specs.RegionTest.{test}
 use Rattle.kexec_plan.specs.Finish.{HasTableApart}
 use Rattle.kexec_main.specs.Entry.{ProgramEntry}
 use Rattle.kexec_main.specs.Loads.{CanLoad, NormalLoad}
+use Rattle.kexec_main.specs.Startup.{planned_startup}
 
 -- what `boot` took, how often the list is to run, and the name of its output
 pub record BootInputs : Type 0 where
@@ -41,7 +42,7 @@ Boots x p c = IsLoaded (wish_of x.runs) x.load p c.load × Told c.load c.words c
 abbrev pub boots : BootInputs → Result Made (Refusal Reason) → Type 0
 boots x (Ok goods) =
     (p : Plan) × (c : Checked) × Boots x p c
-    × (goods.text ≡ run_text x.runs c p.start p.regions p.digest) × (goods.fault ≡ None)
+    × (goods.text ≡ run_text x.runs c (planned_startup p)) × (goods.fault ≡ None)
     × IsMemoryFile goods.outputs x.out (after_runs x.runs c)
 boots x (Err (by why)) =
     RefusesLoad (wish_of x.runs) x.load why
@@ -65,8 +66,7 @@ module _ {S O : Type 0} (D : Shelf S) (E : Sink O) (s : S) (o : O) (s' : S) (o' 
     pub output : List ℕ
     pub is_memory : IsFileOf (after_runs b.kept checked) output
     pub put : FilesPut (D.files s) ((b.out, output) ∷ []) (D.files s')
-    pub said : Said (E.said o)
-        (run_text b.kept checked planned.start planned.regions planned.digest) (E.said o')
+    pub said : Said (E.said o) (run_text b.kept checked (planned_startup planned)) (E.said o')
 
 abbrev pub boot_entry : BootValue → ProgramEntry
 boot_entry b = record {

@@ -30,13 +30,12 @@ use Rattle.kexec_main.specs.Files.{load_files_of}
 -- the items are a list that is accepted for the record's segments in the memory, in its mode
 abbrev pub IsAcceptedIn : LoadFiles → List Item → Type 0
 IsAcceptedIn x is =
-    let r = x.load_record in
-    IsAccepted (at x.memory) (want r.segments) r.image.head r.image.control (swap_page r.image.mode)
+    IsAccepted (at x.memory) (want x.segments) x.image.head x.image.control (swap_page x.image.mode)
     is
 
 -- the list is not accepted, and this is its first fault
 abbrev pub IsFaultIn : LoadFiles → ListFault → Type 0
-IsFaultIn x f = IsFirstFault x.memory x.load_record.segments x.load_record.image f.word f.why
+IsFaultIn x f = IsFirstFault x.memory x.segments x.image f.word f.why
 
 -- the crash load lies in its place: its head is a done word, and each page of its segments has its
 -- segment's bytes and then zeros

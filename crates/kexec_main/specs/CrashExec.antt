@@ -1,12 +1,12 @@
 -- What `exec` makes of a crash load (this project's own).
 use Rattle.std.specs.Prelude.{◌≡◌, ℕ, Bool, true, false, List, length, Option, Some, None, Result, Ok, Err, ◌⊎◌}
-use Rattle.kx_pages.specs.declared.image.Start.{Start}
 use Rattle.page_memory.specs.Contents.{at}
 use Rattle.kx_pages.specs.Bytes.{Mem}
 use Rattle.segments.specs.Values.{pages}
 use Rattle.list_checker.specs.declared.fault.ListFault.{ListFault}
 use Rattle.file_commands.specs.Taking.{Refusal, too_long, by}
 use Rattle.kexec_main.specs.declared.files.CrashFiles.{CrashFiles}
+use Rattle.kexec_main.specs.declared.startup.Startup.{Startup}
 use Rattle.kexec_main.specs.declared.status.Reason.{Reason}
 use Rattle.kexec_main.specs.declared.status.Reason.TheVariants.{NotKept}
 use Rattle.kexec_main.specs.Check.{IsFaultLine, IsInPlace, IsPlaceFault}
@@ -15,20 +15,19 @@ use Rattle.kexec_main.specs.Texts.{crash_ran_text}
 
 -- A crash load of so many pages was run, which took one step and left this memory as it was: its
 -- file is the output, and the text tells the load and the run.
-pub record RunsInPlace (N : Mem) (pages : ℕ) (start : Start) (table digest : ℕ)
-    (out : List ℕ) (goods : Made) : Type 0 where
-  pub text : goods.text ≡ crash_ran_text N pages 1 start table digest
+pub record RunsInPlace (N : Mem) (pages : ℕ) (startup : Startup) (out : List ℕ) (goods : Made)
+    : Type 0 where
+  pub text : goods.text ≡ crash_ran_text N pages 1 startup
   pub fault : goods.fault ≡ None
   pub output : IsMemoryFile goods.outputs out N
 
 -- what is said of a crash load that was run
 abbrev pub crash_text : CrashFiles → List ℕ
-crash_text x = crash_ran_text (at x.memory) (length (pages x.segments)) 1 x.start x.regions x.digest
+crash_text x = crash_ran_text (at x.memory) (length (pages x.segments)) 1 x.startup
 
 abbrev pub RunsCrash : CrashFiles → List ℕ → Made → Type 0
 RunsCrash x out goods =
-    IsInPlace x
-    × RunsInPlace (at x.memory) (length (pages x.segments)) x.start x.regions x.digest out goods
+    IsInPlace x × RunsInPlace (at x.memory) (length (pages x.segments)) x.startup out goods
 
 -- it lies in its place and was run, or its fault is told and nothing was run
 abbrev pub executes_place_as : CrashFiles → List ℕ → Made → Option ListFault → Type 0

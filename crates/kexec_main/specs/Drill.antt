@@ -46,8 +46,8 @@ pub record AreRam (m : MapValue) (ram : List Run) : Type 0 where
   pub pages : (p : ℕ) → in_spans ram p ≡ is_ram m p
 
 -- the first page of the pool that lies in the reserved area, if there is one
-abbrev pub meeting : DrillInputs → Option ℕ
-meeting x = find (in_area (reserved_area x.map)) x.pool
+abbrev pub first_meeting : DrillInputs → Option ℕ
+first_meeting x = find (in_area (reserved_area x.map)) x.pool
 
 -- there is such a page, and it is named
 abbrev pub Meets : Option ℕ → Reason → Type 0
@@ -70,14 +70,14 @@ drill_text x ram = reply_lines 1 (replies_to (start x ram) x.events)
 -- reply to each, and the images and pages are kept over them. Or a page of the pool lies there, or that memory has no file.
 abbrev pub drills : DrillInputs → Result Made (Refusal Reason) → Type 0
 drills x (Ok goods) =
-    (ram : List Run) × AreRam x.map ram × (meeting x ≡ None)
+    (ram : List Run) × AreRam x.map ram × (first_meeting x ≡ None)
     × (goods.text ≡ drill_text x ram) × (goods.fault ≡ None)
     × AreKept x.pool (start x ram) x.events
     × (bytes : List ℕ) × IsFileOf (memory_after x ram) bytes
     × (goods.outputs ≡ (x.out, bytes) ∷ [])
 drills x (Err (by why)) =
-    Meets (meeting x) why
-    ⊎ ((ram : List Run) × AreRam x.map ram × (meeting x ≡ None) × HasNoFile (memory_after x ram) why)
+    Meets (first_meeting x) why
+    ⊎ ((ram : List Run) × AreRam x.map ram × (first_meeting x ≡ None) × HasNoFile (memory_after x ram) why)
 drills x (Err (too_long name limit)) = ⊥
 
 module _ {S O : Type 0} (D : Shelf S) (E : Sink O) (s : S) (o : O) (s' : S) (o' : O) where
@@ -87,7 +87,7 @@ module _ {S O : Type 0} (D : Shelf S) (E : Sink O) (s : S) (o : O) (s' : S) (o' 
     -- the pages that are RAM, and no page of the pool lies in the reserved area
     pub ram : List Run
     pub are_ram : AreRam i.map ram
-    pub apart : meeting i ≡ None
+    pub apart : first_meeting i ≡ None
     -- Until an image was run, after each event: what is installed or written is accepted in the memory as it is, and each
     -- page of the pool is left, or the load's, or the normal image's. Busy is answered exactly where another caller's load is
     -- under way.
@@ -101,7 +101,7 @@ module _ {S O : Type 0} (D : Shelf S) (E : Sink O) (s : S) (o : O) (s' : S) (o' 
 pub record CanDrill (x : DrillInputs) : Type 0 where
   pub ram : List Run
   pub are_ram : AreRam x.map ram
-  pub apart : meeting x ≡ None
+  pub apart : first_meeting x ≡ None
   pub light : (n : ℕ) → IsTooHeavy (memory_after x ram) n → ⊥
 
 abbrev pub drill_entry : DrillValue → ProgramEntry

@@ -85,8 +85,8 @@ lines_of text = record { outputs = []; text = text; fault = None }
 abbrev pub dumps_list : LoadFiles → Result Made (Refusal Reason) → Type 0
 dumps_list x (Ok goods) =
     (ws : List ℕ) × (fault : Option ListFault)
-    × IsWalk (at x.memory) x.load_record.image.head ws fault
-    × (goods ≡ lines_of (walk_text ws fault ++ flat_map segment_line x.load_record.segments))
+    × IsWalk (at x.memory) x.image.head ws fault
+    × (goods ≡ lines_of (walk_text ws fault ++ flat_map segment_line x.segments))
 dumps_list x (Err other) = ⊥
 
 -- the same of a crash load, whose list is the head alone
@@ -106,10 +106,10 @@ module _ {S O : Type 0} (D : Shelf S) (E : Sink O) (s : S) (o : O) (s' : S) (o' 
   pub record HasDumped (files : LoadFiles) : Type 0 where
     pub list : List ℕ
     pub fault : Option ListFault
-    pub walk : IsWalk (at files.memory) files.load_record.image.head list fault
+    pub walk : IsWalk (at files.memory) files.image.head list fault
     pub put : FilesPut (D.files s) [] (D.files s')
     pub said : Said (E.said o)
-        (walk_text list fault ++ flat_map segment_line files.load_record.segments) (E.said o')
+        (walk_text list fault ++ flat_map segment_line files.segments) (E.said o')
 
   -- After `dump` of a crash load: the text tells its head and each segment.
   pub record HasDumpedCrash (files : CrashFiles) : Type 0 where

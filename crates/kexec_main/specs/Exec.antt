@@ -2,7 +2,6 @@
 use Rattle.std.specs.Prelude.{◌≡◌, ℕ, Bool, true, false, List, Option, Some, None, Result, Ok, Err, ◌⊎◌, [], ◌∷◌}
 use Rattle.kx_pages.specs.declared.image.Mode.{Mode}
 use Rattle.kx_pages.specs.declared.image.Mode.TheVariants.{Plain, Kept}
-use Rattle.kx_pages.specs.declared.image.Start.{Start}
 use Rattle.list_checker.specs.declared.fault.ListFault.{ListFault}
 use Rattle.load_states.specs.States.{Load, no_pages, Checked}
 use Rattle.load_states.specs.Ready.{Told}
@@ -28,6 +27,7 @@ use Rattle.page_memory.specs.Contents.{at}
 use Rattle.load_states.specs.Runs.{EndsAfter}
 use Rattle.file_commands.specs.Answers.{FilesPut, command_of}
 use Rattle.kexec_main.specs.declared.files.CrashFiles.{CrashFiles}
+use Rattle.kexec_main.specs.declared.startup.Startup.{Startup}
 use Rattle.kexec_main.specs.Entry.{ProgramEntry}
 
 -- what `exec` took, whether the list is to run twice, and the name of its output
@@ -61,16 +61,16 @@ abbrev pub load_of : LoadFiles → Load
 load_of x = record {
   memory = x.memory;
   pool = no_pages;
-  image = x.load_record.image;
-  segments = x.load_record.segments;
+  image = x.image;
+  segments = x.segments;
 }
 
 -- The accepted list of a load is run: the file of the memory after the last run is the output, and the text tells the list
 -- and each run.
-abbrev pub RunsList : Option Runs → Load → Start → (table digest : ℕ) → List ℕ → Made → Type 0
-RunsList runs load start table digest out goods =
+abbrev pub RunsList : Option Runs → Load → Startup → List ℕ → Made → Type 0
+RunsList runs load startup out goods =
     (words : ℕ) × (links : ℕ) × (qs : List (ℕ × ℕ)) × Told load words links qs
-    × (goods.text ≡ run_text runs (checked_with load words links qs) start table digest)
+    × (goods.text ≡ run_text runs (checked_with load words links qs) startup)
     × (goods.fault ≡ None)
     × IsMemoryFile goods.outputs out (after_runs runs (checked_with load words links qs))
 
@@ -82,16 +82,14 @@ RefusesRun runs load why =
 
 -- the runs that are asked of the list of the files
 abbrev pub runs_asked : Bool → LoadFiles → Option Runs
-runs_asked twice x = runs_of twice x.load_record.image.mode
+runs_asked twice x = runs_of twice x.image.mode
 
 -- a second run is asked for, and there is no swap page
 abbrev pub is_not_kept : Bool → LoadFiles → Bool
-is_not_kept twice x = lacks_swap_page twice x.load_record.image.mode
+is_not_kept twice x = lacks_swap_page twice x.image.mode
 
 abbrev pub RunsFiles : LoadFiles → Bool → List ℕ → Made → Type 0
-RunsFiles x twice out goods =
-    let r = x.load_record in
-    RunsList (runs_asked twice x) (load_of x) r.start r.regions r.digest out goods
+RunsFiles x twice out goods = RunsList (runs_asked twice x) (load_of x) x.startup out goods
 
 abbrev pub RefusesFiles : LoadFiles → Bool → Reason → Type 0
 RefusesFiles x twice why = RefusesRun (runs_asked twice x) (load_of x) why
@@ -121,8 +119,7 @@ executes x r = executes_by x.load x.twice x.out r
 
 -- what `exec` says of a list that it ran, by what was taken
 abbrev pub files_text : Bool → LoadFiles → Checked → List ℕ
-files_text twice x c =
-    let r = x.load_record in run_text (runs_asked twice x) c r.start r.regions r.digest
+files_text twice x c = run_text (runs_asked twice x) c x.startup
 
 module _ {S O : Type 0} (D : Shelf S) (E : Sink O) (s : S) (o : O) (s' : S) (o' : O) where
   -- After `exec` of a normal load: the record's list is accepted in the memory for the record's

@@ -13,11 +13,14 @@ use Rattle.memory_map.specs.Text.{map_reading}
 use Rattle.kexec_words.specs.Values.{LoadNamesValue}
 use Rattle.file_commands.specs.Taking.{Take, ok, ◌>>=◌}
 use Rattle.file_commands.specs.Files.{from_reader, whole_file}
+use Rattle.kexec_main.specs.declared.files.CrashFiles.{CrashFiles}
+use Rattle.kexec_main.specs.declared.files.LoadFiles.{LoadFiles}
 use Rattle.kexec_main.specs.declared.files.TakenLoad.{TakenLoad}
 use Rattle.kexec_main.specs.declared.files.TakenLoad.TheVariants.{Normal, Crash}
 use Rattle.kexec_main.specs.declared.status.InputFault.TheVariants as inputs
 use Rattle.kexec_main.specs.declared.status.Reason.{Reason}
 use Rattle.kexec_main.specs.declared.status.Reason.TheVariants.{Input}
+use Rattle.kexec_main.specs.Startup.{recorded_startup}
 
 -- the limits of single files, in bytes
 abbrev pub memory_limit : ℕ
@@ -76,18 +79,27 @@ load_record_file name = do
   bytes ← whole_file record_limit name
   from_reader (λ e. Input (inputs.Rec e)) (record_reading bytes)
 
+-- a memory, and the list and segments of a record
+abbrev pub list_files : Contents → Record → LoadFiles
+list_files m r = record {
+  memory = m;
+  image = r.image;
+  segments = r.segments;
+  startup = recorded_startup r;
+}
+
+-- a memory, and the segments of a crash record, whose list is its head alone
+abbrev pub crash_files : Contents → Record → CrashFiles
+crash_files m r = record {
+  memory = m;
+  head = r.image.head;
+  segments = r.segments;
+  startup = recorded_startup r;
+}
+
 -- the load that a memory and a record tell, by the record's kind
 abbrev pub load_by : Contents → Record → TakenLoad
-load_by m r =
-    if r.crash then Crash (record {
-      memory = m;
-      head = r.image.head;
-      segments = r.segments;
-      start = r.start;
-      regions = r.regions;
-      digest = r.digest;
-    })
-    else Normal (record { memory = m; load_record = r })
+load_by m r = if r.crash then Crash (crash_files m r) else Normal (list_files m r)
 
 -- the memory file, then the file of the load record
 abbrev pub load_files : List ℕ → List ℕ → Take Reason TakenLoad

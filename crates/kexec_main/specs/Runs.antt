@@ -13,6 +13,7 @@ use Rattle.load_states.specs.States.{Checked, Load, swap_of, with_memory}
 use Rattle.load_states.specs.Runs.{EndsAfter}
 use Rattle.load_states.specs.Exchange.{exchange}
 use Rattle.relocate_machine.specs.Run.{run_of}
+use Rattle.kexec_main.specs.declared.startup.Startup.{Startup}
 use Rattle.kexec_main.specs.Texts.{load_lines, purgatory_line, ran_line}
 
 -- what the runs ask of the load
@@ -77,11 +78,10 @@ abbrev pub list_text : Checked → Start → List ℕ
 list_text c start = load_lines c.words c.links (length c.pairs) c.load.image start
 
 -- after one run, where there is a purgatory, the test of its regions in the memory that the run left
-abbrev pub run_text : Option Runs → Checked → Start → (table digest : ℕ) → List ℕ
-run_text None c start table digest =
-    (list_text c start ++ ran_line c.words) ++ purgatory_line (after_runs None c) table digest
-run_text (Some Once) c start table digest =
-    (list_text c start ++ ran_line c.words)
-    ++ purgatory_line (after_runs (Some Once) c) table digest
-run_text (Some Twice) c start table digest =
-    (list_text c start ++ ran_line c.words) ++ ran_line c.words
+abbrev pub run_text : Option Runs → Checked → Startup → List ℕ
+run_text None c s =
+    (list_text c s.start ++ ran_line c.words) ++ purgatory_line (after_runs None c) s.purgatory
+run_text (Some Once) c s =
+    (list_text c s.start ++ ran_line c.words)
+    ++ purgatory_line (after_runs (Some Once) c) s.purgatory
+run_text (Some Twice) c s = (list_text c s.start ++ ran_line c.words) ++ ran_line c.words

@@ -1,6 +1,6 @@
 -- The texts that commands say (this project's own). Addresses and words are in lower-case hexadecimal without leading
 -- zeros, counts in decimal, and each line ends with a newline.
-use Rattle.std.specs.Prelude.{ℕ, ◌*◌, ◌==◌, ◌&&◌, List, [], ◌++◌, codes, decimal, false, if◌then◌else◌}
+use Rattle.std.specs.Prelude.{ℕ, ◌*◌, List, [], ◌++◌, codes, decimal, false, Option, Some, None}
 use Rattle.kx_pages.specs.Bytes.{Mem}
 use Rattle.purgatory_link.specs.declared.region_test.RegionTest.{RegionTest}
 use Rattle.purgatory_link.specs.declared.region_test.RegionTest.TheVariants as tests
@@ -12,6 +12,8 @@ use Rattle.kx_pages.specs.declared.image.Start.{Start}
 use Rattle.kx_pages.specs.declared.image.Image.{Image}
 use Rattle.kx_pages.specs.declared.image.Mode.{Mode}
 use Rattle.kx_pages.specs.declared.image.Mode.TheVariants.{Plain, Kept}
+use Rattle.kexec_main.specs.declared.startup.PurgatoryPlaces.{PurgatoryPlaces}
+use Rattle.kexec_main.specs.declared.startup.Startup.{Startup}
 
 abbrev pub hexadecimal : ℕ → List ℕ
 hexadecimal n = digits 16 false n
@@ -55,11 +57,10 @@ regions_line tests.Same = codes "regions same\n"
 regions_line (tests.Differs found wanted) = codes "regions differ\n"
 regions_line (tests.Wild region) = codes "regions wild\n"
 
--- the line of that test after one run, where there is a purgatory: its region table and its digest have addresses
-abbrev pub purgatory_line : Mem → ℕ → ℕ → List ℕ
-purgatory_line N table digest =
-    if (table == 0) && (digest == 0) then []
-    else regions_line (test N table digest)
+-- the line of that test after one run, where there is a purgatory
+abbrev pub purgatory_line : Mem → Option PurgatoryPlaces → List ℕ
+purgatory_line N None = []
+purgatory_line N (Some places) = regions_line (test N places.regions places.digest)
 
 -- the digest of a sample's memory, in hexadecimal
 unfoldable pub memory_line : Mem → List ℕ
@@ -79,6 +80,6 @@ abbrev pub crash_lines : ℕ → Start → List ℕ
 crash_lines pages start = crash_line pages ++ start_line start
 
 -- what is said of a crash load and of its run, after which memory is this
-abbrev pub crash_ran_text : Mem → (pages steps : ℕ) → Start → (table digest : ℕ) → List ℕ
-crash_ran_text N pages steps start table digest =
-    (crash_lines pages start ++ ran_line steps) ++ purgatory_line N table digest
+abbrev pub crash_ran_text : Mem → (pages steps : ℕ) → Startup → List ℕ
+crash_ran_text N pages steps s =
+    (crash_lines pages s.start ++ ran_line steps) ++ purgatory_line N s.purgatory

@@ -3,5 +3,6 @@ pub mod TooFew
 pub mod Together
 pub mod Views
 pub mod Ran
+pub mod Startups
 pub mod ShortStores
 pub mod ExitStatuses

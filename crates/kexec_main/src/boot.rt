@@ -13,7 +13,7 @@ use crate::inputs::take_inputs;
 use crate::load_inputs::LoadInputs;
 use crate::loading::load_request;
 use crate::output::memory_output;
-use crate::running::{Startup, run_loaded};
+use crate::running::run_loaded;
 use crate::status::Reason;
 use crate::text::ran_text;
 use file_commands::{Command, Goods, MakeFault, TakeFault};
@@ -79,12 +79,7 @@ fn make_boot(alloc: Global, boot: BootInputs) -> Result<Goods<ListFault>, MakeFa
     let BootInputs { load, runs, out } = boot;
     let kernel = load_request(alloc, load, wish_of(runs))?;
     let ran = run_loaded(alloc, kernel.loaded, runs)?;
-    let startup = Startup {
-        start: kernel.start,
-        regions: kernel.regions,
-        digest: kernel.digest,
-    };
-    let text = ran_text(alloc, &ran, startup)?;
+    let text = ran_text(alloc, &ran, kernel.startup)?;
     let outputs = memory_output(alloc, ran.memory, out)?;
     Ok(Goods {
         outputs,

@@ -12,7 +12,7 @@ ghost use Rattle.kexec_main.specs.inner.Views.{inputs_of, IsKernel, resident_inp
 ghost use Rattle.kexec_main.specs.BootResident.{HasNoList, RefusesResident, ResidentInputs as Inputs, boots_resident, copied_line, pairs_file, resident_files};
 ghost use Rattle.kexec_main.specs.inner.Ran.{ran_resident};
 
-use crate::files::{TEXT_LIMIT, refused_by};
+use crate::files::{TEXT_LIMIT, refusal_by};
 use crate::inputs::take_inputs;
 use crate::load_inputs::LoadInputs;
 use crate::loading::plan_request;
@@ -62,7 +62,7 @@ fn take_pairs<S: Shelf>(
     match read_pairs(alloc, &bytes) {
         Ok(pairs) => Ok(pairs),
         Err(PairsFault::Memory) => Err(TakeFault::Memory),
-        Err(fault) => Err(refused_by(InputFault::Pairs { fault })),
+        Err(fault) => Err(refusal_by(InputFault::Pairs { fault })),
     }
 }
 

@@ -57,11 +57,7 @@ pub(crate) fn unaccepted_goods(
 fn check_list(alloc: Global, files: LoadFiles) -> Result<Goods<ListFault>, MakeFault<Reason>>
     ensures { Makes checks_list files result }
 {
-    let LoadFiles {
-        memory,
-        load_record,
-    } = files;
-    match check(alloc, &memory, &load_record.image, &load_record.segments) {
+    match check(alloc, &files.memory, &files.image, &files.segments) {
         Err(why) => unaccepted_goods(alloc, why),
         Ok(accept) => {
             let pairs = accept.pairs.len() as u64;

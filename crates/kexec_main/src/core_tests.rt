@@ -4,7 +4,7 @@
 use crate::crash_example::CRASH_FILES;
 use crate::scene::Piece::{At, Bytes, List, Numbers, Page};
 use crate::scene::{
-    Files, Pieces, Step, add, ending, expect, file_of, joined, named, play, refuse_all, shelf,
+    Files, Pieces, Step, add, ending, expect, file_of, join, make_files, play, refuse_all, shelf,
 };
 use kx_edge::Shelf;
 use std::alloc::Global;
@@ -278,8 +278,8 @@ const CHANGES: [(&[(usize, &[u8])], &str); 29] = [
 ];
 
 // The memory file of the machine with these changes.
-fn changed(alloc: Global, changes: &[(usize, &[u8])]) -> Result<Vec<u8>, Fail> {
-    let mut file = joined(alloc, MACHINE)?;
+fn change(alloc: Global, changes: &[(usize, &[u8])]) -> Result<Vec<u8>, Fail> {
+    let mut file = join(alloc, MACHINE)?;
     for (place, bytes) in changes {
         for (byte, new) in file.iter_mut().skip(*place).zip(bytes.iter()) {
             *byte = *new;
@@ -294,14 +294,14 @@ fn headers_make_a_core_file_or_tell_their_first_fault(rt: HostRuntime) -> Result
     let alloc = rt.alloc();
     for (changes, wanted) in CHANGES {
         let mut files = Vec::new(alloc);
-        add(alloc, &mut files, "m", changed(alloc, changes)?)?;
+        add(alloc, &mut files, "m", change(alloc, changes)?)?;
         let mut shelf = shelf(alloc, files, &[])?;
         let found = ending(alloc, "core m o 101000", &mut shelf)?;
         assert!(rt; found.as_str() == wanted, "{found}");
         let is_written = file_of(alloc, &mut shelf, "o")?.is_some();
         assert!(rt; is_written == found.starts_with("0"), "{found}");
         assert!(rt;
-            file_of(alloc, &mut shelf, "m")? == Some(changed(alloc, changes)?),
+            file_of(alloc, &mut shelf, "m")? == Some(change(alloc, changes)?),
             "{found}"
         );
     }
@@ -322,13 +322,13 @@ const LOAD_AND_CORE: [(&str, &str); 2] = [
 #[test]
 fn a_crash_load_has_the_core_file_of_its_machine(rt: HostRuntime) -> Result<(), Fail> {
     let alloc = rt.alloc();
-    let mut shelf = shelf(alloc, named(alloc, CRASH_FILES)?, &[])?;
+    let mut shelf = shelf(alloc, make_files(alloc, CRASH_FILES)?, &[])?;
     shelf.reserve("x", 233_836_544)?;
     for (line, said) in LOAD_AND_CORE {
         expect(&rt, alloc, &mut shelf, line, 0, "Done", said)?;
     }
     let core = shelf.take(alloc, "x", 240_000_000).ok().ok_or("a core")?;
-    let rows = joined(
+    let rows = join(
         alloc,
         &[
             Numbers(&[0x7_0000_0001, 0x1000, 0xffff_8880_0010_0000, 0x10_0000]),

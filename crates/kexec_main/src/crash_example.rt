@@ -1,6 +1,6 @@
 //! A crash load, for tests: its files, and what is made of them.
 
-use crate::scene::Piece::{At, Bytes, Numbers, Page};
+use crate::scene::Piece::{At, Bytes, Lines, Numbers, Page};
 use crate::scene::{Files, Pieces};
 
 /// 32 MiB are reserved for the crash kernel, from 0x4000000 on.
@@ -47,6 +47,7 @@ pub(crate) const CRASH_FILES: Files = &[
     ("kernel", LINUX_KERNEL),
     ("no_area", &[Bytes(b"00100000-0fffffff : System RAM\n")]),
     ("in_area", &[Bytes(b"4000000 400\n")]),
+    ("many_notes", &[Lines(b"200000 400\n", 1023)]),
     ("empty_note", &[Bytes(b"200000 0\n")]),
     ("elf", &[Bytes(b"\x7fELF\x02\x01\x01")]),
 ];

@@ -9,7 +9,7 @@ ghost use Rattle.kexec_main.specs.Outputs.{HasNoFile};
 use crate::check::fault_goods;
 use crate::files::CrashFiles;
 use crate::output::memory_output;
-use crate::running::Startup;
+use crate::startup::Startup;
 use crate::status::Reason;
 use crate::text::crash_ran_text;
 use file_commands::{Goods, MakeFault};
@@ -26,8 +26,7 @@ fn run_in_place(
     out: String,
 ) -> Result<Goods<ListFault>, MakeFault<Reason>>
     ensures { MakesOr
-        (λ g. RunsInPlace (at accepted.memory) pages startup.start startup.regions startup.digest
-        (string_bytes out) (goods_of g))
+        (λ g. RunsInPlace (at accepted.memory) pages startup (string_bytes out) (goods_of g))
         (HasNoFile (at accepted.memory)) result }
 {
     let ran = accepted.exec();
@@ -53,9 +52,7 @@ pub(crate) fn exec_in_place(
         memory,
         head,
         segments,
-        start,
-        regions,
-        digest,
+        startup,
     } = files;
     if twice {
         return Err(MakeFault::Refused {
@@ -63,11 +60,6 @@ pub(crate) fn exec_in_place(
         });
     }
     let pages = segments.pages();
-    let startup = Startup {
-        start,
-        regions,
-        digest,
-    };
     let loaded = CrashLoaded::from_parts(memory, head, segments);
     match loaded.accept() {
         Ok(accepted) => run_in_place(alloc, accepted, pages, startup, out),

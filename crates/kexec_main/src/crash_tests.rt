@@ -6,7 +6,7 @@ use crate::crash_example::{
 use crate::kernel_files::PURGATORY;
 use crate::scene::Piece::{Bytes, Numbers, Page};
 use crate::scene::{
-    Files, Pieces, ending, expect, file_of, first_other, joined, named, patch, push_page,
+    Files, Pieces, ending, expect, file_of, first_other, join, make_files, patch, push_page,
     refuse_all, shelf,
 };
 use kx_edge::{MemoryShelf, Shelf};
@@ -18,8 +18,8 @@ use std::test::Fail;
 const LOAD_TEXT: &str = "accepted crash pages 6\nstart entry 4000200 rax 0 rbx 0 rsi 5ffd000\n";
 
 // The shelf after the load.
-fn loaded(rt: &impl Abort, alloc: Global) -> Result<MemoryShelf, Fail> {
-    let mut shelf = shelf(alloc, named(alloc, CRASH_FILES)?, &[])?;
+fn load(rt: &impl Abort, alloc: Global) -> Result<MemoryShelf, Fail> {
+    let mut shelf = shelf(alloc, make_files(alloc, CRASH_FILES)?, &[])?;
     let line = "load-panic --map map --command quiet --notes notes m o r kernel";
     expect(rt, alloc, &mut shelf, line, 0, "Done", LOAD_TEXT)?;
     Ok(shelf)
@@ -37,8 +37,8 @@ const FRONT: Pieces = &[
 
 // The last pages: the command, and the headers.
 fn back(alloc: Global) -> Result<Vec<u8>, AllocError> {
-    let mut pages = joined(alloc, &[Page(0x5ffe, b"quiet elfcorehdr=98300K\0")])?;
-    push_page(&mut pages, 0x5fff, &joined(alloc, HEADERS)?)?;
+    let mut pages = join(alloc, &[Page(0x5ffe, b"quiet elfcorehdr=98300K\0")])?;
+    push_page(&mut pages, 0x5fff, &join(alloc, HEADERS)?)?;
     Ok(pages)
 }
 
@@ -46,10 +46,10 @@ fn back(alloc: Global) -> Result<Vec<u8>, AllocError> {
 #[test]
 fn a_crash_load_writes_its_place_alone(rt: HostRuntime) -> Result<(), Fail> {
     let alloc = rt.alloc();
-    let mut shelf = loaded(&rt, alloc)?;
+    let mut shelf = load(&rt, alloc)?;
     let memory = file_of(alloc, &mut shelf, "o")?.ok_or("a memory")?;
     assert_eq!(rt; memory.len(), 16 + 6 * 4104);
-    assert!(rt; memory.starts_with(&joined(alloc, FRONT)?));
+    assert!(rt; memory.starts_with(&join(alloc, FRONT)?));
     assert!(rt; memory.ends_with(&back(alloc)?));
     let field = &memory[16 + 3 * 4104 + 8 + 0x228..];
     assert!(rt; field.starts_with(&[0x00, 0xe0, 0xff, 0x05]));
@@ -73,11 +73,11 @@ const BEHIND_HEADERS: Pieces = &[Numbers(&[0x5ff_d000, 0x2000, 4120])];
 #[test]
 fn a_crash_record_tells_its_kind_and_its_segments(rt: HostRuntime) -> Result<(), Fail> {
     let alloc = rt.alloc();
-    let mut shelf = loaded(&rt, alloc)?;
+    let mut shelf = load(&rt, alloc)?;
     let record = file_of(alloc, &mut shelf, "r")?.ok_or("a record")?;
-    let mut wanted = joined(alloc, BEFORE_HEADERS)?;
-    wanted.extend_from_slice(&joined(alloc, HEADERS)?)?;
-    wanted.extend_from_slice(&joined(alloc, BEHIND_HEADERS)?)?;
+    let mut wanted = join(alloc, BEFORE_HEADERS)?;
+    wanted.extend_from_slice(&join(alloc, HEADERS)?)?;
+    wanted.extend_from_slice(&join(alloc, BEHIND_HEADERS)?)?;
     assert!(rt; record.starts_with(&wanted) && record.len() == 4621);
     Ok(())
 }
@@ -105,7 +105,7 @@ const COMMANDS: [(&str, u8, &str, &str); 4] = [
 #[test]
 fn a_crash_load_is_checked_and_its_run_changes_no_page(rt: HostRuntime) -> Result<(), Fail> {
     let alloc = rt.alloc();
-    let mut shelf = loaded(&rt, alloc)?;
+    let mut shelf = load(&rt, alloc)?;
     for (line, code, status, said) in COMMANDS {
         expect(&rt, alloc, &mut shelf, line, code, status, said)?;
     }
@@ -150,7 +150,7 @@ const BOTH_PLACES: &[(usize, &[u8])] = &[
 #[test]
 fn a_crash_load_takes_an_initrd_and_a_purgatory(rt: HostRuntime) -> Result<(), Fail> {
     let alloc = rt.alloc();
-    let mut shelf = shelf(alloc, named(alloc, WITH_BOTH)?, &[])?;
+    let mut shelf = shelf(alloc, make_files(alloc, WITH_BOTH)?, &[])?;
     for (line, said) in BOTH {
         expect(&rt, alloc, &mut shelf, line, 0, "Done", said)?;
     }
@@ -178,7 +178,7 @@ fn expect_dump(
 #[test]
 fn a_crash_load_is_dumped(rt: HostRuntime) -> Result<(), Fail> {
     let alloc = rt.alloc();
-    let mut shelf = loaded(&rt, alloc)?;
+    let mut shelf = load(&rt, alloc)?;
     let said = "0 done\nsegment 4000000 memsz 3000 bufsz 5 sha256 ";
     expect_dump(&rt, alloc, &mut shelf, said)
 }
@@ -192,8 +192,8 @@ const HEADS: [(u64, &str); 4] = [
 ];
 
 // The shelf after the load, whose record has another head since: it stands at the byte 16.
-fn loaded_with(rt: &impl Abort, alloc: Global, head: u64) -> Result<MemoryShelf, Fail> {
-    let mut shelf = loaded(rt, alloc)?;
+fn load_with(rt: &impl Abort, alloc: Global, head: u64) -> Result<MemoryShelf, Fail> {
+    let mut shelf = load(rt, alloc)?;
     let mut record = file_of(alloc, &mut shelf, "r")?.ok_or("a record")?;
     patch(&mut record, 16, &head.to_le_bytes());
     shelf.put("r", &record).ok().ok_or("a put")?;
@@ -205,7 +205,7 @@ fn loaded_with(rt: &impl Abort, alloc: Global, head: u64) -> Result<MemoryShelf,
 fn each_fault_of_a_crash_load_is_told(rt: HostRuntime) -> Result<(), Fail> {
     let alloc = rt.alloc();
     for (head, why) in HEADS {
-        let mut shelf = loaded_with(&rt, alloc, head)?;
+        let mut shelf = load_with(&rt, alloc, head)?;
         let status = format!(in alloc;
             "NotAccepted {{ fault: ListFault {{ word: 0, why: {why} }} }}"
         )?;
@@ -218,7 +218,8 @@ fn each_fault_of_a_crash_load_is_told(rt: HostRuntime) -> Result<(), Fail> {
     Ok(())
 }
 
-/// Crash loads that are refused, with the exit status and the status.
+/// Crash loads that are refused, with the exit status and the status. The map has two ranges of RAM beside the area: with
+/// 1,023 notes they are one more than the headers can tell.
 const REFUSALS: &[(&str, u8, &str)] = &[
     (
         "load-panic --map no_area --notes notes m o r kernel",
@@ -239,6 +240,11 @@ const REFUSALS: &[(&str, u8, &str)] = &[
         "load-panic --map map --notes in_area m o r kernel",
         8,
         "Plan { fault: Crash { fault: NotesOutside { i: 0 } } }",
+    ),
+    (
+        "load-panic --map map --notes many_notes m o r kernel",
+        8,
+        "Plan { fault: Crash { fault: TooManyRanges { count: 1025 } } }",
     ),
     (
         "load-panic --map map --notes empty_note m o r kernel",

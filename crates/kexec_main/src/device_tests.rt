@@ -6,7 +6,7 @@ use crate::core_tests::MACHINE;
 use crate::crash_example::{BEFORE, LINUX_KERNEL, NOTES, RESERVED};
 use crate::first_example::{ABC, LOADED, MAP, NO_PAGES, RECORD};
 use crate::scene::Piece::Bytes;
-use crate::scene::{Files, ending, file_of, named, run, shelf};
+use crate::scene::{Files, ending, file_of, make_files, run, shelf};
 use kx_edge::MemoryShelf;
 use std::alloc::{AllocError, Global};
 use std::process::Abort;
@@ -64,29 +64,29 @@ const REFUSED: [(&str, &str); 4] = [
 /// The outputs o and r, where they are there.
 type Left = (Option<Vec<u8>>, Option<Vec<u8>>);
 
-fn left(alloc: Global, shelf: &mut MemoryShelf) -> Result<Left, AllocError> {
+fn outputs(alloc: Global, shelf: &mut MemoryShelf) -> Result<Left, AllocError> {
     let memory = file_of(alloc, shelf, "o")?;
     Ok((memory, file_of(alloc, shelf, "r")?))
 }
 
 // What is left where the calls with these numbers fail. The command must end like this.
-fn left_by(
+fn outputs_after(
     rt: &impl Abort,
     alloc: Global,
     line: &str,
     failing: &[u64],
     wanted: &str,
 ) -> Result<Left, Fail> {
-    let mut shelf = shelf(alloc, named(alloc, FILES)?, failing)?;
+    let mut shelf = shelf(alloc, make_files(alloc, FILES)?, failing)?;
     let found = ending(alloc, line, &mut shelf)?;
     assert!(rt; found.starts_with(wanted), "{line}: {found}");
-    Ok(left(alloc, &mut shelf)?)
+    Ok(outputs(alloc, &mut shelf)?)
 }
 
 fn takes_are_told(rt: &impl Abort, alloc: Global, line: &str, takes: &str) -> Result<(), Fail> {
     for (call, name) in (0u64..).zip(takes.split_whitespace()) {
         let wanted = format!(in alloc; "3 Unread {{ name: \"{name}\" }}\n")?;
-        let (memory, record) = left_by(rt, alloc, line, &[call], &wanted)?;
+        let (memory, record) = outputs_after(rt, alloc, line, &[call], &wanted)?;
         assert!(rt; memory.is_none() && record.is_none(), "{line}");
     }
     Ok(())
@@ -117,7 +117,7 @@ fn puts_are_told(
 ) -> Result<(), Fail> {
     let first = takes.split_whitespace().count() as u64;
     for (call, name) in (first..).zip(puts.split_whitespace()) {
-        let (memory, record) = left_by(rt, alloc, line, &[], "0 Done\n")?;
+        let (memory, record) = outputs_after(rt, alloc, line, &[], "0 Done\n")?;
         let whole = if name == "o" {
             (half(memory), None)
         } else {
@@ -125,7 +125,7 @@ fn puts_are_told(
         };
         let wanted = format!(in alloc; "4 Unwritten {{ name: \"{name}\" }}\n")?;
         assert!(rt;
-            left_by(rt, alloc, line, &[call], &wanted)? == whole,
+            outputs_after(rt, alloc, line, &[call], &wanted)? == whole,
             "{line}"
         );
     }
@@ -146,13 +146,13 @@ fn a_text_that_cannot_be_said_leaves_whole_outputs(rt: HostRuntime) -> Result<()
     let alloc = rt.alloc();
     for (line, takes, puts) in COMMANDS {
         let calls = takes.split_whitespace().chain(puts.split_whitespace());
-        let files = named(alloc, FILES)?;
+        let files = make_files(alloc, FILES)?;
         let mut shelf = shelf(alloc, files, &[calls.count() as u64])?;
         let (status, sink) = run(alloc, line, &mut shelf, &[0])?;
         assert!(rt; status.code() == 5 && sink.said().is_empty(), "{line}");
         assert!(rt; file_of(alloc, &mut shelf, "k")?.is_none(), "{line}");
-        let whole = left_by(&rt, alloc, line, &[], "0 Done\n")?;
-        assert!(rt; left(alloc, &mut shelf)? == whole, "{line}");
+        let whole = outputs_after(&rt, alloc, line, &[], "0 Done\n")?;
+        assert!(rt; outputs(alloc, &mut shelf)? == whole, "{line}");
     }
     Ok(())
 }

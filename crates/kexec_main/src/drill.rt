@@ -17,7 +17,7 @@ ghost use Rattle.kexec_main.specs.inner.Views.{drill_inputs};
 ghost use Rattle.kexec_main.specs.EventFile.{events_file};
 
 use crate::drill_inputs::DrillInputs;
-use crate::files::{TEXT_LIMIT, refused_by, take_map_file, take_memory, take_pool};
+use crate::files::{TEXT_LIMIT, refusal_by, take_map_file, take_memory, take_pool};
 use crate::output::memory_output;
 use crate::replies::reply_lines;
 use crate::status::{InputFault, Reason};
@@ -52,7 +52,7 @@ fn take_events<S: Shelf>(
     match read_events(alloc, &bytes) {
         Ok(events) => Ok(events),
         Err(EventsFault::Memory) => Err(TakeFault::Memory),
-        Err(fault) => Err(refused_by(InputFault::Events { fault })),
+        Err(fault) => Err(refusal_by(InputFault::Events { fault })),
     }
 }
 

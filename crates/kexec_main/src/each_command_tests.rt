@@ -6,7 +6,7 @@ use crate::first_example::{
 };
 use crate::kexec_in_memory;
 use crate::scene::Piece::{Bytes, List, Numbers, Page};
-use crate::scene::{Files, Pieces, Step, joined, named, play, words};
+use crate::scene::{Files, Pieces, Step, join, make_files, play, words};
 use kx_edge::{CalmShelf, MemorySink, Shelf};
 use std::test::Fail;
 
@@ -108,13 +108,13 @@ fn a_record_is_written_as_version_2(rt: HostRuntime) -> Result<(), Fail> {
 #[test]
 fn the_first_boot_is_done_in_memory(rt: HostRuntime) -> Result<(), Fail> {
     let alloc = rt.alloc();
-    let mut shelf = CalmShelf::new(alloc, named(alloc, FILES)?);
+    let mut shelf = CalmShelf::new(alloc, make_files(alloc, FILES)?);
     shelf.reserve("o", 20000)?;
     let mut sink = MemorySink::new(alloc, Vec::new(alloc));
     sink.reserve(400)?;
     let status = kexec_in_memory(alloc, &words(alloc, BOOT.line)?, &mut shelf, &mut sink);
     assert_eq!(rt; status.code(), 0);
     assert_eq!(rt; sink.said(), BOOT_TEXT.as_bytes());
-    assert!(rt; shelf.take(alloc, "o", 20000)? == joined(alloc, RUN)?);
+    assert!(rt; shelf.take(alloc, "o", 20000)? == join(alloc, RUN)?);
     Ok(())
 }

@@ -13,7 +13,8 @@ use crate::check::unaccepted_goods;
 use crate::crash_exec::exec_in_place;
 use crate::files::{LoadFiles, TakenLoad, take_load_files};
 use crate::output::memory_output;
-use crate::running::{Startup, run_accepted};
+use crate::running::run_accepted;
+use crate::startup::Startup;
 use crate::status::Reason;
 use crate::text::ran_text;
 use file_commands::{Command, Goods, MakeFault, TakeFault};
@@ -21,7 +22,6 @@ use kexec_words::{Exec, Runs};
 use kx_edge::Shelf;
 use kx_pages::Mode;
 use list_checker::ListFault;
-use load_record::LoadRecord;
 use load_states::{Accepted, Loaded};
 use std::alloc::Global;
 
@@ -88,8 +88,8 @@ fn run_goods(
 ) -> Result<Goods<ListFault>, MakeFault<Reason>>
     requires { (s : LoadOf) × IsAcceptedAs s accepted × HasMode runs s.image.mode }
     ensures { (s : LoadOf) → IsAcceptedAs s accepted
-        → MakesOr (λ g. RunsList runs s startup.start startup.regions startup.digest
-        (string_bytes out) (goods_of g)) (RefusesRun runs s) result }
+        → MakesOr (λ g. RunsList runs s startup (string_bytes out) (goods_of g))
+        (RefusesRun runs s) result }
 {
     let ran = run_accepted(accepted, runs);
     let text = ran_text(alloc, &ran, startup)?;
@@ -112,27 +112,16 @@ fn exec_list(
 {
     let LoadFiles {
         memory,
-        load_record,
-    } = files;
-    let LoadRecord {
         image,
-        start,
-        regions,
-        digest,
         segments,
-        ..
-    } = load_record;
+        startup,
+    } = files;
     if lacks_swap_page(twice, image.mode) {
         return Err(MakeFault::Refused {
             why: Reason::NotKept,
         });
     }
     let runs = runs_of(twice, image.mode);
-    let startup = Startup {
-        start,
-        regions,
-        digest,
-    };
     let loaded = Loaded::from_files(alloc, memory, image, segments);
     match loaded.accept(alloc) {
         Ok(accepted) => run_goods(alloc, accepted, runs, startup, out),

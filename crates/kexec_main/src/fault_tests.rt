@@ -4,7 +4,7 @@
 use crate::crash_example::LINUX_KERNEL;
 use crate::first_example::{ABC, ABC_DIGEST, MAP, NO_PAGES, RECORD_NUMBERS};
 use crate::kernel_files::NO_SYMBOLS;
-use crate::scene::Piece::{At, Bytes, Numbers, Page};
+use crate::scene::Piece::{At, Bytes, Numbers, Page, Repeated};
 use crate::scene::{Files, Pieces, refuse_all};
 use std::test::Fail;
 
@@ -172,6 +172,23 @@ const NO_PAGE: Pieces = &[
     ]),
 ];
 
+// The second segment overlaps the first; a segment has a byte more than memory. What is read of a kernel has neither: an
+// executable whose loads overlap, or have more bytes than memory, is refused by its reader, and the other parts lie in holes.
+const OVERLAP: Pieces = &[
+    Bytes(b"KXREC001"),
+    Numbers(&[
+        0, 4, 0x10000, 0, 0x2000, 0, 0, 0, 0, 0, 2, 0x2000, 0x2000, 0, 0x3000, 0x1000, 0,
+    ]),
+];
+
+const TOO_FULL: Pieces = &[
+    Bytes(b"KXREC001"),
+    Numbers(&[
+        0, 4, 0x10000, 0, 0x2000, 0, 0, 0, 0, 0, 1, 0x2000, 0x1000, 4097,
+    ]),
+    Repeated(b'a', 4097),
+];
+
 const RECORD_FILES: Files = &[
     ("m", NO_PAGES),
     ("cut", CUT),
@@ -182,6 +199,8 @@ const RECORD_FILES: Files = &[
     ("control", CONTROL),
     ("no_segments", NO_SEGMENTS),
     ("no_page", NO_PAGE),
+    ("overlap", OVERLAP),
+    ("too_full", TOO_FULL),
 ];
 
 /// Records, with the exit status and the status.
@@ -220,6 +239,16 @@ const RECORDS: &[(&str, u8, &str)] = &[
         "check m no_page",
         7,
         "Input { fault: Rec { fault: Segments { fault: BadAddress { i: 0 } } } }",
+    ),
+    (
+        "check m overlap",
+        7,
+        "Input { fault: Rec { fault: Segments { fault: Overlap { i: 1, j: 0 } } } }",
+    ),
+    (
+        "check m too_full",
+        7,
+        "Input { fault: Rec { fault: Segments { fault: TooFull { i: 0 } } } }",
     ),
     (
         "dump m spoiled",
@@ -308,7 +337,7 @@ const PLAN_FILES: Files = &[
 ];
 
 /// Requests without a plan, with the exit status and the status. The kernel that needs 256 MiB has with its boot
-/// parameters two pages more than a load can have.
+/// parameters two pages more than a load can have. A word of the program's own has no NUL, and one of another caller may.
 const PLANS: &[(&str, u8, &str)] = &[
     (
         "boot --map ram --type elf m p o k",
@@ -334,6 +363,11 @@ const PLANS: &[(&str, u8, &str)] = &[
         "boot --map ram --command quiet m p o short",
         8,
         "Plan { fault: Params { fault: CommandTooLong { length: 5, most: 4 } } }",
+    ),
+    (
+        "boot --map ram --command qu\0iet m p o linux",
+        8,
+        "Plan { fault: Params { fault: NulInCommand { at: 2 } } }",
     ),
     (
         "boot --map ram --type raw --at 2000 --purgatory k m p o k",

@@ -7,11 +7,12 @@ ghost use Rattle.kexec_main.specs.Files.{load_by, load_files, load_record_file, 
 ghost use Rattle.load_record.specs.inner.File.{IsWritable};
 ghost use Rattle.page_pool.specs.Pages.{is_filed, usable_of};
 
+use crate::startup::Startup;
 use crate::status::{InputFault, Reason};
 use crash_headers::{Note, NoteFault, read_notes};
 use file_commands::{FileParts, TakeFault, take_apart, take_file};
 use kx_edge::Shelf;
-use kx_pages::{Page, Start};
+use kx_pages::{Image, Page};
 use load_record::{DigestedRecord, FIRST_BYTES, LoadRecord, RecFault};
 use memory_map::{Map, MapFault};
 use page_memory::{MemFault, Memory};
@@ -29,7 +30,7 @@ pub(crate) const TEXT_LIMIT: usize = 1_048_576;
 const RECORD_LIMIT: usize = 268_436_448;
 
 /// A file is refused by its reader.
-pub(crate) fn refused_by(fault: InputFault) -> TakeFault<Reason>
+pub(crate) fn refusal_by(fault: InputFault) -> TakeFault<Reason>
     ensures { result ≡ TakeFault.Refused (Reason.Input fault) }
 {
     TakeFault::Refused {
@@ -50,7 +51,7 @@ pub(crate) fn take_memory<S: Shelf>(
     match Memory::from_file(alloc, bytes) {
         Ok(memory) => Ok(memory),
         Err(MemFault::Memory) => Err(TakeFault::Memory),
-        Err(fault) => Err(refused_by(InputFault::Mem { fault })),
+        Err(fault) => Err(refusal_by(InputFault::Mem { fault })),
     }
 }
 
@@ -71,7 +72,7 @@ fn take_pages<S: Shelf>(
     match Pool::read(alloc, &bytes) {
         Ok(pool) => Ok(pool),
         Err(PoolFault::Memory) => Err(TakeFault::Memory),
-        Err(fault) => Err(refused_by(InputFault::Pool { fault })),
+        Err(fault) => Err(refusal_by(InputFault::Pool { fault })),
     }
 }
 
@@ -119,7 +120,7 @@ pub(crate) fn take_map_file<S: Shelf>(
     match Map::read(alloc, &bytes) {
         Ok(map) => Ok(map),
         Err(MapFault::Memory) => Err(TakeFault::Memory),
-        Err(fault) => Err(refused_by(InputFault::Map { fault })),
+        Err(fault) => Err(refusal_by(InputFault::Map { fault })),
     }
 }
 
@@ -154,7 +155,7 @@ fn take_notes_file<S: Shelf>(
     match read_notes(alloc, &bytes) {
         Ok(notes) => Ok(notes),
         Err(NoteFault::Memory) => Err(TakeFault::Memory),
-        Err(fault) => Err(refused_by(InputFault::Notes { fault })),
+        Err(fault) => Err(refusal_by(InputFault::Notes { fault })),
     }
 }
 
@@ -189,7 +190,7 @@ pub(crate) fn take_record<S: Shelf>(
     match LoadRecord::from_file(alloc, &front, rest) {
         Ok(record) => Ok(record),
         Err(RecFault::Memory) => Err(TakeFault::Memory),
-        Err(fault) => Err(refused_by(InputFault::Rec { fault })),
+        Err(fault) => Err(refusal_by(InputFault::Rec { fault })),
     }
 }
 
@@ -208,15 +209,17 @@ pub(crate) fn take_digested_record<S: Shelf>(
     match DigestedRecord::from_file(alloc, &front, rest) {
         Ok(record) => Ok(record),
         Err(RecFault::Memory) => Err(TakeFault::Memory),
-        Err(fault) => Err(refused_by(InputFault::Rec { fault })),
+        Err(fault) => Err(refusal_by(InputFault::Rec { fault })),
     }
 }
 
-/// The files of a normal load, as they were taken: the memory, and the record of its list.
+/// The files of a normal load, as they were taken: the memory, and what the record tells of the list.
 #[derive(Drop)]
 pub(crate) struct LoadFiles {
     pub(crate) memory: Memory,
-    pub(crate) load_record: LoadRecord,
+    pub(crate) image: Image,
+    pub(crate) segments: Segments,
+    pub(crate) startup: Startup,
 }
 
 /// The files of a crash load, as they were taken: the memory, in which the kernel lies in its place, and what the record
@@ -226,11 +229,7 @@ pub(crate) struct CrashFiles {
     pub(crate) memory: Memory,
     pub(crate) head: u64,
     pub(crate) segments: Segments,
-    pub(crate) start: Start,
-    /// The address of the purgatory's region table, 0 without a purgatory.
-    pub(crate) regions: u64,
-    /// The address of the purgatory's digest, 0 without a purgatory.
-    pub(crate) digest: u64,
+    pub(crate) startup: Startup,
 }
 
 /// A load that `check` or `exec` took, by the kind of its record. Neither looks at the kind again.
@@ -244,27 +243,26 @@ pub(crate) enum TakenLoad {
 fn load_by(memory: Memory, load_record: LoadRecord) -> TakenLoad
     ensures { result ≡ load_by memory load_record }
 {
-    if !load_record.crash {
-        return TakenLoad::Normal(LoadFiles {
-            memory,
-            load_record,
-        });
-    }
+    let startup = Startup::of_record(&load_record);
     let LoadRecord {
+        crash,
         image,
-        start,
-        regions,
-        digest,
         segments,
         ..
     } = load_record;
+    if !crash {
+        return TakenLoad::Normal(LoadFiles {
+            memory,
+            image,
+            segments,
+            startup,
+        });
+    }
     TakenLoad::Crash(CrashFiles {
         memory,
         head: image.head,
         segments,
-        start,
-        regions,
-        digest,
+        startup,
     })
 }
 

@@ -40,6 +40,30 @@ const RECORD: Pieces = &[
     Bytes(b"c"),
 ];
 
+// After one run page 3 has its new bytes, and its old ones have gone to the source page. The swap page has the bytes of the
+// last source.
+const ONCE: Pieces = &[
+    Bytes(b"KXMEM001"),
+    Numbers(&[5]),
+    Numbers(&[2]),
+    Repeated(b'b', 4096),
+    Page(3, b"c"),
+    Page(0x11, b"c"),
+    List(0x12, &[0x2001, 0x2008, 0x13008, 4]),
+    Page(0x13, OLD),
+];
+
+// After a run that copies, as without a swap page: the old page 3 is gone.
+const COPIED: Pieces = &[
+    Bytes(b"KXMEM001"),
+    Numbers(&[4]),
+    Numbers(&[2]),
+    Repeated(b'b', 4096),
+    Page(3, b"c"),
+    List(0x12, &[0x2001, 0x2008, 0x13008, 4]),
+    Page(0x13, b"c"),
+];
+
 // After two runs page 3 is back, and the swap page 0x11 has its bytes too.
 const BACK: Pieces = &[
     Bytes(b"KXMEM001"),
@@ -71,7 +95,31 @@ const LOAD: Step = Step {
     outputs: [Some(LOADED), Some(RECORD), None],
 };
 
-const EXEC: Step = Step {
+const EXEC_ONCE: Step = Step {
+    line: "exec o r x",
+    code: 0,
+    status: "Done",
+    said: "accepted words 5 links 1 pairs 2\nhead 12002 control 10000 swap 11000\nstart entry 2000 rax 0 rbx 0 rsi 0\nran 5\n",
+    outputs: [Some(LOADED), Some(RECORD), Some(ONCE)],
+};
+
+const TRACE_SWAP: Step = Step {
+    line: "trace --swap 11000 o x 12002 9",
+    code: 0,
+    status: "Done",
+    said: "done 5\n",
+    outputs: [Some(LOADED), Some(RECORD), Some(ONCE)],
+};
+
+const TRACE: Step = Step {
+    line: "trace o x 12002 9",
+    code: 0,
+    status: "Done",
+    said: "done 5\n",
+    outputs: [Some(LOADED), Some(RECORD), Some(COPIED)],
+};
+
+const EXEC_TWICE: Step = Step {
     line: "exec --twice o r x",
     code: 0,
     status: "Done",
@@ -82,5 +130,17 @@ const EXEC: Step = Step {
 #[test]
 fn a_second_run_brings_the_old_memory_back(rt: HostRuntime) -> Result<(), Fail> {
     play(&rt, rt.alloc(), FILES, &[BOOT])?;
-    play(&rt, rt.alloc(), FILES, &[LOAD, EXEC])
+    play(&rt, rt.alloc(), FILES, &[LOAD, EXEC_TWICE])
+}
+
+#[test]
+fn one_run_exchanges_the_pages_and_so_does_a_trace_with_the_swap_page(
+    rt: HostRuntime,
+) -> Result<(), Fail> {
+    play(
+        &rt,
+        rt.alloc(),
+        FILES,
+        &[LOAD, EXEC_ONCE, TRACE_SWAP, TRACE],
+    )
 }

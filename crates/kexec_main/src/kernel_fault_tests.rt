@@ -5,7 +5,7 @@ use crate::crash_example::LINUX_KERNEL;
 use crate::first_example::{ABC, MAP, NO_PAGES};
 use crate::kernel_files::{ELF32, ELF64, MULTIBOOT, PURGATORY};
 use crate::scene::Piece::Bytes;
-use crate::scene::{Files, Pieces, add, joined, named, patch, refuse, shelf};
+use crate::scene::{Files, Pieces, add, join, make_files, patch, refuse, shelf};
 use std::alloc::Global;
 use std::process::Abort;
 use std::test::Fail;
@@ -93,6 +93,24 @@ const RELOCATIONS: (usize, &[u8]) = (
     ],
 );
 
+// The purgatory lies in the last page of RAM, at 0x1fff000. A relocation of type R_X86_64_32 for the place 8 of the section,
+// whose value is the section's address and 0xfe001000, together 2^32 (x86-64 psABI, "Relocation").
+const NEXT_TO_32_BITS: (usize, &[u8]) = (
+    0xda0,
+    &[
+        8, 0, 0, 0, 0, 0, 0, 0, 10, 0, 0, 0, 1, 0, 0, 0, 0, 0x10, 0, 0xfe,
+    ],
+);
+
+// Two of type R_X86_64_64, for the places 8 and 15: their fields have eight bytes each.
+const FIELDS_OF_ONE_BYTE_IN_COMMON: (usize, &[u8]) = (
+    0xda0,
+    &[
+        8, 0, 0, 0, 0, 0, 0, 0, 1, 0, 0, 0, 1, 0, 0, 0, 0, 0, 0, 0, 0, 0, 0, 0, 15, 0, 0, 0, 0, 0,
+        0, 0, 1, 0, 0, 0, 1,
+    ],
+);
+
 const PURGATORY_ROWS: Rows = &[
     (
         &[(0xc18, &[96])],
@@ -148,6 +166,20 @@ const PURGATORY_ROWS: Rows = &[
         "Link { fault: Common { symbol: 4 } }",
     ),
     (
+        &[RELOCATED, WITH_ADDENDS, RELOCATIONS, NEXT_TO_32_BITS],
+        "Link { fault: DoesNotFit { place: 33550344 } }",
+    ),
+    (
+        &[
+            RELOCATED,
+            WITH_ADDENDS,
+            RELOCATIONS,
+            (0xf20, &[48]),
+            FIELDS_OF_ONE_BYTE_IN_COMMON,
+        ],
+        "Link { fault: RelocsMeet { place: 33550351 } }",
+    ),
+    (
         &[(0xc28, &[135])],
         "Link { fault: WrongSize { found: 135 } }",
     ),
@@ -175,11 +207,11 @@ fn refuse_changed(
     changes: Changes,
     reason: &str,
 ) -> Result<(), Fail> {
-    let mut file = joined(alloc, kernel)?;
+    let mut file = join(alloc, kernel)?;
     for (place, bytes) in changes {
         patch(&mut file, *place, bytes);
     }
-    let mut files = named(alloc, FILES)?;
+    let mut files = make_files(alloc, FILES)?;
     add(alloc, &mut files, "k", file)?;
     let mut shelf = shelf(alloc, files, &[])?;
     let status = format!(in alloc; "Plan {{ fault: {reason} }}")?;

@@ -4,7 +4,7 @@ use crate::crash_example::LINUX_KERNEL;
 use crate::first_example::{ABC, MAP, NO_PAGES};
 use crate::kernel_files::{ELF32, ELF64, MULTIBOOT, PURGATORY};
 use crate::scene::Piece::Bytes;
-use crate::scene::{Files, expect, file_of, first_other, named, patch, shelf};
+use crate::scene::{Files, expect, file_of, first_other, make_files, patch, shelf};
 use kx_edge::{MemoryShelf, Shelf};
 use std::alloc::Global;
 use std::process::Abort;
@@ -128,7 +128,7 @@ const BOOTS: [Boot; 6] = [
 fn a_kernel_of_each_type_is_booted(rt: HostRuntime) -> Result<(), Fail> {
     let alloc = rt.alloc();
     for boot in BOOTS {
-        let mut shelf = shelf(alloc, named(alloc, FILES)?, &[])?;
+        let mut shelf = shelf(alloc, make_files(alloc, FILES)?, &[])?;
         expect(&rt, alloc, &mut shelf, boot.line, 0, "Done", boot.said)?;
         let memory = file_of(alloc, &mut shelf, "o")?.ok_or("a memory")?;
         assert_eq!(rt;
@@ -148,13 +148,8 @@ const ANSWERS: [(usize, u64, &str); 3] = [
 ];
 
 // The shelf after a load with a purgatory, whose record has these eight bytes since.
-fn loaded_with(
-    rt: &impl Abort,
-    alloc: Global,
-    at: usize,
-    number: u64,
-) -> Result<MemoryShelf, Fail> {
-    let mut shelf = shelf(alloc, named(alloc, FILES)?, &[])?;
+fn load_with(rt: &impl Abort, alloc: Global, at: usize, number: u64) -> Result<MemoryShelf, Fail> {
+    let mut shelf = shelf(alloc, make_files(alloc, FILES)?, &[])?;
     let line = "load --map little --type raw --at 2000 --purgatory purgatory m p4 o r k";
     let said =
         "accepted words 6 links 1 pairs 2\nhead 11002 control 10000\nstart entry 7ff400 rax 0 rbx 0 rsi 0\n";
@@ -169,7 +164,7 @@ fn loaded_with(
 fn a_run_says_each_answer_of_a_purgatory(rt: HostRuntime) -> Result<(), Fail> {
     let alloc = rt.alloc();
     for (at, number, answer) in ANSWERS {
-        let mut shelf = loaded_with(&rt, alloc, at, number)?;
+        let mut shelf = load_with(&rt, alloc, at, number)?;
         let said = format!(in alloc;
             "accepted words 6 links 1 pairs 2\nhead 11002 control 10000\nstart entry 7ff400 rax 0 rbx 0 rsi 0\nran 6\nregions {answer}\n"
         )?;

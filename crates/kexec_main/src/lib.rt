@@ -6,7 +6,7 @@
 //! | Module | What it has |
 //! |---|---|
 //! | `files`, `inputs`, `load_inputs` | the files of the commands, their limits and readers; the kind of a load that is taken; the request that a kernel's files make |
-//! | `loading`, `running`, `output`, `text`, `replies` | the work in memory: a plan, its load, a run, the file of a memory, the text |
+//! | `loading`, `startup`, `running`, `output`, `text`, `replies` | the work in memory: a plan, its load, how the kernel starts, a run, the file of a memory, the text |
 //! | `crash_loading`, `crash_exec` | the same of a crash kernel, which is put in its place and never moves |
 //! | `boot`, `boot_resident`, `load`, `load_panic`, `check`, `dump`, `exec`, `trace`, `migrate`, `sample`, `drill`, `core_file` | a command each, with its words |
 //! | `migrate_inputs`, `drill_inputs`, `core_inputs` | what these three take, which holds a fact of it |
@@ -77,6 +77,7 @@ mod running;
 mod sample;
 #[cfg(test)]
 mod scene;
+mod startup;
 mod status;
 #[cfg(test)]
 mod status_tests;

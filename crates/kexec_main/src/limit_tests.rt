@@ -2,7 +2,7 @@
 
 use crate::first_example::{self, ABC, MAP, NO_PAGES};
 use crate::scene::Piece::{Bytes, List, Numbers, Repeated};
-use crate::scene::{Files, Pieces, add, joined, named, push_page, refuse, shelf};
+use crate::scene::{Files, Pieces, add, join, make_files, push_page, refuse, shelf};
 use std::alloc::{AllocError, Global};
 use std::test::Fail;
 
@@ -36,8 +36,8 @@ const FILES: Files = &[
 fn a_file_past_its_limit_is_told_with_it(rt: HostRuntime) -> Result<(), Fail> {
     let alloc = rt.alloc();
     for (line, limit) in LIMITS {
-        let mut files = named(alloc, FILES)?;
-        let longer = joined(alloc, &[Repeated(0, limit.saturating_add(1))])?;
+        let mut files = make_files(alloc, FILES)?;
+        let longer = join(alloc, &[Repeated(0, limit.saturating_add(1))])?;
         add(alloc, &mut files, "long", longer)?;
         let mut shelf = shelf(alloc, files, &[])?;
         let status = format!(in alloc; "TooLong {{ name: \"long\", limit: {limit} }}")?;
@@ -55,8 +55,8 @@ const FULL: Pieces = &[
 
 // The file of a memory of as many pages as there can be, from page 0x100 on. Those behind the list begin with 1.
 fn full_memory(alloc: Global) -> Result<Vec<u8>, AllocError> {
-    let page = joined(alloc, &[Bytes(&[1]), Repeated(0, 4095)])?;
-    let mut file = joined(alloc, FULL)?;
+    let page = join(alloc, &[Bytes(&[1]), Repeated(0, 4095)])?;
+    let mut file = join(alloc, FULL)?;
     for number in 0x101..0x20100 {
         push_page(&mut file, number, &page)?;
     }
@@ -81,7 +81,7 @@ const HEAVY: [(&str, &str); 3] = [
 fn a_memory_that_has_no_file_is_told_with_its_pages(rt: HostRuntime) -> Result<(), Fail> {
     let alloc = rt.alloc();
     for (line, status) in HEAVY {
-        let mut files = named(alloc, first_example::FILES)?;
+        let mut files = make_files(alloc, first_example::FILES)?;
         add(alloc, &mut files, "full", full_memory(alloc)?)?;
         let mut shelf = shelf(alloc, files, &[])?;
         refuse(&rt, alloc, &mut shelf, line, 10, status, "")?;

@@ -11,9 +11,9 @@ ghost use Rattle.load_record.specs.File.{record_file};
 ghost use Rattle.file_commands.specs.inner.Calls.{Makes, Takes, file_of};
 ghost use Rattle.kexec_words.specs.inner.Limits.{HasParts};
 ghost use Rattle.kexec_words.specs.inner.Values.{inputs_value, load_value};
-ghost use Rattle.kexec_main.specs.Load.{IsReadBack, LoadCommand as Inputs, load_command_files, loads, record_of_load};
+ghost use Rattle.kexec_main.specs.Load.{IsReadBack, LoadCommand as Inputs, load_command_files, loads};
 ghost use Rattle.kexec_main.specs.inner.Ran.{IsToldText};
-ghost use Rattle.kexec_main.specs.inner.Views.{load_command, plan_of};
+ghost use Rattle.kexec_main.specs.inner.Views.{kernel_record, load_command};
 
 use crate::inputs::take_inputs;
 use crate::load_inputs::LoadInputs;
@@ -26,7 +26,6 @@ use kexec_words::Load;
 use kx_edge::Shelf;
 use kx_pages::{Start, Wish};
 use list_checker::{CheckFault, ListFault, check};
-use load_record::LoadRecord;
 use load_states::Loaded;
 use page_memory::Memory;
 use std::alloc::{AllocError, Global};
@@ -110,19 +109,11 @@ fn record_output(
 ) -> Result<(Memory, File), AllocError>
     ensures memory { IfOk result (λ r. r.0 ≡ kernel.loaded.memory) }
     ensures record { IfOk result (λ r. file_of r.1
-        ≡ (string_bytes name, record_file (record_of_load kernel.loaded (plan_of kernel)))) }
-    ensures read_back { IfOk result
-        (λ r. IsReadBack (record_of_load kernel.loaded (plan_of kernel))) }
+        ≡ (string_bytes name, record_file (kernel_record kernel))) }
+    ensures read_back { IfOk result (λ r. IsReadBack (kernel_record kernel)) }
 {
     let (memory, _, image, segments) = kernel.loaded.parts();
-    let record = LoadRecord {
-        crash: false,
-        image,
-        start: kernel.start,
-        regions: kernel.regions,
-        digest: kernel.digest,
-        segments,
-    };
+    let record = kernel.startup.into_record(false, image, segments);
     let bytes = record.into_file(alloc)?;
     Ok((memory, File { name, bytes }))
 }
@@ -138,7 +129,7 @@ fn make_load(alloc: Global, load: LoadCommand) -> Result<Goods<ListFault>, MakeF
         load_record,
     } = load;
     let kernel = load_request(alloc, load, wish)?;
-    let text = loaded_text(alloc, &kernel.loaded, &kernel.start)?;
+    let text = loaded_text(alloc, &kernel.loaded, &kernel.startup.start)?;
     let (memory, output) = record_output(alloc, kernel, load_record)?;
     let mut outputs = memory_output(alloc, memory, out)?;
     outputs.push(output)?;

@@ -1,12 +1,14 @@
 //! `load-panic`: puts a crash kernel in its place and writes its load record.
 
-ghost use Rattle.std.specs.Prelude.{◌≡◌, string_bytes, IfOk};
+ghost use Rattle.std.specs.Prelude.{◌≡◌, length, string_bytes, IfOk};
+ghost use Rattle.segments.specs.Values.{pages};
 ghost use Rattle.load_record.specs.File.{record_file};
 ghost use Rattle.file_commands.specs.inner.Calls.{Makes, Takes, file_of};
 ghost use Rattle.kexec_words.specs.inner.Values.{load_panic_value};
-ghost use Rattle.kexec_main.specs.inner.Views.{crash_plan_of, load_panic_command};
+ghost use Rattle.kexec_main.specs.inner.Views.{crash_record, load_panic_command};
 ghost use Rattle.kexec_main.specs.Load.{IsReadBack};
-ghost use Rattle.kexec_main.specs.LoadPanic.{LoadPanicCommand as Inputs, load_panic_files, loads_panic, panic_text, record_of_crash};
+ghost use Rattle.kexec_main.specs.LoadPanic.{LoadPanicCommand as Inputs, load_panic_files, loads_panic};
+ghost use Rattle.kexec_main.specs.Texts.{crash_lines};
 
 use crate::crash_loading::{CrashKernel, load_in_place};
 use crate::inputs::take_crash_inputs;
@@ -19,7 +21,6 @@ use kexec_words::LoadPanic;
 use kx_edge::Shelf;
 use kx_pages::{Image, Mode, Page};
 use list_checker::ListFault;
-use load_record::LoadRecord;
 use page_memory::Memory;
 use std::alloc::{AllocError, Global};
 
@@ -67,26 +68,20 @@ fn record_output(
     name: String,
 ) -> Result<(Memory, String, File), AllocError>
     ensures memory { IfOk result (λ r. r.0 ≡ kernel.loaded.memory) }
-    ensures text { IfOk result (λ r. string_bytes r.1 ≡ panic_text (crash_plan_of kernel)) }
-    ensures record { IfOk result (λ r. file_of r.2 ≡
-        (string_bytes name, record_file (record_of_crash kernel.loaded (crash_plan_of kernel)))) }
-    ensures read_back { IfOk result
-        (λ r. IsReadBack (record_of_crash kernel.loaded (crash_plan_of kernel))) }
+    ensures text { IfOk result (λ r. string_bytes r.1
+        ≡ crash_lines (length (pages kernel.loaded.segments)) kernel.startup.start) }
+    ensures record { IfOk result (λ r. file_of r.2
+        ≡ (string_bytes name, record_file (crash_record kernel))) }
+    ensures read_back { IfOk result (λ r. IsReadBack (crash_record kernel)) }
 {
     let (memory, head, segments) = kernel.loaded.parts();
-    let text = crash_lines(alloc, segments.pages(), &kernel.start)?;
-    let record = LoadRecord {
-        crash: true,
-        image: Image {
-            head,
-            mode: Mode::Plain,
-            control: Page::new(0).unwrap(),
-        },
-        start: kernel.start,
-        regions: kernel.regions,
-        digest: kernel.digest,
-        segments,
+    let text = crash_lines(alloc, segments.pages(), &kernel.startup.start)?;
+    let image = Image {
+        head,
+        mode: Mode::Plain,
+        control: Page::new(0).unwrap(),
     };
+    let record = kernel.startup.into_record(true, image, segments);
     let bytes = record.into_file(alloc)?;
     Ok((memory, text, File { name, bytes }))
 }

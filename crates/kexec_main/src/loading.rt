@@ -9,15 +9,16 @@ ghost use Rattle.load_states.specs.Fillings.{IsSealed};
 ghost use Rattle.file_commands.specs.inner.Calls.{MakesOr};
 ghost use Rattle.kexec_plan.specs.Plan.{plan};
 ghost use Rattle.kexec_plan.specs.inner.Requests.{IsMapped, lent, planned_of, request_of};
-ghost use Rattle.kexec_main.specs.inner.Views.{inputs_of, plan_of};
-ghost use Rattle.kexec_main.specs.Loading.{HasNoPlan, IsLoaded, IsTooFew, RefusesLoad};
+ghost use Rattle.kexec_main.specs.inner.Views.{IsLoadedKernel, inputs_of};
+ghost use Rattle.kexec_main.specs.Loading.{HasNoPlan, IsTooFew, RefusesLoad};
 
 use crate::load_inputs::LoadInputs;
+use crate::startup::Startup;
 use crate::status::Reason;
 use file_commands::MakeFault;
 use kexec_plan::{PlanFault, Planned, Request, plan};
 use kimage_list::BeginFault;
-use kx_pages::{Start, Wish};
+use kx_pages::Wish;
 use load_states::{Filling, Loaded};
 use memory_map::Map;
 use page_memory::Memory;
@@ -69,14 +70,11 @@ fn load_segments(
     }
 }
 
-/// A load of a new kernel, and how the kernel starts: its entry and registers, and the addresses of the purgatory's region
-/// table and of its digest, which are 0 without one.
+/// A load of a new kernel, and how the kernel starts.
 #[derive(Drop)]
 pub(crate) struct LoadedKernel {
     pub(crate) loaded: Loaded,
-    pub(crate) start: Start,
-    pub(crate) regions: u64,
-    pub(crate) digest: u64,
+    pub(crate) startup: Startup,
 }
 
 /// Plans the request and loads the segments of the plan.
@@ -85,7 +83,7 @@ pub(crate) fn load_request(
     inputs: LoadInputs,
     wish: Wish,
 ) -> Result<LoadedKernel, MakeFault<Reason>>
-    ensures { MakesOr (λ k. IsLoaded wish (inputs_of inputs) (plan_of k) k.loaded)
+    ensures { MakesOr (IsLoadedKernel wish (inputs_of inputs))
         (RefusesLoad wish (inputs_of inputs)) result }
 {
     let LoadInputs {
@@ -95,17 +93,7 @@ pub(crate) fn load_request(
         request,
     } = inputs;
     let planned = plan_request(alloc, request, map.as_ref())?;
-    let Planned {
-        segments,
-        start,
-        regions,
-        digest,
-    } = planned;
-    let loaded = load_segments(alloc, memory, pool, segments, wish)?;
-    Ok(LoadedKernel {
-        loaded,
-        start,
-        regions,
-        digest,
-    })
+    let startup = Startup::of_plan(&planned);
+    let loaded = load_segments(alloc, memory, pool, planned.segments, wish)?;
+    Ok(LoadedKernel { loaded, startup })
 }

@@ -2,7 +2,7 @@
 
 use crate::first_example::{BOOT, MAP, NO_PAGES};
 use crate::scene::Piece::{At, Bytes, Numbers, Repeated};
-use crate::scene::{Files, add, expect, file_of, first_other, joined, named, push_page, shelf};
+use crate::scene::{Files, add, expect, file_of, first_other, join, make_files, push_page, shelf};
 use std::alloc::{AllocError, Global};
 use std::ops::Range;
 use std::test::Fail;
@@ -18,7 +18,7 @@ fn long_kernel(alloc: Global, length: usize) -> Result<Vec<u8>, AllocError> {
 
 // The words of the list: page 2 and those after it from page 0x1002 and those after it.
 fn long_list(alloc: Global) -> Result<Vec<u8>, AllocError> {
-    let mut list = joined(alloc, &[Numbers(&[0x2001])])?;
+    let mut list = join(alloc, &[Numbers(&[0x2001])])?;
     for source in 0x1002..0x1200u64 {
         list.extend_from_slice(&(4096 * source + 8).to_le_bytes())?;
     }
@@ -36,7 +36,7 @@ fn push_pages(file: &mut Vec<u8>, numbers: Range<u64>, kernel: &[u8]) -> Result<
 
 // The memory after the run of a kernel of 510 pages: its pages, the list and the source pages.
 fn long_memory(alloc: Global, kernel: &[u8]) -> Result<Vec<u8>, AllocError> {
-    let mut file = joined(alloc, &[Bytes(b"KXMEM001"), Numbers(&[1021])])?;
+    let mut file = join(alloc, &[Bytes(b"KXMEM001"), Numbers(&[1021])])?;
     push_pages(&mut file, 2..512, kernel)?;
     push_page(&mut file, 0x1001, &long_list(alloc)?)?;
     push_pages(&mut file, 0x1002..0x1200, kernel)?;
@@ -56,7 +56,7 @@ fn a_boot_of_510_pages_fills_one_link_page(rt: HostRuntime) -> Result<(), Fail> 
     for length in [510 * 4096, 509 * 4096 + 1] {
         let kernel = long_kernel(alloc, length)?;
         let wanted = long_memory(alloc, &kernel)?;
-        let mut files = named(alloc, FULL_LIST)?;
+        let mut files = make_files(alloc, FULL_LIST)?;
         add(alloc, &mut files, "k", kernel)?;
         let mut shelf = shelf(alloc, files, &[])?;
         expect(&rt, alloc, &mut shelf, BOOT.line, 0, "Done", FULL_LIST_TEXT)?;
@@ -82,7 +82,7 @@ const MANY_PAGES_TEXT: &str =
 #[test]
 fn a_kernel_may_take_several_link_pages(rt: HostRuntime) -> Result<(), Fail> {
     let alloc = rt.alloc();
-    let mut shelf = shelf(alloc, named(alloc, MANY_PAGES)?, &[])?;
+    let mut shelf = shelf(alloc, make_files(alloc, MANY_PAGES)?, &[])?;
     let line = "boot --map f --type raw --at 2000 m p o k";
     expect(&rt, alloc, &mut shelf, line, 0, "Done", MANY_PAGES_TEXT)?;
     let memory = file_of(alloc, &mut shelf, "o")?.ok_or("a memory")?;
@@ -114,7 +114,7 @@ fn two_link_lines(alloc: Global) -> Result<String, AllocError> {
 #[test]
 fn a_list_over_two_link_pages_is_dumped(rt: HostRuntime) -> Result<(), Fail> {
     let alloc = rt.alloc();
-    let mut shelf = shelf(alloc, named(alloc, TWO_LINKS)?, &[])?;
+    let mut shelf = shelf(alloc, make_files(alloc, TWO_LINKS)?, &[])?;
     let load = "load --type raw --at 2000 m p o r k";
     let said =
         "accepted words 515 links 2 pairs 511\nhead 1001002 control 1000000\nstart entry 2000 rax 0 rbx 0 rsi 0\n";
@@ -134,7 +134,7 @@ const SIX_THOUSAND: Files = &[
 #[test]
 fn a_kernel_of_6000_pages_is_booted(rt: HostRuntime) -> Result<(), Fail> {
     let alloc = rt.alloc();
-    let mut shelf = shelf(alloc, named(alloc, SIX_THOUSAND)?, &[])?;
+    let mut shelf = shelf(alloc, make_files(alloc, SIX_THOUSAND)?, &[])?;
     let said =
         "accepted words 6014 links 12 pairs 6000\nhead 10001002 control 10000000\nstart entry 2000 rax 0 rbx 0 rsi 0\nran 6014\n";
     expect(&rt, alloc, &mut shelf, BOOT.line, 0, "Done", said)?;

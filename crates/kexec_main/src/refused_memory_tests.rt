@@ -4,7 +4,7 @@
 use crate::Status;
 use crate::first_example::{BOOT, EXEC, FILES, LOAD, NO_PAGES};
 use crate::scene::Piece::{Bytes, List, Numbers, Page, Repeated};
-use crate::scene::{Files, Outputs, Pieces, Step, has_files, has_outputs, named, run, shelf};
+use crate::scene::{Files, Outputs, Pieces, Step, has_files, has_outputs, make_files, run, shelf};
 use kx_edge::MemorySink;
 use std::alloc::{AllocError, Global};
 use std::process::Abort;
@@ -28,7 +28,7 @@ fn play_in_want(
     files: Files,
     steps: &[Step],
 ) -> Result<(), AllocError> {
-    let mut shelf = shelf(alloc, named(alloc, files)?, &[])?;
+    let mut shelf = shelf(alloc, make_files(alloc, files)?, &[])?;
     let mut outputs: Outputs = [None; 3];
     for step in steps {
         let (status, sink) = run(alloc, step.line, &mut shelf, &[])?;

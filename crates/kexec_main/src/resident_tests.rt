@@ -2,7 +2,7 @@
 
 use crate::first_example::NO_PAGES;
 use crate::scene::Piece::{At, Bytes, Lines, List, Numbers, Page};
-use crate::scene::{Files, Pieces, Step, has_files, named, play, refuse, shelf};
+use crate::scene::{Files, Pieces, Step, has_files, make_files, play, refuse, shelf};
 use std::alloc::Global;
 use std::process::Abort;
 use std::test::Fail;
@@ -251,7 +251,7 @@ fn refuse_each(
 ) -> Result<(), Fail> {
     for (files, code, status) in rows {
         let line = format!(in alloc; "{command} {files}")?;
-        let mut shelf = shelf(alloc, named(alloc, FILES)?, &[])?;
+        let mut shelf = shelf(alloc, make_files(alloc, FILES)?, &[])?;
         refuse(rt, alloc, &mut shelf, &line, *code, status, "")?;
         assert!(rt; has_files(alloc, &mut shelf, FILES)?, "{line}: other files");
     }

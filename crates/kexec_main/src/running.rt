@@ -14,7 +14,7 @@ ghost use Rattle.load_states.specs.States.{Load, swap_of};
 ghost use Rattle.kexec_main.specs.inner.Ran.{HasMode, HasRun, RunsLoaded};
 
 use kexec_words::Runs;
-use kx_pages::{Image, Start};
+use kx_pages::Image;
 use list_checker::CheckFault;
 use load_states::{Accepted, AcceptedKept, AcceptedPlain, Loaded, RanKept};
 use page_memory::Memory;
@@ -32,16 +32,6 @@ pub(crate) struct Ran {
     pub(crate) steps: u64,
     /// The steps of the second run, where there was one.
     pub(crate) back: Option<u64>,
-}
-
-/// How the new kernel starts after a run, and what its purgatory tests there.
-#[derive(Clone, Copy)]
-pub(crate) struct Startup {
-    pub(crate) start: Start,
-    /// The address of the purgatory's region table, 0 without a purgatory.
-    pub(crate) regions: u64,
-    /// The address of the purgatory's digest, 0 without a purgatory.
-    pub(crate) digest: u64,
 }
 
 // Runs a plain list.

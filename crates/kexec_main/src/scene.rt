@@ -122,7 +122,7 @@ fn push_piece(file: &mut Vec<u8>, piece: Piece) -> Result<(), AllocError> {
 }
 
 /// The bytes of a file.
-pub(crate) fn joined(alloc: Global, pieces: &[Piece]) -> Result<Vec<u8>, AllocError> {
+pub(crate) fn join(alloc: Global, pieces: &[Piece]) -> Result<Vec<u8>, AllocError> {
     let mut file = Vec::new(alloc);
     for piece in pieces {
         push_piece(&mut file, *piece)?;
@@ -131,10 +131,13 @@ pub(crate) fn joined(alloc: Global, pieces: &[Piece]) -> Result<Vec<u8>, AllocEr
 }
 
 /// The names and the bytes of files.
-pub(crate) fn named(alloc: Global, files: Files) -> Result<Vec<(String, Vec<u8>)>, AllocError> {
+pub(crate) fn make_files(
+    alloc: Global,
+    files: Files,
+) -> Result<Vec<(String, Vec<u8>)>, AllocError> {
     let mut all = Vec::new(alloc);
     for (name, pieces) in files {
-        add(alloc, &mut all, name, joined(alloc, pieces)?)?;
+        add(alloc, &mut all, name, join(alloc, pieces)?)?;
     }
     Ok(all)
 }
@@ -243,7 +246,7 @@ fn has(
     wanted: Option<Pieces>,
 ) -> Result<bool, AllocError> {
     match (file_of(alloc, shelf, name)?, wanted) {
-        (Some(file), Some(pieces)) => Ok(file == joined(alloc, pieces)?),
+        (Some(file), Some(pieces)) => Ok(file == join(alloc, pieces)?),
         (None, None) => Ok(true),
         _ => Ok(false),
     }
@@ -300,7 +303,7 @@ pub(crate) fn play(
     files: Files,
     steps: &[Step],
 ) -> Result<(), Fail> {
-    let mut shelf = shelf(alloc, named(alloc, files)?, &[])?;
+    let mut shelf = shelf(alloc, make_files(alloc, files)?, &[])?;
     for step in steps {
         let line = step.line;
         expect(
@@ -343,7 +346,7 @@ pub(crate) fn refuse_all(
     rows: &[(&str, u8, &str)],
 ) -> Result<(), Fail> {
     for (line, code, status) in rows {
-        let mut shelf = shelf(alloc, named(alloc, files)?, &[])?;
+        let mut shelf = shelf(alloc, make_files(alloc, files)?, &[])?;
         refuse(rt, alloc, &mut shelf, line, *code, status, "")?;
     }
     Ok(())

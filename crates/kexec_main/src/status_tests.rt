@@ -3,7 +3,7 @@
 
 use crate::first_example::{ABC, ABC_DIGEST, MAP, NO_PAGES, RECORD_NUMBERS};
 use crate::scene::Piece::{Bytes, List, Numbers, Page, Repeated};
-use crate::scene::{Files, Pieces, add, joined, refuse, refuse_all, shelf};
+use crate::scene::{Files, Pieces, add, join, refuse, refuse_all, shelf};
 use kx_edge::MemoryShelf;
 use std::alloc::{AllocError, Global};
 use std::test::Fail;
@@ -307,8 +307,8 @@ fn list_shelf(
         Page(0x12, b"abc"),
     ];
     let mut files = Vec::new(alloc);
-    add(alloc, &mut files, "list", joined(alloc, &list)?)?;
-    add(alloc, &mut files, "record", joined(alloc, record)?)?;
+    add(alloc, &mut files, "list", join(alloc, &list)?)?;
+    add(alloc, &mut files, "record", join(alloc, record)?)?;
     shelf(alloc, files, &[])
 }
 

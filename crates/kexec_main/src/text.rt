@@ -3,10 +3,12 @@
 
 ghost use Rattle.std.specs.Prelude.{◌≡◌, ◌++◌, IfOk, OnOk, string_bytes};
 ghost use Rattle.kexec_main.specs.inner.Ran.{ran_text};
+ghost use Rattle.kexec_main.specs.inner.Startups.{start_alone};
 ghost use Rattle.page_memory.specs.Contents.{at};
 ghost use Rattle.kexec_main.specs.Texts.{accepted_line, crash_line, crash_lines, crash_ran_text, head_line, load_lines, memory_line, purgatory_line, ran_line, regions_line, start_line};
 
-use crate::running::{Ran, Startup};
+use crate::running::Ran;
+use crate::startup::{PurgatoryPlaces, Startup};
 use kx_pages::{Image, Mode, Start};
 use load_states::RanPlain;
 use page_memory::Memory;
@@ -94,35 +96,27 @@ fn regions_line(test: RegionTest) -> &'static str
 fn push_purgatory_line(
     text: &mut String,
     memory: &Memory,
-    regions: u64,
-    digest: u64,
+    purgatory: Option<PurgatoryPlaces>,
 ) -> Result<(), AllocError>
-    ensures { OnOk result
-        (string_bytes text.new
-        ≡ string_bytes text.old ++ purgatory_line (at memory.now) regions digest) }
+    ensures { OnOk result (string_bytes text.new
+        ≡ string_bytes text.old ++ purgatory_line (at memory.now) purgatory) }
 {
-    if regions == 0 && digest == 0 {
-        return Ok(());
+    if let Some(PurgatoryPlaces { regions, digest }) = purgatory {
+        text.push_str(regions_line(test_regions(memory, regions, digest)))?;
     }
-    text.push_str(regions_line(test_regions(memory, regions, digest)))?;
     Ok(())
 }
 
 /// What is said of a list that ran, and of each run: the one text of a command that runs a list.
 pub(crate) fn ran_text(alloc: Global, ran: &Ran, startup: Startup) -> Result<String, AllocError>
-    ensures { IfOk result (λ s. string_bytes s
-        ≡ ran_text ran.now startup.start startup.regions startup.digest) }
+    ensures { IfOk result (λ s. string_bytes s ≡ ran_text ran.now startup) }
 {
-    let Startup {
-        start,
-        regions,
-        digest,
-    } = startup;
+    let Startup { start, purgatory } = startup;
     let mut text = load_lines(alloc, ran.words, ran.links, ran.pairs, &ran.image, &start)?;
     push_ran_line(alloc, &mut text, ran.steps)?;
     match ran.back {
         Some(steps) => push_ran_line(alloc, &mut text, steps)?,
-        None => push_purgatory_line(&mut text, &ran.memory, regions, digest)?,
+        None => push_purgatory_line(&mut text, &ran.memory, purgatory)?,
     }
     Ok(text)
 }
@@ -151,16 +145,12 @@ pub(crate) fn crash_ran_text(
     startup: Startup,
 ) -> Result<String, AllocError>
     ensures { IfOk result (λ s. string_bytes s ≡ crash_ran_text (at ran.now.memory) pages
-        ran.now.steps startup.start startup.regions startup.digest) }
+        ran.now.steps startup) }
 {
-    let Startup {
-        start,
-        regions,
-        digest,
-    } = startup;
+    let Startup { start, purgatory } = startup;
     let mut text = crash_lines(alloc, pages, &start)?;
     push_ran_line(alloc, &mut text, ran.steps())?;
-    push_purgatory_line(&mut text, ran.memory(), regions, digest)?;
+    push_purgatory_line(&mut text, ran.memory(), purgatory)?;
     Ok(text)
 }
 
@@ -178,12 +168,11 @@ fn push_memory_line(alloc: Global, text: &mut String, memory: &Memory) -> Result
 /// What `sample` says: of its list and the run, and the digest of the memory after it.
 pub(crate) fn sample_text(alloc: Global, ran: &Ran, start: &Start) -> Result<String, AllocError>
     ensures { IfOk result (λ s. string_bytes s
-        ≡ ran_text ran.now start.now 0 0 ++ memory_line (at ran.now.memory)) }
+        ≡ ran_text ran.now (start_alone start.now) ++ memory_line (at ran.now.memory)) }
 {
     let startup = Startup {
         start: *start,
-        regions: 0,
-        digest: 0,
+        purgatory: None,
     };
     let mut text = ran_text(alloc, ran, startup)?;
     push_memory_line(alloc, &mut text, &ran.memory)?;

@@ -1,7 +1,7 @@
 //! Wild lists: what `check` says of them, and how the machine comes out of them.
 
 use crate::scene::Piece::{Bytes, List, Numbers, Page, Repeated};
-use crate::scene::{Files, Pieces, Step, add, joined, play, push_numbers, run, shelf};
+use crate::scene::{Files, Pieces, Step, add, join, play, push_numbers, run, shelf};
 use kx_edge::MemoryShelf;
 use std::alloc::{AllocError, Global};
 use std::test::Fail;
@@ -121,7 +121,7 @@ fn wild_shelf(
     push_numbers(&mut record, &numbers)?;
     record.push(b'b')?;
     let mut files = Vec::new(alloc);
-    add(alloc, &mut files, "m", joined(alloc, &memory)?)?;
+    add(alloc, &mut files, "m", join(alloc, &memory)?)?;
     add(alloc, &mut files, "r", record)?;
     shelf(alloc, files, &[])
 }

@@ -23,7 +23,9 @@ use Rattle.resident_planner.specs.Refusals.{IsFault, resident_of}
 use Rattle.resident_planner.specs.declared.plan.Made.{Made as ResidentList}
 use Rattle.resident_planner.proofs.Once.{IsSameMade, least_of, made_has_none, one_fault, one_made}
 use Rattle.file_commands.specs.Taking.{Refusal, by, too_long, reads}
-use Rattle.file_commands.specs.Answers.{MeetsTold, RefusesFor, Stands, done}
+use Rattle.file_commands.specs.Answers.{MeetsTold, done}
+use Rattle.file_commands.specs.inner.Order.{Stands}
+use Rattle.file_commands.proofs.Meeting.{RefusesFor}
 use Rattle.file_commands.proofs.Steps.{reads_cases}
 use Rattle.kexec_words.specs.Values.{BootResidentValue}
 use Rattle.kexec_plan.specs.Requests.{Plan}

@@ -5,7 +5,8 @@ use Rattle.kx_edge.specs.declared.edge.Shelf.{Ghosts as Shelf}
 use Rattle.kx_edge.specs.declared.edge.Sink.{Ghosts as Sink}
 use Rattle.list_checker.specs.declared.fault.ListFault.{ListFault}
 use Rattle.file_commands.specs.Taking.{Refusal}
-use Rattle.file_commands.specs.Answers.{MeetsTold, Stands, done}
+use Rattle.file_commands.specs.Answers.{MeetsTold, done}
+use Rattle.file_commands.specs.inner.Order.{Stands}
 use Rattle.kexec_main.specs.declared.files.TakenLoad.{TakenLoad}
 use Rattle.kexec_main.specs.declared.files.TakenLoad.TheVariants.{Normal, Crash}
 use Rattle.kexec_main.specs.declared.files.CrashFiles.{CrashFiles}

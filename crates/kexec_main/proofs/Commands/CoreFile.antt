@@ -8,7 +8,9 @@ use Rattle.page_memory.specs.Contents.{Contents, at}
 use Rattle.vmcore_file.specs.declared.fault.CoreFault.{CoreFault}
 use Rattle.vmcore_file.specs.File.{CoreValue as CoreMade, core_reading}
 use Rattle.file_commands.specs.Taking.{Refusal, by, too_long, ok, reads}
-use Rattle.file_commands.specs.Answers.{MeetsTold, RefusesFor, Stands, done}
+use Rattle.file_commands.specs.Answers.{MeetsTold, done}
+use Rattle.file_commands.specs.inner.Order.{Stands}
+use Rattle.file_commands.proofs.Meeting.{RefusesFor}
 use Rattle.file_commands.proofs.Steps.{reads_cases}
 use Rattle.kexec_main.specs.declared.status.Reason.{Reason}
 use Rattle.kexec_main.specs.declared.status.Reason.TheVariants as reasons

@@ -10,12 +10,14 @@ use Rattle.kx_pages.specs.Spans.{Run}
 use Rattle.kx_pages.proofs.Same.{same_spans}
 use Rattle.image_slots.specs.declared.fault.SlotsFault.TheVariants as slots
 use Rattle.file_commands.specs.Taking.{Refusal, by, too_long, ok, reads, ◌>>=◌}
-use Rattle.file_commands.specs.Answers.{MeetsTold, RefusesFor, Stands, done}
+use Rattle.file_commands.specs.Answers.{MeetsTold, done}
+use Rattle.file_commands.specs.inner.Order.{Stands}
+use Rattle.file_commands.proofs.Meeting.{RefusesFor}
 use Rattle.file_commands.proofs.Steps.{reads_cases}
 use Rattle.kexec_words.specs.Values.{DrillValue}
 use Rattle.kexec_main.specs.declared.status.Reason.{Reason}
 use Rattle.kexec_main.specs.declared.status.Reason.TheVariants as reasons
-use Rattle.kexec_main.specs.Drill.{AreRam, CanDrill, DrillInputs, HasDrilled, Meets, drill_entry, drill_files, drills, meeting, memory_after}
+use Rattle.kexec_main.specs.Drill.{AreRam, CanDrill, DrillInputs, HasDrilled, Meets, drill_entry, drill_files, drills, first_meeting, memory_after}
 use Rattle.kexec_main.specs.EventFile.{events_file}
 use Rattle.kexec_main.specs.Files.{map_file, memory_file, pool_file}
 use Rattle.kexec_main.specs.Outputs.{HasNoFile, IsFileOf, IsTooHeavy, Made}
@@ -63,7 +65,7 @@ drill_stands : (d : DrillValue) (x : DrillInputs) → CanDrill x → Stands (dri
 drill_stands d x can = record { unrefused = none; whole = λ goods m. m.4 }
   where
     none : (a : Refusal Reason) → drills x (Err a) → ⊥
-    none (by why) (inl r) = meets_not (meeting x) why r can.apart
+    none (by why) (inl r) = meets_not (first_meeting x) why r can.apart
     none (by why) (inr (ram, is, apart, f)) = heavy (memory_after x ram) why (λ n h. can.light n (subst (λ N. IsTooHeavy N n) (one_memory x ram can.ram is can.are_ram) h)) f
     none (too_long name limit) m = m
 
@@ -72,12 +74,12 @@ can_drill x goods m = record { ram = m.0; are_ram = m.1; apart = m.2; light = λ
 
 -- what is refused for one reason is neither done nor refused for another one
 drill_refused : (d : DrillValue) (x : DrillInputs) (a : Refusal Reason) → drills x (Err a) → RefusesFor (drill_entry d).command x a
-drill_refused d x (by why) (inl r) (Ok goods) m = absurd (meets_not (meeting x) why r m.2)
-drill_refused d x (by why) (inl r) (Err (by w)) (inl k) = ap (λ w. Err (by w)) (one_meeting (meeting x) why w r k)
-drill_refused d x (by why) (inl r) (Err (by w)) (inr (ram, is, apart, f)) = absurd (meets_not (meeting x) why r apart)
+drill_refused d x (by why) (inl r) (Ok goods) m = absurd (meets_not (first_meeting x) why r m.2)
+drill_refused d x (by why) (inl r) (Err (by w)) (inl k) = ap (λ w. Err (by w)) (one_meeting (first_meeting x) why w r k)
+drill_refused d x (by why) (inl r) (Err (by w)) (inr (ram, is, apart, f)) = absurd (meets_not (first_meeting x) why r apart)
 drill_refused d x (by why) (inr (ram, is, apart, f)) (Ok goods) m =
     absurd (file_none (memory_after x ram) m.6 why (subst (λ N. IsFileOf N m.6) (one_memory x m.0 ram m.1 is) m.7) f)
-drill_refused d x (by why) (inr (ram, is, apart, f)) (Err (by w)) (inl k) = absurd (meets_not (meeting x) w k apart)
+drill_refused d x (by why) (inr (ram, is, apart, f)) (Err (by w)) (inl k) = absurd (meets_not (first_meeting x) w k apart)
 drill_refused d x (by why) (inr (ram, is, apart, f)) (Err (by w)) (inr (other, are, free, g)) =
     ap (λ w. Err (by w)) (one_weight (memory_after x ram) why w f (subst (λ N. HasNoFile N w) (one_memory x other ram are is) g))
 drill_refused d x (by why) r (Err (too_long name limit)) m = absurd m

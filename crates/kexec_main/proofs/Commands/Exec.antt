@@ -8,7 +8,8 @@ use Rattle.page_memory.specs.Contents.{at}
 use Rattle.list_checker.specs.declared.fault.ListFault.{ListFault}
 use Rattle.load_states.specs.States.{Load}
 use Rattle.file_commands.specs.Taking.{Refusal, by, too_long, ok, reads}
-use Rattle.file_commands.specs.Answers.{GoesOut, MeetsTold, Stands, done}
+use Rattle.file_commands.specs.Answers.{GoesOut, MeetsTold, done}
+use Rattle.file_commands.specs.inner.Order.{Stands}
 use Rattle.file_commands.proofs.Steps.{reads_cases}
 use Rattle.kexec_main.specs.declared.files.TakenLoad.{TakenLoad}
 use Rattle.kexec_main.specs.declared.files.TakenLoad.TheVariants.{Normal, Crash}
@@ -42,7 +43,7 @@ module _ {S O : Type 0} (D : Shelf S) (E : Sink O) (held : Files) (s : S) (o : O
       let n = subst (λ f. executes_as x e.twice e.out goods f) fault m.1 in
       let r = n in
       let c = checked_with (load_of x) r.0 r.1 r.2 in
-      let mode = x.load_record.image.mode in
+      let mode = x.image.mode in
       let bare = exec_bare e held x read in
       record {
         checked = c;

@@ -9,7 +9,9 @@ use Rattle.page_memory.specs.Contents.{at}
 use Rattle.load_record.specs.File.{record_file}
 use Rattle.load_states.specs.States.{CrashLoad}
 use Rattle.file_commands.specs.Taking.{Refusal, by, too_long, ok, reads, ◌>>=◌}
-use Rattle.file_commands.specs.Answers.{MeetsTold, RefusesFor, Stands, done}
+use Rattle.file_commands.specs.Answers.{MeetsTold, done}
+use Rattle.file_commands.specs.inner.Order.{Stands}
+use Rattle.file_commands.proofs.Meeting.{RefusesFor}
 use Rattle.file_commands.proofs.Steps.{reads_cases}
 use Rattle.kexec_plan.specs.Requests.{Plan}
 use Rattle.kexec_main.specs.declared.status.Reason.{Reason}

@@ -6,7 +6,8 @@ use Rattle.kx_edge.specs.declared.edge.Shelf.{Ghosts as Shelf}
 use Rattle.kx_edge.specs.declared.edge.Sink.{Ghosts as Sink}
 use Rattle.load_record.specs.File.{Record, record_file}
 use Rattle.file_commands.specs.Taking.{Refusal, ok, reads}
-use Rattle.file_commands.specs.Answers.{MeetsTold, Stands, done}
+use Rattle.file_commands.specs.Answers.{MeetsTold, done}
+use Rattle.file_commands.specs.inner.Order.{Stands}
 use Rattle.file_commands.proofs.Steps.{reads_cases}
 use Rattle.kexec_main.specs.declared.status.Reason.{Reason}
 use Rattle.kexec_words.specs.Values.{MigrateValue}

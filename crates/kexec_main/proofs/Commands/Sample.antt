@@ -11,7 +11,8 @@ use Rattle.load_states.specs.States.{Checked}
 use Rattle.load_states.proofs.Ready.{list_ends}
 use Rattle.segments.specs.inner.Rules.{IsBare}
 use Rattle.file_commands.specs.Taking.{File, Refusal}
-use Rattle.file_commands.specs.Answers.{FilesPut, MeetsTold, Stands, done}
+use Rattle.file_commands.specs.Answers.{FilesPut, MeetsTold, done}
+use Rattle.file_commands.specs.inner.Order.{Stands}
 use Rattle.kx_laws.proofs.Results.{ok_same}
 use Rattle.sample_load.specs.Samples.{sample_segments, start_of}
 use Rattle.sample_load.proofs.Rising.{IsBare-sample}
@@ -19,6 +20,7 @@ use Rattle.kexec_main.specs.declared.running.Ran.{Ran}
 use Rattle.kexec_main.specs.declared.status.Reason.{Reason}
 use Rattle.kexec_main.specs.Runs.{after_runs, list_text}
 use Rattle.kexec_main.specs.inner.Ran.{HasRun, ran_text}
+use Rattle.kexec_main.specs.inner.Startups.{start_alone}
 use Rattle.kexec_main.specs.Sample.{HasSampled, IsSample, sample_entry, sample_text, samples}
 use Rattle.kexec_main.specs.Texts.{memory_line, ran_line}
 use Rattle.kexec_main.proofs.Ending.{machine_leaves}
@@ -27,9 +29,9 @@ use Rattle.kexec_main.proofs.Leaving.{leaves_by}
 use Rattle.kexec_main.proofs.Told.{one_memory, text_of}
 
 -- the text of what ran is that of the sample
-pub sampled_text : (number : ℕ) (c : Checked) (r : Ran) (start : Start) → HasRun None c r → start ≡ start_of (sample_segments number) → ran_text r start 0 0 ++ memory_line (at r.memory) ≡ sample_text number c
+pub sampled_text : (number : ℕ) (c : Checked) (r : Ran) (start : Start) → HasRun None c r → start ≡ start_of (sample_segments number) → ran_text r (start_alone start) ++ memory_line (at r.memory) ≡ sample_text number c
 sampled_text number c r start h same =
-    ap (λ t. t ++ memory_line (at r.memory)) (text_of None c r start 0 0 h ∙ append-nil (list_text c start ++ ran_line c.words))
+    ap (λ t. t ++ memory_line (at r.memory)) (text_of None c r (start_alone start) h ∙ append-nil (list_text c start ++ ran_line c.words))
     ∙ ap (λ N. (list_text c start ++ ran_line c.words) ++ memory_line N) (one_memory (at r.memory) (after_runs None c) h.memory)
     ∙ ap (λ start. (list_text c start ++ ran_line c.words) ++ memory_line (after_runs None c)) same
 

@@ -4,7 +4,9 @@ use Rattle.kx_edge.specs.Edge.{Files}
 use Rattle.kx_edge.specs.declared.edge.Shelf.{Ghosts as Shelf}
 use Rattle.kx_edge.specs.declared.edge.Sink.{Ghosts as Sink}
 use Rattle.file_commands.specs.Taking.{Refusal, by, too_long}
-use Rattle.file_commands.specs.Answers.{MeetsTold, RefusesFor, Stands, done}
+use Rattle.file_commands.specs.Answers.{MeetsTold, done}
+use Rattle.file_commands.specs.inner.Order.{Stands}
+use Rattle.file_commands.proofs.Meeting.{RefusesFor}
 use Rattle.kexec_main.specs.declared.status.Reason.{Reason}
 use Rattle.kexec_words.specs.Values.{TraceValue}
 use Rattle.kexec_main.specs.Trace.{HasTraced, TraceInputs, trace_entry, traces}

@@ -11,6 +11,7 @@ use Rattle.page_memory.specs.Contents.{at}
 use Rattle.load_states.specs.States.{Checked, Load}
 use Rattle.load_states.specs.Ready.{Told}
 use Rattle.kexec_main.specs.declared.running.Ran.{Ran}
+use Rattle.kexec_main.specs.declared.startup.Startup.{Startup}
 use Rattle.kexec_main.specs.Texts.{load_lines, purgatory_line, ran_line}
 use Rattle.kexec_main.specs.Runs.{after_runs, checked_with}
 use Rattle.kexec_main.specs.BootResident.{copied_line}
@@ -50,10 +51,10 @@ abbrev pub last_line : Option ℕ → List ℕ → List ℕ → List ℕ
 last_line None text line = text ++ line
 last_line (Some steps) text line = text ++ ran_line steps
 
-abbrev pub ran_text : Ran → Start → (table digest : ℕ) → List ℕ
-ran_text r start table digest =
-    last_line r.back (load_lines r.words r.links r.pairs r.image start ++ ran_line r.steps)
-    (purgatory_line (at r.memory) table digest)
+abbrev pub ran_text : Ran → Startup → List ℕ
+ran_text r s =
+    last_line r.back (load_lines r.words r.links r.pairs r.image s.start ++ ran_line r.steps)
+    (purgatory_line (at r.memory) s.purgatory)
 
 -- the same by what ran
 abbrev pub ran_resident : Ran → Start → ℕ → List ℕ

@@ -18,6 +18,7 @@ use Rattle.kexec_main.specs.Exec.{HasExecuted, exec_files, exec_of, files_text}
 use Rattle.kexec_main.specs.Laid.{HasBootedLaid, HasLoadedLaid}
 use Rattle.kexec_main.specs.Load.{load_wish, record_of_load}
 use Rattle.kexec_main.specs.Runs.{run_text, wish_of}
+use Rattle.kexec_main.specs.Startup.{planned_startup}
 
 -- whether these runs are two
 abbrev pub is_twice : Option Runs → Bool
@@ -36,7 +37,7 @@ pub record AskTogether (b : BootValue) (l : LoadValue) (e : ExecValue) : Type 0 
 
 -- what a boot said
 abbrev pub booted_text : Option Runs → Checked → Plan → List ℕ
-booted_text runs c p = run_text runs c p.start p.regions p.digest
+booted_text runs c p = run_text runs c (planned_startup p)
 
 -- Where `boot` was done over some files, `load` over the same ones, and `exec` over files that have what `load` put: OUT of
 -- `exec` is that of `boot`, and both said the same.

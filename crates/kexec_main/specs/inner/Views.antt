@@ -1,7 +1,10 @@
 -- What the commands took, as values of the program, seen as the definitions speak of them (this project's own). Contracts
 -- of the program's own calls use these views; no clause of `kexec` does.
 -- No clause of `kexec` reaches what stands here: it serves laws, and contracts inside the crates.
-use Rattle.std.specs.Prelude.{ℕ, List, map, option_map, ◌≡◌, string_bytes}
+use Rattle.std.specs.Prelude.{ℕ, List, map, option_map, ◌≡◌, true, false, string_bytes}
+use Rattle.kx_pages.specs.declared.image.Mode.TheVariants.{Plain}
+use Rattle.kx_pages.specs.declared.image.Wish.{Wish}
+use Rattle.load_record.specs.File.{Record}
 use Rattle.page_pool.specs.Pages.{usable_of}
 use Rattle.file_commands.specs.inner.Calls.{file_of}
 use Rattle.kexec_plan.specs.Requests.{Plan}
@@ -13,6 +16,10 @@ use Rattle.kexec_main.specs.declared.load_inputs.CrashInputs.{CrashInputs as Tak
 use Rattle.kexec_main.specs.CrashInputs.{CrashInputs}
 use Rattle.kexec_main.specs.declared.loading.LoadedKernel.{LoadedKernel}
 use Rattle.kexec_main.specs.declared.crash_loading.CrashKernel.{CrashKernel}
+use Rattle.kexec_main.specs.CrashLoading.{IsCrashLoaded}
+use Rattle.kexec_main.specs.Loading.{IsLoaded}
+use Rattle.kexec_main.specs.Startup.{planned_startup}
+use Rattle.kexec_main.specs.inner.Startups.{record_with}
 use Rattle.kexec_main.specs.declared.boot.BootInputs.{BootInputs as TakenBootInputs}
 use Rattle.kexec_main.specs.Boot.{BootInputs}
 use Rattle.list_checker.specs.Checked.{as_pair}
@@ -62,19 +69,27 @@ inputs_of t =
 abbrev pub crash_inputs_of : TakenCrashInputs → CrashInputs
 crash_inputs_of t = record { memory = t.memory; map = t.map; request = request_of t.request }
 
--- the plan of a load
-abbrev pub plan_of : LoadedKernel → Plan
-plan_of k =
-    record { segments = k.loaded.segments; start = k.start; regions = k.regions; digest = k.digest }
+-- a kernel was loaded by the plan of its request, and starts as this says
+pub record IsLoadedKernel (wish : Wish) (i : LoadInputs) (k : LoadedKernel) : Type 0 where
+  pub p : Plan
+  pub load : IsLoaded wish i p k.loaded
+  pub startup : k.startup ≡ planned_startup p
 
--- the plan of a crash load
-abbrev pub crash_plan_of : CrashKernel → Plan
-crash_plan_of k = record {
-  segments = k.loaded.segments;
-  start = k.start;
-  regions = k.regions;
-  digest = k.digest;
-}
+-- so was a crash kernel
+pub record IsCrashKernel (i : CrashInputs) (k : CrashKernel) : Type 0 where
+  pub p : Plan
+  pub load : IsCrashLoaded i p k.loaded
+  pub startup : k.startup ≡ planned_startup p
+
+-- the record of a kernel that was loaded
+abbrev pub kernel_record : LoadedKernel → Record
+kernel_record k = record_with k.startup false k.loaded.image k.loaded.segments
+
+-- the record of a crash kernel, whose list is its head alone
+abbrev pub crash_record : CrashKernel → Record
+crash_record k =
+    record_with k.startup true (record { head = k.loaded.head; mode = Plain; control = 0 })
+    k.loaded.segments
 
 abbrev pub boot_inputs : TakenBootInputs → BootInputs
 boot_inputs b = record { load = inputs_of b.load; runs = b.runs; out = string_bytes b.out }

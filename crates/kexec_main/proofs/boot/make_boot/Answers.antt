@@ -1,13 +1,13 @@
-use Rattle.std.proofs.Common.{rules, ◌≡◌, ◌∙◌, Ok, Err, inl, inr, refl}
+use Rattle.std.proofs.Common.{rules, ◌≡◌, ◌∙◌, Ok, Err, ap, inl, inr, refl}
 use Rattle.page_memory.specs.Contents.{at}
 use Rattle.file_commands.specs.Taking.{by}
 use Rattle.file_commands.specs.inner.Calls.{goods_of}
 use Rattle.file_commands.proofs.Made.{handed_on_as}
 use Rattle.kexec_main.specs.Boot.{boots}
-use Rattle.kexec_main.specs.inner.Views.{boot_inputs, plan_of}
+use Rattle.kexec_main.specs.inner.Views.{boot_inputs}
 use Rattle.kexec_main.specs.Loading.{RefusesLoad}
 use Rattle.kexec_main.specs.Outputs.{HasNoFile}
-use Rattle.kexec_main.specs.Runs.{after_runs, checked_with, wish_of}
+use Rattle.kexec_main.specs.Runs.{after_runs, checked_with, run_text, wish_of}
 use Rattle.kexec_main.proofs.Outputs.{no_file_as, output_as}
 use Rattle.kexec_main.proofs.Told.{text_of}
 use Rattle.kexec_main.proofs.boot.make_boot.Goals as goal
@@ -28,7 +28,7 @@ returns-in_err-outputs c =
     let k = checked_with c.in_ok-kernel.kernel.loaded r.0 r.1 r.2 in
     let N = at c.in_ok-ran.ran.memory in
     handed_on_as (λ g. boots x (Ok (goods_of g))) (λ why. boots x (Err (by why))) (HasNoFile N) _ _ e
-    (λ why h. inr (plan_of c.in_ok-kernel.kernel, k, (l, r.3), no_file_as N (after_runs x.runs k) why r.4.memory h)) c.in_err-outputs.ensures
+    (λ why h. inr (l.p, k, (l.load, r.3), no_file_as N (after_runs x.runs k) why r.4.memory h)) c.in_err-outputs.ensures
 
 pub returns : goal.returns
 returns c =
@@ -37,10 +37,10 @@ returns c =
     let r = c.in_ok-ran.ensures in
     let kernel = c.in_ok-kernel.kernel in
     let k = checked_with kernel.loaded r.0 r.1 r.2 in (
-      plan_of kernel,
+      l.p,
       k,
-      (l, r.3),
-      c.in_ok-text.ensures ∙ text_of x.runs k c.in_ok-ran.ran kernel.start kernel.regions kernel.digest r.4,
+      (l.load, r.3),
+      c.in_ok-text.ensures ∙ text_of x.runs k c.in_ok-ran.ran kernel.startup r.4 ∙ ap (run_text x.runs k) l.startup,
       refl,
       output_as (at c.in_ok-ran.ran.memory) (after_runs x.runs k) _ x.out r.4.memory c.in_ok-outputs.ensures,
     )

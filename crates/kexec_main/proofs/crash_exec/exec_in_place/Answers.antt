@@ -18,6 +18,6 @@ returns-in-Ok c =
     let accepted = c.in-Ok.ensures.accepted in
     let place = subst (λ (l : CrashLoad). AcceptedCrash (at l.memory) (want l.segments) l.head) loaded accepted.1 in
     let memory : c.in-Ok.accepted.memory ≡ x.memory = ap (λ (l : CrashLoad). l.memory) (accepted.0 ∙ loaded) in
-    let ran = subst (λ m. MakesOr (λ g. RunsInPlace (at m) c.pages-pages.result x.start x.regions x.digest out (goods_of g)) (HasNoFile (at m)) c.run_in_place.result) memory c.run_in_place.ensures in
+    let ran = subst (λ m. MakesOr (λ g. RunsInPlace (at m) c.pages-pages.result x.startup out (goods_of g)) (HasNoFile (at m)) c.run_in_place.result) memory c.run_in_place.ensures in
     ran_in_place x c.args.twice out _ c.if-twice.false place
-    (subst (λ n. MakesOr (λ g. RunsInPlace (at x.memory) n x.start x.regions x.digest out (goods_of g)) (HasNoFile (at x.memory)) c.run_in_place.result) c.pages-pages.ensures.value ran)
+    (subst (λ n. MakesOr (λ g. RunsInPlace (at x.memory) n x.startup out (goods_of g)) (HasNoFile (at x.memory)) c.run_in_place.result) c.pages-pages.ensures.value ran)

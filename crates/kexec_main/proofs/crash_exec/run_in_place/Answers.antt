@@ -18,7 +18,7 @@ returns-in_err-outputs c =
     let N = at c.into_memory.result in
     let e : c.from_residual-in_err-outputs.result ≡ Err c.in_err-outputs.field-0.0 = search rules in
     let same : Agree N M = λ p. ap (λ m. at m p) c.into_memory.ensures ∙ c.exec-ran.ensures.memory p in
-    handed_on_as (λ g. RunsInPlace M a.pages a.startup.start a.startup.regions a.startup.digest (string_bytes a.out) (goods_of g)) (HasNoFile M) (HasNoFile N) _ _ e
+    handed_on_as (λ g. RunsInPlace M a.pages a.startup (string_bytes a.out) (goods_of g)) (HasNoFile M) (HasNoFile N) _ _ e
     (λ why h. no_file_as N M why same h) c.in_err-outputs.ensures
 
 pub returns : goal.returns
@@ -30,8 +30,8 @@ returns c =
     let same : Agree N M = λ p. ap (λ m. at m p) c.into_memory.ensures ∙ c.exec-ran.ensures.memory p in
     record {
       text = c.in_ok-text.ensures
-          ∙ ap (λ steps. crash_ran_text (at ran.memory) a.pages steps a.startup.start a.startup.regions a.startup.digest) c.exec-ran.ensures.steps
-          ∙ ap (λ L. crash_ran_text L a.pages 1 a.startup.start a.startup.regions a.startup.digest) (one_memory (at ran.memory) M c.exec-ran.ensures.memory);
+          ∙ ap (λ steps. crash_ran_text (at ran.memory) a.pages steps a.startup) c.exec-ran.ensures.steps
+          ∙ ap (λ L. crash_ran_text L a.pages 1 a.startup) (one_memory (at ran.memory) M c.exec-ran.ensures.memory);
       fault = refl;
       output = output_as N M _ (string_bytes a.out) same c.in_ok-outputs.ensures;
     }

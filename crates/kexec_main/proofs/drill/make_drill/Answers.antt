@@ -9,7 +9,7 @@ use Rattle.image_slots.specs.inner.States.{state_of}
 use Rattle.file_commands.specs.Taking.{by}
 use Rattle.file_commands.specs.inner.Calls.{goods_of}
 use Rattle.file_commands.proofs.Made.{handed_on_as}
-use Rattle.kexec_main.specs.Drill.{Meets, drills, meeting, start}
+use Rattle.kexec_main.specs.Drill.{Meets, drills, first_meeting, start}
 use Rattle.kexec_main.specs.inner.Views.{drill_inputs}
 use Rattle.kexec_main.specs.Outputs.{HasNoFile}
 use Rattle.kexec_main.specs.Replies.{reply_lines}
@@ -20,7 +20,7 @@ pub returns-in_err-slots : goal.returns-in_err-slots
 returns-in_err-slots c =
     let x = drill_inputs c.args.drill in
     let e : c.from_residual.result ≡ Err c.in_err-slots.field-0.0 = search rules in
-    handed_on_as (λ g. drills x (Ok (goods_of g))) (λ why. drills x (Err (by why))) (Meets (meeting x)) _ _ e (λ why r. inl r) c.in_err-slots.ensures
+    handed_on_as (λ g. drills x (Ok (goods_of g))) (λ why. drills x (Err (by why))) (Meets (first_meeting x)) _ _ e (λ why r. inl r) c.in_err-slots.ensures
 
 pub returns-in_err-outputs : goal.returns-in_err-outputs
 returns-in_err-outputs c =

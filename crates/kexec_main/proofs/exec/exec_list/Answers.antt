@@ -10,7 +10,7 @@ use Rattle.kexec_main.proofs.exec.exec_list.Goals as goal
 pub run_goods-requires : goal.run_goods-requires
 run_goods-requires c =
     let x = c.args.files in
-    let mode = x.load_record.image.mode in
+    let mode = x.image.mode in
     (load_of x, subst (λ s. IsAcceptedAs s c.in-Ok.accepted) c.from_files-loaded.ensures c.in-Ok.ensures.accepted, subst (λ runs. HasMode runs mode) (sym c.runs_of-runs.ensures) (runs_fit c.args.twice mode))
 
 pub returns-in-Ok : goal.returns-in-Ok
@@ -19,6 +19,5 @@ returns-in-Ok c =
     let out = string_bytes c.args.out in
     let s = load_of x in
     let a = subst (λ s. IsAcceptedAs s c.in-Ok.accepted) c.from_files-loaded.ensures c.in-Ok.ensures.accepted in
-    let r = x.load_record in
     executed x c.args.twice out _ (sym c.lacks_swap_page.ensures ∙ c.if-lacks_swap_page.false)
-    (subst (λ runs. MakesOr (λ g. RunsList runs s r.start r.regions r.digest out (goods_of g)) (RefusesRun runs s) c.run_goods.result) c.runs_of-runs.ensures (c.run_goods.ensures s a))
+    (subst (λ runs. MakesOr (λ g. RunsList runs s x.startup out (goods_of g)) (RefusesRun runs s) c.run_goods.result) c.runs_of-runs.ensures (c.run_goods.ensures s a))

@@ -16,7 +16,7 @@ returns-in_err-outputs c = λ s a.
     let r = c.run_accepted-ran.ensures s a in
     let k = checked_with s r.0 r.1 r.2 in
     let N = at c.run_accepted-ran.result.memory in
-    handed_on_as (λ g. RunsList c.args.runs s c.args.startup.start c.args.startup.regions c.args.startup.digest (string_bytes c.args.out) (goods_of g)) (RefusesRun c.args.runs s) (HasNoFile N) _ _ e
+    handed_on_as (λ g. RunsList c.args.runs s c.args.startup (string_bytes c.args.out) (goods_of g)) (RefusesRun c.args.runs s) (HasNoFile N) _ _ e
     (λ why h. (r.0, r.1, r.2, r.3, no_file_as N (after_runs c.args.runs k) why r.4.memory h)) c.in_err-outputs.ensures
 
 pub returns : goal.returns
@@ -24,4 +24,4 @@ returns c = λ s a.
     let r = c.run_accepted-ran.ensures s a in
     let k = checked_with s r.0 r.1 r.2 in
     let ran = c.run_accepted-ran.result in
-    (r.0, r.1, r.2, r.3, c.in_ok-text.ensures ∙ text_of c.args.runs k ran c.args.startup.start c.args.startup.regions c.args.startup.digest r.4, refl, output_as (at ran.memory) (after_runs c.args.runs k) _ (string_bytes c.args.out) r.4.memory c.in_ok-outputs.ensures)
+    (r.0, r.1, r.2, r.3, c.in_ok-text.ensures ∙ text_of c.args.runs k ran c.args.startup r.4, refl, output_as (at ran.memory) (after_runs c.args.runs k) _ (string_bytes c.args.out) r.4.memory c.in_ok-outputs.ensures)
