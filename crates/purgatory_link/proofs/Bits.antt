@@ -7,6 +7,7 @@ use Rattle.std.proofs.lemmas.Nat.{and_le_r, one_shl}
 use Rattle.std.proofs.lemmas.Nat.Bits.{bit_at_and, bit_at_or, bit_at-lt, bit_at-zero, bit_at-trailing_zeros, bit_at_mask_inside, bit_at_mask_below, bit_at_mask_above}
 use Rattle.std.proofs.Math.Nat.{pow-le-pow_right}
 use Rattle.std.proofs.lemmas.List.{get_or-set_same, get_or-set_other, get_or_past}
+use Rattle.kx_laws.proofs.Booleans.{or_false}
 use Rattle.purgatory_link.specs.inner.Taken.{is_set, is_taken, is_among}
 
 -- whether a byte is one of the w at a place
@@ -113,6 +114,19 @@ taken_by words index at w a m is fits says some =
 pub record MarkedTo (index at w : ℕ) (old now : List ℕ) : Type 0 where
   pub before : (k : ℕ) → k < 64 * index → is_taken now k ≡ (is_taken old k || is_among at w k)
   pub behind : (k : ℕ) → 64 * index ≤ k → is_taken now k ≡ is_taken old k
+
+pub marked_none : (at w : ℕ) (old : List ℕ) → MarkedTo (at / 64) at w old old
+marked_none at w old = record {
+  before = λ k l. sym (or_false (is_taken old k)) ∙ ap (λ b. is_taken old k || b) (sym (outside_before at w k (omega (arith, l))));
+  behind = λ k l. refl;
+}
+
+pub marked_all : (index at w : ℕ) (old now : List ℕ) → at + w ≤ 64 * index → MarkedTo index at w old now → (k : ℕ) → is_taken now k ≡ (is_taken old k || is_among at w k)
+marked_all index at w old now end is k = by (cases_lt k (64 * index))
+  where
+    by : (k < 64 * index) ⊎ (64 * index ≤ k) → is_taken now k ≡ (is_taken old k || is_among at w k)
+    by (inl b) = is.before k b
+    by (inr b) = is.behind k b ∙ sym (or_false (is_taken old k)) ∙ ap (λ m. is_taken old k || m) (sym (outside_behind at w k (omega (arith, b, end))))
 
 pub marked_more : (index at w m : ℕ) (old now : List ℕ) → index < length now → ((i : ℕ) → i < 64 → is_set m i ≡ is_among at w (64 * index + i)) → MarkedTo index at w old now
     → MarkedTo (index + 1) at w old (set now index (bit_or (get_or now index 0) m))

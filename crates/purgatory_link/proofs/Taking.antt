@@ -1,11 +1,13 @@
 -- The bits of the fields so far, and the fields.
-use Rattle.std.proofs.Common.{◌≡◌, ℕ, ◌+◌, List, [], ◌∷◌, Bool, true, false, refl, sym, ◌∙◌, inl, inr, ◌⊎◌, arith}
-use Rattle.std.specs.Prelude.{min, max}
+use Rattle.std.proofs.Common.{◌≡◌, ℕ, ◌+◌, ◌/◌, ◌%◌, ◌<◌, ◌≤◌, List, [], ◌∷◌, Bool, true, false, refl, sym, ap, ◌∙◌, inl, inr, ◌⊎◌, get_or, arith}
+use Rattle.std.specs.Prelude.{◌==◌, min, max, replicate}
 use Rattle.std.specs.List.{list_any}
-use Rattle.std.proofs.lemmas.Bool.{cases_Bool, or_cases, or_left, or_right, or_parts, or_from, both_ways, lt-ltb, ltb-true}
+use Rattle.std.proofs.lemmas.Nat.Bits.{bit_at-zero}
+use Rattle.std.proofs.lemmas.List.{get_or-replicate, get_or_past, length-replicate}
+use Rattle.std.proofs.lemmas.Bool.{cases_lt, cases_Bool, or_cases, or_left, or_right, or_parts, or_from, both_ways, lt-ltb, ltb-true}
 use Rattle.purgatory_link.specs.declared.put.Put.{Put}
 use Rattle.purgatory_link.specs.Relocs.{meets_one, meets}
-use Rattle.purgatory_link.specs.inner.Taken.{is_taken, is_among, has, AreTaken}
+use Rattle.purgatory_link.specs.inner.Taken.{is_set, is_taken, is_among, has, AreTaken}
 use Rattle.purgatory_link.proofs.Bits.{inside, where_among}
 
 -- a byte that is shared is one of both
@@ -49,3 +51,14 @@ pub meets_fields : (at w : ℕ) (puts : List Put) (words : List ℕ) (r : Bool) 
     → r ≡ meets at w puts
 meets_fields at w puts words true are some none = let s = some refl in sym (any_at at w s.0 puts s.1 (sym (are.same s.0) ∙ s.2))
 meets_fields at w puts words false are some none = sym (none_at at w puts (λ k a. sym (are.same k) ∙ none refl k a))
+
+-- zeros are the row of no field
+zero_at : (n i : ℕ) → get_or {A = ℕ} (replicate n 0) i 0 ≡ 0
+zero_at n i = by (cases_lt i n)
+  where
+    by : (i < n) ⊎ (n ≤ i) → get_or {A = ℕ} (replicate n 0) i 0 ≡ 0
+    by (inl l) = get_or-replicate n i 0 0 l
+    by (inr l) = get_or_past (replicate n 0) i 0 (omega (arith, l, length-replicate {A = ℕ} n 0))
+
+pub none_taken : (n : ℕ) → AreTaken [] (replicate n 0)
+none_taken n = record { same = λ k. ap (λ word. is_set word (k % 64)) (zero_at n (k / 64)) ∙ ap (λ b. b == 1) (bit_at-zero (k % 64)) }

@@ -6,7 +6,6 @@ use Rattle.kx_fields.specs.Fields.{with_field}
 use Rattle.elf_image.specs.Object.{Relocatable}
 use Rattle.purgatory_link.specs.declared.put.Put.{Put}
 use Rattle.purgatory_link.specs.Symbols.{start_at}
-use Rattle.purgatory_link.specs.Formulas.{wide, fits}
 use Rattle.purgatory_link.specs.Relocs.{size_at}
 
 -- each loaded section ends within n bytes
