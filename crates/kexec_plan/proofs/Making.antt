@@ -1,7 +1,8 @@
 -- A part that has its place can be made, and what is told of it keeps to its limits.
-use Rattle.std.proofs.Common.{◌≡◌, ℕ, Bool, ◌+◌, ◌-◌, ◌^◌, ◌<◌, ◌≤◌, ◌++◌, List, [], ◌∷◌, length, Ok, refl, sym, ap, ◌∙◌, subst, arith}
+use Rattle.std.proofs.Common.{◌≡◌, ℕ, Bool, ◌+◌, ◌-◌, ◌^◌, ◌<◌, ◌≤◌, ◌++◌, List, [], ◌∷◌, length, Result, Ok, refl, sym, ap, ◌∙◌, subst, arith}
 use Rattle.kx_pages.proofs.Lists.{Each-append}
 use Rattle.multiboot_image.specs.Modules.{PlacedModule}
+use Rattle.kexec_plan.specs.declared.fault.PlanFault.{PlanFault}
 use Rattle.kexec_plan.specs.declared.places.Site.{Site}
 use Rattle.kexec_plan.specs.Parts.{part_size}
 use Rattle.kexec_plan.specs.Places.{place, taking}
@@ -42,8 +43,10 @@ stays (Information rows) s l taken placed low = low
 pub told_low : (p : PlanPart) (s : Site) (l told : Laid) (taken : ℕ → Bool) → IsPlacedBy (rule_of p l) s → EndLow l.slots → told ≡ tell p s (with_taken l taken) → EndLow told.slots
 told_low p s l told taken placed low e = subst (λ (t : Laid). EndLow t.slots) (sym e) (stays p s l taken placed low)
 
+abbrev pub laid_as : Laid → Result Laid PlanFault
+laid_as l = Ok l
+
 -- one part more is laid so
-pub part_is : (ram : ℕ → Bool) (l told more : Laid) (p : PlanPart) (s : Site) → place ram l.taken (rule_of p l) ≡ Ok s → told ≡ tell p s (with_taken l (taking l.taken s)) → Ok (push told s (bytes_of p s told)) ≡ Ok more → place_part ram l p ≡ Ok more
+pub part_is : (ram : ℕ → Bool) (l told more : Laid) (p : PlanPart) (s : Site) → place ram l.taken (rule_of p l) ≡ Ok s → told ≡ tell p s (with_taken l (taking l.taken s)) → laid_as (push told s (bytes_of p s told)) ≡ laid_as more → place_part ram l p ≡ laid_as more
 unfolding place_part
-part_is ram l told more p s h e k =
-    rw h (subst (λ t. Ok (push t s (bytes_of p s t)) ≡ Ok more) e k)
+part_is ram l told more p s h e k = rw h (rw e at k)

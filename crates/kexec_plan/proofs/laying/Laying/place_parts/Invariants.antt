@@ -10,6 +10,6 @@ invariant-loop-part l = record {
   can : goal.iterator-loop-part.can_next l.part-iterator;
   finite : goal.iterator-loop-part.is_finite l.part-iterator;
   parts : AreParts (into_iter_items l.part-iterator);
-  rest : place_parts (in_spans l.ram) (laid_of l.self) (map part_of (into_iter_items l.part-iterator)) ≡ place_parts (in_spans l.ram) (laid_of l.fn.self) (map part_of l.fn.parts.list.items);
+  rest : place_parts (in_spans l.ram) (laid_of l.self) (map part_of (into_iter_items l.part-iterator)) ≡ place_parts (in_spans l.ram) (laid_of l.fn.self) l.fn.parts;
   low : EndLow l.self.slots.items;
 }
