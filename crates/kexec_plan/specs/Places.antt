@@ -1,5 +1,5 @@
 -- Where the parts of a plan are placed (this project's own).
-use Rattle.std.specs.Prelude.{ℕ, ◌+◌, ◌*◌, ◌/◌, ◌^◌, ◌||◌, Bool, false, ◌&&◌, max, min, nat_lt, nat_le, if◌then◌else◌, List, Option, Some, None, Result, Ok, Err}
+use Rattle.std.specs.Prelude.{ℕ, ◌+◌, ◌*◌, ◌/◌, ◌^◌, ◌||◌, Bool, ◌&&◌, max, min, nat_lt, nat_le, if◌then◌else◌, List, Option, Some, None, Result, Ok, Err}
 use Rattle.std.specs.List.{list_any}
 use Rattle.kx_laws.specs.Results.{◌>>=◌}
 use Rattle.segments.specs.Values.{SegmentValue, stop}

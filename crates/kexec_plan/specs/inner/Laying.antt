@@ -1,6 +1,6 @@
 -- The parts of a plan, placed one after another (this project's own).
 -- No clause of `kexec` reaches what stands here: it serves laws, and contracts inside the crates.
-use Rattle.std.specs.Prelude.{ℕ, ◌+◌, ◌^◌, ◌<◌, ◌≤◌, List, length}
+use Rattle.std.specs.Prelude.{◌+◌, ◌^◌, ◌<◌, ◌≤◌, List, length}
 use Rattle.std.specs.List.{AllByRecursion}
 use Rattle.kx_pages.specs.Spans.{in_spans}
 use Rattle.multiboot_image.specs.Modules.{PlacedModule}

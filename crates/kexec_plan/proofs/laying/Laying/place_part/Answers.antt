@@ -1,4 +1,4 @@
-use Rattle.std.proofs.Common.{◌≡◌, subst}
+use Rattle.std.proofs.Common.{subst}
 use Rattle.kx_pages.specs.Spans.{in_spans}
 use Rattle.kexec_plan.specs.inner.Places.{IsPlacedBy}
 use Rattle.kexec_plan.specs.inner.Laying.{part_of, laid_of}

@@ -23,11 +23,14 @@ loop-part-preserved c =
       low = c.in_ok-place_part.ensures.low;
     }
 
-pub returns-in_err-place_part-clause-exact : goal.returns-in_err-place_part-clause-exact
-returns-in_err-place_part-clause-exact c =
+pub returns-in_err-place_part : goal.returns-in_err-place_part
+returns-in_err-place_part c =
     let items : into_iter_items c.loop-part.part-iterator ≡ c.in-Some.part ∷ into_iter_items c.next.new.self = search rules in
     let l = rw items at c.loop-part.invariant.rest in
-    rw (handed_on _ _ c.from_residual.ensures.1) (⊎_elim (λ e. inl (sym l ∙ next_fails _ _ _ _ _ e)) (λ m. inr m) c.in_err-place_part.ensures.exact)
+    record {
+      exact =
+          rw (handed_on _ _ c.from_residual.ensures.1) (⊎_elim (λ e. inl (sym l ∙ next_fails _ _ _ _ _ e)) (λ m. inr m) c.in_err-place_part.ensures.exact);
+    }
 
 pub returns : goal.returns
 returns c =
