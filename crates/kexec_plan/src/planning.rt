@@ -51,7 +51,8 @@ fn begin(
     entry: u64,
     command: &Option<Vec<u8>>,
 ) -> Result<Laying, AllocError>
-    ensures exact { IfOk result (λ l. laid_of l ≡ begin list.items entry (option_map (λ v. v.items) command.now)) }
+    ensures exact { IfOk result
+        (λ l. laid_of l ≡ begin list.items entry (option_map (λ v. v.items) command.now)) }
     ensures slots { IfOk result (λ l. l.slots.items ≡ []) }
 {
     Ok(Laying {
@@ -65,8 +66,7 @@ fn begin(
     })
 }
 
-// The plan of a kernel of this form: it is read, the purgatory is read, the parts are placed one after another and then the
-// purgatory, each part has its bytes, the purgatory is linked and the segments are tested.
+// The plan of a kernel of this form.
 #[tactic(auto, unfolding(crate::specs::Plan::plan_as))]
 fn plan_as(
     alloc: Global,
