@@ -130,6 +130,13 @@ class Table:
     def bytes_of(self, held):
         return held if isinstance(held, int) else os.path.getsize(f"{self.folder}/{held}")
 
+    def add_one_block(self, what, file):
+        """Measures dd of a file in one block: it holds the whole file, as a program does that makes one of it."""
+        block = ["dd", f"if={file}", "of=copied", f"bs={self.bytes_of(file)}", "count=1", "iflag=fullblock", "status=none"]
+        took = best(block, self.folder, ["copied"])[0]
+        os.remove(f"{self.folder}/copied")
+        print(f"| {what} | {took:.3f} |" + " |" * 10, flush=True)
+
     def add(self, what, words, inputs, outputs, moments, digested=(), before=None, bare=None, program=PROGRAM):
         """Measures a command. Each moment is a list of what is held together: files, of which each byte of a memory, a kernel
         or a record stands once, and twice only where a file is made beside what it is made of; and as a number the bytes

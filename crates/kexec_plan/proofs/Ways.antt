@@ -16,7 +16,7 @@ use Rattle.kexec_plan.specs.declared.format.Format.TheVariants.{Raw, Elf, Bzimag
 use Rattle.kexec_plan.specs.Requests.{Asked, Plan}
 use Rattle.kexec_plan.specs.Formats.{ground_for, unused_part, format_of}
 use Rattle.kexec_plan.specs.Parts.{start_at}
-use Rattle.kexec_plan.specs.Places.{place, placed_some, taken_by, taking}
+use Rattle.kexec_plan.specs.Places.{place, place_some, taken_by, taking}
 use Rattle.kexec_plan.specs.Faults.{told_by, of_bzimage}
 use Rattle.kexec_plan.specs.Purgatory.{PurgatoryValue, some_purgatory, purgatory_rule}
 use Rattle.kexec_plan.specs.Linux.{linux_of, linux_start, command_of, linux_parts, linux_places}
@@ -41,7 +41,7 @@ module _ (g : Ground) (P : Plan → Type 0)
   unfolding fixed_plan
   fixed_plan_ends k file =
       next_ends (some_purgatory file) _
-      (λ o. next_ends (placed_some (ram g) (taken_by k.list) (option_map (purgatory_rule (most g false)) o)) _
+      (λ o. next_ends (place_some (ram g) (taken_by k.list) (option_map (purgatory_rule (most g false)) o)) _
       (λ site. end k.list (start_at k.entry) o site))
 
   pub linux_plan_ends : (r : Asked) → Ends (linux_plan r g)
@@ -61,7 +61,7 @@ module _ (g : Ground) (P : Plan → Type 0)
       (λ k. next_ends (some_purgatory r.purgatory) _
       (λ o. next_ends (modules_onto (ram g) (record { taken = taken_by k.list; list = k.list; slots = [] }) r.modules) _
       (λ l. next_ends (place (ram g) l.taken (information_rule (rows g) (command_of r.command) l.slots)) _
-      (λ i. next_ends (placed_some (ram g) (taking l.taken i) (option_map (purgatory_rule (most g false)) o)) _
+      (λ i. next_ends (place_some (ram g) (taking l.taken i) (option_map (purgatory_rule (most g false)) o)) _
       (λ s. end (multiboot_parts l i (rows g) (command_of r.command)) (multiboot_start k.entry i) o s)))))
 
   as_ends : (r : Asked) (format : Format) → Ends (plan_as r g format)

@@ -14,7 +14,7 @@ use Rattle.kexec_plan.specs.Requests.{Asked}
 use Rattle.kexec_plan.specs.Parts.{segment_at}
 use Rattle.kexec_plan.specs.Faults.{told_by, of_params}
 use Rattle.kexec_plan.specs.Ground.{Ground, ram, rows, most, headers_size}
-use Rattle.kexec_plan.specs.Places.{place, placed_some, nothing, pages_of}
+use Rattle.kexec_plan.specs.Places.{place, place_some, nothing, pages_of}
 use Rattle.kexec_plan.specs.Purgatory.{PurgatoryValue, purgatory_rule}
 use Rattle.kexec_plan.specs.Table.{kernel_rule, initrd_rule, headers_rule, parameters_rule}
 
@@ -60,12 +60,12 @@ unfoldable pub linux_places : Ground → Kernel → LinuxAsked → Option Purgat
     → Result LinuxPlaces PlanFault
 linux_places g k r p = do
   kernel ← place (ram g) nothing (kernel_rule k (length r.kernel))
-  initrd ← placed_some (ram g) (pages_of (Some kernel ∷ [])) (option_map (initrd_rule k) r.initrd)
-  headers ← placed_some (ram g) (pages_of (initrd ∷ Some kernel ∷ []))
+  initrd ← place_some (ram g) (pages_of (Some kernel ∷ [])) (option_map (initrd_rule k) r.initrd)
+  headers ← place_some (ram g) (pages_of (initrd ∷ Some kernel ∷ []))
       (option_map (headers_rule k) (headers_size g r.notes))
   parameters ← place (ram g) (pages_of (headers ∷ initrd ∷ Some kernel ∷ []))
       (parameters_rule k (rows g) (told_command (command_of r.command) headers))
-  purgatory ← placed_some (ram g)
+  purgatory ← place_some (ram g)
       (pages_of (Some parameters ∷ headers ∷ initrd ∷ Some kernel ∷ []))
       (option_map (purgatory_rule (most g k.above4g)) p)
   Ok (record {

@@ -43,10 +43,10 @@ unfoldable pub taking : (ℕ → Bool) → Site → ℕ → Bool
 taking taken s q = taken q || in_span (pages_at s) q
 
 -- the same for a part that may be left out
-unfoldable pub placed_some : (ℕ → Bool) → (ℕ → Bool) → Option PlaceRule
+unfoldable pub place_some : (ℕ → Bool) → (ℕ → Bool) → Option PlaceRule
     → Result (Option Site) PlanFault
-placed_some ram taken None = Ok None
-placed_some ram taken (Some r) = do
+place_some ram taken None = Ok None
+place_some ram taken (Some r) = do
   s ← place ram taken r
   Ok (Some s)
 

@@ -12,7 +12,7 @@ use Rattle.kexec_plan.specs.Formats.{format_of, ground_for, unused_part}
 use Rattle.kexec_plan.specs.Parts.{start_at}
 use Rattle.bzimage.specs.Kernel.{kernel_reading}
 use Rattle.kexec_plan.specs.Faults.{told_by, of_bzimage}
-use Rattle.kexec_plan.specs.Places.{place, placed_some, taken_by, taking}
+use Rattle.kexec_plan.specs.Places.{place, place_some, taken_by, taking}
 use Rattle.kexec_plan.specs.Purgatory.{some_purgatory, purgatory_rule}
 use Rattle.kexec_plan.specs.Finish.{finish}
 use Rattle.kexec_plan.specs.Kernels.{Kernel, raw_kernel, elf_kernel, multiboot_kernel}
@@ -24,7 +24,7 @@ use Rattle.kexec_plan.specs.Linux.{command_of, linux_of, linux_places, linux_par
 unfoldable pub fixed_plan : Kernel → Option (List ℕ) → Ground → Result Plan PlanFault
 fixed_plan k file g = do
   purgatory ← some_purgatory file
-  site ← placed_some (ram g) (taken_by k.list)
+  site ← place_some (ram g) (taken_by k.list)
       (option_map (purgatory_rule (most g false)) purgatory)
   finish g k.list (start_at k.entry) purgatory site
 
@@ -47,7 +47,7 @@ multiboot_plan r g = do
   l ← modules_onto (ram g) (record { taken = taken_by k.list; list = k.list; slots = [] }) r.modules
   information ← place (ram g) l.taken
       (information_rule (rows g) (command_of r.command) l.slots)
-  site ← placed_some (ram g) (taking l.taken information)
+  site ← place_some (ram g) (taking l.taken information)
       (option_map (purgatory_rule (most g false)) purgatory)
   finish g (multiboot_parts l information (rows g) (command_of r.command))
       (multiboot_start k.entry information) purgatory site

@@ -1,7 +1,8 @@
 //! Why a request has no plan.
 
 ghost use Rattle.std.specs.Prelude.{◌≡◌};
-ghost use Rattle.kexec_plan.specs.Faults.{of_elf, of_object};
+ghost use Rattle.kexec_plan.specs.declared.fault.PlanFault.TheVariants.{Memory};
+ghost use Rattle.kexec_plan.specs.Faults.{of_elf, of_object, of_multiboot, of_bzimage, of_crash, of_link, of_params};
 
 use boot_params::ParamsFault;
 use bzimage::BzFault;
@@ -112,8 +113,6 @@ impl PlanFault {
 }
 
 impl From<AllocError> for PlanFault {
-    ghost use Rattle.kexec_plan.specs.declared.fault.PlanFault.TheVariants.{Memory};
-
     ghost from_gives = { λ _ e. e ≡ Memory };
 
     fn from(_: AllocError) -> PlanFault {
@@ -122,8 +121,6 @@ impl From<AllocError> for PlanFault {
 }
 
 impl<T: Drop> From<AllocFailed<T>> for PlanFault {
-    ghost use Rattle.kexec_plan.specs.declared.fault.PlanFault.TheVariants.{Memory};
-
     ghost from_gives = { λ _ e. e ≡ Memory };
 
     fn from(_: AllocFailed<T>) -> PlanFault {
@@ -132,8 +129,6 @@ impl<T: Drop> From<AllocFailed<T>> for PlanFault {
 }
 
 impl From<MbFault> for PlanFault {
-    ghost use Rattle.kexec_plan.specs.Faults.{of_multiboot};
-
     ghost from_gives = { λ fault e. e ≡ of_multiboot fault };
 
     fn from(fault: MbFault) -> PlanFault {
@@ -145,8 +140,6 @@ impl From<MbFault> for PlanFault {
 }
 
 impl From<BzFault> for PlanFault {
-    ghost use Rattle.kexec_plan.specs.Faults.{of_bzimage};
-
     ghost from_gives = { λ fault e. e ≡ of_bzimage fault };
 
     fn from(fault: BzFault) -> PlanFault {
@@ -158,8 +151,6 @@ impl From<BzFault> for PlanFault {
 }
 
 impl From<CrashFault> for PlanFault {
-    ghost use Rattle.kexec_plan.specs.Faults.{of_crash};
-
     ghost from_gives = { λ fault e. e ≡ of_crash fault };
 
     fn from(fault: CrashFault) -> PlanFault {
@@ -171,8 +162,6 @@ impl From<CrashFault> for PlanFault {
 }
 
 impl From<LinkFault> for PlanFault {
-    ghost use Rattle.kexec_plan.specs.Faults.{of_link};
-
     ghost from_gives = { λ fault e. e ≡ of_link fault };
 
     fn from(fault: LinkFault) -> PlanFault {
@@ -184,8 +173,6 @@ impl From<LinkFault> for PlanFault {
 }
 
 impl From<ParamsFault> for PlanFault {
-    ghost use Rattle.kexec_plan.specs.Faults.{of_params};
-
     ghost from_gives = { λ fault e. e ≡ of_params fault };
 
     fn from(fault: ParamsFault) -> PlanFault {

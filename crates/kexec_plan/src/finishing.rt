@@ -7,9 +7,8 @@ ghost use Rattle.kexec_plan.specs.inner.Requests.{planned_of};
 ghost use Rattle.kexec_plan.specs.Parts.{segment_at};
 ghost use Rattle.kexec_plan.specs.Rules.{test_segments};
 ghost use Rattle.kexec_plan.specs.inner.Purgatory.{IsLinkable, HasSymbols};
-ghost use Rattle.kexec_plan.specs.Finish.{plain_plan, armed_segment};
+ghost use Rattle.kexec_plan.specs.Finish.{plain_plan, armed_plan, finish};
 ghost use Rattle.kexec_plan.specs.inner.Finish.{OfSegment, armed_of};
-ghost use Rattle.kexec_plan.specs.Finish.{armed_plan, finish};
 
 use crate::fault::PlanFault;
 use crate::fixed_kernels::start_at;

@@ -5,9 +5,7 @@ ghost use Rattle.kx_laws.specs.inner.Results.{Gives};
 ghost use Rattle.bzimage.specs.inner.Kernel.{IsSound};
 ghost use Rattle.kexec_plan.specs.inner.Requests.{planned_of, request_of};
 ghost use Rattle.kexec_plan.specs.Parts.{segment_at};
-ghost use Rattle.kexec_plan.specs.inner.Purgatory.{IsLinkable};
-ghost use Rattle.kexec_plan.specs.Linux.{linux_list, linux_parts, segment_if};
-ghost use Rattle.kexec_plan.specs.Linux.{linux_of, initrd_range};
+ghost use Rattle.kexec_plan.specs.Linux.{linux_of, linux_list, linux_parts, segment_if, initrd_range};
 ghost use Rattle.kexec_plan.specs.inner.Linux.{AreLow};
 ghost use Rattle.kexec_plan.specs.Plan.{linux_plan};
 

@@ -8,10 +8,8 @@ ghost use Rattle.kexec_plan.specs.inner.Requests.{planned_of, request_of};
 ghost use Rattle.kexec_plan.specs.Parts.{segment_at};
 ghost use Rattle.kexec_plan.specs.inner.Places.{IsPlacedBy};
 ghost use Rattle.kexec_plan.specs.Table.{information_rule};
-ghost use Rattle.kexec_plan.specs.Multiboot.{slot_at, with_module, module_onto};
-ghost use Rattle.kexec_plan.specs.inner.Multiboot.{laid_of};
-ghost use Rattle.kexec_plan.specs.Multiboot.{modules_onto};
-ghost use Rattle.kexec_plan.specs.inner.Multiboot.{EndLow};
+ghost use Rattle.kexec_plan.specs.Multiboot.{slot_at, module_onto, modules_onto};
+ghost use Rattle.kexec_plan.specs.inner.Multiboot.{laid_of, EndLow};
 ghost use Rattle.kexec_plan.specs.Plan.{multiboot_plan};
 
 use crate::command::command_of;

@@ -4,7 +4,7 @@ ghost use Rattle.std.specs.Prelude.{◌≡◌, ◌+◌, ◌*◌, ◌<◌, ◌≤
 ghost use Rattle.kx_laws.specs.inner.Results.{Gives};
 ghost use Rattle.kx_pages.specs.Spans.{in_span, in_spans};
 ghost use Rattle.kexec_plan.specs.Parts.{part_size, segment_at};
-ghost use Rattle.kexec_plan.specs.Places.{is_met, taken_by, place, placed_some, taking, taking_some, pages_at};
+ghost use Rattle.kexec_plan.specs.Places.{is_met, taken_by, place, place_some, taking, taking_some, pages_at};
 ghost use Rattle.kexec_plan.specs.inner.Places.{IsPlacedBy, IsPlacedIf};
 
 use crate::fault::{Part, PlanFault};
@@ -86,7 +86,7 @@ pub(crate) fn taken_by(alloc: Global, list: &[Segment]) -> Result<PageSet, Alloc
 
 // The place of a part by its rule, in RAM that is not taken.
 #[tactic(auto, unfolding(crate::specs::Places::place), using(crate::proofs::Holes::hole_is))]
-fn place(ram: &PageSet, taken: &PageSet, rule: PlaceRule) -> Result<Site, PlanFault>
+fn find_place(ram: &PageSet, taken: &PageSet, rule: PlaceRule) -> Result<Site, PlanFault>
     requires some_align { 0 < rule.align }
     requires align { rule.align ≤ 2 ^ 45 }
     ensures exact { result ≡ place (in_spans ram.now) (in_spans taken.now) rule }
@@ -121,13 +121,13 @@ pub(crate) fn place(ram: &PageSet, taken: &mut PageSet, rule: PlaceRule) -> Resu
     ensures place { IfOk result (IsPlacedBy rule) }
     ensures taken { IfOk result (λ s. in_spans taken.new ≡ taking (in_spans taken.old) s) }
 {
-    let site = place(ram, taken, rule)?;
+    let site = find_place(ram, taken, rule)?;
     take(taken, site)?;
     Ok(site)
 }
 
 /// The same for a part that may be left out.
-#[tactic(auto, unfolding(crate::specs::Places::placed_some, crate::specs::Places::taking_some))]
+#[tactic(auto, unfolding(crate::specs::Places::place_some, crate::specs::Places::taking_some))]
 pub(crate) fn place_some(
     ram: &PageSet,
     taken: &mut PageSet,
@@ -136,7 +136,7 @@ pub(crate) fn place_some(
     requires some_align { IfSome rule (λ r. 0 < r.align) }
     requires align { IfSome rule (λ r. r.align ≤ 2 ^ 45) }
     ensures exact { Gives PlanFault.Memory (λ s. s) result
-        (placed_some (in_spans ram.now) (in_spans taken.old) rule) }
+        (place_some (in_spans ram.now) (in_spans taken.old) rule) }
     ensures place { IfOk result (IsPlacedIf rule) }
     ensures taken { IfOk result (λ s. in_spans taken.new ≡ taking_some (in_spans taken.old) s) }
 {

@@ -1,7 +1,6 @@
 //! The table of places.
 
 ghost use Rattle.std.specs.Prelude.{◌≡◌, ◌≤◌};
-ghost use Rattle.bzimage.specs.inner.Kernel.{IsSound};
 ghost use Rattle.kexec_plan.specs.Table.{last_address, highest, kernel_rule, initrd_rule, headers_rule, parameters_rule, module_rule, information_rule};
 
 use crate::fault::Part;

@@ -69,7 +69,7 @@ rebytes h l w d b z o = record {
   first = o.first;
   links = o.links;
   writes = record {
-    tracks = record { left = o.writes.tracks.left; filed = o.writes.tracks.filed; wanted = o.writes.tracks.wanted; loading_after = o.writes.tracks.loaded; once = o.writes.tracks.once };
+    tracks = record { left = o.writes.tracks.left; filed = o.writes.tracks.filed; wanted = o.writes.tracks.wanted; loaded = o.writes.tracks.loaded; once = o.writes.tracks.once };
     order = o.writes.order;
     spare = o.writes.spare;
     tight = o.writes.tight;
@@ -79,7 +79,7 @@ rebytes h l w d b z o = record {
     held = o.writes.held;
     below = o.writes.below;
     list = o.writes.list;
-    loading_after = subst (Holds (at w.memory)) (sym (sources_same h.bytes d b l.pairs (ap (count d) o.writes.order ∙ z))) o.writes.loaded;
+    loaded = subst (Holds (at w.memory)) (sym (sources_same h.bytes d b l.pairs (ap (count d) o.writes.order ∙ z))) o.writes.loaded;
     others = o.writes.others;
     places = o.writes.places;
     place = o.writes.place;

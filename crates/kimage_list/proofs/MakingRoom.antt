@@ -18,7 +18,7 @@ pub record Roomy (h : History) (l : Loading) (first links : List ℕ) : Type 0 w
   pub room : Room (draft_of h l first links) (draft_of h then first more)
   pub under_way : UnderWay h.pool (pages_in h.wanted) (need h) (draft_of h then first more)
   pub has_room : HasRoom (draft_of h then first more)
-  pub served : served (is_wanted h) (link_request (length h.entries)) l ≡ Some then
+  pub served : serve (is_wanted h) (link_request (length h.entries)) l ≡ Some then
   pub bound : 511 * length more ≤ length h.entries + 511
 
 pub need_is : (h : History) (first : List ℕ) → length first ≡ first_count h.wish → need h ≡ length (pages_in h.wanted) + (h.segments + length (pages_in h.wanted) + 510) / 511 + length first
@@ -44,7 +44,7 @@ make_room h l w o few =
           room = (o.steady, subst (λ b. RoomBy b (draft_of h l o.first o.links) (draft_of h l o.first o.links)) (sym f) refl);
           under_way = subst (UnderWay h.pool (pages_in h.wanted) (need h)) k u;
           has_room = subst HasRoom k free;
-          serve = ap (λ b. serve (is_wanted h) (cond b (None ∷ []) []) l) f;
+          served = ap (λ b. serve (is_wanted h) (cond b (None ∷ []) []) l) f;
           bound = omega (arith, o.steady);
         }
     go true f e by u free =
@@ -57,7 +57,7 @@ make_room h l w o few =
           room = (o.steady, subst (λ b. RoomBy b (draft_of h l o.first o.links) (with_link (draft_of h l o.first o.links) t)) (sym f) (t, k.1, refl));
           under_way = subst (UnderWay h.pool (pages_in h.wanted) (need h)) k.2 u;
           has_room = subst HasRoom k.2 free;
-          serve = ap (λ b. serve (is_wanted h) (cond b (None ∷ []) []) l) f ∙ one_served (is_wanted h) None l t g;
+          served = ap (λ b. serve (is_wanted h) (cond b (None ∷ []) []) l) f ∙ one_served (is_wanted h) None l t g;
           bound = omega (arith, o.steady, o.under_way.within, eqb-true (length h.entries % 511) 0 f, length-append o.links (t.0 ∷ []));
         }
 
