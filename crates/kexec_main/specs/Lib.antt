@@ -1,4 +1,5 @@
 pub mod Statuses
+pub mod ExitStatuses
 pub mod Startup
 pub mod Files
 pub mod Inputs

@@ -5,4 +5,3 @@ pub mod Views
 pub mod Ran
 pub mod Startups
 pub mod ShortStores
-pub mod ExitStatuses

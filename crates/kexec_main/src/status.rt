@@ -5,7 +5,7 @@ ghost use Rattle.file_commands.specs.Answers.{refused};
 ghost use Rattle.file_commands.specs.Taking.{by};
 ghost use Rattle.file_commands.specs.inner.Calls.{answer_of as stop_answer};
 ghost use Rattle.kexec_main.specs.Statuses.{answer_of};
-ghost use Rattle.kexec_main.specs.inner.ExitStatuses.{code_of};
+ghost use Rattle.kexec_main.specs.ExitStatuses.{code_of};
 
 use crash_headers::NoteFault;
 use file_commands::Stop;

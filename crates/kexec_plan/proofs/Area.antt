@@ -28,8 +28,8 @@ use Rattle.kexec_plan.specs.Parts.{segment_at}
 use Rattle.kexec_plan.specs.Rules.{first_refusal, ram_runs, test_segments, unless_refused}
 use Rattle.kexec_plan.specs.Purgatory.{Linkage, PurgatoryValue, linked_at}
 use Rattle.kexec_plan.specs.Finish.{armed_plan, armed_segment, finish, plain_plan}
-use Rattle.kexec_plan.proofs.Ways.{linux_plan_ends}
-use Rattle.kexec_plan.specs.Plan.{linux_plan, plan, plan_as}
+use Rattle.kexec_plan.proofs.Ways.{as_ends}
+use Rattle.kexec_plan.specs.Plan.{plan, plan_as}
 
 -- each segment lies in the area
 abbrev pub AreInside : Run → List SegmentValue → Type 0
@@ -117,30 +117,28 @@ finished_inside map area ss start (Some v) (Some s) p e = linked_inside map area
 finished_inside map area ss start (Some v) None p e = plain_inside map area ss start p e
 finished_inside map area ss start None s p e = plain_inside map area ss start p e
 
--- ---- the plan of a bzImage ends so
-linux_inside : (r : Asked) (map : MapValue) (area : Run) (p : Plan) → linux_plan r (Reserved map area) ≡ Ok p → AreInside area p.segments
-linux_inside r map area = linux_plan_ends (Reserved map area) (λ p. AreInside area p.segments) (finished_inside map area) r
+-- ---- each plan ends so
+as_inside : (r : Asked) (format : Format) (map : MapValue) (area : Run) (p : Plan) → plan_as r (Reserved map area) format ≡ Ok p → AreInside area p.segments
+as_inside r format map area = as_ends (Reserved map area) (λ p. AreInside area p.segments) (finished_inside map area) r format
 
--- ---- a crash kernel is a bzImage, and has an area
+-- ---- a crash kernel has an area
 has_area : (map : MapValue) (area : Option Run) (g : Ground) → reserved_ground map area ≡ Ok g → (a : Run) × (area ≡ Some a) × (g ≡ Reserved map a)
 has_area map None g e = cc
 has_area map (Some a) g e = (a, refl, sym (ok_same {F = PlanFault} (Reserved map a) g e))
 
-crash_form : (r : Asked) (map : MapValue) (format : Format) (g : Ground) → r.crash ≡ true → ground_for r (Some map) format ≡ Ok g → (format ≡ formats.Bzimage) × (reserved_ground map (reserved_area map) ≡ Ok g)
+crash_form : (r : Asked) (map : MapValue) (format : Format) (g : Ground) → r.crash ≡ true → ground_for r (Some map) format ≡ Ok g → reserved_ground map (reserved_area map) ≡ Ok g
 crash_form r map (formats.Raw at entry) g crash e = let k = sym (ap (λ b. cond (not b) (Ok (Machine map)) (Err faults.CrashNeedsBzimage)) crash) ∙ e in cc
 crash_form r map formats.Elf g crash e = let k = sym (ap (λ b. cond (not b) (Ok (Machine map)) (Err faults.CrashNeedsBzimage)) crash) ∙ e in cc
 crash_form r map formats.Multiboot g crash e = let k = sym (ap (λ b. cond (not b) (Ok (Machine map)) (Err faults.CrashNeedsBzimage)) crash) ∙ e in cc
-crash_form r map formats.Bzimage g crash e = (refl, sym (ap (λ b. cond (not b) (Ok (Machine map)) (reserved_ground map (reserved_area map))) crash) ∙ e)
+crash_form r map formats.Bzimage g crash e = sym (ap (λ b. cond (not b) (Ok (Machine map)) (reserved_ground map (reserved_area map))) crash) ∙ e
 
 -- the map of a crash load that has a plan has an area, and each segment lies in it
 pub in_area : (r : Asked) (map : MapValue) (p : Plan) → r.crash ≡ true → plan r (Some map) ≡ Ok p → (area : Run) × (reserved_area map ≡ Some area) × AreInside area p.segments
-unfolding plan plan_as
+unfolding plan
 in_area r map p crash e =
     let m = Some map in
     let f = bind_ok (format_of r) _ p e in
     let g = bind_ok (ground_for r m f.0) _ p f.2 in
     let u = bind_ok (unless (option_map faults.Unused (unused_part r f.0))) _ p g.2 in
-    let form = crash_form r map f.0 g.0 crash g.1 in
-    let area = has_area map (reserved_area map) g.0 form.1 in
-    let as_linux = subst (λ g. plan_as r g formats.Bzimage ≡ Ok p) area.2 (subst (λ format. plan_as r g.0 format ≡ Ok p) form.0 u.2) in
-    (area.0, area.1, linux_inside r map area.0 p as_linux)
+    let area = has_area map (reserved_area map) g.0 (crash_form r map f.0 g.0 crash g.1) in
+    (area.0, area.1, as_inside r f.0 map area.0 p (subst (λ g. plan_as r g f.0 ≡ Ok p) area.2 u.2))

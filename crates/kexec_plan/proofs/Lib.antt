@@ -3,7 +3,7 @@ pub mod Holes
 pub mod Handing
 pub mod Last
 pub mod Armed
-pub mod Laying
+pub mod Steps
 pub mod Reach
 pub mod Puts
 pub mod Linkages
@@ -11,4 +11,5 @@ pub mod Ways
 pub mod Bare
 pub mod Regions
 pub mod Parameters
+pub mod Making
 pub mod Area

@@ -10,7 +10,7 @@ use Rattle.kexec_plan.specs.declared.places.Site.{Site}
 use Rattle.kexec_plan.specs.Parts.{part_size}
 use Rattle.kexec_plan.specs.inner.Places.{IsPlacedBy}
 use Rattle.kexec_plan.specs.Table.{information_rule}
-use Rattle.kexec_plan.specs.inner.Multiboot.{EndLow}
+use Rattle.kexec_plan.specs.inner.Laying.{EndLow}
 
 -- texts that end at 4 GiB or before it begin below
 below : (text : ℕ) (ms : List PlacedModule) → EndLow ms → text + texts_size ms ≤ 2 ^ 32 → AreBelow text ms

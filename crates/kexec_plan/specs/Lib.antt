@@ -7,11 +7,11 @@ pub mod Holes
 pub mod Places
 pub mod Table
 pub mod Faults
+pub mod Command
+pub mod Laying
 pub mod Kernels
 pub mod Purgatory
 pub mod Finish
-pub mod Linux
-pub mod Multiboot
 pub mod Ground
 pub mod Plan
 pub mod inner

@@ -1,5 +1,5 @@
 -- Where the parts of a plan are placed (this project's own).
-use Rattle.std.specs.Prelude.{ℕ, ◌+◌, ◌*◌, ◌/◌, ◌^◌, ◌||◌, Bool, false, ◌&&◌, max, min, nat_lt, nat_le, if◌then◌else◌, List, [], ◌∷◌, Option, Some, None, Result, Ok, Err}
+use Rattle.std.specs.Prelude.{ℕ, ◌+◌, ◌*◌, ◌/◌, ◌^◌, ◌||◌, Bool, ◌&&◌, max, min, nat_lt, nat_le, if◌then◌else◌, List, Option, Some, None, Result, Ok, Err}
 use Rattle.std.specs.List.{list_any}
 use Rattle.kx_laws.specs.Results.{◌>>=◌}
 use Rattle.segments.specs.Values.{SegmentValue, stop}
@@ -21,10 +21,6 @@ unfoldable pub place : (ℕ → Bool) → (ℕ → Bool) → PlaceRule → Resul
 place ram taken r =
     if nat_le (2 ^ 46) (part_size r.length) then Err (faults.NoHole r.part)
     else site_at r (hole ram taken r)
-
--- no page
-abbrev pub nothing : ℕ → Bool
-nothing q = false
 
 -- the pages that a segment meets, below the limit, also where it does not begin at a page
 abbrev pub is_met : ℕ → SegmentValue → Bool
@@ -49,12 +45,3 @@ place_some ram taken None = Ok None
 place_some ram taken (Some r) = do
   s ← place ram taken r
   Ok (Some s)
-
-unfoldable pub taking_some : (ℕ → Bool) → Option Site → ℕ → Bool
-taking_some taken None = taken
-taking_some taken (Some s) = taking taken s
-
--- the pages of these places
-abbrev pub pages_of : List (Option Site) → ℕ → Bool
-pages_of [] = nothing
-pages_of (s ∷ ss) = taking_some (pages_of ss) s

@@ -4,6 +4,5 @@ pub mod Holes
 pub mod Places
 pub mod Purgatory
 pub mod Finish
-pub mod Linux
-pub mod Multiboot
+pub mod Laying
 pub mod Ground

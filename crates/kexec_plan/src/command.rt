@@ -1,9 +1,8 @@
 //! The command of a kernel, and what it tells a crash kernel.
 
 ghost use Rattle.std.specs.Prelude.{◌≡◌, ◌<◌, ◌^◌, length, option_map, string_bytes, IfOk};
-ghost use Rattle.kexec_plan.specs.Linux.{command_of, with_space, headers_word, told_command};
+ghost use Rattle.kexec_plan.specs.Command.{command_of, with_space, headers_word, told_command};
 
-use crate::places::Site;
 use std::alloc::{AllocError, Global};
 
 /// The command, or without one the empty command.
@@ -36,20 +35,11 @@ fn with_space(alloc: Global, command: &[u8]) -> Result<Vec<u8>, AllocError>
 }
 
 /// The command, which tells where the crash headers lie.
-pub(crate) fn told_command(
-    alloc: Global,
-    command: &[u8],
-    headers: Option<Site>,
-) -> Result<Vec<u8>, AllocError>
-    ensures { IfOk result (λ v. v.items ≡ told_command command.now headers) }
+pub(crate) fn told_command(alloc: Global, command: &[u8], at: u64) -> Result<Vec<u8>, AllocError>
+    ensures { IfOk result (λ v. v.items ≡ told_command command.now at) }
 {
-    match headers {
-        Some(site) => {
-            let word = headers_word(alloc, site.at)?;
-            let mut told = with_space(alloc, command)?;
-            told.extend_from_slice(word.as_bytes())?;
-            Ok(told)
-        }
-        None => Vec::from_slice(alloc, command),
-    }
+    let word = headers_word(alloc, at)?;
+    let mut told = with_space(alloc, command)?;
+    told.extend_from_slice(word.as_bytes())?;
+    Ok(told)
 }

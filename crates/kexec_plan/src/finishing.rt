@@ -11,9 +11,8 @@ ghost use Rattle.kexec_plan.specs.Finish.{plain_plan, armed_plan, finish};
 ghost use Rattle.kexec_plan.specs.inner.Finish.{OfSegment, armed_of};
 
 use crate::fault::PlanFault;
-use crate::fixed_kernels::start_at;
 use crate::ground::{Ground, test_segments};
-use crate::places::{Site, segment_at};
+use crate::places::{Site, segment_at, start_at};
 use crate::purgatory::{Linkage, Purgatory, arm};
 use crate::request::Planned;
 use crate::symbols::Symbols;

@@ -1,21 +1,21 @@
 //! What is known of the memory that a kernel is loaded into.
 
-ghost use Rattle.std.specs.Prelude.{◌≡◌, ◌<◌, ◌-◌, ◌^◌, option_map, IfOk};
+ghost use Rattle.std.specs.Prelude.{◌≡◌, ◌<◌, ◌-◌, ◌^◌, ◌++◌, IfOk, OnOk};
 ghost use Rattle.kx_laws.specs.inner.Results.{Gives};
 ghost use Rattle.kx_pages.specs.Spans.{in_spans};
 ghost use Rattle.segments.specs.Rules.{refusal};
 ghost use Rattle.segments.specs.inner.Rules.{Answers};
-ghost use Rattle.kexec_plan.specs.Ground.{ram, rows, most, headers, headers_size, Reserved};
+ghost use Rattle.kexec_plan.specs.Ground.{ram, rows, most, Reserved};
+ghost use Rattle.kexec_plan.specs.Kernels.{headers_part};
 ghost use Rattle.kexec_plan.specs.Formats.{open_ground};
 ghost use Rattle.kexec_plan.specs.inner.Requests.{lent};
 ghost use Rattle.kexec_plan.specs.Rules.{first_refusal, ram_runs, test_segments};
-ghost use Rattle.kexec_plan.specs.Table.{headers_rule};
 
 use crate::fault::PlanFault;
-use crate::places::PlaceRule;
-use crate::table;
+use crate::parts::{Parts, PlanPart};
+use crate::table::headers_rule;
 use bzimage::BzImage;
-use crash_headers::{Note, length, make};
+use crash_headers::{Note, length};
 use kx_pages::{ADDRESS_LIMIT, PAGE_SIZE, PageSet, Span};
 use memory_map::{Map, Row};
 use segments::{Kind, SegFault, Segment, Segments};
@@ -118,32 +118,21 @@ impl<'a> Ground<'a> {
         }
     }
 
-    /// The rule of the place of crash headers, where they are needed.
-    pub(crate) fn headers_rule(&self, image: &BzImage, notes: &[Note]) -> Option<PlaceRule>
-        ensures { result
-            ≡ option_map (headers_rule image.now) (headers_size self.now notes.now) }
-    {
-        match self.known {
-            Known::Reserved { map, .. } => {
-                Some(table::headers_rule(image, length(map, notes.len())))
-            }
-            _ => None,
-        }
-    }
-
-    /// The crash headers, where they are needed.
-    pub(crate) fn headers(
+    /// Puts the crash headers behind other parts, where they are needed.
+    pub(crate) fn push_headers(
         &self,
-        alloc: Global,
-        notes: &[Note],
-    ) -> Result<Option<Vec<u8>>, PlanFault>
-        ensures { Gives PlanFault.Memory (λ h. option_map (λ v. v.items) h) result
-            (headers self.now notes.now) }
+        parts: &mut Parts<'a>,
+        image: &BzImage,
+        notes: Vec<Note>,
+    ) -> Result<(), AllocError>
+        ensures { OnOk result
+            (parts.new ≡ parts.old ++ headers_part self.now image.now notes.items) }
     {
-        match self.known {
-            Known::Reserved { map, .. } => Ok(Some(make(alloc, map, notes)?)),
-            _ => Ok(None),
+        if let Known::Reserved { map, .. } = self.known {
+            let rule = headers_rule(image, length(map, notes.len()));
+            parts.push(PlanPart::Headers { rule, map, notes })?;
         }
+        Ok(())
     }
 
     /// The segments of this list, or their first refusal.

@@ -8,14 +8,13 @@
 mod command;
 mod fault;
 mod finishing;
-mod fixed_kernels;
 mod format;
 mod ground;
 #[cfg(test)]
 mod kernel_tests;
-mod linux_places;
-mod linux_plan;
-mod multiboot_plan;
+mod kernels;
+mod laying;
+mod parts;
 mod places;
 mod planning;
 mod promise;

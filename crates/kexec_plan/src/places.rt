@@ -3,13 +3,13 @@
 ghost use Rattle.std.specs.Prelude.{◌≡◌, ◌+◌, ◌*◌, ◌<◌, ◌≤◌, ◌^◌, ℕ, max, None, IfOk, IfSome, OnOk};
 ghost use Rattle.kx_laws.specs.inner.Results.{Gives};
 ghost use Rattle.kx_pages.specs.Spans.{in_span, in_spans};
-ghost use Rattle.kexec_plan.specs.Parts.{part_size, segment_at};
-ghost use Rattle.kexec_plan.specs.Places.{is_met, taken_by, place, place_some, taking, taking_some, pages_at};
+ghost use Rattle.kexec_plan.specs.Parts.{part_size, segment_at, start_at};
+ghost use Rattle.kexec_plan.specs.Places.{is_met, taken_by, place, place_some, taking};
 ghost use Rattle.kexec_plan.specs.inner.Places.{IsPlacedBy, IsPlacedIf};
 
 use crate::fault::{Part, PlanFault};
 use hole_search::{End, find};
-use kx_pages::{ADDRESS_LIMIT, PAGE_LIMIT, PAGE_SIZE, PageSet, Span};
+use kx_pages::{ADDRESS_LIMIT, PAGE_LIMIT, PAGE_SIZE, PageSet, Span, Start};
 use segments::Segment;
 use std::alloc::{AllocError, Global};
 
@@ -30,6 +30,18 @@ pub(crate) fn segment_at(site: Site, bytes: Vec<u8>) -> Segment
         bytes,
         mem: site.at,
         memsz: site.size,
+    }
+}
+
+/// A start at this address, all registers 0.
+pub(crate) fn start_at(entry: u64) -> Start
+    ensures { result ≡ start_at entry }
+{
+    Start {
+        entry,
+        rax: 0,
+        rbx: 0,
+        rsi: 0,
     }
 }
 
@@ -127,21 +139,20 @@ pub(crate) fn place(ram: &PageSet, taken: &mut PageSet, rule: PlaceRule) -> Resu
 }
 
 /// The same for a part that may be left out.
-#[tactic(auto, unfolding(crate::specs::Places::place_some, crate::specs::Places::taking_some))]
+#[tactic(auto, unfolding(crate::specs::Places::place_some))]
 pub(crate) fn place_some(
     ram: &PageSet,
-    taken: &mut PageSet,
+    taken: &PageSet,
     rule: Option<PlaceRule>,
 ) -> Result<Option<Site>, PlanFault>
     requires some_align { IfSome rule (λ r. 0 < r.align) }
     requires align { IfSome rule (λ r. r.align ≤ 2 ^ 45) }
     ensures exact { Gives PlanFault.Memory (λ s. s) result
-        (place_some (in_spans ram.now) (in_spans taken.old) rule) }
+        (place_some (in_spans ram.now) (in_spans taken.now) rule) }
     ensures place { IfOk result (IsPlacedIf rule) }
-    ensures taken { IfOk result (λ s. in_spans taken.new ≡ taking_some (in_spans taken.old) s) }
 {
     match rule {
-        Some(rule) => Ok(Some(place(ram, taken, rule)?)),
+        Some(rule) => Ok(Some(find_place(ram, taken, rule)?)),
         None => Ok(None),
     }
 }

@@ -1,20 +1,25 @@
 //! The plan of a request.
 
-ghost use Rattle.std.specs.Prelude.{◌≡◌};
+ghost use Rattle.std.specs.Prelude.{◌≡◌, [], option_map, IfOk};
 ghost use Rattle.kx_laws.specs.inner.Results.{Gives};
 ghost use Rattle.kexec_plan.specs.inner.Requests.{request_of, planned_of, lent, IsMapped};
 ghost use Rattle.kexec_plan.specs.Formats.{ground_for};
-ghost use Rattle.kexec_plan.specs.Plan.{plan_as, plan};
+ghost use Rattle.kexec_plan.specs.inner.Laying.{laid_of};
+ghost use Rattle.kexec_plan.specs.Plan.{begin, plan_as, plan};
 
+use crate::command::command_of;
 use crate::fault::PlanFault;
-use crate::fixed_kernels::{fixed_plan, raw_kernel, read_elf};
+use crate::finishing::finish;
 use crate::format::{Format, format_of, unused_part};
 use crate::ground::Ground;
-use crate::linux_plan::linux_plan;
-use crate::multiboot_plan::multiboot_plan;
+use crate::kernels::{Kernel, read_kernel};
+use crate::laying::Laying;
+use crate::places::{place_some, start_at, taken_by};
+use crate::purgatory::{some_purgatory, some_purgatory_rule};
 use crate::request::{Planned, Request};
 use memory_map::Map;
-use std::alloc::Global;
+use segments::Segment;
+use std::alloc::{AllocError, Global};
 
 // What is known of the memory that the kernel is loaded into.
 fn ground_for<'a>(
@@ -39,6 +44,28 @@ fn ground_for<'a>(
     Ok(Ground::with_reserved(alloc, map, area)?)
 }
 
+// Before any part is placed: the segments that have their place.
+fn begin(
+    alloc: Global,
+    list: Vec<Segment>,
+    entry: u64,
+    command: &Option<Vec<u8>>,
+) -> Result<Laying, AllocError>
+    ensures exact { IfOk result
+        (λ l. laid_of l ≡ begin list.items entry (option_map (λ v. v.items) command.now)) }
+    ensures slots { IfOk result (λ l. l.slots.items ≡ []) }
+{
+    Ok(Laying {
+        taken: taken_by(alloc, &list)?,
+        list,
+        fault: None,
+        command: Vec::from_slice(alloc, command_of(command))?,
+        initrd: None,
+        slots: Vec::new(alloc),
+        start: start_at(entry),
+    })
+}
+
 // The plan of a kernel of this form.
 #[tactic(auto, unfolding(crate::specs::Plan::plan_as))]
 fn plan_as(
@@ -50,18 +77,31 @@ fn plan_as(
     ensures { Gives PlanFault.Memory planned_of result
         (plan_as (request_of request) ground.now format) }
 {
-    match format {
-        Format::Raw { at, entry } => {
-            let kernel = raw_kernel(alloc, at, entry, request.kernel)?;
-            fixed_plan(alloc, kernel, request.purgatory, ground)
-        }
-        Format::Elf => {
-            let kernel = read_elf(alloc, request.kernel)?;
-            fixed_plan(alloc, kernel, request.purgatory, ground)
-        }
-        Format::Bzimage => linux_plan(alloc, request, ground),
-        Format::Multiboot => multiboot_plan(alloc, request, ground),
+    let Request {
+        kernel: file,
+        initrd,
+        command,
+        modules,
+        purgatory,
+        notes,
+        ..
+    } = request;
+    let kernel = read_kernel(alloc, ground, format, file, initrd, modules, notes)?;
+    let purgatory = some_purgatory(alloc, purgatory)?;
+    let Kernel {
+        list,
+        entry,
+        parts,
+        above4g,
+    } = kernel;
+    let mut laying = begin(alloc, list, entry, &command)?;
+    laying.place_parts(alloc, ground.ram(), parts)?;
+    let rule = some_purgatory_rule(&purgatory, ground.most(above4g));
+    let site = place_some(ground.ram(), &laying.taken, rule)?;
+    if let Some(fault) = laying.fault {
+        return Err(fault);
     }
+    finish(alloc, ground, laying.list, laying.start, purgatory, site)
 }
 
 /// The plan of a request over a memory map, or the first refusal.

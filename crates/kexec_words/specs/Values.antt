@@ -1,5 +1,5 @@
 -- The commands as values: the names of files and the kernel's command line as bytes (this project's own).
-use Rattle.std.specs.Prelude.{ℕ, Bool, Option, List, map}
+use Rattle.std.specs.Prelude.{ℕ, Bool, Option, List}
 use Rattle.clap.specs.Words.{Text}
 use Rattle.kexec_words.specs.declared.commands.Runs.{Runs}
 use Rattle.kx_pages.specs.declared.image.ImageType.{ImageType}

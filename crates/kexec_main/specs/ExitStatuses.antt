@@ -1,5 +1,4 @@
 -- The exit status of each status (this project's own).
--- No clause of `kexec` reaches what stands here: it serves laws, and contracts inside the crates.
 use Rattle.std.specs.Prelude.{ℕ}
 use Rattle.kexec_main.specs.declared.status.Status.{Status}
 use Rattle.kexec_main.specs.declared.status.Status.TheVariants as status
