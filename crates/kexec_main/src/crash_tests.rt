@@ -114,6 +114,18 @@ fn a_crash_load_is_checked_and_its_run_changes_no_page(rt: HostRuntime) -> Resul
     Ok(())
 }
 
+// The record is of version 2 already.
+#[test]
+fn the_record_of_a_crash_load_is_written_again_as_it_is(rt: HostRuntime) -> Result<(), Fail> {
+    let alloc = rt.alloc();
+    let mut shelf = load(&rt, alloc)?;
+    let said = "record segments 3\n";
+    expect(&rt, alloc, &mut shelf, "migrate r x", 0, "Done", said)?;
+    let record = file_of(alloc, &mut shelf, "r")?.ok_or("a record")?;
+    assert!(rt; file_of(alloc, &mut shelf, "x")? == Some(record));
+    Ok(())
+}
+
 /// The files of a crash load with an initrd and a purgatory.
 const WITH_BOTH: Files = &[
     ("m", BEFORE),

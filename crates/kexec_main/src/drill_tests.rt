@@ -20,9 +20,36 @@ const OTHERS: Pieces = &[Bytes(
     b"write 1\nopen 1 crash\nopen 1 crash\ninstall 1\nadd 1 2000 1000 61\nwrite 1\nopen 1 crash\nadd 1 80000 1000 61\nwrite 1\nadd 1 81000 1000 62\ninstall 1\npanic\n",
 )];
 
+// A load for each rule that its segments break, in the order of the rules: none is written.
+const BROKEN_RULES: Pieces = &[
+    Bytes(b"open 1 normal\nwrite 1\n"),
+    Bytes(
+        b"open 1 normal\nadd 1 2000 1000 61\nadd 1 3000 1000 61\nadd 1 4000 1000 61\nadd 1 5000 1000 61\n",
+    ),
+    Bytes(
+        b"add 1 6000 1000 61\nadd 1 7000 1000 61\nadd 1 8000 1000 61\nadd 1 9000 1000 61\nadd 1 a000 1000 61\n",
+    ),
+    Bytes(
+        b"add 1 b000 1000 61\nadd 1 c000 1000 61\nadd 1 d000 1000 61\nadd 1 e000 1000 61\nadd 1 f000 1000 61\n",
+    ),
+    Bytes(b"add 1 10000 1000 61\nadd 1 11000 1000 61\nadd 1 12000 1000 61\nwrite 1\n"),
+    Bytes(b"open 1 normal\nadd 1 2001 1000 61\nwrite 1\n"),
+    Bytes(b"open 1 normal\nadd 1 2000 1000 61\nadd 1 2000 1000 61\nwrite 1\n"),
+    Bytes(b"open 1 normal\nadd 1 2000 0 61\nwrite 1\n"),
+    Bytes(b"open 1 normal\nadd 1 1000000 20001000 61\nwrite 1\n"),
+    Bytes(b"open 1 crash\nadd 1 2000 1000 61\nwrite 1\n"),
+    Bytes(b"open 1 normal\nadd 1 80000000 1000 61\nwrite 1\n"),
+    Bytes(b"open 1 normal\nadd 1 1000000 10001000 61\nwrite 1\n"),
+];
+
 const FILES: Files = &[
     ("m", NO_PAGES),
     ("p", &[Bytes(b"10-17")]),
+    (
+        "wide",
+        &[Bytes(b"00000000-3fffffff : System RAM\n  20000000-2fffffff : Crash kernel\n")],
+    ),
+    ("rules", BROKEN_RULES),
     ("p6", &[Bytes(b"10-15")]),
     ("f", &[Bytes(b"00000000-000fffff : System RAM\n")]),
     (
@@ -36,7 +63,7 @@ const FILES: Files = &[
 ];
 
 // A load of one page draws a control page, a list page and a source page.
-const STEPS: [Step; 4] = [
+const STEPS: [Step; 5] = [
     Step {
         line: "drill --map f m p o e",
         code: 0,
@@ -83,6 +110,13 @@ const STEPS: [Step; 4] = [
             None,
             None,
         ],
+    },
+    Step {
+        line: "drill --map wide m p o rules",
+        code: 0,
+        status: "Done",
+        said: "1 done\n2 segments NoSegments\n3 done\n4 done\n5 done\n6 done\n7 done\n8 done\n9 done\n10 done\n11 done\n12 done\n13 done\n14 done\n15 done\n16 done\n17 done\n18 done\n19 done\n20 done\n21 segments TooMany\n22 done\n23 done\n24 segments BadAddress\n25 done\n26 done\n27 done\n28 segments Overlap\n29 done\n30 done\n31 segments TooFull\n32 done\n33 done\n34 segments HalfOfMemory\n35 done\n36 done\n37 segments OutsideReserved\n38 done\n39 done\n40 segments NotRam\n41 done\n42 done\n43 segments TooLarge\n",
+        outputs: [Some(NO_PAGES), None, None],
     },
     Step {
         line: "drill m p o none --map f",

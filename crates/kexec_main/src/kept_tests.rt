@@ -87,11 +87,27 @@ const BOOT: Step = Step {
     outputs: [None, None, Some(BACK)],
 };
 
+const BOOT_ONCE: Step = Step {
+    line: "boot --kept 1 --type raw --at 2000 m p x k",
+    code: 0,
+    status: "Done",
+    said: "accepted words 5 links 1 pairs 2\nhead 12002 control 10000 swap 11000\nstart entry 2000 rax 0 rbx 0 rsi 0\nran 5\n",
+    outputs: [None, None, Some(ONCE)],
+};
+
 const LOAD: Step = Step {
     line: "load --kept --type raw --at 2000 m p o r k",
     code: 0,
     status: "Done",
     said: "accepted words 5 links 1 pairs 2\nhead 12002 control 10000 swap 11000\nstart entry 2000 rax 0 rbx 0 rsi 0\n",
+    outputs: [Some(LOADED), Some(RECORD), None],
+};
+
+const CHECK: Step = Step {
+    line: "check o r",
+    code: 0,
+    status: "Done",
+    said: "accepted words 5 links 1 pairs 2\n",
     outputs: [Some(LOADED), Some(RECORD), None],
 };
 
@@ -130,13 +146,14 @@ const EXEC_TWICE: Step = Step {
 #[test]
 fn a_second_run_brings_the_old_memory_back(rt: HostRuntime) -> Result<(), Fail> {
     play(&rt, rt.alloc(), FILES, &[BOOT])?;
-    play(&rt, rt.alloc(), FILES, &[LOAD, EXEC_TWICE])
+    play(&rt, rt.alloc(), FILES, &[LOAD, CHECK, EXEC_TWICE])
 }
 
 #[test]
 fn one_run_exchanges_the_pages_and_so_does_a_trace_with_the_swap_page(
     rt: HostRuntime,
 ) -> Result<(), Fail> {
+    play(&rt, rt.alloc(), FILES, &[BOOT_ONCE])?;
     play(
         &rt,
         rt.alloc(),

@@ -164,6 +164,38 @@ fn a_list_without_a_link_onward_runs_off(rt: HostRuntime) -> Result<(), Fail> {
     Ok(())
 }
 
+/// Lists that cannot be followed, with their head words, and the lines that `dump` says of their words.
+const NOT_FOLLOWED: [(&[u64], u64, &str); 5] = [
+    (&[0x2003], 0x20002, "0 link 20000\nword 1: Flags\n"),
+    (&[0x20002], 0x20002, "0 link 20000\nword 1: LinkAgain\n"),
+    (
+        &[0x4000_0000_0001],
+        0x20002,
+        "0 link 20000\nword 1: PastLimit\n",
+    ),
+    (GOOD, 0x2001, "word 0: HeadKind\n"),
+    (GOOD, 0, "word 0: Flags\n"),
+];
+
+// The segment has one byte, "b", whose digest is what sha256sum says of it.
+const SEGMENT_LINE: &str =
+    "segment 2000 memsz 1000 bufsz 1 sha256 3e23e8160039594a33894f6564e1b1348bbd7a0088d42c4acb73eeaed59c009d\n";
+
+#[test]
+fn a_list_that_cannot_be_followed_is_dumped_up_to_its_fault(rt: HostRuntime) -> Result<(), Fail> {
+    let alloc = rt.alloc();
+    for (words, head, lines) in NOT_FOLLOWED {
+        let mut shelf = wild_shelf(alloc, words, PLAIN, head, 0, 0x2000)?;
+        let (status, sink) = run(alloc, "dump m r", &mut shelf, &[])?;
+        let wanted = format!(in alloc; "{lines}{SEGMENT_LINE}")?;
+        assert!(rt;
+            status.code() == 0 && sink.said() == wanted.as_bytes(),
+            "{wanted}"
+        );
+    }
+    Ok(())
+}
+
 // The good list with context preserved, where the swap page is its source, and its control page.
 #[test]
 fn a_swap_page_that_is_in_use_is_told(rt: HostRuntime) -> Result<(), Fail> {
