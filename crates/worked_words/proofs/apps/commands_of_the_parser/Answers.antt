@@ -1,0 +1,100 @@
+-- By computing.
+use Rattle.std.specs.Prelude.{refl}
+use Rattle.clap.proofs.OnLiterals.{clap_on_literals}
+use Rattle.worked_words.proofs.apps.commands_of_the_parser.Goals as goal
+
+pub returns-clause-boot : goal.returns-clause-boot
+unfolding clap_on_literals
+returns-clause-boot c = refl
+
+pub returns-clause-boot_rules : goal.returns-clause-boot_rules
+unfolding clap_on_literals
+returns-clause-boot_rules c = refl
+
+pub returns-clause-load : goal.returns-clause-load
+unfolding clap_on_literals
+returns-clause-load c = refl
+
+pub returns-clause-load_rules : goal.returns-clause-load_rules
+unfolding clap_on_literals
+returns-clause-load_rules c = refl
+
+pub returns-clause-load_panic : goal.returns-clause-load_panic
+unfolding clap_on_literals
+returns-clause-load_panic c = refl
+
+pub returns-clause-load_panic_rules : goal.returns-clause-load_panic_rules
+unfolding clap_on_literals
+returns-clause-load_panic_rules c = refl
+
+pub returns-clause-check : goal.returns-clause-check
+unfolding clap_on_literals
+returns-clause-check c = refl
+
+pub returns-clause-check_rules : goal.returns-clause-check_rules
+unfolding clap_on_literals
+returns-clause-check_rules c = refl
+
+pub returns-clause-dump : goal.returns-clause-dump
+unfolding clap_on_literals
+returns-clause-dump c = refl
+
+pub returns-clause-dump_rules : goal.returns-clause-dump_rules
+unfolding clap_on_literals
+returns-clause-dump_rules c = refl
+
+pub returns-clause-exec : goal.returns-clause-exec
+unfolding clap_on_literals
+returns-clause-exec c = refl
+
+pub returns-clause-exec_rules : goal.returns-clause-exec_rules
+unfolding clap_on_literals
+returns-clause-exec_rules c = refl
+
+pub returns-clause-trace : goal.returns-clause-trace
+unfolding clap_on_literals
+returns-clause-trace c = refl
+
+pub returns-clause-trace_rules : goal.returns-clause-trace_rules
+unfolding clap_on_literals
+returns-clause-trace_rules c = refl
+
+pub returns-clause-migrate : goal.returns-clause-migrate
+unfolding clap_on_literals
+returns-clause-migrate c = refl
+
+pub returns-clause-migrate_rules : goal.returns-clause-migrate_rules
+unfolding clap_on_literals
+returns-clause-migrate_rules c = refl
+
+pub returns-clause-sample : goal.returns-clause-sample
+unfolding clap_on_literals
+returns-clause-sample c = refl
+
+pub returns-clause-sample_rules : goal.returns-clause-sample_rules
+unfolding clap_on_literals
+returns-clause-sample_rules c = refl
+
+pub returns-clause-boot_resident : goal.returns-clause-boot_resident
+unfolding clap_on_literals
+returns-clause-boot_resident c = refl
+
+pub returns-clause-boot_resident_rules : goal.returns-clause-boot_resident_rules
+unfolding clap_on_literals
+returns-clause-boot_resident_rules c = refl
+
+pub returns-clause-drill : goal.returns-clause-drill
+unfolding clap_on_literals
+returns-clause-drill c = refl
+
+pub returns-clause-drill_rules : goal.returns-clause-drill_rules
+unfolding clap_on_literals
+returns-clause-drill_rules c = refl
+
+pub returns-clause-core : goal.returns-clause-core
+unfolding clap_on_literals
+returns-clause-core c = refl
+
+pub returns-clause-core_rules : goal.returns-clause-core_rules
+unfolding clap_on_literals
+returns-clause-core_rules c = refl

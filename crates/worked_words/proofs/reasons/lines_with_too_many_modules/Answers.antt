@@ -1,0 +1,12 @@
+-- By computing.
+use Rattle.std.specs.Prelude.{refl}
+use Rattle.clap.proofs.OnLiterals.{clap_on_literals}
+use Rattle.worked_words.proofs.reasons.lines_with_too_many_modules.Goals as goal
+
+pub returns-clause-boot : goal.returns-clause-boot
+unfolding clap_on_literals
+returns-clause-boot c = refl
+
+pub returns-clause-load : goal.returns-clause-load
+unfolding clap_on_literals
+returns-clause-load c = refl
