@@ -1,5 +1,5 @@
 -- What the command lines of the examples mean (this project's own).
-use Rattle.std.specs.Prelude.{Bool, List, [], ◌∷◌, Option, Some, None, Result, Ok, codes}
+use Rattle.std.specs.Prelude.{Bool, [], ◌∷◌, Option, Some, None, Result, Ok, codes}
 use Rattle.kexec_words.specs.Values.{InputsValue, CrashInputsValue, CommandValue, boot, load, load_panic}
 use Rattle.kexec_words.specs.declared.commands.Runs.{Runs}
 use Rattle.kexec_words.specs.declared.faults.UsageWhy.{UsageWhy}

@@ -1,23 +1,18 @@
 //! Answers: what is handed on, and what comes first.
+#![tactic(auto, unfolding(clap::proofs::OnLiterals::clap_on_literals))]
 
-ghost use Rattle.std.specs.Prelude.{◌≡◌, ◌∷◌, [], ◌+◌, Some, Ok, Err, ℕ, Result, List, codes};
-ghost use Rattle.clap.specs.Words.{Row};
+ghost use Rattle.std.specs.Prelude.{◌≡◌, ◌∷◌, ◌++◌, [], ◌+◌, Some, None, Ok, Err, codes, false};
 ghost use Rattle.clap.specs.declared.error.kind.ErrorKind.TheVariants.{UnknownArgument};
 ghost use Rattle.kexec_words.specs.Apps.{check_app};
 ghost use Rattle.kexec_words.specs.Found.{word_of};
-ghost use Rattle.kexec_words.specs.Meaning.{
-  with_numbers,
-  map_answer,
-  answer_where,
-  answer_by,
-  command_by_name,
-};
-ghost use Rattle.kexec_words.specs.Values.{check, dump};
-ghost use Rattle.kexec_words.specs.declared.faults.UsageWhy.{UsageWhy};
+ghost use Rattle.kexec_words.specs.Meaning.{with_numbers, map_answer, answer_where, answer_by, command_by_name, command_of};
+ghost use Rattle.kexec_words.specs.Values.{check, dump, exec, trace, migrate, sample, boot_resident, drill, core};
 ghost use Rattle.kexec_words.specs.declared.faults.UsageWhy.TheVariants as why;
 ghost use Rattle.kexec_words.specs.declared.faults.Which.TheVariants as which;
 ghost use Rattle.kexec_words.specs.declared.naming.Name.TheVariants as name;
+ghost use Rattle.kx_pages.specs.declared.image.ImageType.TheVariants as image;
 ghost use Rattle.worked_words.specs.Lines.{words};
+ghost use Rattle.worked_words.specs.Values.{inputs, boots, loads, crash_inputs, crash_loads};
 
 /// What is found is handed on, and a refusal stays as it is.
 pub fn answers_and_their_refusals()
@@ -44,10 +39,71 @@ pub fn refusals_of_the_parser()
         (words (codes "m")) ≡ Err why.Parse }
 {}
 
-/// Words behind the name of a command, and behind no name of a command.
+/// Each name has its own command behind it, with what this says of the words.
 pub fn words_behind_a_name()
+    ensures boot { command_by_name (Some name.Boot) (words (codes "m p o k --map f"))
+        ≡ boots inputs None image.Auto }
+    ensures load { command_by_name (Some name.Load) (words (codes "m p o r k --map f"))
+        ≡ loads inputs false image.Auto }
+    ensures load_panic { command_by_name (Some name.LoadPanic) (words (codes "m o r k --map f"))
+        ≡ crash_loads crash_inputs }
     ensures check { command_by_name (Some name.Check) (words (codes "m r"))
         ≡ Ok (check (record { memory = codes "m"; load_record = codes "r" })) }
     ensures dump { command_by_name (Some name.Dump) (words (codes "m r"))
         ≡ Ok (dump (record { memory = codes "m"; load_record = codes "r" })) }
+    ensures exec { command_by_name (Some name.Exec) (words (codes "m r o"))
+        ≡ Ok (exec (record {
+          memory = codes "m";
+          load_record = codes "r";
+          out = codes "o";
+          twice = false;
+        })) }
+    ensures trace { command_by_name (Some name.Trace) (words (codes "m o 4 1"))
+        ≡ Ok (trace (record {
+          memory = codes "m";
+          out = codes "o";
+          head = 4;
+          limit = 1;
+          swap = None;
+        })) }
+    ensures migrate { command_by_name (Some name.Migrate) (words (codes "r o"))
+        ≡ Ok (migrate (record { load_record = codes "r"; out = codes "o" })) }
+    ensures sample { command_by_name (Some name.Sample) (words (codes "7")) ≡ Ok (sample 7) }
+    ensures boot_resident { command_by_name (Some name.BootResident)
+        (words (codes "m p o k q --at 2000"))
+        ≡ Ok (boot_resident (record {
+          memory = codes "m";
+          pool = codes "p";
+          out = codes "o";
+          kernel = codes "k";
+          pairs = codes "q";
+          at = 0x2000;
+        })) }
+    ensures drill { command_by_name (Some name.Drill) (words (codes "m p o v --map f"))
+        ≡ Ok (drill (record {
+          memory = codes "m";
+          pool = codes "p";
+          out = codes "o";
+          events = codes "v";
+          map = codes "f";
+        })) }
+    ensures core { command_by_name (Some name.Core) (words (codes "m o 8"))
+        ≡ Ok (core (record { memory = codes "m"; out = codes "o"; address = 8 })) }
+    ensures no_name { command_by_name None (words (codes "m r")) ≡ Err why.Command }
+{}
+
+/// The first word is the name; a word is taken as it is, with its spaces and a single hyphen.
+pub fn words_of_a_command()
+    ensures name { command_of (codes "check" ∷ codes "m" ∷ codes "r" ∷ [])
+        ≡ Ok (check (record { memory = codes "m"; load_record = codes "r" })) }
+    ensures no_word { command_of [] ≡ Err why.Command }
+    ensures no_name { command_of (codes "m" ∷ codes "check" ∷ codes "r" ∷ []) ≡ Err why.Command }
+    ensures one_word { command_of (codes "check m r" ∷ []) ≡ Err why.Command }
+    ensures spaces { command_of (codes "dump" ∷ codes "my memory" ∷ codes "r 2" ∷ [])
+        ≡ Ok (dump (record { memory = codes "my memory"; load_record = codes "r 2" })) }
+    ensures hyphen { command_of (codes "dump" ∷ codes "-" ∷ codes "r" ∷ [])
+        ≡ Ok (dump (record { memory = codes "-"; load_record = codes "r" })) }
+    ensures command_line { command_of
+        (words (codes "boot m p o k --map f --command") ++ codes "root=/dev/sda1 quiet" ∷ [])
+        ≡ boots (record inputs { command = Some (codes "root=/dev/sda1 quiet") }) None image.Auto }
 {}

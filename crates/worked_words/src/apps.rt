@@ -3,29 +3,7 @@
 ghost use Rattle.std.specs.Prelude.{◌≡◌, ◌∷◌, [], Some, None, codes, length, true, false};
 ghost use Rattle.clap.specs.Words.{is_simple_and_free};
 ghost use Rattle.clap.specs.declared.builder.action.ArgAction.TheVariants.{Set, Append, SetTrue};
-ghost use Rattle.kexec_words.specs.Apps.{
-  rule_in,
-  rule_by,
-  rules_of,
-  app_with,
-  app_taking,
-  flag,
-  option,
-  modules,
-  exec_arguments,
-  boot_app,
-  load_app,
-  load_panic_app,
-  check_app,
-  dump_app,
-  exec_app,
-  trace_app,
-  migrate_app,
-  sample_app,
-  boot_resident_app,
-  drill_app,
-  core_app,
-};
+ghost use Rattle.kexec_words.specs.Apps.{rule_in, rule_by, rules_of, app_with, app_taking, flag, option, modules, exec_arguments, boot_app, load_app, load_panic_app, check_app, dump_app, exec_app, trace_app, migrate_app, sample_app, boot_resident_app, drill_app, core_app};
 ghost use Rattle.kexec_words.specs.declared.table.Form.TheVariants as form;
 ghost use Rattle.kexec_words.specs.declared.table.Kind.TheVariants as kind;
 ghost use Rattle.worked_words.specs.Lines.{words};

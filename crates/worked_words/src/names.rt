@@ -1,23 +1,10 @@
 //! Names of files, and which of them an output may not have; names of commands.
 
 ghost use Rattle.std.specs.Prelude.{◌≡◌, ◌∷◌, [], Some, None, codes, true, false};
-ghost use Rattle.kexec_words.specs.Meaning.{
-  is_among,
-  has_same_name,
-  with_name,
-  files_of,
-  crash_files_of,
-  name_of,
-};
+ghost use Rattle.kexec_words.specs.Meaning.{is_among, has_same_name, with_name, files_of, crash_files_of, name_of};
 ghost use Rattle.kexec_words.specs.declared.naming.Name.TheVariants as name;
 ghost use Rattle.worked_words.specs.Lines.{words};
-ghost use Rattle.worked_words.specs.Values.{
-  bare_inputs,
-  inputs,
-  all_inputs,
-  crash_inputs,
-  all_crash_inputs,
-};
+ghost use Rattle.worked_words.specs.Values.{bare_inputs, inputs, all_inputs, crash_inputs, all_crash_inputs};
 
 /// A name is among others where it is one of them, in whole and in the same case.
 pub fn names_among_others()

@@ -1,4 +1,5 @@
 //! Command lines with two faults, and which of them is told.
+#![tactic(auto, unfolding(clap::proofs::OnLiterals::clap_on_literals))]
 
 ghost use Rattle.std.specs.Prelude.{◌≡◌, Err, codes};
 ghost use Rattle.kexec_words.specs.declared.faults.UsageWhy.TheVariants as why;

@@ -1,20 +1,17 @@
 //! Command lines that the parser refuses, or that name no command.
+#![tactic(auto, unfolding(clap::proofs::OnLiterals::clap_on_literals))]
 
-ghost use Rattle.std.specs.Prelude.{◌≡◌, [], Ok, Err, codes};
-ghost use Rattle.kexec_words.specs.Meaning.{command_of, command_by_name};
+ghost use Rattle.std.specs.Prelude.{◌≡◌, Err, codes};
 ghost use Rattle.kexec_words.specs.declared.faults.UsageWhy.TheVariants as why;
-ghost use Rattle.std.specs.Prelude.{None};
-ghost use Rattle.worked_words.specs.Lines.{meaning, words};
+ghost use Rattle.worked_words.specs.Lines.{meaning};
 
 /// The first word must be the name of a command.
 pub fn lines_without_a_command()
-    ensures no_word { command_of [] ≡ Err why.Command }
     ensures empty_word { meaning (codes "") ≡ Err why.Command }
     ensures other_word { meaning (codes "restart") ≡ Err why.Command }
     ensures help { meaning (codes "--help") ≡ Err why.Command }
     ensures option_first { meaning (codes "--twice exec m r o") ≡ Err why.Command }
     ensures capitals { meaning (codes "EXEC m r o") ≡ Err why.Command }
-    ensures no_name { command_by_name None (words (codes "m r")) ≡ Err why.Command }
 {}
 
 /// A word too few.

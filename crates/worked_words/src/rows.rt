@@ -1,4 +1,5 @@
 //! What was found for arguments.
+#![tactic(auto, unfolding(clap::proofs::OnLiterals::clap_on_literals))]
 
 ghost use Rattle.std.specs.Prelude.{◌≡◌, ◌∷◌, [], Some, None, codes, true, false};
 ghost use Rattle.clap.specs.Words.{matches_of};

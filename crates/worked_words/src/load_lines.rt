@@ -1,17 +1,10 @@
 //! Command lines of `load` and `load-panic`, and what they mean.
+#![tactic(auto, unfolding(clap::proofs::OnLiterals::clap_on_literals))]
 
 ghost use Rattle.std.specs.Prelude.{◌≡◌, ◌∷◌, ◌++◌, [], Some, codes, true, false};
 ghost use Rattle.kx_pages.specs.declared.image.ImageType.TheVariants as image;
 ghost use Rattle.worked_words.specs.Lines.{meaning};
-ghost use Rattle.worked_words.specs.Values.{
-  bare_inputs,
-  inputs,
-  all_inputs,
-  loads,
-  crash_inputs,
-  all_crash_inputs,
-  crash_loads,
-};
+ghost use Rattle.worked_words.specs.Values.{bare_inputs, inputs, all_inputs, loads, crash_inputs, all_crash_inputs, crash_loads};
 
 /// All options of `load` at once, with distinct values, and none but the map.
 pub fn load_with_all_options()

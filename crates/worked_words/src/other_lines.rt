@@ -1,17 +1,8 @@
 //! Command lines of the other commands, and what they mean.
+#![tactic(auto, unfolding(clap::proofs::OnLiterals::clap_on_literals))]
 
 ghost use Rattle.std.specs.Prelude.{◌≡◌, Some, None, Ok, codes, true, false};
-ghost use Rattle.kexec_words.specs.Values.{
-  check,
-  dump,
-  exec,
-  trace,
-  migrate,
-  sample,
-  boot_resident,
-  drill,
-  core,
-};
+ghost use Rattle.kexec_words.specs.Values.{check, dump, exec, trace, migrate, sample, boot_resident, drill, core};
 ghost use Rattle.worked_words.specs.Lines.{meaning};
 
 /// `check` and `dump` have a memory and a record.

@@ -1,4 +1,5 @@
 //! Command lines of `boot`, and what they mean.
+#![tactic(auto, unfolding(clap::proofs::OnLiterals::clap_on_literals))]
 
 ghost use Rattle.std.specs.Prelude.{◌≡◌, ◌∷◌, ◌++◌, [], Some, None, codes};
 ghost use Rattle.kexec_words.specs.declared.commands.Runs.TheVariants.{Once, Twice};
