@@ -2,7 +2,8 @@
 //!
 //! Nothing here is called. Each function has the name of an example, and its clauses say what the definitions of
 //! kexec_words give for it, by computing. In the examples m is a memory, p a pool, k a kernel, o an output, r a record,
-//! f a memory map, i an initrd, u a purgatory, n notes, q pairs, v events, c a kernel's command line, and x and y modules.
+//! f a memory map, i an initrd, u a purgatory, n notes, q pairs, v events, c a kernel's command line, and x and y are
+//! modules.
 #![tactic(auto)]
 
 mod answers;

@@ -20,7 +20,7 @@ pub fn hexadecimal_numbers()
     ensures space { hex_of (codes "10 ") ≡ None }
 {}
 
-/// The characters beside the digits, before 0 and behind 9, before A and behind F, before a and behind f, are no digits.
+/// The characters before 0 and behind 9, before A and behind F, and before a and behind f are no digits.
 pub fn characters_beside_the_digits()
     ensures before_0 { is_number 16 16 (codes "/") ≡ false }
     ensures behind_9 { is_number 16 16 (codes ":") ≡ false }
