@@ -1,6 +1,6 @@
 //! The parser's commands: how it takes each argument.
 
-ghost use Rattle.std.specs.Prelude.{◌≡◌, ◌∷◌, [], Some, None, codes, length, true, false};
+ghost use Rattle.std.specs.Prelude.{◌≡◌, ◌∷◌, ◌++◌, [], Some, None, codes, true, false};
 ghost use Rattle.clap.specs.Words.{is_simple_and_free};
 ghost use Rattle.clap.specs.declared.builder.action.ArgAction.TheVariants.{Set, Append, SetTrue};
 ghost use Rattle.kexec_words.specs.Apps.{rule_in, rule_by, rules_of, app_with, app_taking, flag, option, modules, exec_arguments, boot_app, load_app, load_panic_app, check_app, dump_app, exec_app, trace_app, migrate_app, sample_app, boot_resident_app, drill_app, core_app};
@@ -54,14 +54,19 @@ pub fn command_of_the_parser()
         ≡ words (codes "MEMORY RECORD OUT twice") }
 {}
 
-/// Each command has its own name and as many rules as arguments.
+/// Each command has its own name, and a rule for each of its arguments in their order.
 pub fn commands_of_the_parser()
     ensures boot { boot_app.top.name ≡ codes "boot" }
-    ensures boot_rules { length boot_app.top.rules ≡ 14 }
+    ensures boot_rules { rule_names_in boot_app.top.rules
+        ≡ words (codes "MEMORY POOL OUT KERNEL MODULES kept below map type at entry")
+        ++ words (codes "command initrd purgatory") }
     ensures load { load_app.top.name ≡ codes "load" }
-    ensures load_rules { length load_app.top.rules ≡ 15 }
+    ensures load_rules { rule_names_in load_app.top.rules
+        ≡ words (codes "MEMORY POOL OUT RECORD KERNEL MODULES kept below map type at entry")
+        ++ words (codes "command initrd purgatory") }
     ensures load_panic { load_panic_app.top.name ≡ codes "load-panic" }
-    ensures load_panic_rules { length load_panic_app.top.rules ≡ 9 }
+    ensures load_panic_rules { rule_names_in load_panic_app.top.rules
+        ≡ words (codes "MEMORY OUT RECORD KERNEL map command initrd purgatory notes") }
     ensures check { check_app.top.name ≡ codes "check" }
     ensures check_rules { rule_names_in check_app.top.rules ≡ words (codes "MEMORY RECORD") }
     ensures dump { dump_app.top.name ≡ codes "dump" }

@@ -186,6 +186,12 @@ pub fn kinds_of_arguments()
 pub fn values_of_options()
     ensures plan { values_in plan_options
         ≡ words (codes "ADDRESS FILE TYPE ADDRESS ADDRESS TEXT FILE FILE") }
+    ensures boot { values_in boot_arguments
+        ≡ [] ∷ [] ∷ [] ∷ [] ∷ [] ∷ codes "RUNS" ∷ values_in plan_options }
+    ensures load { values_in load_arguments
+        ≡ [] ∷ [] ∷ [] ∷ [] ∷ [] ∷ [] ∷ [] ∷ values_in plan_options }
+    ensures load_panic { values_in load_panic_arguments
+        ≡ [] ∷ [] ∷ [] ∷ [] ∷ words (codes "FILE TEXT FILE FILE FILE") }
     ensures exec { values_in exec_arguments ≡ [] ∷ [] ∷ [] ∷ [] ∷ [] }
     ensures trace { values_in trace_arguments ≡ [] ∷ [] ∷ [] ∷ [] ∷ codes "ADDRESS" ∷ [] }
     ensures boot_resident { values_in boot_resident_arguments

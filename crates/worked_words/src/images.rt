@@ -1,6 +1,6 @@
 //! The type of a kernel by its options, and why it is refused.
 
-ghost use Rattle.std.specs.Prelude.{◌≡◌, ◌∷◌, [], Some, None, Ok, Err, codes, replicate, true, false, option_map};
+ghost use Rattle.std.specs.Prelude.{◌≡◌, Some, None, Ok, Err, codes, replicate, true, false, option_map};
 ghost use Rattle.kexec_words.specs.Meaning.{with_numbers, image_from, image_or_refusal, image_where};
 ghost use Rattle.kexec_words.specs.Numbers.{type_word_of, type_of, plan_numbers_of};
 ghost use Rattle.kexec_words.specs.declared.faults.UsageWhy.TheVariants as why;
