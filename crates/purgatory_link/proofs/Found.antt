@@ -82,7 +82,7 @@ pub record Found (base : ℕ) (o : Relocatable) (starts : List (Option ℕ)) (pu
   pub has_form : form_of r.kind ≡ Some form
   pub has_symbol : symbol_value base starts o.symbols r.symbol ≡ Ok symbol
   pub stands : Stands o puts r (start + r.offset) (wide form)
-  pub put_has_value : Valued (start + r.offset) form (formula form symbol r.addend (base + (start + r.offset))) p
+  pub valued : Valued (start + r.offset) form (formula form symbol r.addend (base + (start + r.offset))) p
 
 found_form : (base : ℕ) (o : Relocatable) (starts : List (Option ℕ)) (puts : List Put) (r : Reloc) (p : Put) (start : ℕ) (f : Option Form) → start_at starts r.target ≡ Some start → form_of r.kind ≡ f → put_form base o starts puts r (start + r.offset) f ≡ Ok (Some p) → Found base o starts puts r p
 found_form base o starts puts r p start None s e h = cc
