@@ -1,11 +1,17 @@
 -- The loads of kernels: what is promised of them, and why they are refused.
-use Rattle.std.specs.Prelude.{◌⊎◌}
+use Rattle.std.specs.Prelude.{◌⊎◌, unwrap_or}
 use Rattle.std.proofs.Common.{◌≡◌, ◌∙◌, ℕ, ◌<◌, ◌≤◌, List, length, Option, Result, Ok, Err, refl, sym, ap, subst, arith, inl, inr}
 use Rattle.kx_laws.proofs.Results.{ok_same}
 use Rattle.kx_pages.specs.Bytes.{Mem}
+use Rattle.kx_pages.specs.declared.image.Image.{Image}
+use Rattle.kx_pages.specs.declared.image.Mode.TheVariants as modes
 use Rattle.kx_pages.specs.declared.image.Wish.{Wish}
+use Rattle.kx_pages.specs.declared.image.Wish.TheVariants.{Plain, Kept}
+use Rattle.kx_pages.specs.Modes.{swap_page}
 use Rattle.page_memory.specs.Contents.{at}
-use Rattle.load_states.specs.States.{Checked, Load}
+use Rattle.kimage_list.specs.Laying.{image_of, mode_with}
+use Rattle.kimage_list.specs.Load.{Loading}
+use Rattle.load_states.specs.States.{Checked, Load, swap_of}
 use Rattle.load_states.specs.Ready.{Told}
 use Rattle.kexec_plan.specs.Requests.{Plan}
 use Rattle.kexec_main.specs.declared.status.Reason.{Reason}
@@ -27,10 +33,17 @@ use Rattle.kexec_main.specs.Runs.{after_runs}
 use Rattle.kexec_main.proofs.Ending.{loaded_bare}
 use Rattle.kexec_main.proofs.Together.{same_after, sealed_alike}
 
+-- the mode of a load is the one that was asked for
+mode_as_asked : (wish : Wish) (load : Load) (l : Loading) → load.image ≡ image_of wish l → load.image.mode ≡ mode_with wish (swap_of load)
+mode_as_asked Plain load l e = ap (λ (i : Image). i.mode) e
+mode_as_asked Kept load l e = ap (λ (i : Image). i.mode) e ∙ ap (λ (i : Image). modes.Kept (unwrap_or (swap_page i.mode) 0)) (sym e)
+
 pub normal : (wish : Wish) (i : LoadInputs) (p : Plan) (c : Checked) → IsLoaded wish i p c.load → Told c.load c.words c.links c.pairs → NormalLoad wish i p c
 normal wish i p c l told = record {
   planned = l.planned;
   enough = l.enough;
+  segments = l.laid.segments;
+  mode = mode_as_asked wish c.load l.laid.loading l.laid.image;
   only_pool_pages = l.laid.others;
   accepted = told;
   ends = list_ends c.load c.words c.links c.pairs (loaded_bare wish i p c.load l) told;

@@ -5,7 +5,8 @@ use Rattle.kx_pages.specs.Lists.{count}
 use Rattle.kx_pages.specs.declared.image.Wish.{Wish}
 use Rattle.page_memory.specs.Contents.{at}
 use Rattle.segments.specs.Values.{need}
-use Rattle.load_states.specs.States.{Checked}
+use Rattle.kimage_list.specs.Laying.{mode_with}
+use Rattle.load_states.specs.States.{Checked, swap_of}
 use Rattle.load_states.specs.Ready.{Told}
 use Rattle.load_states.specs.Fillings.{IsSealed}
 use Rattle.load_states.specs.Runs.{EndsAfter}
@@ -21,6 +22,9 @@ pub record NormalLoad (wish : Wish) (i : LoadInputs) (p : Plan) (c : Checked) : 
   pub planned : plan i.request i.map ≡ Ok p
   -- the pool has as many usable pages as the load takes
   pub enough : need wish p.segments ≤ length i.usable
+  -- what is loaded are the plan's segments, in the mode that is asked for
+  pub segments : c.load.segments ≡ p.segments
+  pub mode : c.load.image.mode ≡ mode_with wish (swap_of c.load)
   -- memory is as it was at every page but the first usable ones of the pool
   pub only_pool_pages : (q : ℕ) → count q (take (need wish p.segments) i.usable) ≡ 0
       → at c.load.memory q ≡ at i.memory q
