@@ -1,3 +1,10 @@
 pub mod Shelves
 pub mod Takes
 pub mod Answers
+pub mod Texts
+pub mod Names
+pub mod Inputs
+pub mod Runs
+pub mod Lists
+pub mod Memories
+pub mod Execs

@@ -6,19 +6,46 @@
 #![tactic(auto)]
 
 mod answers;
+mod checks;
+mod dumps;
 mod edges;
 mod entries;
+mod execs;
+mod inputs;
+mod replies;
+mod runs;
+mod statuses;
 mod takes;
+mod texts;
 
 pub use answers::{
     answers_by_calls, answers_over_told_files, answers_that_refuse, outputs_in_their_order,
     outputs_up_to_a_fault,
 };
+pub use checks::{
+    accepted_list_is_told, checks_that_were_done, crash_kernel_is_told, fault_of_a_list_is_told,
+};
+pub use dumps::{head_of_a_crash_kernel, line_of_a_segment, lines_of_walks, lines_of_words};
 pub use edges::{
     bytes_of_a_file, bytes_that_are_said, counts_of_faults, file_that_is_cut, file_that_is_put,
 };
 pub use entries::{command_of_words, command_without_files, copy_that_was_done, files_in_order};
+pub use execs::{
+    crash_kernel_is_run, execs_that_were_done, faulty_list_is_not_run, plain_list_is_not_run_twice,
+    plain_list_is_run,
+};
+pub use inputs::{
+    files_of_boots_and_loads, files_of_load_panic, files_of_other_commands, files_of_records,
+    first_of_more_spoiled_files, first_of_spoiled_files, limits_of_files, pages_below_a_limit,
+};
+pub use replies::{lines_of_replies, names_of_segment_faults, replies_in_their_order};
+pub use runs::{memory_after_runs, runs_that_are_asked, startups, texts_of_runs};
+pub use statuses::{commands_that_ended, refusals_of_commands, statuses_with_a_name};
 pub use takes::{
     bytes_that_are_read, file_that_may_be_named, file_within_its_limit, files_within_a_budget,
     takes_one_after_another, takes_that_failed, takes_that_were_made,
+};
+pub use texts::{
+    hexadecimal_numbers, lines_of_a_crash_kernel, lines_of_a_load, lines_of_a_purgatory,
+    lines_of_runs, lines_of_single_commands,
 };
