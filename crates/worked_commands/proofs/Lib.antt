@@ -5,3 +5,6 @@ pub mod Passing
 pub mod EachFile
 pub mod Lists
 pub mod Memories
+pub mod Loads
+pub mod OneLoad
+pub mod Stepping

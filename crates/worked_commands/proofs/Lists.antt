@@ -9,7 +9,7 @@ use Rattle.kx_pages.specs.Bytes.{Mem, page_of}
 use Rattle.segments.specs.Rules.{bare_refusal, shape_refusal}
 use Rattle.segments.specs.Values.{pages, want}
 use Rattle.list_checker.specs.inner.Laws.{ListsWanted}
-use Rattle.list_checker.specs.Walk.{Accepted}
+use Rattle.list_checker.specs.Walk.{Accepted, Walk}
 use Rattle.list_checker.specs.Crash.{crash_reason}
 use Rattle.list_checker.specs.Faults.{Faulty, first_of, nothing_earlier, same_bytes}
 use Rattle.list_checker.specs.declared.fault.Why.TheVariants.{Missing, WrongBytes}
@@ -76,3 +76,7 @@ none_accepted M w source = ((check_ends M (want three_bytes) (pages three_bytes)
 pub missing : (M : Mem) → M 2 ≡ page_of (codes "abd") → crash_reason M (want three_bytes) (pages three_bytes) (decode 4) ≡ Some (Missing 2)
 unfolding page_of
 missing M has = ap (λ bytes. first_of ((not (same_bytes (page_of (codes "abc")) bytes), Missing 2) ∷ [])) has
+
+-- the walk, whatever page 12 has
+pub walk_is : (M : Mem) → HasWords M 0x11000 (0x2001 ∷ 0x12008 ∷ 4 ∷ []) → Walk M 0x11002 one_move
+walk_is M w = (refl, omega arith, (w.0, omega arith, omega arith, (w.1.0, omega arith, omega arith, (w.1.1.0, refl))))

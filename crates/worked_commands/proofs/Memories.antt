@@ -109,16 +109,16 @@ pub loaded_is : IsFileOf (at loaded) loaded_file
 unfolding page_of
 loaded_is = file_with loaded_pages (at loaded) ((omega arith, list_block), ((omega arith, abc_block), tt)) (λ p. refl) refl (omega arith)
 
-wanted : want three_bytes 2 ≡ Some abc_page
+pub wanted : want three_bytes 2 ≡ Some abc_page
 unfolding page_of
 wanted = refl
 
 -- a plain run changes page 2 alone
-abbrev IsRun : ℕ → Type 0
+abbrev pub IsRun : ℕ → Type 0
 IsRun q = at (memory_with run_pages) q ≡ overlay (at loaded) (want three_bytes) q
 
 -- pages that are not wanted are left alone
-left_alone : (M : Mem) (q : ℕ) → q ≢ 2 → overlay M (want three_bytes) q ≡ M q
+pub left_alone : (M : Mem) (q : ℕ) → q ≢ 2 → overlay M (want three_bytes) q ≡ M q
 left_alone M q apart = go (want three_bytes q) refl
   where
     only_two : (2 ≡ q) ⊎ ⊥ → ⊥
@@ -129,7 +129,7 @@ left_alone M q apart = go (want three_bytes q) refl
     go None e = ap (λ o. unwrap_or o (M q)) e
     go (Some bytes) e = absurd (only_two (listed.whole q bytes e))
 
-is_run : (q : ℕ) → IsRun q
+pub is_run : (q : ℕ) → IsRun q
 is_run q = elim (eqb_tells q 2) [
   | inl t ↦ subst IsRun (sym t.1) (same_page (2, abc_page) loaded_pages ∙ sym (ap (λ o. unwrap_or o (at loaded 2)) wanted))
   | inr t ↦ other_page (2, abc_page) loaded_pages q t.1 ∙ sym (left_alone (at loaded) q t.1)
@@ -138,3 +138,14 @@ is_run q = elim (eqb_tells q 2) [
 pub run_is : IsFileOf (overlay (at loaded) (want three_bytes)) run_file
 unfolding page_of
 run_is = file_with run_pages (overlay (at loaded) (want three_bytes)) ((omega arith, abc_block), ((omega arith, list_block), ((omega arith, abc_block), tt))) is_run refl (omega arith)
+
+-- the memory of the run is its own
+pub run_pages_are : IsFileOf (at (memory_with run_pages)) run_file
+unfolding page_of
+run_pages_are = file_with run_pages (at (memory_with run_pages)) ((omega arith, abc_block), ((omega arith, list_block), ((omega arith, abc_block), tt))) (λ q. refl) refl (omega arith)
+
+-- page 2 of the loaded memory is zeros
+pub nothing_at_2 : at loaded 2 ≡ zero_page
+nothing_at_2 =
+    other_page (0x11, list_page) ((0x12, abc_page) ∷ []) 2 (λ e. omega (arith, e))
+    ∙ other_page (0x12, abc_page) [] 2 (λ e. omega (arith, e)) ∙ no_page 2

@@ -74,6 +74,13 @@ spoiled_of (name ∷ names) = (name, codes "?") ∷ spoiled_of names
 abbrev pub spoiled : List (List ℕ) → Files
 spoiled names = holding (spoiled_of names)
 
+-- the same, but that the pool has two pages
+abbrev pub short_pool_of : List File
+short_pool_of = (codes "p", codes "10-11\n") ∷ each_of
+
+abbrev pub short_pool : Files
+short_pool = holding short_pool_of
+
 -- the reader of a file refused it
 abbrev pub unreadable : InputFault → Refusal Reason
 unreadable fault = by (reasons.Input fault)

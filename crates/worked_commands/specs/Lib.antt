@@ -8,3 +8,7 @@ pub mod Runs
 pub mod Lists
 pub mod Memories
 pub mod Execs
+pub mod Loads
+pub mod Dumps
+pub mod Singles
+pub mod Events

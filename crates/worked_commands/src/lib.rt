@@ -6,7 +6,10 @@
 #![tactic(auto)]
 
 mod answers;
+mod boots;
 mod checks;
+mod drills;
+mod dumped;
 mod dumps;
 mod edges;
 mod entries;
@@ -14,6 +17,7 @@ mod execs;
 mod inputs;
 mod replies;
 mod runs;
+mod singles;
 mod statuses;
 mod takes;
 mod texts;
@@ -22,9 +26,14 @@ pub use answers::{
     answers_by_calls, answers_over_told_files, answers_that_refuse, outputs_in_their_order,
     outputs_up_to_a_fault,
 };
+pub use boots::{
+    kernel_has_no_plan, kernel_is_booted, kernel_is_loaded, loads_that_were_done, pool_is_too_small,
+};
 pub use checks::{
     accepted_list_is_told, checks_that_were_done, crash_kernel_is_told, fault_of_a_list_is_told,
 };
+pub use drills::{events_have_replies, pool_meets_the_area};
+pub use dumped::{crash_kernel_is_dumped, dumps_that_were_done, list_is_dumped};
 pub use dumps::{head_of_a_crash_kernel, line_of_a_segment, lines_of_walks, lines_of_words};
 pub use edges::{
     bytes_of_a_file, bytes_that_are_said, counts_of_faults, file_that_is_cut, file_that_is_put,
@@ -40,6 +49,9 @@ pub use inputs::{
 };
 pub use replies::{lines_of_replies, names_of_segment_faults, replies_in_their_order};
 pub use runs::{memory_after_runs, runs_that_are_asked, startups, texts_of_runs};
+pub use singles::{
+    core_is_refused, core_is_written, list_is_traced, record_is_migrated, singles_that_were_done,
+};
 pub use statuses::{commands_that_ended, refusals_of_commands, statuses_with_a_name};
 pub use takes::{
     bytes_that_are_read, file_that_may_be_named, file_within_its_limit, files_within_a_budget,
