@@ -8,3 +8,5 @@ pub mod Memories
 pub mod Loads
 pub mod OneLoad
 pub mod Stepping
+pub mod CallFiles
+pub mod FirstFiles

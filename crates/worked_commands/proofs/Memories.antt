@@ -4,7 +4,7 @@ use Rattle.std.specs.Prelude.{◌⊎◌, IfSome, codes, unwrap_or}
 use Rattle.std.proofs.lemmas.Bool.Decides.{eqb_tells}
 use Rattle.std.specs.Ordering.{eq_by_cmp, nat_cmp}
 use Rattle.std.specs.Cmp.{nat_cmp_total}
-use Rattle.std.specs.FinMap.{entries, entries-insert, get, get-empty, get-insert, len-empty, len-entries, nat_cmp-IsAntisymmetric}
+use Rattle.std.specs.FinMap.{entries, entries-insert, get, get-empty, get-insert, len-empty, len-entries, nat_cmp-IsAntisymmetric, same_entries_map}
 use Rattle.std.specs.FinMap.Entries.{put}
 use Rattle.byteorder.specs.Endian.{little_number}
 use Rattle.kx_fields.specs.Fields.{IsBlock}
@@ -18,7 +18,8 @@ use Rattle.page_memory.proofs.Laws.{frame_at-insert_other, frame_at-insert_same,
 use Rattle.page_memory.proofs.OneFile.{file-agree}
 use Rattle.kexec_main.specs.Outputs.{IsFileOf}
 use Rattle.segments.specs.Values.{overlay, want}
-use Rattle.worked_commands.specs.Inputs.{three_bytes}
+use Rattle.worked_commands.specs.Inputs.{no_pages_file, three_bytes}
+use Rattle.worked_commands.specs.Texts.{no_memory}
 use Rattle.worked_commands.proofs.Lists.{listed}
 use Rattle.worked_commands.specs.Lists.{HasList, HasSource}
 use Rattle.worked_commands.specs.Memories.{abc_page, list_page, loaded, loaded_file, loaded_pages, memory_with, pages_of, run_file, run_pages}
@@ -149,3 +150,12 @@ pub nothing_at_2 : at loaded 2 ≡ zero_page
 nothing_at_2 =
     other_page (0x11, list_page) ((0x12, abc_page) ∷ []) 2 (λ e. omega (arith, e))
     ∙ other_page (0x12, abc_page) [] 2 (λ e. omega (arith, e)) ∙ no_page 2
+
+-- the memory without pages has its file
+pub no_pages_are : IsFileOf (at no_memory) no_pages_file
+unfolding text_of
+no_pages_are = file_with [] (at no_memory) tt (λ q. refl) refl (omega arith)
+
+-- memories of the same pages in the order of their numbers are one
+pub one_memory_of : (ps qs : Pages) → in_order ps ≡ in_order qs → memory_with ps ≡ memory_with qs
+one_memory_of ps qs e = ap (λ pages. record { pages = pages; sets = 0 }) (same_entries_map (pages_of ps) (pages_of qs) (entries_of ps ∙ e ∙ sym (entries_of qs)))

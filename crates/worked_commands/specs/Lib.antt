@@ -12,3 +12,6 @@ pub mod Loads
 pub mod Dumps
 pub mod Singles
 pub mod Events
+pub mod Panics
+pub mod Residents
+pub mod Firsts

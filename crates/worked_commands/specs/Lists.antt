@@ -66,3 +66,22 @@ abbrev pub GivenBy : {S O : Type 0} (D : Shelf S) (E : Sink O) → (S → O → 
 GivenBy {S} {O} D E did outputs text =
     (s : S) (o : O) (t : S) (p : O) → FilesPut (D.files s) outputs (D.files t)
     → Said (E.said o) text (E.said p) → did s o t p
+
+-- What was done put these outputs; it said this text.
+abbrev pub Puts : {S O : Type 0} (D : Shelf S) (E : Sink O) → (S → O → S → O → Type 0) → List File
+    → Type 0
+Puts {S} {O} D E did outputs =
+    (s : S) (o : O) (t : S) (p : O) → did s o t p → FilesPut (D.files s) outputs (D.files t)
+
+abbrev pub Says : {S O : Type 0} (D : Shelf S) (E : Sink O) → (S → O → S → O → Type 0) → List ℕ
+    → Type 0
+Says {S} {O} D E did text =
+    (s : S) (o : O) (t : S) (p : O) → did s o t p → Said (E.said o) text (E.said p)
+
+-- It was never done.
+abbrev pub Never : {S O : Type 0} (D : Shelf S) (E : Sink O) → (S → O → S → O → Type 0) → Type 0
+Never {S} {O} D E did = (s : S) (o : O) (t : S) (p : O) → did s o t p → ⊥
+
+-- It is so from all states to all.
+abbrev pub Always : {S O : Type 0} (D : Shelf S) (E : Sink O) → (S → O → S → O → Type 0) → Type 0
+Always {S} {O} D E did = (s : S) (o : O) (t : S) (p : O) → did s o t p

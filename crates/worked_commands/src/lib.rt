@@ -7,6 +7,7 @@
 
 mod answers;
 mod boots;
+mod calls;
 mod checks;
 mod drills;
 mod dumped;
@@ -14,8 +15,11 @@ mod dumps;
 mod edges;
 mod entries;
 mod execs;
+mod firsts;
 mod inputs;
+mod panics;
 mod replies;
+mod residents;
 mod runs;
 mod singles;
 mod statuses;
@@ -29,10 +33,14 @@ pub use answers::{
 pub use boots::{
     kernel_has_no_plan, kernel_is_booted, kernel_is_loaded, loads_that_were_done, pool_is_too_small,
 };
+pub use calls::{
+    command_of_the_words, commands_in_order, commands_that_were_done, refusals_of_files,
+    refusals_of_what_was_read,
+};
 pub use checks::{
     accepted_list_is_told, checks_that_were_done, crash_kernel_is_told, fault_of_a_list_is_told,
 };
-pub use drills::{events_have_replies, pool_meets_the_area};
+pub use drills::{events_have_replies, events_that_were_done, pool_meets_the_area};
 pub use dumped::{crash_kernel_is_dumped, dumps_that_were_done, list_is_dumped};
 pub use dumps::{head_of_a_crash_kernel, line_of_a_segment, lines_of_walks, lines_of_words};
 pub use edges::{
@@ -43,11 +51,17 @@ pub use execs::{
     crash_kernel_is_run, execs_that_were_done, faulty_list_is_not_run, plain_list_is_not_run_twice,
     plain_list_is_run,
 };
+pub use firsts::{load_is_in_order, load_is_used};
 pub use inputs::{
     files_of_boots_and_loads, files_of_load_panic, files_of_other_commands, files_of_records,
     first_of_more_spoiled_files, first_of_spoiled_files, limits_of_files, pages_below_a_limit,
 };
+pub use panics::{
+    crash_kernel_has_no_plan, crash_kernel_is_loaded, crash_loads_that_were_done,
+    load_of_a_crash_kernel,
+};
 pub use replies::{lines_of_replies, names_of_segment_faults, replies_in_their_order};
+pub use residents::{lists_that_were_done, load_of_a_list, pairs_are_refused, sample_is_said};
 pub use runs::{memory_after_runs, runs_that_are_asked, startups, texts_of_runs};
 pub use singles::{
     core_is_refused, core_is_written, list_is_traced, record_is_migrated, singles_that_were_done,
