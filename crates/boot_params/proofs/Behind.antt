@@ -36,18 +36,18 @@ abbrev pub gap : ℕ → ℕ
 gap n = record_place n - nul_end n
 
 -- where there are rows
-pub extended : (n : ℕ) (rows : List Row) → 0 < length rows → extension n rows ≡ zeros (gap n) ++ (head_text (head_of (length rows)) ++ flat_map row_text rows)
+pub extension_with_rows : (n : ℕ) (rows : List Row) → 0 < length rows → extension n rows ≡ zeros (gap n) ++ (head_text (head_of (length rows)) ++ flat_map row_text rows)
 unfolding extension record_text
-extended n [] some = absurd (omega arith)
-extended n (r ∷ rows) some = refl
+extension_with_rows n [] some = absurd (omega arith)
+extension_with_rows n (r ∷ rows) some = refl
 
-unextended : (n : ℕ) → extension n [] ≡ []
+extension_without_rows : (n : ℕ) → extension n [] ≡ []
 unfolding extension
-unextended n = refl
+extension_without_rows n = refl
 
 -- and where there are none
 pub none_left : (n : ℕ) (rows : List Row) (items : List ℕ) → length rows ≡ 0 → items ≡ items ++ extension n rows
-none_left n [] items none = sym (append-nil items) ∙ ap (λ l. items ++ l) (sym (unextended n))
+none_left n [] items none = sym (append-nil items) ∙ ap (λ l. items ++ l) (sym (extension_without_rows n))
 none_left n (r ∷ rows) items none = absurd (omega (arith, none))
 
 -- zeros, head and rows were put
@@ -59,7 +59,7 @@ all_put n rows items filled headed done head some a b c e =
     ∙ append_assoc (items ++ zeros (gap n)) head these
     ∙ append_assoc items (zeros (gap n)) (head ++ these)
     ∙ ap (λ h. items ++ (zeros (gap n) ++ (h ++ these))) c
-    ∙ ap (λ l. items ++ l) (sym (extended n rows some))
+    ∙ ap (λ l. items ++ l) (sym (extension_with_rows n rows some))
 
 -- what the bytes are that have the record: something that ends behind the NUL, the zeros, the head and the rows
 pub record IsExtended (n : ℕ) (rows : List Row) (front items : List ℕ) : Type 0 where
@@ -76,13 +76,13 @@ segment_extended header z rows command items s more =
       is = s.is
           ∙ ap (λ l. page ++ l) (sym (append_assoc command (0 ∷ []) rest))
           ∙ sym (append_assoc page (command ++ 0 ∷ []) rest)
-          ∙ ap (λ l. (page ++ (command ++ 0 ∷ [])) ++ l) (extended (length command) (drop 128 rows) (omega (arith, left, more)));
+          ∙ ap (λ l. (page ++ (command ++ 0 ∷ [])) ++ l) (extension_with_rows (length command) (drop 128 rows) (omega (arith, left, more)));
       ends = omega (arith, length-append page (command ++ 0 ∷ []), length-append command (0 ∷ []), long);
     }
 
 -- the zeros
-pub filled : (n : ℕ) (rows : List Row) (front items : List ℕ) → IsExtended n rows front items → IsFilled n items
-filled n rows front items e = record {
+pub extended_is_filled : (n : ℕ) (rows : List Row) (front items : List ℕ) → IsExtended n rows front items → IsFilled n items
+extended_is_filled n rows front items e = record {
   multiple = omega arith;
   behind = omega arith;
   few = omega arith;
@@ -164,6 +164,6 @@ segment_length header z rows command items s = by_count (nat_lt 128 (length rows
     by_count false t =
         let few : length rows ≤ 128 = grind (arith, nat_tests) in
         let none = drop_all 128 rows few in
-        let rest = ap (extension (length command)) none ∙ unextended (length command) in
+        let rest = ap (extension (length command)) none ∙ extension_without_rows (length command) in
         ap length s.is
         ∙ omega (arith, long, length-append (page_text header z (take 128 rows)) (command ++ 0 ∷ extension (length command) (drop 128 rows)), length-append command (0 ∷ extension (length command) (drop 128 rows)), ap (λ l. length (0 ∷ l)) rest)

@@ -26,9 +26,9 @@ least end h = grind (arith, nat_tests)
 most : (end : ℕ) → IsTrue (is_header_end end) → end ≤ 0x290
 most end h = grind (arith, nat_tests)
 
-pub tested : (n : ℕ) (h : SetupHeader) → unless (header_fault n h) ≡ Ok tt → IsTested n h
+pub no_fault_is_tested : (n : ℕ) (h : SetupHeader) → unless (header_fault n h) ≡ Ok tt → IsTested n h
 unfolding header_fault
-tested n h e =
+no_fault_is_tested n h e =
     let b = peel (nat_lt h.version 0x20c) _ _ e in
     let c = peel (not (has_bit 0 h.xloadflags)) _ _ b.1 in
     let d = peel (h.relocatable_kernel == 0) _ _ c.1 in

@@ -27,8 +27,8 @@ pub same_sorted : (rows sorted ranges : List Row) → HoldSameNotes rows sorted 
 same_sorted rows sorted ranges h p n = h n ∙ sym (list_any-IsPermutation (lies_in n) ranges sorted p)
 
 -- what starts no later than the note, and ends no sooner than what holds it, holds it too
-held : (n : Note) (r s : Row) → s.start ≤ n.start → row_end r ≤ row_end s → lies_in n r ≡ true → lies_in n s ≡ true
-held n r s first last h = grind (arith, nat_tests)
+lies_in_wider_row : (n : Note) (r s : Row) → s.start ≤ n.start → row_end r ≤ row_end s → lies_in n r ≡ true → lies_in n s ≡ true
+lies_in_wider_row n r s first last h = grind (arith, nat_tests)
 
 starts_first : (n : Note) (r : Row) → lies_in n r ≡ true → r.start ≤ n.start
 starts_first n r h = grind (arith, nat_tests)
@@ -63,7 +63,7 @@ found_last rs n last d up within first later = by_answer (list_any (lies_in n) r
               absurd (omega (arith, later m.0 m.1 behind m.2, start, same))
           | inr before ↦
               let ends = up.ends m.0 last d before within in
-              let t = held n (get_or rs m.0 d) (get_or rs last d) first ends (ap (lies_in n) here ∙ m.4) in cc
+              let t = lies_in_wider_row n (get_or rs m.0 d) (get_or rs last d) first ends (ap (lies_in n) here ∙ m.4) in cc
         ]
 
 -- what the walk along sorted ranges keeps: those that were taken rise, the last of them starts no later than each that is
@@ -105,6 +105,6 @@ outer_skip sorted outer i d l not_behind o =
         let some = not_behind.some in
         let before = o.before d i some (omega arith) l in
         let first = starts_first n (get_or sorted i d) e in
-        let t = held n (get_or sorted i d) (get_or outer (length outer - 1) d) (omega (arith, before, first)) (not_behind.last d) e in
+        let t = lies_in_wider_row n (get_or sorted i d) (get_or outer (length outer - 1) d) (omega (arith, before, first)) (not_behind.last d) e in
         list_any_at (lies_in n) outer (length outer - 1) d (omega (arith, some)) t
         ∙ sym (ap (λ b. list_any (lies_in n) (take i sorted) || b) e ∙ or_true (list_any (lies_in n) (take i sorted)))

@@ -231,11 +231,11 @@ grows file pre l bytes a n m s g d p q lo hi u is =
     ]
 
 -- ---- all loads
-abbrev made : ℕ → List ℕ → ℕ → SegmentValue
-made mem bytes n = record { bytes = bytes; mem = mem; memsz = n }
+abbrev segment_with : ℕ → List ℕ → ℕ → SegmentValue
+segment_with mem bytes n = record { bytes = bytes; mem = mem; memsz = n }
 
-same_part : (bytes more : List ℕ) (mem n m : ℕ) → bytes ≡ more → n ≡ m → made mem bytes n ≡ made mem more m
-same_part bytes more mem n m e f = ap (λ xs. made mem xs n) e ∙ ap (λ k. made mem more k) f
+same_part : (bytes more : List ℕ) (mem n m : ℕ) → bytes ≡ more → n ≡ m → segment_with mem bytes n ≡ segment_with mem more m
+same_part bytes more mem n m e f = ap (λ xs. segment_with mem xs n) e ∙ ap (λ k. segment_with mem more k) f
 
 ends_more : (s t : ℕ) (pre : List Load) (l : Load) → AllByRecursion (EndsBy s) pre → s ≤ t → l.paddr + l.filesz ≤ t → AllByRecursion (EndsBy t) (pre ++ l ∷ [])
 ends_more s t [] l d h k = (record { stop = k }, tt)

@@ -96,16 +96,16 @@ after_list file t symbols = read_relocs file t (length symbols) >>= after_relocs
 after_table : List ℕ → Table → Result Relocatable ElfFault
 after_table file t = read_symbols file t >>= after_list file t
 
-opened : (file : List ℕ) → object_reading file ≡ (read_table file >>= after_table file)
+reading_in_two_steps : (file : List ℕ) → object_reading file ≡ (read_table file >>= after_table file)
 unfolding object_reading after_relocs after_list after_table
-opened file = refl
+reading_in_two_steps file = refl
 
 pub table_fails : (file : List ℕ) (e : ElfFault) → Fails e (read_table file) → Fails e (object_reading file)
-table_fails file e f = subst (Fails e) (sym (opened file)) (fails_on e (read_table file) (after_table file) f)
+table_fails file e f = subst (Fails e) (sym (reading_in_two_steps file)) (fails_on e (read_table file) (after_table file) f)
 
 with_table : (file : List ℕ) (t : Table) → read_table file ≡ Ok t → object_reading file ≡ (read_symbols file t >>= after_list file t)
 unfolding after_table
-with_table file t e = opened file ∙ ap (λ r. r >>= after_table file) e
+with_table file t e = reading_in_two_steps file ∙ ap (λ r. r >>= after_table file) e
 
 pub object_symbols_fail : (file : List ℕ) (t : Table) (e : ElfFault) → read_table file ≡ Ok t → Fails e (read_symbols file t) → Fails e (object_reading file)
 object_symbols_fail file t e is f = subst (Fails e) (sym (with_table file t is)) (fails_on e (read_symbols file t) (after_list file t) f)

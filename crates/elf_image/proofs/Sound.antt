@@ -30,8 +30,8 @@ record AreMade (n : ℕ) (ls : List Load) : Type 0 where
   each : AllByRecursion (IsPlaced n) ls
   apart : (a : ℕ) → count_by (is_memory_of a) ls ≤ 1
 
-placed : (n : ℕ) (ls : List Load) (l : Load) → IsFit n ls l → IsPlaced n l
-placed n ls l f =
+fit_is_placed : (n : ℕ) (ls : List Load) (l : Load) → IsFit n ls l → IsPlaced n l
+fit_is_placed n ls l f =
     let a = or_parts (nat_lt l.memsz l.filesz) (nat_lt (2 ^ 46) (load_stop l)) f.good in
     record { fits = not_less _ _ a.0; low = not_less _ _ a.1; inside = not_less _ _ f.whole }
   where
@@ -55,7 +55,7 @@ all_more n (x ∷ xs) l g h = (g.0, all_more n xs l g.1 h)
 
 more_made : (n : ℕ) (ls : List Load) (l : Load) → AreMade n ls → IsFit n ls l → AreMade n (ls ++ l ∷ [])
 more_made n ls l m f = record {
-  each = all_more n ls l m.each (placed n ls l f);
+  each = all_more n ls l m.each (fit_is_placed n ls l f);
   apart = λ a. let e = sum_by-append (λ x. cond (is_memory_of a x) 1 0) ls (l ∷ []) in
       let o = count_cons a l [] in
       bounded a l ls (is_memory_of a l) refl (fit_apart n ls l f) (m.apart a) e o;

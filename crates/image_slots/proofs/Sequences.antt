@@ -15,9 +15,9 @@ use Rattle.image_slots.proofs.Busy.{busy_only, step_busy}
 use Rattle.image_slots.proofs.Sound.{follows_gone, follows_pages, follows_sound, sound_accepted}
 
 -- what is not the answer for want of memory is that of the step
-pub followed : (s : State) (e : EventValue) (r : Reply) (t : State) → is_memory r ≡ false → Follows (step s e) (after_want s e) r t → step s e ≡ (r, t)
-followed s e r t other (inl same) = same
-followed s e r t other (inr want) = absurd (true≢false (ap is_memory (sym want.0) ∙ other))
+pub following_is_step : (s : State) (e : EventValue) (r : Reply) (t : State) → is_memory r ≡ false → Follows (step s e) (after_want s e) r t → step s e ≡ (r, t)
+following_is_step s e r t other (inl same) = same
+following_is_step s e r t other (inr want) = absurd (true≢false (ap is_memory (sym want.0) ∙ other))
 
 -- one event more
 pub next_replies : (s t : State) (e : EventValue) (r : Reply) (old new all : List Reply) (es : List EventValue) → step s e ≡ (r, t) → new ≡ old ++ r ∷ [] → old ++ replies_to s (e ∷ es) ≡ all → new ++ replies_to t es ≡ all

@@ -19,9 +19,9 @@ runs_fit false (Kept swap) = tt
 runs_fit true (Kept swap) = tt
 
 -- what runs the list of the files is what `exec` makes
-pub executed : (x : LoadFiles) (twice : Bool) (out : List ℕ) (result : Result (MadeGoods ListFault) (MakeFault Reason)) → is_not_kept twice x ≡ false
+pub execution_holds : (x : LoadFiles) (twice : Bool) (out : List ℕ) (result : Result (MadeGoods ListFault) (MakeFault Reason)) → is_not_kept twice x ≡ false
     → MakesOr (λ g. RunsList (runs_asked twice x) (load_of x) x.startup out (goods_of g)) (RefusesRun (runs_asked twice x) (load_of x)) result
     → Makes (λ x. executes_list x twice out) x result
-executed x twice out (Ok g) e m = (e, subst (λ fault. executes_as x twice out (goods_of g) fault) (sym m.5) m)
-executed x twice out (Err (makes.Refused why)) e m = inr (e, m)
-executed x twice out (Err makes.Memory) e m = tt
+execution_holds x twice out (Ok g) e m = (e, subst (λ fault. executes_as x twice out (goods_of g) fault) (sym m.5) m)
+execution_holds x twice out (Err (makes.Refused why)) e m = inr (e, m)
+execution_holds x twice out (Err makes.Memory) e m = tt

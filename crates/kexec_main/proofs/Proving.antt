@@ -27,8 +27,8 @@ arrives (Some Once) c N once h = h
 arrives (Some Twice) c N once h = absurd once
 
 -- which is that each has what is wanted
-wanted : (ss : List SegmentValue) (N : Mem) → IsBare ss → ((q : ℕ) (bytes : List ℕ) → want ss q ≡ Some bytes → N q ≡ bytes) → HasWanted N ss
-wanted ss N bare h = λ q has.
+has_wanted_of : (ss : List SegmentValue) (N : Mem) → IsBare ss → ((q : ℕ) (bytes : List ℕ) → want ss q ≡ Some bytes → N q ≡ bytes) → HasWanted N ss
+has_wanted_of ss N bare h = λ q has.
     let w = want-from_Has ss q (AreSegments-from_IsBare ss bare).placed has in
     w.1 ∙ ap Some (sym (h q w.0 w.1))
 
@@ -38,5 +38,5 @@ proves_itself runs i p c l told apart once =
     let N = after_runs runs c in
     let there = arrives runs c N once (leaves_of runs i p c l told) in
     same_where_planned i.request i.map p N l.planned apart
-    (wanted p.segments N (planned_bare i.request i.map p l.planned)
+    (has_wanted_of p.segments N (planned_bare i.request i.map p l.planned)
     (λ q bytes e. there q bytes (ap (λ ss. want ss q) l.laid.segments ∙ e)))

@@ -77,7 +77,8 @@ drills x (Ok goods) =
     × (goods.outputs ≡ (x.out, bytes) ∷ [])
 drills x (Err (by why)) =
     Meets (first_meeting x) why
-    ⊎ ((ram : List Run) × AreRam x.map ram × (first_meeting x ≡ None) × HasNoFile (memory_after x ram) why)
+    ⊎ ((ram : List Run)
+    × AreRam x.map ram × (first_meeting x ≡ None) × HasNoFile (memory_after x ram) why)
 drills x (Err (too_long name limit)) = ⊥
 
 module _ {S O : Type 0} (D : Shelf S) (E : Sink O) (s : S) (o : O) (s' : S) (o' : O) where

@@ -17,7 +17,8 @@ Made = Goods ListFault
 -- the bytes are the one memory file of this memory, which has at most 131,072 pages that are not all zero
 abbrev pub IsFileOf : Mem → List ℕ → Type 0
 IsFileOf N bytes =
-    (m : Contents) × IsMemory m × Agree (at m) N × (length (stored_pages m) ≤ 131072) × (bytes ≡ file m)
+    (m : Contents)
+    × IsMemory m × Agree (at m) N × (length (stored_pages m) ≤ 131072) × (bytes ≡ file m)
 
 -- this memory has so many pages that are not all zero, too many for a memory file
 abbrev pub IsTooHeavy : Mem → ℕ → Type 0

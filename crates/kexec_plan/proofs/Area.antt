@@ -77,14 +77,14 @@ unrefused_inside ram area ss e =
     let place = none_right (half_of_memory ram ss) _ half in
     inside_by area ss (none_left (outside_reserved (Crash area) ss) _ (none_left (misplaced ram (Crash area) ss) _ place))
 
-passed : (ss kept : List SegmentValue) (r : Option SegFault) → unless_refused ss r ≡ Ok kept → (r ≡ None) × (ss ≡ kept)
-passed ss kept None e = (refl, ok_same {F = PlanFault} ss kept e)
-passed ss kept (Some f) e = cc
+pass_keeps : (ss kept : List SegmentValue) (r : Option SegFault) → unless_refused ss r ≡ Ok kept → (r ≡ None) × (ss ≡ kept)
+pass_keeps ss kept None e = (refl, ok_same {F = PlanFault} ss kept e)
+pass_keeps ss kept (Some f) e = cc
 
 tested_inside : (map : MapValue) (area : Run) (ss kept : List SegmentValue) → test_segments (Reserved map area) ss ≡ Ok kept → AreInside area ss × (ss ≡ kept)
 unfolding test_segments first_refusal
 tested_inside map area ss kept e =
-    let k = passed ss kept (refusal (ram_runs map) (Crash area) ss) e in
+    let k = pass_keeps ss kept (refusal (ram_runs map) (Crash area) ss) e in
     (unrefused_inside (ram_runs map) area ss k.0, k.1)
 
 -- ---- the end of a plan tests its segments

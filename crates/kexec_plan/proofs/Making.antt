@@ -15,16 +15,16 @@ use Rattle.kexec_plan.proofs.Reach.{in_reach}
 abbrev pub with_taken : Laid → (ℕ → Bool) → Laid
 with_taken l taken = record l { taken = taken }
 
-made : (p : PlanPart) (s : Site) (l : Laid) (taken : ℕ → Bool) → IsPart p → EndLow l.slots → IsPlacedBy (rule_of p l) s → CanMake p s (tell p s (with_taken l taken))
-made (Image rule bytes) s l taken part low placed = tt
-made (Initrd rule bytes) s l taken part low placed = tt
-made (Headers rule map notes) s l taken part low placed = tt
-made (Parameters k rows) s l taken part low placed = (part, parameters_low k rows l.command s placed)
-made (Module m) s l taken part low placed = tt
-made (Information rows) s l taken part low placed = in_reach rows l.command l.slots s low placed
+part_can_be_made : (p : PlanPart) (s : Site) (l : Laid) (taken : ℕ → Bool) → IsPart p → EndLow l.slots → IsPlacedBy (rule_of p l) s → CanMake p s (tell p s (with_taken l taken))
+part_can_be_made (Image rule bytes) s l taken part low placed = tt
+part_can_be_made (Initrd rule bytes) s l taken part low placed = tt
+part_can_be_made (Headers rule map notes) s l taken part low placed = tt
+part_can_be_made (Parameters k rows) s l taken part low placed = (part, parameters_low k rows l.command s placed)
+part_can_be_made (Module m) s l taken part low placed = tt
+part_can_be_made (Information rows) s l taken part low placed = in_reach rows l.command l.slots s low placed
 
 pub can_make : (p : PlanPart) (s : Site) (l told : Laid) (taken : ℕ → Bool) → IsPart p → EndLow l.slots → IsPlacedBy (rule_of p l) s → told ≡ tell p s (with_taken l taken) → CanMake p s told
-can_make p s l told taken part low placed e = subst (CanMake p s) (sym e) (made p s l taken part low placed)
+can_make p s l told taken part low placed e = subst (CanMake p s) (sym e) (part_can_be_made p s l taken part low placed)
 
 -- a part whose pages end so low has bytes that end below 4 GiB
 below : (n size at : ℕ) → size ≡ part_size n → at + size ≤ 2 ^ 32 - 4097 + 1 → at + n < 2 ^ 32

@@ -35,8 +35,8 @@ pub record Waits (h : History) (d : ℕ) : Type 0 where
   pub new : count d (pages_of h.entries) ≡ 0
   pub low : d < 2 ^ 34
 
-pub awaited : (h : History) (w : Writer) (s : StandsAt h w) (d : ℕ) → IsAwaited w d → Waits h d
-awaited h w s d a =
+pub awaited_waits : (h : History) (w : Writer) (s : StandsAt h w) (d : ℕ) → IsAwaited w d → Waits h d
+awaited_waits h w s d a =
     let o = s.inside in
     let t = o.writes.tracks in
     let wanted : is_wanted h d ≡ true = t.wanted d ∙ ap is_some a in
@@ -180,6 +180,6 @@ waiting h w s d t n = go (slot w.table d) refl
 
 pub awaited_exactly : (h : History) (w : Writer) → StandsAt h w → (d : ℕ) → IsAwaited w d ↔ ((is_wanted h d ≡ true) × (Has d (pages_of h.entries) → ⊥))
 awaited_exactly h w s d = (
-  λ a. let t = awaited h w s d a in (t.wanted, λ g. let one = count-from_Has d (pages_of h.entries) g in omega (arith, one, t.new)),
+  λ a. let t = awaited_waits h w s d a in (t.wanted, λ g. let one = count-from_Has d (pages_of h.entries) g in omega (arith, one, t.new)),
   λ b. waiting h w s d b.0 b.1,
 )

@@ -20,7 +20,7 @@ use Rattle.page_pool.specs.Pages.{is_filed}
 use Rattle.kimage_list.specs.inner.Writers.{History, Writer, StandsAt, draft_of, is_wanted, need, pages_in, destination_after}
 use Rattle.kimage_list.proofs.Lists.{nil_cons}
 use Rattle.kimage_list.proofs.Parts.{served-append}
-use Rattle.kimage_list.proofs.Opening.{opened}
+use Rattle.kimage_list.proofs.Opening.{opening_reaches}
 use Rattle.kimage_list.specs.inner.Beginning.{IsFresh, AreHeld}
 use Rattle.kimage_list.proofs.Going.{first_is_there, opens_under_way}
 use Rattle.kimage_list.proofs.Spanned.{length-pages_in, has-pages_in}
@@ -109,10 +109,10 @@ module _ (h : History) (list : OpenList) (n : ℕ) (asked : Wish) (k : IsPrepare
       (destination ∙ nothing_after)
 
 -- a load for which all memory is taken
-pub prepared : (M : Contents) (pool : Pages) (wanted : List Run) (segments : ℕ) (wish : Wish) (memory : Contents) (table : Slots) (n : ℕ) (list : OpenList) → n ≡ need_of wish segments (pages wanted) → n ≤ length (usable_of pool)
+pub preparation_begins : (M : Contents) (pool : Pages) (wanted : List Run) (segments : ℕ) (wish : Wish) (memory : Contents) (table : Slots) (n : ℕ) (list : OpenList) → n ≡ need_of wish segments (pages wanted) → n ≤ length (usable_of pool)
     → ((q : ℕ) → at memory q ≡ at M q) → Distinct (pool.drawn ++ usable_of pool) → ((p : ℕ) → is_filed pool p ≡ false) → IsFresh wanted table → AreApart 0 wanted → AreHeld n (usable_of pool) memory → 1 ≤ segments
     → list ≡ record { memory = memory; pool = pool; table = table; next = 0; entries = 0; head = 0 } → IsPrepared (load_begun (at M) (usable_of pool) wanted segments wish) list segments wish
-prepared M pool wanted segments wish memory table n list size enough same once unfiled fresh apart held some is =
+preparation_begins M pool wanted segments wish memory table n list size enough same once unfiled fresh apart held some is =
     let need = need_of wish segments (pages wanted) in
     let fits : need_of wish segments (pages wanted) ≤ length (usable_of pool) = omega (arith, size, enough) in
     let single : (x : ℕ) → count x (usable_of pool) ≤ 1 = λ x. omega (arith, count-from_Distinct x (pool.drawn ++ usable_of pool) once, count-append x pool.drawn (usable_of pool)) in
@@ -121,7 +121,7 @@ prepared M pool wanted segments wish memory table n list size enough same once u
       nothing = refl;
       segments = refl;
       wish = refl;
-      writes = opened (at M) (in_spans wanted) (λ p. None) (need_of wish segments (pages wanted)) memory pool table fits same once unfiled fresh.each (subst (λ m. AreHeld m (usable_of pool) memory) size held);
+      writes = opening_reaches (at M) (in_spans wanted) (λ p. None) (need_of wish segments (pages wanted)) memory pool table fits same once unfiled fresh.each (subst (λ m. AreHeld m (usable_of pool) memory) size held);
       under_way = o.0;
       apart = apart;
       some = some;

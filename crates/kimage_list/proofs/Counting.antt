@@ -6,7 +6,7 @@ use Rattle.std.proofs.lemmas.Option.{none-some}
 use Rattle.std.proofs.lemmas.Bool.{or_parts, eqb-false, ne_eqb}
 use Rattle.kx_pages.proofs.Counting.{Distinct-from_count, count-from_has_not, no_longer}
 use Rattle.kx_pages.proofs.Lists.{Has-either}
-use Rattle.kimage_list.proofs.Takes.{Takes, size, no_destination, destinations-append, Awaited, taken_took, Sound, given_sound, wished, others}
+use Rattle.kimage_list.proofs.Takes.{Takes, size, no_destination, destinations-append, Awaited, taken_took, Sound, given_sound, wishes_among, others}
 use Rattle.kimage_list.specs.inner.Drafts.{one, amount}
 use Rattle.kimage_list.specs.Load.{source_of, is_for, Loading, draw, take_page, give_page}
 use Rattle.kx_pages.specs.Lists.{Has, destinations, has, count}
@@ -87,7 +87,7 @@ given_left : (r : Option ℕ) (t : ℕ × Loading) → (give_page r t).left ≡ 
 given_left None t = refl
 given_left (Some d) t = refl
 
-pub full_on : (D : ℕ → Bool) (pool spent : List ℕ) (n : ℕ) (r : Option ℕ) (l : Loading) (t : ℕ × Loading) → ((x : ℕ) → count x pool ≤ 1) → Full D pool spent n l → take_page D r l ≡ Some t → Full D pool (spent ++ wished (r ∷ [])) (n + others (r ∷ [])) (give_page r t)
+pub full_on : (D : ℕ → Bool) (pool spent : List ℕ) (n : ℕ) (r : Option ℕ) (l : Loading) (t : ℕ × Loading) → ((x : ℕ) → count x pool ≤ 1) → Full D pool spent n l → take_page D r l ≡ Some t → Full D pool (spent ++ wishes_among (r ∷ [])) (n + others (r ∷ [])) (give_page r t)
 full_on D pool spent n r l t c f e =
     let once : (x : ℕ) → amount x l ≤ 1 = λ x. omega (arith, f.sound.conserved x, c x) in
     let k = taken_took D r l t f.sound.homes once e in

@@ -165,9 +165,9 @@ places-exchanged table table' q x o n k p = go (eqb_tells q p)
     go (inr t) = ap place_in (k p t.1)
 
 -- what drawing q gives where the loop tracks
-stepped : (D : ℕ → Bool) (r : Option ℕ) (l : Loading) (pool pool' : Pages) (table : Slots) (q : ℕ) (f : Fate) (h : Reaches D r l pool table) → usable_of pool ≡ q ∷ usable_of pool'
+step_reaches : (D : ℕ → Bool) (r : Option ℕ) (l : Loading) (pool pool' : Pages) (table : Slots) (q : ℕ) (f : Fate) (h : Reaches D r l pool table) → usable_of pool ≡ q ∷ usable_of pool'
     → f ≡ fate_of (is_for r q) (slot table q) → Step D r h.now.pairs h.now.spare h.now.filed q (usable_of pool') f
-stepped D r l pool pool' table q f h e g =
+step_reaches D r l pool pool' table q f h e g =
     subst (Step D r h.now.pairs h.now.spare h.now.filed q (usable_of pool')) (sym g)
     (draw_step D r h.now.pairs h.now.spare h.now.filed q (usable_of pool') (is_for r q) (slot table q) refl (h.tracks.wanted q) (h.tracks.loaded q))
 
@@ -183,7 +183,7 @@ pub gives-given : (D : ℕ → Bool) (r : Option ℕ) (l : Loading) (pool pool' 
     → Given ≡ fate_of (is_for r q) (slot now q) → Gives D l (draw D r l.pairs l.spare l.filed l.left) (Some (record { page = q; moved = None })) pool' table now
 gives-given D r l pool pool' table now q h e left marks f =
     gives_at D l _ (q, loading (usable_of pool') h.now.filed h.now.pairs h.now.spare) (record { page = q; moved = None }) pool' table now
-    (before D r l pool pool' now q h left ∙ stepped D r l pool pool' now q Given h left f)
+    (before D r l pool pool' now q h left ∙ step_reaches D r l pool pool' now q Given h left f)
     (record {
       page = refl;
       tracks = tracks-given D h.now pool pool' now q h.tracks left marks;
@@ -196,7 +196,7 @@ pub gives-exchanged : (D : ℕ → Bool) (r : Option ℕ) (l : Loading) (pool po
     → slot table' q ≡ Some (Some (record { source = q; place = x.place })) → ((p : ℕ) → q ≢ p → slot table' p ≡ slot now p)
     → Gives D l (draw D r l.pairs l.spare l.filed l.left) (Some y) pool' table table'
 gives-exchanged D r l pool pool' table now table' q x y h e left marks f page moved here others =
-    let k = stepped D r l pool pool' now q (Exchanged x) h left f in
+    let k = step_reaches D r l pool pool' now q (Exchanged x) h left f in
     let o = fate-exchanged (is_for r q) (slot now q) x (sym f) in
     gives_at D l _ (x.source, loading (usable_of pool') h.now.filed (at_home q h.now.pairs) h.now.spare) y pool' table table'
     (before D r l pool pool' now q h left ∙ k.0)
@@ -225,7 +225,7 @@ draws-filed r pool pool' pool'' start table now q d left new f e = record {
       record {
         now = loading (usable_of pool') (q ∷ h.now.filed) h.now.pairs h.now.spare;
         tracks = subst (λ v. Tracks D (loading (usable_of pool') (q ∷ h.now.filed) h.now.pairs h.now.spare) v now) (sym e) (tracks-filed D h.now pool pool' now q h.tracks left (ap (λ v. v.marks) new));
-        same = sym (stepped D r l pool pool' now q Filed h left f) ∙ sym (before D r l pool pool' now q h left);
+        same = sym (step_reaches D r l pool pool' now q Filed h left f) ∙ sym (before D r l pool pool' now q h left);
         pairs = h.pairs;
       };
   same = d.same;

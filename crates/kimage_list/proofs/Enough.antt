@@ -6,7 +6,7 @@ use Rattle.std.proofs.lemmas.Bool.{eqb-false, cases_lt}
 use Rattle.std.proofs.lemmas.Bool.Decides.{eqb_tells}
 use Rattle.kimage_list.proofs.Counting.{counted_fit, Full, Waits, taken_none, full_on}
 use Rattle.kimage_list.proofs.Parts.{served-append}
-use Rattle.kimage_list.proofs.Takes.{sources-append, wished, others}
+use Rattle.kimage_list.proofs.Takes.{sources-append, wishes_among, others}
 use Rattle.kimage_list.specs.inner.Counted.{Counts, Allowed}
 use Rattle.kimage_list.specs.inner.Laws.{AlwaysTakes, OneMore}
 use Rattle.kimage_list.specs.inner.Drafts.{one, uses, Draft}
@@ -108,11 +108,11 @@ full_of pool all d k = record {
   ends = (k.front, k.ends);
 }
 
-pub wished-inside : (r : Option ℕ) (all spent : List ℕ) (n need : ℕ) → Allowed r all spent n need → AllByRecursion (λ p. Has p all) spent → AllByRecursion (λ p. Has p all) (spent ++ wished (r ∷ []))
+pub wished-inside : (r : Option ℕ) (all spent : List ℕ) (n need : ℕ) → Allowed r all spent n need → AllByRecursion (λ p. Has p all) spent → AllByRecursion (λ p. Has p all) (spent ++ wishes_among (r ∷ []))
 wished-inside None all spent n need a h = Each-append (λ p. Has p all) spent [] h tt
 wished-inside (Some p) all spent n need a h = Each-append (λ p. Has p all) spent (p ∷ []) h (a.0, tt)
 
-pub wished-once : (r : Option ℕ) (all spent : List ℕ) (n need : ℕ) → Allowed r all spent n need → ((x : ℕ) → count x spent ≤ 1) → (x : ℕ) → count x (spent ++ wished (r ∷ [])) ≤ 1
+pub wished-once : (r : Option ℕ) (all spent : List ℕ) (n need : ℕ) → Allowed r all spent n need → ((x : ℕ) → count x spent ≤ 1) → (x : ℕ) → count x (spent ++ wishes_among (r ∷ [])) ≤ 1
 wished-once None all spent n need a c x = omega (arith, c x, count-append x spent [])
 wished-once (Some p) all spent n need a c x = omega (arith, once_more p spent a.1 c x, count-append x spent (p ∷ []))
 
@@ -128,7 +128,7 @@ always_takes pool all need d r k enough room a =
     let t = taken_some d.wanted pool spent all n need d.loading k.once f k.wanted k.inside k.spent enough r a in
     let g = full_on d.wanted pool spent n r d.loading t.0 k.once f t.1 in
     let within : (x : ℕ) → uses x (give_page r t.0) ≤ count x (take need pool) =
-    used_first d.wanted pool (spent ++ wished (r ∷ [])) all (n + others (r ∷ [])) need (give_page r t.0) k.once g k.wanted (wished-inside r all spent n need a k.inside) (wished-once r all spent n need a k.spent) (others-fit r all spent n need a) in
+    used_first d.wanted pool (spent ++ wishes_among (r ∷ [])) all (n + others (r ∷ [])) need (give_page r t.0) k.once g k.wanted (wished-inside r all spent n need a k.inside) (wished-once r all spent n need a k.spent) (others-fit r all spent n need a) in
     (t.0, record { gives = t.1; within = λ x. omega (arith, within x, used-given x r t.0, ap (count x) room) })
 
 pub one_more : OneMore

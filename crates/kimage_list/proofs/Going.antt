@@ -7,7 +7,7 @@ use Rattle.std.proofs.lemmas.Bool.Decides.{eqb_tells}
 use Rattle.kimage_list.proofs.Counting.{Full, full_on, none_filed}
 use Rattle.kimage_list.proofs.Enough.{full_of, always_takes, wished-inside, wished-once}
 use Rattle.kimage_list.proofs.Entering.{pages_of-start, pages_of-move}
-use Rattle.kimage_list.proofs.Takes.{wished, others, taken_took}
+use Rattle.kimage_list.proofs.Takes.{wishes_among, others, taken_took}
 use Rattle.kimage_list.specs.inner.Counted.{Counts, Allowed, UnderWay}
 use Rattle.kimage_list.specs.inner.Laws.{RoomIsThere, PageIsThere, StartIsThere, AllDrawn, OpensUnderWay}
 use Rattle.kimage_list.specs.inner.Drafts.{initial, with_first, Draft, CanTake, with_link, with_move, Room, RoomBy, HasRoom}
@@ -17,13 +17,13 @@ use Rattle.kx_pages.specs.Lists.{Has, count}
 use Rattle.kx_pages.specs.Bytes.{Mem, Wants}
 
 -- the counts after a request
-counted : (pool all : List ℕ) (need : ℕ) (d e : Draft) (r : Option ℕ) (t : ℕ × Loading) → Counts pool all d → take_page d.wanted r d.loading ≡ Some t → e.loading ≡ give_page r t → e.wanted ≡ d.wanted
-    → pages_of e.entries ≡ pages_of d.entries ++ wished (r ∷ []) → Allowed r all (pages_of d.entries) (length d.loading.spare) need → Counts pool all e
-counted pool all need d e r t k g l w es a =
+step_counts : (pool all : List ℕ) (need : ℕ) (d e : Draft) (r : Option ℕ) (t : ℕ × Loading) → Counts pool all d → take_page d.wanted r d.loading ≡ Some t → e.loading ≡ give_page r t → e.wanted ≡ d.wanted
+    → pages_of e.entries ≡ pages_of d.entries ++ wishes_among (r ∷ []) → Allowed r all (pages_of d.entries) (length d.loading.spare) need → Counts pool all e
+step_counts pool all need d e r t k g l w es a =
     let spent = pages_of d.entries in
     let f = full_on d.wanted pool spent (length d.loading.spare) r d.loading t k.once (full_of pool all d k) g in
-    let f1 = subst (λ D. Full D pool (spent ++ wished (r ∷ [])) (length d.loading.spare + others (r ∷ [])) (give_page r t)) (sym w) f in
-    let f2 = subst (λ x. Full e.wanted pool (spent ++ wished (r ∷ [])) (length d.loading.spare + others (r ∷ [])) x) (sym l) f1 in
+    let f1 = subst (λ D. Full D pool (spent ++ wishes_among (r ∷ [])) (length d.loading.spare + others (r ∷ [])) (give_page r t)) (sym w) f in
+    let f2 = subst (λ x. Full e.wanted pool (spent ++ wishes_among (r ∷ [])) (length d.loading.spare + others (r ∷ [])) x) (sym l) f1 in
     let P : List ℕ → Type 0 = λ ys. AllByRecursion (λ p. Has p all) ys in
     let Q : List ℕ → Type 0 = λ ys. (x : ℕ) → count x ys ≤ 1 in
     record {
@@ -73,7 +73,7 @@ page_is_there pool all need p e u room inside new fits =
       t.0,
       t.1,
       record {
-        counts = counted pool all need e (with_move e p t.0) (Some p) t.0 u.counts t.1.gives refl refl (pages_of-move e.entries p) a;
+        counts = step_counts pool all need e (with_move e p t.0) (Some p) t.0 u.counts t.1.gives refl refl (pages_of-move e.entries p) a;
         enough = u.enough;
         room = u.room;
         spare = given_spare p e t.0 t.1.gives pool all u.counts ∙ u.spare;
@@ -99,7 +99,7 @@ room_is_there pool all segments d u steady more = go (eqb_tells (length d.entrie
           with_link d t.0,
           (steady, subst (λ b. RoomBy b d (with_link d t.0)) (sym n.0) (t.0, t.1, refl)),
           record {
-            counts = counted pool all need d (with_link d t.0) None t.0 u.counts t.1.gives refl refl (sym (append-nil (pages_of d.entries))) a;
+            counts = step_counts pool all need d (with_link d t.0) None t.0 u.counts t.1.gives refl refl (sym (append-nil (pages_of d.entries))) a;
             enough = u.enough;
             room = u.room;
             spare = ap (λ ys. ys ++ t.0.0 ∷ []) (none_spare d t.0 t.1.gives pool all u.counts ∙ u.spare) ∙ append_assoc d.first d.links (t.0.0 ∷ []);
@@ -139,7 +139,7 @@ first_is_there pool all need d u none a =
       t.0,
       t.1,
       record {
-        counts = counted pool all need d (with_first d t.0) None t.0 u.counts t.1.gives refl refl (sym (append-nil (pages_of d.entries))) a;
+        counts = step_counts pool all need d (with_first d t.0) None t.0 u.counts t.1.gives refl refl (sym (append-nil (pages_of d.entries))) a;
         enough = u.enough;
         room = u.room;
         spare = ap (λ ys. ys ++ t.0.0 ∷ []) (none_spare d t.0 t.1.gives pool all u.counts ∙ u.spare ∙ ap (λ ls. d.first ++ ls) none ∙ append-nil d.first)

@@ -167,6 +167,6 @@ pub took_of : (D : ℕ → Bool) (r : Option ℕ) (l : Loading) (t : ℕ × Load
 took_of D r l t x pool' table table' g e = let P : Option (ℕ × Loading) → Type 0 = λ o. Gives D l o (Some x) pool' table table' in subst P e g
 
 -- where no page is loaded no exchange is made
-pub unmoved : (N : Mem) (v : Option MovedPage) (pairs pairs' : List (ℕ × ℕ)) (s x : ℕ) (table : Slots) → Pair v pairs pairs' s table → pairs ≡ [] → exchange N v x ≡ N
-unmoved N None pairs pairs' s x table p z = refl
-unmoved N (Some v) pairs pairs' s x table p z = absurd (none-some s (sym (ap (source_of v.page) z) ∙ p.0))
+pub exchange_of_no_pairs : (N : Mem) (v : Option MovedPage) (pairs pairs' : List (ℕ × ℕ)) (s x : ℕ) (table : Slots) → Pair v pairs pairs' s table → pairs ≡ [] → exchange N v x ≡ N
+exchange_of_no_pairs N None pairs pairs' s x table p z = refl
+exchange_of_no_pairs N (Some v) pairs pairs' s x table p z = absurd (none-some s (sym (ap (source_of v.page) z) ∙ p.0))

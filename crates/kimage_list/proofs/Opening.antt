@@ -32,10 +32,10 @@ at_first (suc n) (y ∷ xs) x c = go (eqb_tells y x) (at_first n xs x)
         let k = ih (omega (arith, m, c)) in
         (suc k.0, omega (arith, k.1), k.2)
 
-pub opened : (M : Mem) (D : ℕ → Bool) (W : Wants) (need : ℕ) (memory : Contents) (pool : Pages) (table : Slots)
+pub opening_reaches : (M : Mem) (D : ℕ → Bool) (W : Wants) (need : ℕ) (memory : Contents) (pool : Pages) (table : Slots)
     → need ≤ length (usable_of pool) → ((q : ℕ) → at memory q ≡ M q) → Distinct (pool.drawn ++ usable_of pool) → ((p : ℕ) → is_filed pool p ≡ false) → ((p : ℕ) → slot table p ≡ fresh_slot (D p)) → AreHeld need (usable_of pool) memory
     → Renders (initial M D W need (usable_of pool)) [] memory pool table 0 0
-opened M D W need memory pool table enough same once unfiled fresh held = record {
+opening_reaches M D W need memory pool table enough same once unfiled fresh held = record {
   tracks = record {
     left = refl;
     filed = unfiled;

@@ -131,8 +131,8 @@ still_rising b (y ∷ rs) zero r x d v a h is c =
 still_rising b (y ∷ rs) (suc i) r x d v a h is c = (a.0, still_rising (row_end y) rs i r x d v a.1 (omega arith) is c)
 
 -- the page has its new slot
-changed : (r x : SlotRow) (d : ℕ) (v : Option PageSource) → Changes r x d v → slice_get x.slots (d - x.first) ≡ Some v
-changed r x d v c =
+slot_of_change : (r x : SlotRow) (d : ℕ) (v : Option PageSource) → Changes r x d v → slice_get x.slots (d - x.first) ≡ Some v
+slot_of_change r x d v c =
     let inside : d - r.first < length r.slots = omega (arith, from_first r d c.inside, to_end r d c.inside) in
     ap (λ n. slice_get x.slots (d - n)) c.first ∙ ap (λ xs. slice_get xs (d - r.first)) c.slots
     ∙ slice_get-get_or (set r.slots (d - r.first) v) (d - r.first) v (omega (arith, inside, length-set r.slots (d - r.first) v))
@@ -140,13 +140,13 @@ changed r x d v c =
 
 pub changed_here : (rs : Slots) (i : ℕ) (r x : SlotRow) (d : ℕ) (v : Option PageSource) → ((k : ℕ) (e : SlotRow) → k < i → row_end (get_or rs k e) ≤ d) → i < length rs → Changes r x d v → slot (set rs i x) d ≡ Some v
 changed_here [] i r x d v low h c = absurd (omega arith)
-changed_here (y ∷ rs) zero r x d v low h c = slot-here x rs d (same_pages r x d d v c ∙ c.inside) ∙ changed r x d v c
+changed_here (y ∷ rs) zero r x d v low h c = slot-here x rs d (same_pages r x d d v c ∙ c.inside) ∙ slot_of_change r x d v c
 changed_here (y ∷ rs) (suc i) r x d v low h c =
     slot-later y (set rs i x) d (behind_row y d (low 0 y (omega arith))) ∙ changed_here rs i r x d v (λ k e m. low (suc k) e (omega arith)) (omega arith) c
 
 -- each other page has the slot that it had
-unchanged : (r x : SlotRow) (d q : ℕ) (v : Option PageSource) → Changes r x d v → d ≢ q → in_row r q ≡ true → slice_get x.slots (q - x.first) ≡ slice_get r.slots (q - r.first)
-unchanged r x d q v c ne has =
+slot_beside_change : (r x : SlotRow) (d q : ℕ) (v : Option PageSource) → Changes r x d v → d ≢ q → in_row r q ≡ true → slice_get x.slots (q - x.first) ≡ slice_get r.slots (q - r.first)
+slot_beside_change r x d q v c ne has =
     let inside : q - r.first < length r.slots = omega (arith, from_first r q has, to_end r q has) in
     let other : q - r.first ≢ d - r.first = λ e. ne (omega (arith, e, from_first r q has, from_first r d c.inside)) in
     ap (λ n. slice_get x.slots (q - n)) c.first ∙ ap (λ xs. slice_get xs (q - r.first)) c.slots
@@ -159,7 +159,7 @@ changed_others [] i r x d q v h is c ne = absurd (omega arith)
 changed_others (y ∷ rs) zero r x d q v h is c ne = go (in_row r q) refl ∙ ap (λ s. slot (s ∷ rs) q) is
   where
     go : (t : Bool) → in_row r q ≡ t → slot (x ∷ rs) q ≡ slot (r ∷ rs) q
-    go true e = slot-here x rs q (same_pages r x d q v c ∙ e) ∙ unchanged r x d q v c ne e ∙ sym (slot-here r rs q e)
+    go true e = slot-here x rs q (same_pages r x d q v c ∙ e) ∙ slot_beside_change r x d q v c ne e ∙ sym (slot-here r rs q e)
     go false e = slot-later x rs q (same_pages r x d q v c ∙ e) ∙ sym (slot-later r rs q e)
 changed_others (y ∷ rs) (suc i) r x d q v h is c ne = go (in_row y q) refl (changed_others rs i r x d q v (omega arith) is c ne)
   where

@@ -191,10 +191,10 @@ pub record Sound (D : ℕ → Bool) (pool spent : List ℕ) (n : ℕ) (l : Loadi
   pub many : length l.spare ≡ n
 
 -- the destinations among these requests
-abbrev pub wished : List (Option ℕ) → List ℕ
-wished [] = []
-wished (None ∷ rs) = wished rs
-wished (Some d ∷ rs) = d ∷ wished rs
+abbrev pub wishes_among : List (Option ℕ) → List ℕ
+wishes_among [] = []
+wishes_among (None ∷ rs) = wishes_among rs
+wishes_among (Some d ∷ rs) = d ∷ wishes_among rs
 
 -- how many are for no destination
 abbrev pub others : List (Option ℕ) → ℕ
@@ -210,7 +210,7 @@ pub sources-append : (ps qs : List (ℕ × ℕ)) → sources (ps ++ qs) ≡ sour
 sources-append [] qs = refl
 sources-append (p ∷ ps) qs = ap (λ ys. p.1 ∷ ys) (sources-append ps qs)
 
-pub wished-cons : (r : Option ℕ) (rs : List (Option ℕ)) → wished (r ∷ []) ++ wished rs ≡ wished (r ∷ rs)
+pub wished-cons : (r : Option ℕ) (rs : List (Option ℕ)) → wishes_among (r ∷ []) ++ wishes_among rs ≡ wishes_among (r ∷ rs)
 wished-cons None rs = refl
 wished-cons (Some d) rs = refl
 
@@ -219,7 +219,7 @@ others-cons n None rs = omega arith
 others-cons n (Some d) rs = omega arith
 
 pub given_sound : (D : ℕ → Bool) (pool spent : List ℕ) (n : ℕ) (r : Option ℕ) (l : Loading) (t : ℕ × Loading)
-    → Sound D pool spent n l → Takes D r l t → Sound D pool (spent ++ wished (r ∷ [])) (n + others (r ∷ [])) (give_page r t)
+    → Sound D pool spent n l → Takes D r l t → Sound D pool (spent ++ wishes_among (r ∷ [])) (n + others (r ∷ [])) (give_page r t)
 given_sound D pool spent n None l t s k =
     let free : D t.0 ≡ false = ⊎_elim (λ e. absurd (false≢true e)) (λ e. e) k.serves in
     record {
@@ -240,16 +240,16 @@ given_sound D pool spent n (Some d) l t s k =
     }
 
 pub served_sound : (D : ℕ → Bool) (pool spent : List ℕ) (n : ℕ) (rs : List (Option ℕ)) (l o : Loading)
-    → ((x : ℕ) → count x pool ≤ 1) → Sound D pool spent n l → serve D rs l ≡ Some o → Sound D pool (spent ++ wished rs) (n + others rs) o
+    → ((x : ℕ) → count x pool ≤ 1) → Sound D pool spent n l → serve D rs l ≡ Some o → Sound D pool (spent ++ wishes_among rs) (n + others rs) o
 served_sound D pool spent n [] l o c s e =
     let z : n ≡ n + others [] = omega arith in
     subst (Sound D pool (spent ++ []) (n + others [])) (some_same l o e) (subst (λ m. Sound D pool (spent ++ []) m l) z (subst (λ ys. Sound D pool ys n l) (sym (append-nil spent)) s))
-served_sound D pool spent n (r ∷ rs) l o c s e = go (take_page D r l) refl (λ t. served_sound D pool (spent ++ wished (r ∷ [])) (n + others (r ∷ [])) rs (give_page r t) o c)
+served_sound D pool spent n (r ∷ rs) l o c s e = go (take_page D r l) refl (λ t. served_sound D pool (spent ++ wishes_among (r ∷ [])) (n + others (r ∷ [])) rs (give_page r t) o c)
   where
-    go : (m : Option (ℕ × Loading)) → take_page D r l ≡ m → ((t : ℕ × Loading) → Sound D pool (spent ++ wished (r ∷ [])) (n + others (r ∷ [])) (give_page r t) → serve D rs (give_page r t) ≡ Some o → Sound D pool ((spent ++ wished (r ∷ [])) ++ wished rs) (n + others (r ∷ []) + others rs) o) → Sound D pool (spent ++ wished (r ∷ rs)) (n + others (r ∷ rs)) o
+    go : (m : Option (ℕ × Loading)) → take_page D r l ≡ m → ((t : ℕ × Loading) → Sound D pool (spent ++ wishes_among (r ∷ [])) (n + others (r ∷ [])) (give_page r t) → serve D rs (give_page r t) ≡ Some o → Sound D pool ((spent ++ wishes_among (r ∷ [])) ++ wishes_among rs) (n + others (r ∷ []) + others rs) o) → Sound D pool (spent ++ wishes_among (r ∷ rs)) (n + others (r ∷ rs)) o
     go None f ih = absurd (none-some o (rw (f, serve) at e))
     go (Some t) f ih =
         let k = taken_took D r l t s.homes (λ x. omega (arith, s.conserved x, c x)) f in
         let v = ih t (given_sound D pool spent n r l t s k) (rw (f, serve) at e) in
-        subst (λ ys. Sound D pool ys (n + others (r ∷ rs)) o) (append_assoc spent (wished (r ∷ [])) (wished rs) ∙ ap (λ ys. spent ++ ys) (wished-cons r rs))
-        (subst (λ m. Sound D pool ((spent ++ wished (r ∷ [])) ++ wished rs) m o) (others-cons n r rs) v)
+        subst (λ ys. Sound D pool ys (n + others (r ∷ rs)) o) (append_assoc spent (wishes_among (r ∷ [])) (wishes_among rs) ∙ ap (λ ys. spent ++ ys) (wished-cons r rs))
+        (subst (λ m. Sound D pool ((spent ++ wishes_among (r ∷ [])) ++ wishes_among rs) m o) (others-cons n r rs) v)

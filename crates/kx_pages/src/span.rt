@@ -46,7 +46,8 @@ impl Span {
     /// The pages below 2^34 that have one of the addresses from `start` on and before `stop`. This project's own.
     pub fn meeting(start: u64, stop: u64) -> Span
         ensures exact { result ≡ pages_met start (min stop (2 ^ 46)) }
-        ensures pages { (p : ℕ) → in_span result p ≡ (nat_lt p (2 ^ 34) && meets_page start stop p) }
+        ensures pages { (p : ℕ)
+            → in_span result p ≡ (nat_lt p (2 ^ 34) && meets_page start stop p) }
         ensures low { stop ≤ 2 ^ 46 → (p : ℕ) → in_span result p ≡ meets_page start stop p }
     {
         let first = (start / PAGE_SIZE).min(PAGE_LIMIT);

@@ -22,8 +22,8 @@ use Rattle.kx_pages.proofs.Lists.{Each-map, Each-both, Each-append, Each-left, E
 use Rattle.kx_laws.proofs.Booleans.{not_false}
 use Rattle.kx_pages.proofs.Counting.{Distinct-push, Distinct-split}
 
-pub decoded : (w : ℕ) (i : Item) → decode w ≡ Some i → w ≡ code i
-decoded w i e = grind arith
+pub decode_is_code : (w : ℕ) (i : Item) → decode w ≡ Some i → w ≡ code i
+decode_is_code w i e = grind arith
 
 pub decode-code : (i : Item) → decode (code i) ≡ Some i
 decode-code (Link p) = grind arith
@@ -161,8 +161,8 @@ module _ (M : Mem) (W : Wants) (all : List ℕ) (control : ℕ) (swap : Option �
       }
 
   goes_on : (n : ℕ) → Goes_on n
-  goes_on zero a ls qs o last f k = done_here a ls qs o k.0 last f (decoded (word M a) (Done k.0) k.1) (none_holds (reasons M W all control swap (Some a) (so_far ls qs o) (Done k.0)) k.2) k.3
-  goes_on (suc n) a ls qs o last f k = item_here n a ls qs o k.0 last (goes_on n) f (decoded (word M a) k.0 k.1) (none_holds (reasons M W all control swap (Some a) (so_far ls qs o) k.0) k.2) k.3 k.4
+  goes_on zero a ls qs o last f k = done_here a ls qs o k.0 last f (decode_is_code (word M a) (Done k.0) k.1) (none_holds (reasons M W all control swap (Some a) (so_far ls qs o) (Done k.0)) k.2) k.3
+  goes_on (suc n) a ls qs o last f k = item_here n a ls qs o k.0 last (goes_on n) f (decode_is_code (word M a) k.0 k.1) (none_holds (reasons M W all control swap (Some a) (so_far ls qs o) k.0) k.2) k.3 k.4
 
   fine_none : Fine M W control swap [] []
   fine_none = record { once = tt; in_order = tt; right_bytes = tt; stays = tt; links_apart = tt; pairs_apart = tt; keeps = keeps_none swap }
@@ -189,7 +189,7 @@ module _ (M : Mem) (W : Wants) (all : List ℕ) (control : ℕ) (swap : Option �
       let r = none_holds (reasons M W all control swap None nothing_earlier (Done k.0)) k.2 in
       let is = Done k.0 ∷ [] in
       let a : Accepted M W head control is = record {
-        walk = (decoded head (Done k.0) k.1, refl);
+        walk = (decode_is_code head (Done k.0) k.1, refl);
         once = tt;
         destination_first = tt;
         in_order = tt;
@@ -199,7 +199,7 @@ module _ (M : Mem) (W : Wants) (all : List ℕ) (control : ℕ) (swap : Option �
         control_apart = (tt, tt);
       } in
       (is, accepted_as M W head control swap is a (keeps_none swap) (swap_apart swap control r.0), refl, ap (λ s. s.links) k.3, ap (λ s. s.pairs) k.3)
-  found w head (suc n) last k = on_head k.0 (decoded head k.0 k.1) (none_holds (reasons M W all control swap None nothing_earlier k.0) k.2) k.3 k.4
+  found w head (suc n) last k = on_head k.0 (decode_is_code head k.0 k.1) (none_holds (reasons M W all control swap None nothing_earlier k.0) k.2) k.3 k.4
     where
       on_head : (i : Item) → head ≡ code i → AllByRecursion (λ r. r.0 ≡ false) (reasons M W all control swap None nothing_earlier i) → ((p : ℕ) → i ≢ Done p) → Faultless M W all control swap (Some (following None i)) (with_item nothing_earlier i) (word M (following None i)) n last → Found head (suc n) last
       on_head (Done p) e r d m = absurd (d p refl)

@@ -15,7 +15,7 @@ use Rattle.list_checker.specs.inner.Laws.{ListsWanted}
 use Rattle.list_checker.specs.Crash.{AcceptedCrash, crash_reason, crash_reasons, lacks}
 use Rattle.list_checker.proofs.Lists.{none_holds, none_first, wanted_bytes, equal-same_bytes}
 use Rattle.kx_laws.proofs.Options.{some_same}
-use Rattle.list_checker.proofs.Checking.{decoded}
+use Rattle.list_checker.proofs.Checking.{decode_is_code}
 use Rattle.kx_pages.proofs.Lists.{Each-at, Each-from_Has}
 use Rattle.kx_laws.proofs.Booleans.{not_false}
 
@@ -52,7 +52,7 @@ module _ (M : Mem) (W : Wants) where
       go (Some (Done p)) e r =
           let right = Each-right all (none_holds (crash_reasons M W all (Done p)) r) in
           record {
-            done = done_word p head (decoded head (Done p) e);
+            done = done_word p head (decode_is_code head (Done p) e);
             there = λ q b w. some_same (M q) b (sym (wanted_bytes (W q) (M q) (Each-at Right all q right (l.whole q b w))) ∙ w);
           }
 

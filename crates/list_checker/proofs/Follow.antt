@@ -18,7 +18,7 @@ use Rattle.list_checker.specs.inner.Checked.{Leads, IsPlace}
 use Rattle.list_checker.specs.Reading.{words_from, IsWalk}
 use Rattle.list_checker.specs.inner.Reading.{ShowsLinks, FitsLinks}
 use Rattle.list_checker.proofs.Lists.{none_holds}
-use Rattle.list_checker.proofs.Checking.{decoded}
+use Rattle.list_checker.proofs.Checking.{decode_is_code}
 use Rattle.list_checker.proofs.Ending.{Linked, linked_none, linked_more, reach, reach_link, reach_next}
 use Rattle.list_checker.proofs.OneWay.{no_walk}
 use Rattle.kx_pages.proofs.Lists.{Each-from_has_not}
@@ -120,7 +120,7 @@ module _ (m : Contents) (head : ℕ) where
   }
 
   pub next_here : (k : ℕ) (place : Option ℕ) (c : BTreeSet ℕ) (w : ℕ) (ws : List ℕ) (i : Item) → (x : Reached k place c w ws) → decode w ≡ Some i → why_by walk_reasons place x.s (Some i) ≡ None → ((p : ℕ) → i ≡ Done p → ⊥) → Next (at m) place x.s w i
-  next_here k place c w ws i x e r d = next_of (at m) place x.s w i (decoded w i e) x.here r d x.linked x.placed
+  next_here k place c w ws i x e r d = next_of (at m) place x.s w i (decode_is_code w i e) x.here r d x.linked x.placed
 
   pub reached_next : (k : ℕ) (place : Option ℕ) (c c' : BTreeSet ℕ) (w w' next : ℕ) (ws ws' : List ℕ) (i : Item) → (x : Reached k place c w ws) → decode w ≡ Some i → why_by walk_reasons place x.s (Some i) ≡ None → ((p : ℕ) → i ≡ Done p → ⊥)
       → (ShowsLinks c x.s → FitsLinks x.s i → ShowsLinks c' (with_item x.s i)) → next ≡ following place i → IsPlace next → w' ≡ word (at m) next → ws' ≡ ws ++ w ∷ [] → Reached (k + 1) (Some next) c' w' ws'
@@ -134,7 +134,7 @@ module _ (m : Contents) (head : ℕ) where
         shows = shows x.shows y.fits;
         whole = λ js f h.
             let t = x.whole (i ∷ js) (y.goes js (subst (λ a. Reads M a js) n f)) (y.once js h) in
-            (t.0, t.1, t.2, t.3 ∙ longer ws ws' w (code i) (map code js) (decoded w i e) u);
+            (t.0, t.1, t.2, t.3 ∙ longer ws ws' w (code i) (map code js) (decode_is_code w i e) u);
         fault = λ j why f.
             let z : k + suc j ≡ k + 1 + j = omega arith in
             let f1 = subst (λ u. FaultyBy M walk_reasons (Some next) (with_item x.s i) u j why) there f in
@@ -171,8 +171,8 @@ module _ (m : Contents) (head : ℕ) where
   pub ends_whole : (k : ℕ) (place : Option ℕ) (c : BTreeSet ℕ) (w p : ℕ) (ws ws' : List ℕ) → (x : Reached k place c w ws) → decode w ≡ Some (Done p) → ws' ≡ ws ++ w ∷ [] → IsWalk (at m) head ws' None
   ends_whole k place c w p ws ws' x e u =
       let t = x.whole (Done p ∷ []) (done_from place x.here) (subst Distinct (sym (append-nil x.s.links)) x.linked.once) in
-      (t.0, t.1, t.2, t.3 ∙ ap (λ b. ws ++ b ∷ []) (sym (decoded w (Done p) e)) ∙ sym u)
+      (t.0, t.1, t.2, t.3 ∙ ap (λ b. ws ++ b ∷ []) (sym (decode_is_code w (Done p) e)) ∙ sym u)
     where
       done_from : (place : Option ℕ) → ((a : ℕ) → place ≡ Some a → word (at m) a ≡ w) → From (at m) place w (Done p ∷ [])
-      done_from None h = (decoded w (Done p) e, refl)
-      done_from (Some a) h = (h a refl ∙ decoded w (Done p) e, refl)
+      done_from None h = (decode_is_code w (Done p) e, refl)
+      done_from (Some a) h = (h a refl ∙ decode_is_code w (Done p) e, refl)

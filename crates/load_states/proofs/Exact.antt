@@ -16,7 +16,7 @@ use Rattle.kimage_list.proofs.Enough.{has_of_count, taken_some}
 use Rattle.kimage_list.proofs.Lists.{eqb-self}
 use Rattle.kimage_list.proofs.Parts.{served-append}
 use Rattle.kimage_list.proofs.Standings.{length-entries, one_served}
-use Rattle.kimage_list.proofs.Takes.{others, wished}
+use Rattle.kimage_list.proofs.Takes.{others, wishes_among}
 use Rattle.kx_pages.proofs.Lists.{length-sources}
 use Rattle.load_states.specs.Loads.{entries_of, loading_of}
 use Rattle.load_states.specs.inner.Loads.{LoadsExactly}
@@ -28,7 +28,7 @@ use Rattle.kx_pages.proofs.Counting.{count-append, Each-from_count}
 use Rattle.kx_pages.specs.Needs.{first_count}
 use Rattle.kx_pages.proofs.Counting.{count-from_Distinct}
 
-wished-cons : (r : Request) (rs : List Request) → wished (r ∷ []) ++ wished rs ≡ wished (r ∷ rs)
+wished-cons : (r : Request) (rs : List Request) → wishes_among (r ∷ []) ++ wishes_among rs ≡ wishes_among (r ∷ rs)
 wished-cons None rs = refl
 wished-cons (Some p) rs = refl
 
@@ -38,24 +38,24 @@ others-cons (Some p) rs = omega arith
 
 -- where each page in all is wanted and the pool has as many pages as it takes, requests are served
 module _ (D : ℕ → Bool) (pool all : List ℕ) (need : ℕ) (once : (x : ℕ) → count x pool ≤ 1) (wanted : (p : ℕ) → D p ≡ true → Has p all) (enough : need ≤ length pool) where
-  allowed : (r : Request) (rs : List Request) (spent : List ℕ) (n : ℕ) → AllByRecursion (λ p. Has p all) (spent ++ wished (r ∷ rs))
-      → ((x : ℕ) → count x (spent ++ wished (r ∷ rs)) ≤ 1) → n + others (r ∷ rs) + length all ≤ need → Allowed r all spent n need
+  allowed : (r : Request) (rs : List Request) (spent : List ℕ) (n : ℕ) → AllByRecursion (λ p. Has p all) (spent ++ wishes_among (r ∷ rs))
+      → ((x : ℕ) → count x (spent ++ wishes_among (r ∷ rs)) ≤ 1) → n + others (r ∷ rs) + length all ≤ need → Allowed r all spent n need
   allowed None rs spent n inside single fits = omega (arith, fits)
   allowed (Some p) rs spent n inside single fits =
-      let here : count p (p ∷ wished rs) ≡ 1 + count p (wished rs) = ap (λ b. cond b 1 0 + count p (wished rs)) (eqb-self p) in (
-        (Each-right (λ p. Has p all) spent (p ∷ wished rs) inside).0,
-        omega (arith, count-append p spent (p ∷ wished rs), single p, here),
+      let here : count p (p ∷ wishes_among rs) ≡ 1 + count p (wishes_among rs) = ap (λ b. cond b 1 0 + count p (wishes_among rs)) (eqb-self p) in (
+        (Each-right (λ p. Has p all) spent (p ∷ wishes_among rs) inside).0,
+        omega (arith, count-append p spent (p ∷ wishes_among rs), single p, here),
         omega (arith, fits),
       )
 
-  serves : (rs : List Request) (spent : List ℕ) (n : ℕ) (l : Loading) → Full D pool spent n l → AllByRecursion (λ p. Has p all) (spent ++ wished rs)
-      → ((x : ℕ) → count x (spent ++ wished rs) ≤ 1) → n + others rs + length all ≤ need → (m : Loading) × (serve D rs l ≡ Some m)
+  serves : (rs : List Request) (spent : List ℕ) (n : ℕ) (l : Loading) → Full D pool spent n l → AllByRecursion (λ p. Has p all) (spent ++ wishes_among rs)
+      → ((x : ℕ) → count x (spent ++ wishes_among rs) ≤ 1) → n + others rs + length all ≤ need → (m : Loading) × (serve D rs l ≡ Some m)
   serves [] spent n l f inside single fits = (l, refl)
   serves (r ∷ rs) spent n l f inside single fits =
-      let t = taken_some D pool spent all n need l once f wanted (Each-left (λ p. Has p all) spent (wished (r ∷ rs)) inside)
-      (λ x. omega (arith, count-append x spent (wished (r ∷ rs)), single x)) enough r (allowed r rs spent n inside single fits) in
-      let more : (spent ++ wished (r ∷ [])) ++ wished rs ≡ spent ++ wished (r ∷ rs) = append_assoc spent (wished (r ∷ [])) (wished rs) ∙ ap (λ ys. spent ++ ys) (wished-cons r rs) in
-      let ih = serves rs (spent ++ wished (r ∷ [])) (n + others (r ∷ [])) (give_page r t.0) (full_on D pool spent n r l t.0 once f t.1)
+      let t = taken_some D pool spent all n need l once f wanted (Each-left (λ p. Has p all) spent (wishes_among (r ∷ rs)) inside)
+      (λ x. omega (arith, count-append x spent (wishes_among (r ∷ rs)), single x)) enough r (allowed r rs spent n inside single fits) in
+      let more : (spent ++ wishes_among (r ∷ [])) ++ wishes_among rs ≡ spent ++ wishes_among (r ∷ rs) = append_assoc spent (wishes_among (r ∷ [])) (wishes_among rs) ∙ ap (λ ys. spent ++ ys) (wished-cons r rs) in
+      let ih = serves rs (spent ++ wishes_among (r ∷ [])) (n + others (r ∷ [])) (give_page r t.0) (full_on D pool spent n r l t.0 once f t.1)
       (subst (AllByRecursion (λ p. Has p all)) (sym more) inside) (λ x. subst (λ ys. count x ys ≤ 1) (sym more) (single x)) (omega (arith, fits, others-cons r rs)) in
       (ih.0, served-append D (r ∷ []) rs l (give_page r t.0) (one_served D r l t.0 t.1) ∙ ih.1)
 
@@ -78,7 +78,7 @@ module _ (wish : Wish) (ss : List SegmentValue) (pool : List ℕ) (k : AreSegmen
   needs : length (pages ss) + (length ss + length (pages ss) + 510) / 511 + first_count wish ≡ need wish ss
   needs = need_same wish ss (length ss) (length (pages ss)) refl refl
 
-  wishes : wished (requests wish (entries_of ss)) ≡ pages ss
+  wishes : wishes_among (requests wish (entries_of ss)) ≡ pages ss
   wishes = wished_in wish (entries_of ss) ∙ spent
 
   comes : need wish ss ≤ length pool → (l : Loading) × (loading_of wish ss pool ≡ Some l)

@@ -19,7 +19,7 @@ use Rattle.kimage_list.specs.Laying.{items, chain, link_pages, source_pages, put
 use Rattle.kimage_list.specs.inner.Laying.{Holds}
 use Rattle.kimage_list.specs.inner.Drafts.{one, IsHome}
 use Rattle.kimage_list.proofs.Lists.{keys, holds_all, keys-append, keys-link_pages, keys-source_pages, length-items, heads_same, nil_cons}
-use Rattle.kimage_list.proofs.Takes.{Sound, wished, others, served_sound}
+use Rattle.kimage_list.proofs.Takes.{Sound, wishes_among, others, served_sound}
 use Rattle.load_states.proofs.LaidWords.{IsMove, lead, walks}
 use Rattle.kx_pages.proofs.Lists.{Each-map, Each-both, Each-take, Each-drop}
 use Rattle.kx_pages.proofs.Counting.{count-append, Each-from_no_count, Distinct-from_count}
@@ -52,7 +52,7 @@ each_count [] ys h = tt
 each_count (x ∷ xs) ys h = (grind (arith, h x), each_count xs ys (λ y. omega (arith, h y)))
 
 -- the requests of the entries
-wished-append : (xs ys : List Request) → wished (xs ++ ys) ≡ wished xs ++ wished ys
+wished-append : (xs ys : List Request) → wishes_among (xs ++ ys) ≡ wishes_among xs ++ wishes_among ys
 wished-append [] ys = refl
 wished-append (None ∷ xs) ys = wished-append xs ys
 wished-append (Some d ∷ xs) ys = ap (λ zs. d ∷ zs) (wished-append xs ys)
@@ -62,22 +62,22 @@ others-append [] ys = omega arith
 others-append (None ∷ xs) ys = omega (arith, others-append xs ys)
 others-append (Some d ∷ xs) ys = others-append xs ys
 
-link_request : (b : Bool) → (wished (cond b (None ∷ []) []) ≡ []) × (others (cond b (None ∷ []) []) ≡ cond b 1 0)
+link_request : (b : Bool) → (wishes_among (cond b (None ∷ []) []) ≡ []) × (others (cond b (None ∷ []) []) ≡ cond b 1 0)
 link_request true = (refl, refl)
 link_request false = (refl, refl)
 
-own : (e : Entry) (ys : List ℕ) → (wished (own_request e) ++ pages_of [] ≡ pages_of (e ∷ [])) × (others (own_request e) ≡ 0)
+own : (e : Entry) (ys : List ℕ) → (wishes_among (own_request e) ++ pages_of [] ≡ pages_of (e ∷ [])) × (others (own_request e) ≡ 0)
 own (Start p) ys = (refl, refl)
 own (Move p) ys = (refl, refl)
 
-pub wished-requests : (n : ℕ) (es : List Entry) → wished (requests_from n es) ≡ pages_of es
+pub wished-requests : (n : ℕ) (es : List Entry) → wishes_among (requests_from n es) ≡ pages_of es
 wished-requests n [] = refl
 wished-requests n (Start p ∷ es) =
     wished-append (cond (eqb (n % 511) 0) (None ∷ []) []) (requests_from (suc n) es)
-    ∙ ap (λ ys. ys ++ wished (requests_from (suc n) es)) (link_request (eqb (n % 511) 0)).0 ∙ wished-requests (suc n) es
+    ∙ ap (λ ys. ys ++ wishes_among (requests_from (suc n) es)) (link_request (eqb (n % 511) 0)).0 ∙ wished-requests (suc n) es
 wished-requests n (Move p ∷ es) =
     wished-append (cond (eqb (n % 511) 0) (None ∷ []) []) (Some p ∷ requests_from (suc n) es)
-    ∙ ap (λ ys. ys ++ p ∷ wished (requests_from (suc n) es)) (link_request (eqb (n % 511) 0)).0 ∙ ap (λ ys. p ∷ ys) (wished-requests (suc n) es)
+    ∙ ap (λ ys. ys ++ p ∷ wishes_among (requests_from (suc n) es)) (link_request (eqb (n % 511) 0)).0 ∙ ap (λ ys. p ∷ ys) (wished-requests (suc n) es)
 
 one_quotient : (n : ℕ) → cond (eqb (n % 511) 0) 1 0 + (n + 510) / 511 ≡ (suc n + 510) / 511
 one_quotient n = go (eqb_tells (n % 511) 0)
@@ -157,18 +157,18 @@ led-chained (l ∷ ls) (Move p ∷ es) qs b = absurd b
 differ : (D : ℕ → Bool) (x y : ℕ) → D x ≡ true → D y ≡ false → x ≢ y
 differ D x y t f e = true≢false (sym t ∙ ap D e ∙ f)
 
-ordered : (D : ℕ → Bool) (qs : List (ℕ × ℕ)) → AllByRecursion (λ q. D q.0 ≡ true) qs → AllByRecursion (IsHome D) qs → ((x : ℕ) → count x (destinations qs) ≤ 1) → InOrder qs
-ordered D [] t h c = tt
-ordered D (q ∷ qs) t h c =
+homes_in_order : (D : ℕ → Bool) (qs : List (ℕ × ℕ)) → AllByRecursion (λ q. D q.0 ≡ true) qs → AllByRecursion (IsHome D) qs → ((x : ℕ) → count x (destinations qs) ≤ 1) → InOrder qs
+homes_in_order D [] t h c = tt
+homes_in_order D (q ∷ qs) t h c =
     let z : count q.0 (destinations qs) ≡ 0 = grind (arith, c q.0) in
     let away : AllByRecursion (λ r. r.0 ≢ q.0) qs = Each-from_destinations (λ x. x ≢ q.0) qs (Each-from_no_count q.0 (destinations qs) z) in
-    (Each-both qs (λ r n m. ((λ e. n (sym e)), ⊎_elim (λ s e. n (sym (e ∙ s))) (λ f. differ D q.0 r.1 t.0 f) m)) away h.1, ordered D qs t.1 h.1 (λ x. omega (arith, c x)))
+    (Each-both qs (λ r n m. ((λ e. n (sym e)), ⊎_elim (λ s e. n (sym (e ∙ s))) (λ f. differ D q.0 r.1 t.0 f) m)) away h.1, homes_in_order D qs t.1 h.1 (λ x. omega (arith, c x)))
 
 -- no page stands in two pairs
 apart_pairs : (D : ℕ → Bool) (qs : List (ℕ × ℕ)) → AllByRecursion (λ q. D q.0 ≡ true) qs → AllByRecursion (IsHome D) qs → ((x : ℕ) → count x (destinations qs) ≤ 1) → ((x : ℕ) → count x (sources qs) ≤ 1) → PairsApart qs
 apart_pairs D [] t h c s = tt
 apart_pairs D (q ∷ qs) t h c s =
-    let u = ordered D (q ∷ qs) t h c in
+    let u = homes_in_order D (q ∷ qs) t h c in
     let z : count q.1 (sources qs) ≡ 0 = grind (arith, s q.1) in
     let away : AllByRecursion (λ r. r.1 ≢ q.1) qs = Each-from_sources (λ x. x ≢ q.1) qs (Each-from_no_count q.1 (sources qs) z) in
     let back : AllByRecursion (λ r. q.1 ≢ r.0) qs = ⊎_elim (λ m. Each-map qs (λ r a e. a.0 (sym m ∙ e)) u.0) (λ f. Each-map qs (λ r d e. differ D r.0 q.1 d f (sym e)) t.1) h.0 in
@@ -228,7 +228,7 @@ module _ (M : Mem) (D : ℕ → Bool) (W : Wants) (es : List Entry) (c : ℕ) (l
     walk = walks M1 ls (items es qs) links_below are_moves (Each-left (λ x. M1 x.0 ≡ x.1) (link_pages ls (items es qs)) (source_pages W qs) holds);
     once = rw links_are (Distinct-from_count ls (λ x. omega (arith, k.apart x)));
     destination_first = led-chained ls es qs plan.begins;
-    in_order = rw pairs_are (ordered D qs true_at k.homes dest_once);
+    in_order = rw pairs_are (homes_in_order D qs true_at k.homes dest_once);
     whole = λ p b e. rw (pairs_are, k.order) (plan.only p b e);
     right_bytes = rw pairs_are brings;
     links_unwritten = rw (pairs_are, links_are) (Each-map qs (λ q t. Each-map ls (λ l f. differ D q.0 l t f) k.links_free) true_at);
@@ -253,7 +253,7 @@ module _ (M : Mem) (D : ℕ → Bool) (W : Wants) (es : List Entry) (c : ℕ) (l
   }
 
 -- the requests of a load: for its pages, for the pages before the link pages, and for the link pages
-pub wished_in : (w : Wish) (es : List Entry) → wished (requests w es) ≡ pages_of es
+pub wished_in : (w : Wish) (es : List Entry) → wishes_among (requests w es) ≡ pages_of es
 wished_in Kept es = wished-requests 0 es
 wished_in Plain es = wished-requests 0 es
 
@@ -266,7 +266,7 @@ pub served_well : (wish : Wish) (D : ℕ → Bool) (es : List Entry) (pool : Lis
 served_well wish D es pool l once e =
     let s = served_sound D pool [] 0 (requests wish es) (begun pool) l once (record { conserved = λ x. omega arith; homes = tt; order = refl; free = tt; many = refl }) e in
     subst (λ ys. Sound D pool ys (first_count wish + (length es + 510) / 511) l) (wished_in wish es)
-    (subst (λ n. Sound D pool (wished (requests wish es)) n l) (let h : 0 + others (requests wish es) ≡ first_count wish + (length es + 510) / 511 = omega (arith, others_in wish es) in h) s)
+    (subst (λ n. Sound D pool (wishes_among (requests wish es)) n l) (let h : 0 + others (requests wish es) ≡ first_count wish + (length es + 510) / 511 = omega (arith, others_in wish es) in h) s)
 
 lead_is : (ls : List ℕ) (is : List Item) → 1 ≤ length ls → lead (chain ls is) ≡ code (Link (slice_index ls 0))
 lead_is [] is n = absurd (omega (arith, n))

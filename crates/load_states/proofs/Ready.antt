@@ -108,8 +108,8 @@ ends_of : (m : Contents) (i : Image) (words : ℕ) (M : Mem) → Comes Held word
 ends_of m i words M f = let z : 0 + words ≡ words = omega arith in record { held = f.held tt; ends = f.out ∙ ap outcomes.Done z; leaves = f.leaves; sets = f.sets; stay = f.stay }
 
 -- the same of a memory and an image that were handed over
-handed : (m n : Contents) (i j : Image) (words : ℕ) (M : Mem) → m ≡ n → i ≡ j → Ends n j words M → Ends m i words M
-handed m n i j words M e f h = subst (λ i. Ends m i words M) (sym f) (subst (λ m. Ends m j words M) (sym e) h)
+ends_of_equals : (m n : Contents) (i j : Image) (words : ℕ) (M : Mem) → m ≡ n → i ≡ j → Ends n j words M → Ends m i words M
+ends_of_equals m n i j words M e f h = subst (λ i. Ends m i words M) (sym f) (subst (λ m. Ends m j words M) (sym e) h)
 
 -- the machine's run, as the load has it
 pub runs_to : (s : Load) (m n : Contents) (i : Image) (words : ℕ) (M : Mem) → m ≡ s.memory → i ≡ s.image → Ends m i words M
@@ -120,7 +120,7 @@ runs_to s m n i words M e f runs left = (
 )
 
 pub plain_ends : (c : Checked) (m : Contents) (i : Image) → IsReadyPlain c → m ≡ c.load.memory → i ≡ c.load.image → Ends m i c.words (overlay (at c.load.memory) (want c.load.segments))
-plain_ends c m i r e f = handed m c.load.memory i c.load.image c.words _ e f (ends_of c.load.memory c.load.image c.words _ (ready_runs c r))
+plain_ends c m i r e f = ends_of_equals m c.load.memory i c.load.image c.words _ e f (ends_of c.load.memory c.load.image c.words _ (ready_runs c r))
 
 -- the run of a list with context preserved, over a memory that has its words
 pub swap_is : (M : Mem) (c : Checked) (swap : ℕ) (items : List Item) → IsKept M c swap items → swap_of c.load ≡ swap
@@ -136,7 +136,7 @@ kept_comes M c swap items k =
     subst (λ mode. Comes Held c.words 0 (start_at c.load.memory c.load.image.head mode) (exchange (at c.load.memory) c.pairs (swap_of c.load))) (sym k.mode) swapped
 
 pub kept_ends : (M : Mem) (c : Checked) (swap : ℕ) (items : List Item) (m : Contents) (i : Image) → IsKept M c swap items → m ≡ c.load.memory → i ≡ c.load.image → Ends m i c.words (exchange (at c.load.memory) c.pairs (swap_of c.load))
-kept_ends M c swap items m i k e f = handed m c.load.memory i c.load.image c.words _ e f (ends_of c.load.memory c.load.image c.words _ (kept_comes M c swap items k))
+kept_ends M c swap items m i k e f = ends_of_equals m c.load.memory i c.load.image c.words _ e f (ends_of c.load.memory c.load.image c.words _ (kept_comes M c swap items k))
 
 -- the runs of accepted lists end after as many steps as their walks have words
 pub plain_done : (c : Checked) → IsReadyPlain c → EndsAfter c.load c.words
@@ -232,8 +232,8 @@ wanted_held c r p h =
     destination_held c.load.memory r.swap p c.pairs r.kept.held (subst (λ qs. Has p (destinations qs)) r.kept.same_pairs (r.kept.accepted.plain.whole p b.0 b.1))
 
 -- a write to a wanted page leaves the list's words
-pub touched : (c d : Checked) (p : ℕ) (bytes : List ℕ) → IsToGoBack c → IsSome (want c.load.segments p) → d.load ≡ record c.load { memory = after_set c.load.memory p bytes } → d.words ≡ c.words → d.links ≡ c.links → d.pairs ≡ c.pairs → IsToGoBack d
-touched c d p bytes r h e words link_count same =
+pub touch_goes_back : (c d : Checked) (p : ℕ) (bytes : List ℕ) → IsToGoBack c → IsSome (want c.load.segments p) → d.load ≡ record c.load { memory = after_set c.load.memory p bytes } → d.words ≡ c.words → d.links ≡ c.links → d.pairs ≡ c.pairs → IsToGoBack d
+touch_goes_back c d p bytes r h e words link_count same =
     record {
       before = r.before;
       swap = r.swap;

@@ -182,9 +182,9 @@ unfolding outside
 outside_below [] rows all = all
 outside_below (area ∷ areas) rows all = outside_below areas (flat_map (without_area area) rows) (each_below area rows all)
 
-covered : (b : ℕ) (rows : List Row) → covers b rows ≡ true → 1 ≤ times b rows
-covered b [] h = absurd (false≢true h)
-covered b (r ∷ rows) h = go (is_inside b r) refl h (λ k. covered b rows k)
+cover_is_counted : (b : ℕ) (rows : List Row) → covers b rows ≡ true → 1 ≤ times b rows
+cover_is_counted b [] h = absurd (false≢true h)
+cover_is_counted b (r ∷ rows) h = go (is_inside b r) refl h (λ k. cover_is_counted b rows k)
   where
     go : (x : Bool) → is_inside b r ≡ x → (x || covers b rows) ≡ true → (covers b rows ≡ true → 1 ≤ times b rows) → 1 ≤ times b (r ∷ rows)
     go true e h ih = let one : one_if (is_inside b r) ≡ 1 = ap one_if e in omega (arith, times-cons b r rows, one)
@@ -196,4 +196,4 @@ ranges_below text m e = outside_below m.areas (filter is_ram_row m.rows) (ram_ap
 
 pub ranges_once : (text : List ℕ) (m : MapValue) (b : ℕ) → map_reading text ≡ Ok m → covers b (core_ranges m) ≡ true → times b (core_ranges m) ≡ 1
 ranges_once text m b e h =
-    omega (arith, covered b (core_ranges m) h, outside_times b m.areas (filter is_ram_row m.rows), (ram_apart text m e).once b)
+    omega (arith, cover_is_counted b (core_ranges m) h, outside_times b m.areas (filter is_ram_row m.rows), (ram_apart text m e).once b)

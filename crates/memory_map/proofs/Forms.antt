@@ -28,9 +28,9 @@ record Spaced (line : List ℕ) : Type 0 where
   all : list_all (λ b. b == 32) spaces ≡ true
   whole : line ≡ spaces ++ without_spaces line
 
-spaced : (line : List ℕ) → Spaced line
-spaced [] = record { spaces = []; all = refl; whole = refl }
-spaced (b ∷ bs) = go (b == 32) refl (spaced bs)
+line_is_spaced : (line : List ℕ) → Spaced line
+line_is_spaced [] = record { spaces = []; all = refl; whole = refl }
+line_is_spaced (b ∷ bs) = go (b == 32) refl (line_is_spaced bs)
   where
     go : (c : Bool) → (b == 32) ≡ c → Spaced bs → Spaced (b ∷ bs)
     go true e s = record { spaces = b ∷ s.spaces; all = and_from (b == 32) _ e s.all; whole = ap (λ xs. b ∷ xs) s.whole ∙ ap (λ c. b ∷ (s.spaces ++ (if c then without_spaces bs else b ∷ bs))) (sym e) }
@@ -58,7 +58,7 @@ module _ (line : List ℕ) (first last : ℕ) (class : Class) where
   by_numbers p q e f true s (Some a) n None m h = cc
   by_numbers p q e f true s (Some a) n (Some z) m h =
       let same = same_entry (a, z, class_of (drop 2 q.1)) (first, last, class) h in
-      let front = spaced line in (
+      let front = line_is_spaced line in (
         drop 2 q.1,
         record {
           spaces = front.spaces;

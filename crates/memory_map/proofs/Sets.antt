@@ -9,14 +9,14 @@ use Rattle.std.proofs.lemmas.Bool.{and_from, and_parts, le-leb, lt-ltb, leb-true
 use Rattle.memory_map.specs.Maps.{outside, without_area, before_area, behind_area}
 use Rattle.memory_map.specs.declared.row.Row.{Row}
 
-joined : (x y z : Bool) → ((x && not y) || (z && not y)) ≡ ((x || z) && not y)
-joined true true true = refl
-joined true true false = refl
-joined true false z = refl
-joined false true true = refl
-joined false true false = refl
-joined false false true = refl
-joined false false false = refl
+union_without : (x y z : Bool) → ((x && not y) || (z && not y)) ≡ ((x || z) && not y)
+union_without true true true = refl
+union_without true true false = refl
+union_without true false z = refl
+union_without false true true = refl
+union_without false true false = refl
+union_without false false true = refl
+union_without false false false = refl
 
 twice : (x y z : Bool) → ((x && not y) && not z) ≡ (x && not (y || z))
 twice true true true = refl
@@ -81,7 +81,7 @@ one area row b = two area row b _ refl
 each : (area : Row) (rows : List Row) (b : ℕ) → covers b (flat_map (without_area area) rows) ≡ (covers b rows && not (is_inside b area))
 each area [] b = refl
 each area (row ∷ rows) b =
-    list_any-append (is_inside b) (without_area area row) (flat_map (without_area area) rows) ∙ (rw (one area row b, each area rows b) (joined (is_inside b row) (is_inside b area) (covers b rows)))
+    list_any-append (is_inside b) (without_area area row) (flat_map (without_area area) rows) ∙ (rw (one area row b, each area rows b) (union_without (is_inside b row) (is_inside b area) (covers b rows)))
 
 pub difference : (areas rows : List Row) (b : ℕ) → covers b (outside areas rows) ≡ (covers b rows && not (covers b areas))
 unfolding outside

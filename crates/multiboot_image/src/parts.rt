@@ -142,7 +142,8 @@ fn with_zeros_before(alloc: Global, front: usize, part: &[u8]) -> Result<Vec<u8>
 fn kludge_parts(alloc: Global, site: Site, file: &[u8]) -> Result<Parts, MbFault>
     requires { length file.now ≡ site.total }
     ensures exact { Gives Memory (λ p. p) result (kludge_parts file.now site) }
-    ensures pages { IfOk result (λ r. (p : ℕ) → is_destination r.list p ≡ memory_meets_page p site) }
+    ensures pages { IfOk result (λ r. (p : ℕ)
+        → is_destination r.list p ≡ memory_meets_page p site) }
 {
     if site.is_bad() {
         return Err(MbFault::BadKludge);

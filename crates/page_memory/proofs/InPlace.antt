@@ -18,9 +18,9 @@ use Rattle.page_memory.proofs.Moves.{frame_in-front, length-frame_in, put_frame-
 use Rattle.page_memory.proofs.Frames.{frame_in-append, frame_in-put_same, frame_in-put_other, length-put_frame}
 
 -- two frames of one buffer, the first of them in the part before the second
-pub exchanged : (xs : List ℕ) (low high : ℕ) → low + 4096 ≤ high → high + 4096 ≤ length xs → put_frame (take high xs) low (frame_in xs high) ++ (frame_in (take high xs) low ++ drop 4096 (drop high xs)) ≡ trade_frames xs low high
+pub exchange_in_parts : (xs : List ℕ) (low high : ℕ) → low + 4096 ≤ high → high + 4096 ≤ length xs → put_frame (take high xs) low (frame_in xs high) ++ (frame_in (take high xs) low ++ drop 4096 (drop high xs)) ≡ trade_frames xs low high
 unfolding put_frame
-exchanged xs low high apart inside =
+exchange_in_parts xs low high apart inside =
     ap (λ t. put_frame (take high xs) low (frame_in xs high) ++ (t ++ drop 4096 (drop high xs))) (frame_in-front xs high low (omega (arith, inside)) apart)
     ∙ sym (put_frame-append (take high xs) (frame_in xs low ++ drop 4096 (drop high xs)) (frame_in xs high) low (omega (arith, apart, inside, length-take high xs)))
 
@@ -77,13 +77,13 @@ Holds-settled frame_of xs owners new k from n less inside long room swapped hold
     ]
 
 -- the slots after page k came into slot k, and the page that lay there went where page k was
-abbrev noted : List ℕ → ℕ → ℕ → ℕ → List ℕ
-noted slots other from k = set (set slots other from) k k
+abbrev with_note : List ℕ → ℕ → ℕ → ℕ → List ℕ
+with_note slots other from k = set (set slots other from) k k
 
 abbrev SlotCases : List ℕ → List ℕ → ℕ → ℕ → ℕ → ℕ → Type 0
 SlotCases slots new other from k j = ((j ≡ k) × (slice_index new j ≡ k)) ⊎ (((j ≡ other) × (slice_index new j ≡ from)) ⊎ ((j ≢ k) × (j ≢ other) × (slice_index new j ≡ slice_index slots j)))
 
-slot_cases : (slots : List ℕ) (other from k j : ℕ) → k < length slots → j < length slots → SlotCases slots (noted slots other from k) other from k j
+slot_cases : (slots : List ℕ) (other from k j : ℕ) → k < length slots → j < length slots → SlotCases slots (with_note slots other from k) other from k j
 slot_cases slots other from k j page below =
     let long = length-set slots other from in
     elim (cases_eq j k) [
@@ -118,10 +118,10 @@ settled_more slots owners after k from j page at_k less swapped is below =
     ]
 
 -- page k owns its slot, and the others own theirs as before
-pub AreOwned-settled : (slots owners after : List ℕ) (k from : ℕ) → k < length slots → length slots ≤ length owners → from ≡ slice_index slots k → k < from → length after ≡ length owners → SwappedAt owners after k from → AreOwned slots owners k → AreOwned (noted slots (slice_index owners k) from k) after (k + 1)
+pub AreOwned-settled : (slots owners after : List ℕ) (k from : ℕ) → k < length slots → length slots ≤ length owners → from ≡ slice_index slots k → k < from → length after ≡ length owners → SwappedAt owners after k from → AreOwned slots owners k → AreOwned (with_note slots (slice_index owners k) from k) after (k + 1)
 AreOwned-settled slots owners after k from page few at_k less same swapped is =
     let other = slice_index owners k in
-    let new = noted slots other from k in
+    let new = with_note slots other from k in
     let long : length new ≡ length slots = length-set (set slots other from) k k ∙ length-set slots other from in
     let high : from < length owners = omega (arith, at_k, is.inside k page) in
     record {
@@ -160,9 +160,9 @@ slot_entries-gathered xs ys k (e ∷ es) slots same =
     next k j = omega arith
 
 -- a number that is written in front of a frame
-pub numbered : (start xs new : List ℕ) (at k p : ℕ) → at ≡ 16 + 4104 * k → at + 4104 ≤ length xs → new ≡ page_with_word xs at p → drop at xs ≡ drop at start → (take (at + 4104) new ≡ take at xs ++ page_text (p, frame_in start (place k))) × (drop (at + 4104) new ≡ drop (at + 4104) start)
+pub number_in_slot : (start xs new : List ℕ) (at k p : ℕ) → at ≡ 16 + 4104 * k → at + 4104 ≤ length xs → new ≡ page_with_word xs at p → drop at xs ≡ drop at start → (take (at + 4104) new ≡ take at xs ++ page_text (p, frame_in start (place k))) × (drop (at + 4104) new ≡ drop (at + 4104) start)
 unfolding page_with_word frame_in
-numbered start xs new at k p at_k long is same =
+number_in_slot start xs new at k p at_k long is same =
     let front = take at xs in
     let head = little_bytes 8 p in
     let rest = drop (at + 8) xs in
@@ -192,9 +192,9 @@ numbers_more start xs new end pages item at i p below is number more text =
     ∙ text
 
 -- the head in front of the slots
-pub headed : (xs front back : List ℕ) (es : List (ℕ × List ℕ)) (n : ℕ) → 16 ≤ length xs → length es ≡ n → front ≡ magic ++ little_bytes 8 n → back ≡ drop 16 (take 16 xs ++ flat_map page_text es) → front ++ back ≡ text_of es
+pub head_and_entries : (xs front back : List ℕ) (es : List (ℕ × List ℕ)) (n : ℕ) → 16 ≤ length xs → length es ≡ n → front ≡ magic ++ little_bytes 8 n → back ≡ drop 16 (take 16 xs ++ flat_map page_text es) → front ++ back ≡ text_of es
 unfolding text_of
-headed xs front back es n long few is_front is_back =
+head_and_entries xs front back es n long few is_front is_back =
     ap (λ t. front ++ t) (is_back ∙ drop_at (take 16 xs) (flat_map page_text es) 16 (length-take-le 16 xs long))
     ∙ ap (λ t. t ++ flat_map page_text es) is_front
     ∙ append_assoc magic (little_bytes 8 n) (flat_map page_text es)
@@ -220,8 +220,8 @@ back_more slots owners j i inside back few =
     ]
 
 -- where each slot's frame went, by lists that are the same under other names
-pub gathered : (xs new seen lent slots owners lent_owners : List ℕ) → seen ≡ slots → lent ≡ slots → lent_owners ≡ owners → AreSlotsOf seen owners → AreArranged xs lent_owners new (length lent) → (j : ℕ) → j < length slots → frame_in new (place j) ≡ frame_in xs (place (slice_index slots j))
-gathered xs new seen lent slots owners lent_owners is_seen is_lent is_owners back all j below =
+pub arrangement_gathers : (xs new seen lent slots owners lent_owners : List ℕ) → seen ≡ slots → lent ≡ slots → lent_owners ≡ owners → AreSlotsOf seen owners → AreArranged xs lent_owners new (length lent) → (j : ℕ) → j < length slots → frame_in new (place j) ≡ frame_in xs (place (slice_index slots j))
+arrangement_gathers xs new seen lent slots owners lent_owners is_seen is_lent is_owners back all j below =
     let known : AreSlotsOf slots owners = subst (λ s. AreSlotsOf s owners) is_seen back in
     let told : AreSlotsOf slots lent_owners = subst (AreSlotsOf slots) (sym is_owners) known in
     let each = subst (λ s. AreArranged xs lent_owners new (length s)) is_lent all in

@@ -88,25 +88,25 @@ unfolding zero_page
 zero_page_is = zeros_are 4096
 
 -- what a file has of a page that reads as these bytes
-abbrev kept : List ℕ → Option (List ℕ)
-kept bytes = cond (is_all_zeros bytes) None (Some bytes)
+abbrev page_to_keep : List ℕ → Option (List ℕ)
+page_to_keep bytes = cond (is_all_zeros bytes) None (Some bytes)
 
-kept_zeros : (bytes : List ℕ) → is_all_zeros bytes ≡ true → kept bytes ≡ None
+kept_zeros : (bytes : List ℕ) → is_all_zeros bytes ≡ true → page_to_keep bytes ≡ None
 kept_zeros bytes h = ap (λ b. cond b None (Some bytes)) h
 
-kept_other : (bytes : List ℕ) → is_all_zeros bytes ≡ false → kept bytes ≡ Some bytes
+kept_other : (bytes : List ℕ) → is_all_zeros bytes ≡ false → page_to_keep bytes ≡ Some bytes
 kept_other bytes h = ap (λ b. cond b None (Some bytes)) h
 
-stored_step : (q : ℕ) (e : ℕ × List ℕ) (es : Entries) (z t : Bool) → is_all_zeros e.1 ≡ z → eq_by_cmp nat_cmp q e.0 ≡ t → Rising (e.0 + 1) es → find nat_cmp q (filter is_stored es) ≡ kept (unwrap_or (find nat_cmp q es) zero_page) → find nat_cmp q (cond (not z) (e ∷ filter is_stored es) (filter is_stored es)) ≡ kept (unwrap_or (cond t (Some e.1) (find nat_cmp q es)) zero_page)
+stored_step : (q : ℕ) (e : ℕ × List ℕ) (es : Entries) (z t : Bool) → is_all_zeros e.1 ≡ z → eq_by_cmp nat_cmp q e.0 ≡ t → Rising (e.0 + 1) es → find nat_cmp q (filter is_stored es) ≡ page_to_keep (unwrap_or (find nat_cmp q es) zero_page) → find nat_cmp q (cond (not z) (e ∷ filter is_stored es) (filter is_stored es)) ≡ page_to_keep (unwrap_or (cond t (Some e.1) (find nat_cmp q es)) zero_page)
 stored_step q e es true true is at_e rising rest =
     let same : q ≡ e.0 = nat_cmp-IsAntisymmetric q e.0 (Equal-from_is_eq (nat_cmp q e.0) at_e) in
-    rest ∙ ap (λ o. kept (unwrap_or o zero_page)) (find-below q (e.0 + 1) es rising (omega (arith, same))) ∙ kept_zeros zero_page zero_page_is ∙ sym (kept_zeros e.1 is)
+    rest ∙ ap (λ o. page_to_keep (unwrap_or o zero_page)) (find-below q (e.0 + 1) es rising (omega (arith, same))) ∙ kept_zeros zero_page zero_page_is ∙ sym (kept_zeros e.1 is)
 stored_step q e es true false is at_e rising rest = rest
 stored_step q e es false true is at_e rising rest = ap (λ b. cond b (Some e.1) (find nat_cmp q (filter is_stored es))) at_e ∙ sym (kept_other e.1 is)
 stored_step q e es false false is at_e rising rest = ap (λ b. cond b (Some e.1) (find nat_cmp q (filter is_stored es))) at_e ∙ rest
 
 -- what is found among the stored pages follows from what the page reads as
-find-stored : (low q : ℕ) (es : Entries) → Rising low es → find nat_cmp q (filter is_stored es) ≡ kept (unwrap_or (find nat_cmp q es) zero_page)
+find-stored : (low q : ℕ) (es : Entries) → Rising low es → find nat_cmp q (filter is_stored es) ≡ page_to_keep (unwrap_or (find nat_cmp q es) zero_page)
 find-stored low q [] rising = sym (kept_zeros zero_page zero_page_is)
 find-stored low q (e ∷ es) rising = stored_step q e es (is_all_zeros e.1) (eq_by_cmp nat_cmp q e.0) refl refl rising.1 (find-stored (e.0 + 1) q es rising.1)
 
@@ -171,7 +171,7 @@ stored-agree m n h =
     let t = rising_sorted (entries n.pages) (entries_sorted n.pages) in
     same_entries 0 0 (stored_pages m) (stored_pages n) (rising-stored 0 (entries m.pages) r) (rising-stored 0 (entries n.pages) t)
     (λ q.
-    find-stored 0 q (entries m.pages) r ∙ ap kept (found_at m q ∙ h q ∙ sym (found_at n q)) ∙ sym (find-stored 0 q (entries n.pages) t))
+    find-stored 0 q (entries m.pages) r ∙ ap page_to_keep (found_at m q ∙ h q ∙ sym (found_at n q)) ∙ sym (find-stored 0 q (entries n.pages) t))
 
 -- and so they have one file
 pub file-agree : (m n : Contents) → Agree (at m) (at n) → file m ≡ file n

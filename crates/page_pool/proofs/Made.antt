@@ -70,8 +70,8 @@ marks_more xs ys k page m n b e h f g u =
 pub marks_none : (m : tree.BTreeMap ℕ Bool) → ((q : ℕ) → tree.get nat_cmp m q ≡ None) → AreMarks [] m
 marks_none m h = record { each = h; once = tt; low = tt }
 
-pub unmarked : (xs : List ℕ) (m : tree.BTreeMap ℕ Bool) → AreMarks xs m → (q : ℕ) → unwrap_or (finite.get (marks_of m) q) false ≡ false
-unmarked xs m h q = ap (λ o. unwrap_or o false) (get-from_entries nat_cmp_total m.entries q ∙ h.each q) ∙ value-fresh (list_any (nat_eq q) xs)
+pub mark_is_false : (xs : List ℕ) (m : tree.BTreeMap ℕ Bool) → AreMarks xs m → (q : ℕ) → unwrap_or (finite.get (marks_of m) q) false ≡ false
+mark_is_false xs m h q = ap (λ o. unwrap_or o false) (get-from_entries nat_cmp_total m.entries q ∙ h.each q) ∙ value-fresh (list_any (nat_eq q) xs)
 
 -- a pool of these pages, none of which is drawn or usable
 pub pool_made : (xs queue : List ℕ) (flags : List Bool) (limit : ℕ) (m : tree.BTreeMap ℕ Bool) → length xs ≤ 262144 → AreMarks xs m → length queue ≡ length xs → flags ≡ replicate (length xs) false → usable_among limit xs [] ≡ []
@@ -82,7 +82,7 @@ pool_made xs queue flags limit m few h room unset none = record {
   few = few;
   queued = queue_fresh xs queue flags limit room unset none;
   have = record { each = λ x c. ap is_some (h.each x) ∙ some-fresh (list_any (nat_eq x) xs) ∙ ⊎_elim (λ t. t.0) (λ t. absurd (omega (arith, t.1, c))) (count-any x xs) };
-  filed = record { each = λ x f. absurd (clash _ f (unmarked xs m h x)) };
+  filed = record { each = λ x f. absurd (clash _ f (mark_is_false xs m h x)) };
 }
   where
     clash : (b : Bool) → b ≡ true → b ≡ false → ⊥

@@ -24,19 +24,19 @@ pub where_among : (at w k : ℕ) → is_among at w k ≡ true → (at ≤ k) × 
 where_among at w k h = let p = and_parts (nat_le at k) (nat_lt k (at + w)) h in (leb-true at k p.0, ltb-true k (at + w) p.1)
 
 -- 1 shifted by up to 64 is a power of 2 in 128 bits
-shifted : (k : ℕ) → k ≤ 64 → 1 * 2 ^ k % 2 ^ 128 ≡ 2 ^ k
-shifted k h = one_shl k 128 (omega (arith, h))
+shift_is_power : (k : ℕ) → k ≤ 64 → 1 * 2 ^ k % 2 ^ 128 ≡ 2 ^ k
+shift_is_power k h = one_shl k 128 (omega (arith, h))
 
 -- the low and the high end of the bits that a word has of the w bytes at a place
 pub ends_rise : (first at w low high : ℕ) → low ≡ min (at - first) 64 → high ≡ min (at + w - first) 64 → 1 * 2 ^ low % 2 ^ 128 ≤ 1 * 2 ^ high % 2 ^ 128
 ends_rise first at w low high l h =
     let rise : low ≤ high = omega (arith, l, h) in
-    omega (arith, shifted low (omega (arith, l)), shifted high (omega (arith, h)), pow-le-pow_right {n = 2} (omega arith) rise)
+    omega (arith, shift_is_power low (omega (arith, l)), shift_is_power high (omega (arith, h)), pow-le-pow_right {n = 2} (omega arith) rise)
 
 pub mask_bits : (first at w low high i : ℕ) → low ≡ min (at - first) 64 → high ≡ min (at + w - first) 64 → i < 64 → is_set (1 * 2 ^ high % 2 ^ 128 - 1 * 2 ^ low % 2 ^ 128) i ≡ is_among at w (first + i)
 mask_bits first at w low high i l h below =
-    ap (λ n. is_set (n - 1 * 2 ^ low % 2 ^ 128) i) (shifted high (omega (arith, h)))
-    ∙ ap (λ n. is_set (2 ^ high - n) i) (shifted low (omega (arith, l)))
+    ap (λ n. is_set (n - 1 * 2 ^ low % 2 ^ 128) i) (shift_is_power high (omega (arith, h)))
+    ∙ ap (λ n. is_set (2 ^ high - n) i) (shift_is_power low (omega (arith, l)))
     ∙ by (cases_lt i low) (cases_lt i high)
   where
     by : (i < low) ⊎ (low ≤ i) → (i < high) ⊎ (high ≤ i) → is_set (2 ^ high - 2 ^ low) i ≡ is_among at w (first + i)
@@ -66,8 +66,8 @@ apart a m i none is =
     zero_is : (x y : ℕ) → y ≡ 1 → min x y ≡ 0 → x ≡ 0
     zero_is x y e h = omega (arith, e, h)
 
-pub united : (a m i : ℕ) → is_set (bit_or a m) i ≡ (is_set a i || is_set m i)
-united a m i = ap (λ n. n == 1) (bit_at_or a m i) ∙ either (bit_at a i) (bit_at m i) (bit_at-lt a i) (bit_at-lt m i)
+pub bit_of_union : (a m i : ℕ) → is_set (bit_or a m) i ≡ (is_set a i || is_set m i)
+bit_of_union a m i = ap (λ n. n == 1) (bit_at_or a m i) ∙ either (bit_at a i) (bit_at m i) (bit_at-lt a i) (bit_at-lt m i)
   where
     either : (x y : ℕ) → x < 2 → y < 2 → (max x y == 1) ≡ ((x == 1) || (y == 1))
     either zero zero l h = refl
@@ -154,6 +154,6 @@ marked_more index at w m old now within says is = record {
         let mine : is_set m i ≡ is_among at w k = says i (omega arith) ∙ ap (is_among at w) same in
         ap (λ j. is_set (get_or new j 0) i) here
         ∙ ap (λ a. is_set a i) (get_or-set_same now index (bit_or word m) 0 within)
-        ∙ united word m i
+        ∙ bit_of_union word m i
         ∙ ap (λ b. b || is_set m i) was
         ∙ ap (λ b. is_taken old k || b) mine

@@ -51,12 +51,12 @@ valued_by base at form v p small e = record {
   small = small;
 }
 
-pub valued : (base at : ℕ) (form : Form) (v : ℤ) (p : Put) → put_value base at form v ≡ Ok (Some p) → Valued at form v p
-valued base at forms.Empty v p h = cc
-valued base at forms.Whole v p h = valued_by base at forms.Whole v p (inr refl) (some_ok _ p h)
-valued base at forms.Relative v p h = valued_by base at forms.Relative v p (inl refl) (some_same _ p (then_ok (fits forms.Relative v) _ _ _ h).1)
-valued base at forms.Unsigned v p h = valued_by base at forms.Unsigned v p (inl refl) (some_same _ p (then_ok (fits forms.Unsigned v) _ _ _ h).1)
-valued base at forms.Signed v p h = valued_by base at forms.Signed v p (inl refl) (some_same _ p (then_ok (fits forms.Signed v) _ _ _ h).1)
+pub put_has_value : (base at : ℕ) (form : Form) (v : ℤ) (p : Put) → put_value base at form v ≡ Ok (Some p) → Valued at form v p
+put_has_value base at forms.Empty v p h = cc
+put_has_value base at forms.Whole v p h = valued_by base at forms.Whole v p (inr refl) (some_ok _ p h)
+put_has_value base at forms.Relative v p h = valued_by base at forms.Relative v p (inl refl) (some_same _ p (then_ok (fits forms.Relative v) _ _ _ h).1)
+put_has_value base at forms.Unsigned v p h = valued_by base at forms.Unsigned v p (inl refl) (some_same _ p (then_ok (fits forms.Unsigned v) _ _ _ h).1)
+put_has_value base at forms.Signed v p h = valued_by base at forms.Signed v p (inl refl) (some_same _ p (then_ok (fits forms.Signed v) _ _ _ h).1)
 
 -- a field that is at its place
 pub record Stands (o : Relocatable) (puts : List Put) (r : Reloc) (at w : ℕ) : Type 0 where
@@ -98,7 +98,7 @@ found_form base o starts puts r p start (Some form) s e h =
       has_form = e;
       has_symbol = b.1;
       stands = stands base o puts r at (wide form) a.0 a.1;
-      valued = valued base at form (formula form b.0 r.addend (base + at)) p b.2;
+      valued = put_has_value base at form (formula form b.0 r.addend (base + at)) p b.2;
     }
 
 found_in : (base : ℕ) (o : Relocatable) (starts : List (Option ℕ)) (puts : List Put) (r : Reloc) (p : Put) (s : Option ℕ) → start_at starts r.target ≡ s → put_in base o starts puts r s ≡ Ok (Some p) → Found base o starts puts r p

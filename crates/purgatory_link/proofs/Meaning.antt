@@ -25,7 +25,7 @@ use Rattle.std.specs.List.{All}
 use Rattle.elf_image.specs.inner.Section.{IsInside}
 use Rattle.purgatory_link.proofs.Bytes.{unlinked_byte}
 use Rattle.purgatory_link.specs.inner.Meaning.{Holds, AllHold, is_in_field, KeepsOthers}
-use Rattle.purgatory_link.proofs.Found.{bind_ok, Valued, valued, found, put_is, put_clear}
+use Rattle.purgatory_link.proofs.Found.{bind_ok, Valued, put_has_value, found, put_is, put_clear}
 use Rattle.purgatory_link.proofs.Putting.{put_known}
 use Rattle.purgatory_link.proofs.Relocating.{with_puts-one}
 
@@ -144,7 +144,7 @@ one_holds base o sts ps r rs None all n old room s h e at form v g = empty_holds
 one_holds base o sts ps r rs (Some p) all n old room s h e at form v g =
     let f = found base o sts ps r p h in
     let i = put_is base o sts ps r p n room f in
-    valued_holds at form v p (with_puts all old) (valued base at form v p g)
+    valued_holds at form v p (with_puts all old) (put_has_value base at form v p g)
     (field_stays base o sts p (ps ++ p ∷ []) rs all n old room (sofar_one base o sts ps r (Some p) n old room h s) (has_last p ps) (put_some p.wide i.wide) e
     ∙ ap (field p.at p.wide) (with_puts-one ps (Some p) old)
     ∙ field_of_put n p (with_puts ps old) s.long i)

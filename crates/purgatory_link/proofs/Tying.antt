@@ -63,8 +63,8 @@ rows_read (s ∷ us) front table k h long e =
     ap (λ (r : Region). r ∷ map (region table) (range_with_len (k + 1) (length us))) head ∙ ap (λ (rs : List Region). region_of s ∷ rs) tail
 
 -- the rows behind the last are those of no memory
-padded : List SegmentValue → List SegmentValue
-padded ts = ts ++ replicate (16 - length ts) nothing
+with_padding : List SegmentValue → List SegmentValue
+with_padding ts = ts ++ replicate (16 - length ts) nothing
 
 rows_nothing : (n : ℕ) → flat_map row (replicate n nothing) ≡ zeros (16 * n)
 unfolding zeros
@@ -73,37 +73,37 @@ rows_nothing (suc n) =
     let e : 16 + 16 * n ≡ 16 * suc n = omega arith in
     ap (λ zs. row nothing ++ zs) (rows_nothing n) ∙ replicate-append-replicate 16 (16 * n) 0 ∙ ap (λ k. replicate k 0) e
 
-table_rows : (ts : List SegmentValue) → length ts ≤ 16 → region_table ts ≡ flat_map row (padded ts)
-unfolding region_table padded
+table_rows : (ts : List SegmentValue) → length ts ≤ 16 → region_table ts ≡ flat_map row (with_padding ts)
+unfolding region_table with_padding
 table_rows ts few =
     let n = 16 - length ts in
     let e : 256 - 16 * length ts ≡ 16 * n = omega arith in
     ap (λ k. flat_map row ts ++ zeros k) e ∙ ap (λ zs. flat_map row ts ++ zs) (sym (rows_nothing n)) ∙ sym (flat_map-append row ts (replicate n nothing))
 
-length-padded : (ts : List SegmentValue) → length ts ≤ 16 → length (padded ts) ≡ 16
-unfolding padded
+length-padded : (ts : List SegmentValue) → length ts ≤ 16 → length (with_padding ts) ≡ 16
+unfolding with_padding
 length-padded ts few = omega (arith, length-append ts (replicate (16 - length ts) nothing), length-replicate {A = SegmentValue} (16 - length ts) nothing)
 
 placed_nothing : (n : ℕ) → AllByRecursion IsPlaced (replicate n nothing)
 placed_nothing zero = tt
 placed_nothing (suc n) = (record { starts = refl; whole = refl; below = omega arith }, placed_nothing n)
 
-placed_padded : (ts : List SegmentValue) → AllByRecursion IsPlaced ts → AllByRecursion IsPlaced (padded ts)
-unfolding padded
+placed_padded : (ts : List SegmentValue) → AllByRecursion IsPlaced ts → AllByRecursion IsPlaced (with_padding ts)
+unfolding with_padding
 placed_padded ts h = Each-append IsPlaced ts (replicate (16 - length ts) nothing) h (placed_nothing (16 - length ts))
 
 pages_nothing : (n : ℕ) → pages (replicate n nothing) ≡ []
 pages_nothing zero = refl
 pages_nothing (suc n) = pages_nothing n
 
-pages_padded : (ts : List SegmentValue) → pages (padded ts) ≡ pages ts
-unfolding padded
+pages_padded : (ts : List SegmentValue) → pages (with_padding ts) ≡ pages ts
+unfolding with_padding
 pages_padded ts = pages-append ts (replicate (16 - length ts) nothing) ∙ ap (λ ps. pages ts ++ ps) (pages_nothing (16 - length ts)) ∙ append-nil (pages ts)
 
-regions_are : (ts : List SegmentValue) → length ts ≤ 16 → AllByRecursion IsPlaced ts → regions (region_table ts) ≡ map region_of (padded ts)
+regions_are : (ts : List SegmentValue) → length ts ≤ 16 → AllByRecursion IsPlaced ts → regions (region_table ts) ≡ map region_of (with_padding ts)
 unfolding regions
 regions_are ts few h =
-    ap (λ n. map (region (region_table ts)) (range_with_len 0 n)) (sym (length-padded ts few)) ∙ rows_read (padded ts) [] (region_table ts) 0 (placed_padded ts h) refl (table_rows ts few)
+    ap (λ n. map (region (region_table ts)) (range_with_len 0 n)) (sym (length-padded ts few)) ∙ rows_read (with_padding ts) [] (region_table ts) 0 (placed_padded ts h) refl (table_rows ts few)
 
 -- none of them is wild
 sizes_are : (us : List SegmentValue) → AllByRecursion IsPlaced us → sum_by (λ (r : Region). r.size) (map region_of us) ≡ 4096 * length (pages us)
@@ -206,12 +206,12 @@ table_same M rs d none e =
     ap (λ o. unless_wild o (sha256 (regions_in M rs)) d) (sym none) ∙ ap (λ x. verdict x d) e ∙ same_digest d
 
 -- where the table and the digest are those of the segments, and memory holds what is wanted
-digested : (M : Mem) (ss : List SegmentValue) (g : ℕ) → IsBare ss → ((p : ℕ) → Has p (pages (others ss g)) → want ss p ≡ Some (M p)) → test_table M (region_table (others ss g)) (digest ss g) ≡ answers.Same
+digest_is_same : (M : Mem) (ss : List SegmentValue) (g : ℕ) → IsBare ss → ((p : ℕ) → Has p (pages (others ss g)) → want ss p ≡ Some (M p)) → test_table M (region_table (others ss g)) (digest ss g) ≡ answers.Same
 unfolding test_table digest
-digested M ss g bare h =
+digest_is_same M ss g bare h =
     let all = AreSegments-from_IsBare ss bare in
     let ts = others ss g in
-    let us = padded ts in
+    let us = with_padding ts in
     let rs = map region_of us in
     let W = want ss in
     let few = few_others ss g all.few in
@@ -234,4 +234,4 @@ same_where_digested M ss g r t bare h =
     test_inside M r t (not_past r 256 h.table_inside) (not_past t 32 h.digest_inside)
     ∙ ap (λ table. test_table M table (bytes_in M t 32)) h.table_stands
     ∙ ap (test_table M (region_table (others ss g))) h.digest_stands
-    ∙ digested M ss g bare h.each_page
+    ∙ digest_is_same M ss g bare h.each_page

@@ -92,7 +92,8 @@ fn push_null(
     starts: &[Option<u64>],
     symbol: &Symbol,
 ) -> Result<(), AllocError>
-    ensures { OnOk result (names.new.items ≡ names.old.items ++ null_symbols starts.now symbol.now) }
+    ensures { OnOk result
+        (names.new.items ≡ names.old.items ++ null_symbols starts.now symbol.now) }
 {
     match home(starts, symbol) {
         Some(_) => push_name(alloc, names, 0, symbol),
@@ -108,7 +109,8 @@ fn push_defined(
     starts: &[Option<u64>],
     symbol: &Symbol,
 ) -> Result<(), AllocError>
-    ensures { OnOk result (names.new.items ≡ names.old.items ++ named_symbols base starts.now symbol.now) }
+    ensures { OnOk result
+        (names.new.items ≡ names.old.items ++ named_symbols base starts.now symbol.now) }
 {
     match home(starts, symbol) {
         Some(start) => push_name(alloc, names, address(base, start, symbol), symbol),
@@ -125,7 +127,8 @@ fn push_all(
     symbols: &[Symbol],
 ) -> Result<(), AllocError>
     ensures { OnOk result
-        (names.new.items ≡ names.old.items ++ flat_map (named_symbols base starts.now) symbols.now) }
+        (names.new.items
+        ≡ names.old.items ++ flat_map (named_symbols base starts.now) symbols.now) }
 {
     for symbol in symbols {
         push_defined(alloc, names, base, starts, symbol)?;

@@ -147,20 +147,20 @@ pub want_here : (ss : List SegmentValue) (i : ℕ) (s : SegmentValue) (p : ℕ) 
 want_here ss i s p l e t = ap (λ xs. wanted xs p) (drop_read ss i s l e) ∙ ap (λ b. cond b (Some (take 4096 (bytes_from s p))) (wanted (drop (i + 1) ss) p)) t
 
 -- what a test of rules tells
-pub refused : (o : Option SegFault) (e : SegFault) → unless o ≡ Err e → o ≡ Some e
-refused None e h = cc
-refused (Some f) e h = cc
+pub refusal_is_some : (o : Option SegFault) (e : SegFault) → unless o ≡ Err e → o ≡ Some e
+refusal_is_some None e h = cc
+refusal_is_some (Some f) e h = cc
 
-pub passed : (o : Option SegFault) (u : Unit {0}) → unless o ≡ Ok u → o ≡ None
-passed None u h = refl
-passed (Some f) u h = cc
+pub pass_is_none : (o : Option SegFault) (u : Unit {0}) → unless o ≡ Ok u → o ≡ None
+pass_is_none None u h = refl
+pass_is_none (Some f) u h = cc
 
 -- the first refusal of a row of tests: here, later, or at the last one
 pub refused_here : (a b : Option SegFault) (e : SegFault) → unless a ≡ Err e → Err e ≡ unless (option_or a b)
-refused_here a b e h = let f = refused a e h in rw f refl
+refused_here a b e h = let f = refusal_is_some a e h in rw f refl
 
 pub refused_later : (a b : Option SegFault) (u : Unit {0}) (r : Result (Unit {0}) SegFault) → unless a ≡ Ok u → r ≡ unless b → r ≡ unless (option_or a b)
-refused_later a b u r h k = let f = passed a u h in rw f k
+refused_later a b u r h k = let f = pass_is_none a u h in rw f k
 
 pub refused_last : (a : Option SegFault) (r : Result (Unit {0}) SegFault) → r ≡ unless a → r ≡ unless (option_or a None)
 refused_last None r k = k
@@ -168,7 +168,7 @@ refused_last (Some f) r k = k
 
 -- what a call that tests and then takes memory answers
 pub Answers-refused : (ss : List SegmentValue) (first : Option SegFault) (e : SegFault) → unless first ≡ Err e → Refuses e first
-Answers-refused ss first e h = inl (refused first e h)
+Answers-refused ss first e h = inl (refusal_is_some first e h)
 
 pub Answers-made : (ss : List SegmentValue) (first : Option SegFault) (r : Result (List SegmentValue) SegFault) → first ≡ None → MatchResult r (λ s. s ≡ ss) (λ e. e ≡ faults.Memory) → Answers ss first r
 Answers-made ss first (Ok s) f h = (h, f)

@@ -26,5 +26,5 @@ pub no_bytes-listed : ListsWanted (want no_bytes) (pages no_bytes)
 unfolding bare_refusal shape_refusal
 no_bytes-listed = parts_listed no_bytes refl
 
-pub refused : (M : Mem) (ss : List SegmentValue) (head control : ℕ) (swap : Option ℕ) (n : ℕ) (why : Why) → ListsWanted (want ss) (pages ss) → FirstFault M ss head control swap n why → NoneAccepted M ss head control swap
-refused M ss head control swap n why listed fault = ((check_ends M (want ss) (pages ss) head control swap listed).1 n why fault).0
+pub fault_refuses_all : (M : Mem) (ss : List SegmentValue) (head control : ℕ) (swap : Option ℕ) (n : ℕ) (why : Why) → ListsWanted (want ss) (pages ss) → FirstFault M ss head control swap n why → NoneAccepted M ss head control swap
+fault_refuses_all M ss head control swap n why listed fault = ((check_ends M (want ss) (pages ss) head control swap listed).1 n why fault).0

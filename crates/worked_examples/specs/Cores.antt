@@ -54,7 +54,8 @@ two_ranges =
 -- a note of the name CORE: sizes of name and descriptor, type, and both, filled up to multiples of 4
 abbrev pub core_note : List ℕ
 core_note =
-    little_bytes 4 5 ++ (little_bytes 4 4 ++ (little_bytes 4 1 ++ (codes "CORE" ++ (replicate 4 0 ++ codes "abcd"))))
+    little_bytes 4 5 ++ (little_bytes 4 4 ++ (little_bytes 4 1
+    ++ (codes "CORE" ++ (replicate 4 0 ++ codes "abcd"))))
 
 -- a memory: the note at page 100 and zeros behind it, the headers at page 101, and bytes at page 102. Its loads are the 24
 -- bytes of the note and the first 6 of page 102.

@@ -29,7 +29,8 @@ pub fn load_that_is_run()
         ∷ replies.Done ∷ replies.Done ∷ replies.NoArea ∷ replies.Done ∷ replies.Gone ∷ [] }
     ensures left { (after_events (machine (0x10 ∷ 0x11 ∷ 0x12 ∷ 0x13 ∷ [])) first_events).left
         ≡ 0x13 ∷ [] }
-    ensures destination { (after_events (machine (0x10 ∷ 0x11 ∷ 0x12 ∷ 0x13 ∷ [])) first_events).memory 2 ≡ page_of (codes "a") }
+    ensures destination { (after_events (machine (0x10 ∷ 0x11 ∷ 0x12 ∷ 0x13 ∷ []))
+        first_events).memory 2 ≡ page_of (codes "a") }
     ensures list { (after_events (machine (0x10 ∷ 0x11 ∷ 0x12 ∷ 0x13 ∷ [])) first_events).memory
         0x11 ≡ page_of (in_bytes (0x2001 ∷ 0x12008 ∷ 4 ∷ [])) }
 {}

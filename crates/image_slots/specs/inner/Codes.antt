@@ -83,7 +83,8 @@ load_code =
 abbrev pub slots_code : Coded SlotsValue
 slots_code =
     code_by
-    (Contents × (List ℕ × (List Run × (Option Run × (Option Underway × (Option Normal × (Option Crash × Bool)))))))
+    (Contents × (List ℕ × (List Run
+    × (Option Run × (Option Underway × (Option Normal × (Option Crash × Bool)))))))
     (coded× contents_code
     (coded× (coded_list coded_ℕ)
     (coded× (coded_list run_code)

@@ -82,7 +82,8 @@ pub record IsReady (p : Parts) : Type 0 where
 -- the normal image is accepted by the list that its load laid
 pub record IsRunnable (M : Mem) (n : Normal) : Type 0 where
   pub list : List Item
-  pub accepted : IsAccepted M (want n.segments) n.image.head n.image.control (swap_page n.image.mode) list
+  pub accepted :
+      IsAccepted M (want n.segments) n.image.head n.image.control (swap_page n.image.mode) list
   pub same_pairs : image_pairs n ≡ pairs list
 
 -- why a load is not written: memory was wanted, or the pool has too few pages

@@ -10,7 +10,9 @@ use Rattle.std.specs.Prelude.{Some}
 
 -- at most 12 modules, and a map where the type or a purgatory needs it
 abbrev pub HasParts : InputsValue → ImageType → Type 0
-HasParts i image = (length i.modules ≤ 12) × (needs_map image (is_some i.purgatory) ≡ true → is_some i.map ≡ true)
+HasParts i image =
+    (length i.modules ≤ 12)
+    × (needs_map image (is_some i.purgatory) ≡ true → is_some i.map ≡ true)
 
 -- at most 100,000,000 steps, and a swap page that is a page below 2^46
 abbrev pub HasRange : TraceValue → Type 0

@@ -6,7 +6,7 @@ use Rattle.boot_params.specs.SetupData.{extension, head_of}
 use Rattle.boot_params.specs.Numbers.{numbers_of}
 use Rattle.boot_params.proofs.Making.{fails, few, makes}
 use Rattle.boot_params.proofs.Segment.{IsSegment, first_few, segment_numbers, segment_row, segment_header, segment_zero, segment_command}
-use Rattle.boot_params.proofs.Behind.{segment_extended, segment_length, left_few, left_count, filled, head_read, more_there, row_left}
+use Rattle.boot_params.proofs.Behind.{segment_extended, segment_length, left_few, left_count, extended_is_filled, head_read, more_there, row_left}
 use Rattle.boot_params.proofs.parameters.make.Goals as goal
 
 pub returns-in-Err-clause-exact : goal.returns-in-Err-clause-exact
@@ -64,7 +64,7 @@ returns-clause-command c = segment_command _ _ _ _ _ c.in_ok-segment.segment.ite
 
 pub returns-clause-fill : goal.returns-clause-fill
 returns-clause-fill c = λ more.
-    filled _ _ _ _ (segment_extended _ _ c.args.rows.now c.args.command.now c.in_ok-segment.segment.items (segment c) more)
+    extended_is_filled _ _ _ _ (segment_extended _ _ c.args.rows.now c.args.command.now c.in_ok-segment.segment.items (segment c) more)
 
 pub returns-clause-record_head : goal.returns-clause-record_head
 returns-clause-record_head c = λ more.

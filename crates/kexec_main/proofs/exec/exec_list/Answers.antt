@@ -4,7 +4,7 @@ use Rattle.load_states.specs.inner.Answers.{IsAcceptedAs}
 use Rattle.file_commands.specs.inner.Calls.{MakesOr, goods_of}
 use Rattle.kexec_main.specs.Exec.{RefusesRun, RunsList, load_of}
 use Rattle.kexec_main.specs.inner.Ran.{HasMode}
-use Rattle.kexec_main.proofs.Executes.{executed, runs_fit}
+use Rattle.kexec_main.proofs.Executes.{execution_holds, runs_fit}
 use Rattle.kexec_main.proofs.exec.exec_list.Goals as goal
 
 pub run_goods-requires : goal.run_goods-requires
@@ -19,5 +19,5 @@ returns-in-Ok c =
     let out = string_bytes c.args.out in
     let s = load_of x in
     let a = subst (λ s. IsAcceptedAs s c.in-Ok.accepted) c.from_files-loaded.ensures c.in-Ok.ensures.accepted in
-    executed x c.args.twice out _ (sym c.lacks_swap_page.ensures ∙ c.if-lacks_swap_page.false)
+    execution_holds x c.args.twice out _ (sym c.lacks_swap_page.ensures ∙ c.if-lacks_swap_page.false)
     (subst (λ runs. MakesOr (λ g. RunsList runs s x.startup out (goods_of g)) (RefusesRun runs s) c.run_goods.result) c.runs_of-runs.ensures (c.run_goods.ensures s a))

@@ -9,10 +9,10 @@ use Rattle.kexec_words.proofs.Digits.{all_to, all_from}
 use Rattle.kexec_words.proofs.numbers.number_in.Goals as goal
 
 -- the number that is read, where no plus leads
-read : (base most : ℕ) (bs : List ℕ) (n : ℕ) → get_or bs 0 0 ≢ 43 → length bs ≤ most
+digits_are_read : (base most : ℕ) (bs : List ℕ) (n : ℕ) → get_or bs 0 0 ≢ 43 → length bs ≤ most
     → (IsNumeral base (without_leading_plus bs) × (digits_value base (without_leading_plus bs) < 2 ^ 64)) × (n ≡ digits_value base (without_leading_plus bs))
     → (IsNumeral base bs × (length bs ≤ most)) × (n ≡ digits_value base bs)
-read base most bs n ne short h =
+digits_are_read base most bs n ne short h =
     let same : without_leading_plus bs ≡ bs = without_leading_plus_none bs ne in
     let there : ((IsNumeral base bs) × (digits_value base bs < 2 ^ 64)) × (n ≡ digits_value base bs) =
     subst (λ (t : List ℕ). (IsNumeral base t × (digits_value base t < 2 ^ 64)) × (n ≡ digits_value base t)) same h in
@@ -46,7 +46,7 @@ number_no base most bs not_number = go (is_number base most bs) refl
         absurd (not_number ((search (rules, p.0), all_from base bs q.1), search (rules, q.0)))
 
 pub returns-in-Ok : goal.returns-in-Ok
-returns-in-Ok c = number_yes _ _ _ _ (read _ _ c.args.text.now c.in-Ok.number (rw c.as_bytes.ensures.value at c.if-as_bytes-eq43.false) (omega arith) c.in-Ok.ensures.value)
+returns-in-Ok c = number_yes _ _ _ _ (digits_are_read _ _ c.args.text.now c.in-Ok.number (rw c.as_bytes.ensures.value at c.if-as_bytes-eq43.false) (omega arith) c.in-Ok.ensures.value)
 
 pub returns-in-Err : goal.returns-in-Err
 returns-in-Err c = number_no _ _ _ (refuses _ _ c.args.text.now c.requires.radix.0 c.requires.fits (rw c.as_bytes.ensures.value at c.if-as_bytes-eq43.false) c.in-Err.ensures.value)

@@ -14,9 +14,9 @@ front_taken : (xs ys : List ℕ) (n : ℕ) → n ≡ length xs → take n (xs ++
 front_taken xs ys n e = grind (arith, common_steps)
 
 -- what was put behind the first bytes comes to stand before them
-rotated : (first bytes head digest : List ℕ) (n k : ℕ) → n ≡ length (((first ++ bytes) ++ head) ++ digest) → k ≡ length bytes + (length head + length digest)
+rotation : (first bytes head digest : List ℕ) (n k : ℕ) → n ≡ length (((first ++ bytes) ++ head) ++ digest) → k ≡ length bytes + (length head + length digest)
     → drop (n - k) (((first ++ bytes) ++ head) ++ digest) ++ take (n - k) (((first ++ bytes) ++ head) ++ digest) ≡ bytes ++ (head ++ (digest ++ first))
-rotated first bytes head digest n k all some =
+rotation first bytes head digest n k all some =
     let put = bytes ++ (head ++ digest) in
     let place : n - k ≡ length first = omega (arith, all, some, length-append ((first ++ bytes) ++ head) digest, length-append (first ++ bytes) head, length-append first bytes) in
     ap (λ xs. drop (n - k) xs ++ take (n - k) xs) (append_assoc (first ++ bytes) head digest ∙ append_assoc first bytes (head ++ digest))
@@ -44,5 +44,5 @@ returns c =
     let some : k ≡ length bytes + (length head + length digest) = omega (arith, c.bytes.ensures.length, ap length c.bytes.ensures.value, length-sha256 first, c.front_size.ensures) in
     c.rotate_right.ensures.items
     ∙ ap (λ (xs : List ℕ). drop (n - k) xs ++ take (n - k) xs) items
-    ∙ rotated first bytes head digest n k all some
+    ∙ rotation first bytes head digest n k all some
     ∙ ap (λ (xs : List ℕ). bytes ++ (xs ++ (digest ++ first))) c.head_of-head.ensures.value

@@ -13,8 +13,8 @@ Restored M p = exchange (exchange M one_pair_at_home 0x11) one_pair_at_home 0x11
 other : (M : Mem) (p : ℕ) → eqb p 0x11 ≡ false → eqb 2 p ≡ false → eqb 3 p ≡ false → eqb 0x13 p ≡ false → Restored M p
 other M p a b c d = simp (a, b, c, d) refl
 
-restored : (M : Mem) (p : ℕ) → p ≢ 0x11 → Restored M p
-restored M p apart =
+restores : (M : Mem) (p : ℕ) → p ≢ 0x11 → Restored M p
+restores M p apart =
     elim (eqb_tells p 0x11) [
       | inl t ↦ absurd (apart t.1)
       | inr t ↦ elim (eqb_tells 2 p) [
@@ -30,7 +30,7 @@ restored M p apart =
     ]
 
 pub returns-clause-restored : goal.returns-clause-restored
-returns-clause-restored c = restored
+returns-clause-restored c = restores
 
 pub returns-clause-swap_page : goal.returns-clause-swap_page
 returns-clause-swap_page c = λ M. refl

@@ -8,12 +8,12 @@ use Rattle.worked_examples.specs.Kernels.{three_bytes}
 use Rattle.worked_examples.proofs.Refusing.{three_bytes-listed}
 use Rattle.worked_examples.proofs.lists.crash_list.Goals as goal
 
-wanted : want three_bytes 2 ≡ Some (page_of (codes "abc"))
+destination_is_wanted : want three_bytes 2 ≡ Some (page_of (codes "abc"))
 unfolding page_of
-wanted = refl
+destination_is_wanted = refl
 
 there : (M : Mem) → M 2 ≡ page_of (codes "abc") → (p : ℕ) (bytes : List ℕ) → want three_bytes p ≡ Some bytes → (2 ≡ p) ⊎ ⊥ → M p ≡ bytes
-there M has p bytes e (inl is) = ap M (sym is) ∙ has ∙ some_same (page_of (codes "abc")) bytes (sym wanted ∙ ap (want three_bytes) is ∙ e)
+there M has p bytes e (inl is) = ap M (sym is) ∙ has ∙ some_same (page_of (codes "abc")) bytes (sym destination_is_wanted ∙ ap (want three_bytes) is ∙ e)
 there M has p bytes e (inr none) = absurd none
 
 pub returns-clause-accepted : goal.returns-clause-accepted

@@ -9,7 +9,7 @@ use Rattle.list_checker.specs.Walk.{Walk, Reads}
 use Rattle.list_checker.specs.declared.fault.Why.TheVariants.{LinkAgain}
 use Rattle.worked_examples.specs.Kernels.{three_bytes}
 use Rattle.worked_examples.specs.Lists.{HasWords, FirstFault}
-use Rattle.worked_examples.proofs.Refusing.{refused, three_bytes-listed}
+use Rattle.worked_examples.proofs.Refusing.{fault_refuses_all, three_bytes-listed}
 use Rattle.worked_examples.proofs.lists.list_that_goes_round.Goals as goal
 
 reads_on : (M : Mem) (a : ℕ) → word M 0x20000 ≡ 0x20002 → a ≡ 0x20000 → (is : List Item) → Reads M a is → ⊥
@@ -36,4 +36,4 @@ pub returns-clause-fault : goal.returns-clause-fault
 returns-clause-fault c = fault
 
 pub returns-clause-refused : goal.returns-clause-refused
-returns-clause-refused c = λ M w. refused M three_bytes 0x20002 0x21 None 1 LinkAgain three_bytes-listed (fault M w)
+returns-clause-refused c = λ M w. fault_refuses_all M three_bytes 0x20002 0x21 None 1 LinkAgain three_bytes-listed (fault M w)

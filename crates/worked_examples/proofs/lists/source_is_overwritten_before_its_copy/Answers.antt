@@ -7,7 +7,7 @@ use Rattle.kx_pages.specs.declared.item.Item.TheVariants.{Link, Destination, Sou
 use Rattle.list_checker.specs.declared.fault.Why.TheVariants.{SourceSpoiled}
 use Rattle.worked_examples.specs.Kernels.{two_pages}
 use Rattle.worked_examples.specs.Lists.{HasWords, FirstFault}
-use Rattle.worked_examples.proofs.Refusing.{refused, two_more_pages-listed}
+use Rattle.worked_examples.proofs.Refusing.{fault_refuses_all, two_more_pages-listed}
 use Rattle.worked_examples.proofs.lists.source_is_overwritten_before_its_copy.Goals as goal
 
 fault : (M : Mem) → HasWords M 0x20000 (0x3001 ∷ 0x2008 ∷ 0x3008 ∷ 4 ∷ []) → M 2 ≡ page_of (codes "b") → FirstFault M (two_pages 3) 0x20002 0x21 None 3 SourceSpoiled
@@ -39,4 +39,4 @@ pub returns-clause-fault : goal.returns-clause-fault
 returns-clause-fault c = fault
 
 pub returns-clause-refused : goal.returns-clause-refused
-returns-clause-refused c = λ M w first. refused M (two_pages 3) 0x20002 0x21 None 3 SourceSpoiled two_more_pages-listed (fault M w first)
+returns-clause-refused c = λ M w first. fault_refuses_all M (two_pages 3) 0x20002 0x21 None 3 SourceSpoiled two_more_pages-listed (fault M w first)

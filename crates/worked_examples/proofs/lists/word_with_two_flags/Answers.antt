@@ -6,7 +6,7 @@ use Rattle.kx_pages.specs.declared.item.Item.TheVariants.{Link}
 use Rattle.list_checker.specs.declared.fault.Why.TheVariants.{Flags}
 use Rattle.worked_examples.specs.Kernels.{three_bytes}
 use Rattle.worked_examples.specs.Lists.{HasWords, FirstFault}
-use Rattle.worked_examples.proofs.Refusing.{refused, three_bytes-listed}
+use Rattle.worked_examples.proofs.Refusing.{fault_refuses_all, three_bytes-listed}
 use Rattle.worked_examples.proofs.lists.word_with_two_flags.Goals as goal
 
 fault : (M : Mem) → HasWords M 0x20000 (0x2009 ∷ 0x30008 ∷ 4 ∷ []) → FirstFault M three_bytes 0x20002 0x21 None 1 Flags
@@ -19,4 +19,4 @@ pub returns-clause-fault : goal.returns-clause-fault
 returns-clause-fault c = fault
 
 pub returns-clause-refused : goal.returns-clause-refused
-returns-clause-refused c = λ M w. refused M three_bytes 0x20002 0x21 None 1 Flags three_bytes-listed (fault M w)
+returns-clause-refused c = λ M w. fault_refuses_all M three_bytes 0x20002 0x21 None 1 Flags three_bytes-listed (fault M w)

@@ -16,17 +16,17 @@ use Rattle.worked_examples.proofs.Stepping.{standing, reads, goes, ends, at-copi
 use Rattle.worked_examples.proofs.runs.kept_list_runs.Goals as goal
 
 -- a move of page s to page d by way of page 11
-abbrev moved : Contents → ℕ → ℕ → Contents
-moved m s d = copy_page (copy_page (copy_page m 0x11 s) s d) d 0x11
+abbrev moves_of_pair : Contents → ℕ → ℕ → Contents
+moves_of_pair m s d = copy_page (copy_page (copy_page m 0x11 s) s d) d 0x11
 
-at-moved : (m : Contents) (N : Mem) (s d : ℕ) → at m ≡ N → at (moved m s d) ≡ swapped_page N s d 0x11
+at-moved : (m : Contents) (N : Mem) (s d : ℕ) → at m ≡ N → at (moves_of_pair m s d) ≡ swapped_page N s d 0x11
 at-moved m N s d e = at-copied (copy_page (copy_page m 0x11 s) s d) (copied_page (copied_page N s 0x11) d s) d 0x11 (at-copied (copy_page m 0x11 s) (copied_page N s 0x11) s d (at-copied m N 0x11 s e))
 
 pub returns-clause-run : goal.returns-clause-run
 unfolding kind_of step_of word
 returns-clause-run c = λ m w.
-    let n = moved m 2 2 in
-    let o = moved n 0x13 3 in
+    let n = moves_of_pair m 2 2 in
+    let o = moves_of_pair n 0x13 3 in
     let N = swapped_page (at m) 2 2 0x11 in
     let O = moved_in_turn (at m) in
     let n-is : at n ≡ N = at-moved m (at m) 2 2 refl in
@@ -45,11 +45,11 @@ IsExchanged M p = moved_in_turn M p ≡ exchange M one_pair_at_home 0x11 p
 other : (M : Mem) (p : ℕ) → eqb p 0x11 ≡ false → eqb p 2 ≡ false → eqb p 3 ≡ false → eqb p 0x13 ≡ false → eqb 2 p ≡ false → eqb 3 p ≡ false → eqb 0x13 p ≡ false → IsExchanged M p
 other M p a b c d e f g = simp (a, b, c, d, e, f, g) refl
 
-turned : (a p : ℕ) → p ≢ a → eqb a p ≡ false
-turned a p apart = elim (eqb_tells a p) [ inl t ↦ absurd (apart (sym t.1)) | inr t ↦ t.0 ]
+eqb_turn : (a p : ℕ) → p ≢ a → eqb a p ≡ false
+eqb_turn a p apart = elim (eqb_tells a p) [ inl t ↦ absurd (apart (sym t.1)) | inr t ↦ t.0 ]
 
-exchanged : (M : Mem) (p : ℕ) → IsExchanged M p
-exchanged M p =
+exchange_is_left : (M : Mem) (p : ℕ) → IsExchanged M p
+exchange_is_left M p =
     elim (eqb_tells p 0x11) [
       | inl t ↦ subst (IsExchanged M) (sym t.1) refl
       | inr t ↦ elim (eqb_tells p 2) [
@@ -58,11 +58,11 @@ exchanged M p =
           | inl v ↦ subst (IsExchanged M) (sym v.1) refl
           | inr v ↦ elim (eqb_tells p 0x13) [
             | inl x ↦ subst (IsExchanged M) (sym x.1) refl
-            | inr x ↦ other M p t.0 u.0 v.0 x.0 (turned 2 p u.1) (turned 3 p v.1) (turned 0x13 p x.1)
+            | inr x ↦ other M p t.0 u.0 v.0 x.0 (eqb_turn 2 p u.1) (eqb_turn 3 p v.1) (eqb_turn 0x13 p x.1)
           ]
         ]
       ]
     ]
 
 pub returns-clause-exchanged : goal.returns-clause-exchanged
-returns-clause-exchanged c = exchanged
+returns-clause-exchanged c = exchange_is_left

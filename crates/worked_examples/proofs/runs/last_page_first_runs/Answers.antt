@@ -48,8 +48,8 @@ at_four : (M : Mem) → M 3 ≡ page_of (codes "c") → IsLeft M 4
 unfolding page_of
 at_four M second = second
 
-left : (M : Mem) → M 2 ≡ page_of (codes "b") → M 3 ≡ page_of (codes "c") → (p : ℕ) → IsLeft M p
-left M first second p =
+page_is_left : (M : Mem) → M 2 ≡ page_of (codes "b") → M 3 ≡ page_of (codes "c") → (p : ℕ) → IsLeft M p
+page_is_left M first second p =
     elim (eqb_tells p 3) [
       | inl t ↦ subst (IsLeft M) (sym t.1) (at_three M first)
       | inr t ↦ elim (eqb_tells p 4) [
@@ -72,4 +72,4 @@ pub returns-clause-run : goal.returns-clause-run
 returns-clause-run c = run
 
 pub returns-clause-left : goal.returns-clause-left
-returns-clause-left c = left
+returns-clause-left c = page_is_left

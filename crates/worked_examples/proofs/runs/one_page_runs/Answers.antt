@@ -38,8 +38,8 @@ here : (M : Mem) → M 0x12 ≡ page_of (codes "abc") → IsLeft M 2
 unfolding page_of
 here M source = source
 
-left : (M : Mem) → M 0x12 ≡ page_of (codes "abc") → (p : ℕ) → IsLeft M p
-left M source p = elim (eqb_tells p 2) [ inl t ↦ subst (IsLeft M) (sym t.1) (here M source) | inr t ↦ other t.0 t.1 ]
+page_is_left : (M : Mem) → M 0x12 ≡ page_of (codes "abc") → (p : ℕ) → IsLeft M p
+page_is_left M source p = elim (eqb_tells p 2) [ inl t ↦ subst (IsLeft M) (sym t.1) (here M source) | inr t ↦ other t.0 t.1 ]
   where
     other : eqb p 2 ≡ false → p ≢ 2 → IsLeft M p
     other a no_two =
@@ -53,4 +53,4 @@ pub returns-clause-run : goal.returns-clause-run
 returns-clause-run c = run
 
 pub returns-clause-left : goal.returns-clause-left
-returns-clause-left c = left
+returns-clause-left c = page_is_left

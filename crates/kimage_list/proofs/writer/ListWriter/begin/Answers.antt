@@ -6,7 +6,7 @@ use Rattle.page_pool.specs.Pages.{usable_of}
 use Rattle.kx_pages.specs.Lists.{Has}
 use Rattle.kimage_list.specs.inner.Held.{HoldSame}
 use Rattle.kimage_list.specs.inner.Calls.{load_begun}
-use Rattle.kimage_list.proofs.Beginning.{prepared}
+use Rattle.kimage_list.proofs.Beginning.{preparation_begins}
 use Rattle.kimage_list.proofs.Held.{held_for}
 use Rattle.kimage_list.proofs.writer.ListWriter.begin.Goals as goal
 use Rattle.kx_pages.specs.Needs.{need_of}
@@ -17,7 +17,7 @@ open-requires c =
     let n = c.pages_needed-need.ensures ∙ ap (need_of c.args.wish c.args.segments) c.total.ensures.sum in
     let r = c.in-Ok.ensures.ready in (
       load_begun (at a.memory) (usable_of a.pool) a.wanted.now a.segments a.wish,
-      prepared a.memory a.pool a.wanted.now a.segments a.wish c.prepare.new.memory c.in-Ok.table c.pages_needed-need.result c.new.result n
+      preparation_begins a.memory a.pool a.wanted.now a.segments a.wish c.prepare.new.memory c.in-Ok.table c.pages_needed-need.result c.new.result n
           (omega (arith, c.if-left-need.false, c.left-left.ensures.value)) (λ q. c.in-Ok.ensures.same q) c.left-left.ensures.once c.requires.unfiled r.0 r.1 r.2 c.requires.some c.new.ensures,
     )
 
@@ -26,7 +26,7 @@ returns-in-Ok-clause-begun c =
     let a = c.args in
     let n = c.pages_needed-need.ensures ∙ ap (need_of c.args.wish c.args.segments) c.total.ensures.sum in
     let r = c.in-Ok.ensures.ready in
-    c.open.ensures.stands (load_begun (at a.memory) (usable_of a.pool) a.wanted.now a.segments a.wish) (prepared a.memory a.pool a.wanted.now a.segments a.wish c.prepare.new.memory c.in-Ok.table c.pages_needed-need.result c.new.result n
+    c.open.ensures.stands (load_begun (at a.memory) (usable_of a.pool) a.wanted.now a.segments a.wish) (preparation_begins a.memory a.pool a.wanted.now a.segments a.wish c.prepare.new.memory c.in-Ok.table c.pages_needed-need.result c.new.result n
     (omega (arith, c.if-left-need.false, c.left-left.ensures.value)) (λ q. c.in-Ok.ensures.same q) c.left-left.ensures.once c.requires.unfiled r.0 r.1 r.2 c.requires.some c.new.ensures)
 
 pub returns-in-Ok-clause-held : goal.returns-in-Ok-clause-held

@@ -4,7 +4,7 @@ use Rattle.kx_pages.specs.Bytes.{page_of}
 use Rattle.segments.specs.Values.{want}
 use Rattle.load_states.specs.States.{Checked}
 use Rattle.load_states.specs.inner.States.{checked_of}
-use Rattle.load_states.proofs.Ready.{wanted_held, touched}
+use Rattle.load_states.proofs.Ready.{wanted_held, touch_goes_back}
 use Rattle.load_states.proofs.ran.RanKept.touch.Goals as goal
 
 pub set-requires-clause-held : goal.set-requires-clause-held
@@ -15,5 +15,5 @@ set-requires-clause-held c =
 pub invariant_of-self : goal.invariant_of-self
 invariant_of-self c =
     let s : Checked = checked_of c.self.inside.loaded c.self.inside.accept in
-    touched s (checked_of c.set.new.self c.self.inside.accept) c.args.p (page_of c.args.bytes.now) c.self.invariant (subst (λ (t : Checked). IsSome (want t.load.segments c.args.p)) (sym c.self.view_is) c.requires.wanted)
+    touch_goes_back s (checked_of c.set.new.self c.self.inside.accept) c.args.p (page_of c.args.bytes.now) c.self.invariant (subst (λ (t : Checked). IsSome (want t.load.segments c.args.p)) (sym c.self.view_is) c.requires.wanted)
     c.set.ensures (λ i. s.words) (λ i. s.links) (λ i. s.pairs)
