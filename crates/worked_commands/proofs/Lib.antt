@@ -10,3 +10,5 @@ pub mod OneLoad
 pub mod Stepping
 pub mod CallFiles
 pub mod FirstFiles
+pub mod LoadWitness
+pub mod Exchange

@@ -85,7 +85,7 @@ no_such q a b c = λ i. cond (no 0x10 a i) 1 0 + (cond (no 0x11 b i) 1 0 + (cond
     no k apart = elim (eqb_tells k q) [ inl t ↦ absurd (apart (sym t.1)) | inr t ↦ t.0 ]
 
 -- another page of the loaded memory is zeros
-loaded_other : (q : ℕ) → q ≢ 0x11 → q ≢ 0x12 → at loaded q ≡ at no_memory q
+pub loaded_other : (q : ℕ) → q ≢ 0x11 → q ≢ 0x12 → at loaded q ≡ at no_memory q
 loaded_other q a b = other_page (0x11, list_page) ((0x12, abc_page) ∷ []) q a ∙ other_page (0x12, abc_page) [] q b ∙ refl
 
 module _ (r : Load) (s : IsSealed (at no_memory) pool Plain three_bytes r) where

@@ -62,7 +62,7 @@ each_page (p ∷ ps) h q = subst (λ o. IsPage q o) (sym (get-insert nat_cmp_tot
 is_memory : (ps : Pages) → IsWhole ps → IsMemory (memory_with ps)
 is_memory ps h = record { each = each_page ps h }
 
-abc_block : IsBlock 4096 abc_page
+pub abc_block : IsBlock 4096 abc_page
 unfolding page_of
 abc_block = record { long = refl; each = AreBytes-from_test abc_page refl }
 

@@ -111,7 +111,8 @@ all_asked = record {
   initrd = Some (codes "ii");
   command = Some (codes "quiet");
   modules =
-      record { bytes = codes "xx\n"; text = codes "x" } ∷ record { bytes = codes "y"; text = codes "y" } ∷ [];
+      record { bytes = codes "xx\n"; text = codes "x" }
+      ∷ record { bytes = codes "y"; text = codes "y" } ∷ [];
   purgatory = Some (codes "gggg");
   notes = [];
 }

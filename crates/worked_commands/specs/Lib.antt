@@ -15,3 +15,4 @@ pub mod Events
 pub mod Panics
 pub mod Residents
 pub mod Firsts
+pub mod Kept

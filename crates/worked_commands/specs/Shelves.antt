@@ -16,7 +16,8 @@ two_files = holding ((codes "a", codes "xyz") ∷ (codes "b", codes "vw") ∷ []
 
 -- and `c` has these
 abbrev pub with_c : List ℕ → Files
-with_c bytes = holding ((codes "a", codes "xyz") ∷ (codes "b", codes "vw") ∷ (codes "c", bytes) ∷ [])
+with_c bytes =
+    holding ((codes "a", codes "xyz") ∷ (codes "b", codes "vw") ∷ (codes "c", bytes) ∷ [])
 
 -- the files of a shelf, where it tells them, and its count of faults
 pub record Desk : Type 0 where

@@ -12,7 +12,7 @@ ghost use Rattle.kexec_main.specs.Load.{loads};
 ghost use Rattle.kexec_main.specs.Outputs.{Made};
 ghost use Rattle.kexec_main.specs.declared.status.Reason.TheVariants as reasons;
 ghost use Rattle.worked_commands.specs.Inputs.{each_file, few_asked, three_bytes_file};
-ghost use Rattle.worked_commands.specs.Lists.{Gives};
+ghost use Rattle.worked_commands.specs.Lists.{GivenBy, Gives};
 ghost use Rattle.worked_commands.specs.Loads.{boot_goods, boot_of, boot_of_unknown, boot_text, few_plan, load_goods, load_of_few, load_text};
 ghost use Rattle.worked_commands.specs.Memories.{loaded_file, run_file};
 ghost use Rattle.worked_commands.specs.Names.{boot_raw, load_raw};
@@ -22,6 +22,7 @@ use kx_edge::{Shelf, Sink};
 /// The kernel's plan, and the goods of its boot: the memory after the run, and a text. Nothing else is made.
 pub fn kernel_is_booted()
     ensures plan { plan few_asked None ≡ Ok few_plan }
+    ensures made { boots (boot_of (0x10 ∷ 0x11 ∷ 0x12 ∷ [])) (Ok boot_goods) }
     ensures nothing_else { (goods : Made) → boots (boot_of (0x10 ∷ 0x11 ∷ 0x12 ∷ [])) (Ok goods)
         → goods ≡ boot_goods }
     ensures not_refused_for_pages { boots (boot_of (0x10 ∷ 0x11 ∷ 0x12 ∷ []))
@@ -34,6 +35,7 @@ pub fn kernel_is_booted()
 
 /// The goods of its load: the memory after the load, the record, and a text. Nothing else is made.
 pub fn kernel_is_loaded()
+    ensures made { loads (load_of_few (0x10 ∷ 0x11 ∷ 0x12 ∷ [])) (Ok load_goods) }
     ensures nothing_else { (goods : Made) → loads (load_of_few (0x10 ∷ 0x11 ∷ 0x12 ∷ [])) (Ok goods)
         → goods ≡ load_goods }
     ensures not_refused { loads (load_of_few (0x10 ∷ 0x11 ∷ 0x12 ∷ []))
@@ -68,6 +70,12 @@ pub fn loads_that_were_done<S: Shelf, O: Sink>()
         (λ s o t p. HasLaid S.Shelf O.Sink each_file s o t p (words.boot (boot_raw None)))
         ((codes "o", run_file) ∷ []) boot_text }
     ensures load { Gives S.Shelf O.Sink
+        (λ s o t p. HasLaid S.Shelf O.Sink each_file s o t p (words.load (load_raw false)))
+        ((codes "o", loaded_file) ∷ (codes "r", three_bytes_file) ∷ []) load_text }
+    ensures boot_by { GivenBy S.Shelf O.Sink
+        (λ s o t p. HasLaid S.Shelf O.Sink each_file s o t p (words.boot (boot_raw None)))
+        ((codes "o", run_file) ∷ []) boot_text }
+    ensures load_by { GivenBy S.Shelf O.Sink
         (λ s o t p. HasLaid S.Shelf O.Sink each_file s o t p (words.load (load_raw false)))
         ((codes "o", loaded_file) ∷ (codes "r", three_bytes_file) ∷ []) load_text }
 {}

@@ -19,7 +19,8 @@ pub fn accepted_list_is_told()
     ensures accepted { (m : Contents) → HasList m → HasSource m (codes "abc")
         → IsAcceptedLoad (load_by m plain_record) }
     ensures told { (m : Contents) → HasList m → HasSource m (codes "abc")
-        → checks (load_by m plain_record) (Ok (lines_of (codes "accepted words 4 links 1 pairs 1\n"))) }
+        → checks (load_by m plain_record)
+        (Ok (lines_of (codes "accepted words 4 links 1 pairs 1\n"))) }
     ensures nothing_else { (m : Contents) (goods : Made) → HasList m → HasSource m (codes "abc")
         → checks (load_by m plain_record) (Ok goods)
         → goods ≡ lines_of (codes "accepted words 4 links 1 pairs 1\n") }
@@ -37,17 +38,19 @@ pub fn fault_of_a_list_is_told()
         → checks (load_by m plain_record)
         (Ok (told_fault (record { word = 2; why = WrongBytes }) (codes "word 2: WrongBytes\n"))) }
     ensures not_told { (m : Contents) → HasList m → HasSource m (codes "abd")
-        → checks (load_by m plain_record) (Ok (lines_of (codes "accepted words 4 links 1 pairs 1\n")))
-        → ⊥ }
+        → checks (load_by m plain_record)
+        (Ok (lines_of (codes "accepted words 4 links 1 pairs 1\n"))) → ⊥ }
 {}
 
 /// A crash kernel whose page 2 has the bytes lies in its place; one with other bytes, or with another head, does not.
 pub fn crash_kernel_is_told()
-    ensures in_place { (m : Contents) → at m 2 ≡ page_of (codes "abc") → IsInPlace (crash_files m (crash_record 4)) }
+    ensures in_place { (m : Contents) → at m 2 ≡ page_of (codes "abc")
+        → IsInPlace (crash_files m (crash_record 4)) }
     ensures told { (m : Contents) → at m 2 ≡ page_of (codes "abc")
         → checks (load_by m (crash_record 4)) (Ok (lines_of (codes "accepted crash pages 1\n"))) }
     ensures other_text { (m : Contents) → at m 2 ≡ page_of (codes "abc")
-        → checks (load_by m (crash_record 4)) (Ok (lines_of (codes "accepted crash pages 2\n"))) → ⊥ }
+        → checks (load_by m (crash_record 4))
+        (Ok (lines_of (codes "accepted crash pages 2\n"))) → ⊥ }
     ensures other_bytes { (m : Contents) → at m 2 ≡ page_of (codes "abd")
         → IsPlaceFault (crash_files m (crash_record 4)) (record { word = 0; why = Missing 2 }) }
     ensures other_bytes_told { (m : Contents) → at m 2 ≡ page_of (codes "abd")

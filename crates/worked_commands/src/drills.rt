@@ -36,8 +36,8 @@ pub fn pool_meets_the_area()
     ensures other_page { drills (drill_of (0x10 ∷ 0x12 ∷ 0x11 ∷ []) reserved_ram [])
         (Err (by (reasons.Slots (slots.PoolMeets 0x11)))) → ⊥ }
     ensures other_reason { Meets (Some 0x12) reasons.NotKept → ⊥ }
-    ensures not_made { (goods : Made) → drills (drill_of (0x10 ∷ 0x12 ∷ []) reserved_ram []) (Ok goods)
-        → ⊥ }
+    ensures not_made { (goods : Made)
+        → drills (drill_of (0x10 ∷ 0x12 ∷ []) reserved_ram []) (Ok goods) → ⊥ }
     ensures never_too_long { drills (drill_of (0x10 ∷ []) small_ram [])
         (Err (too_long (codes "e") 9)) → ⊥ }
 {}

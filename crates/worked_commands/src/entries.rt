@@ -57,8 +57,8 @@ pub fn command_without_files()
 /// The command that words say, told by its takes: the copy refuses four bytes, and words that are refused are a command that
 /// refuses before any file is taken.
 pub fn command_of_words()
-    ensures copy { HoldsHere (λ X c. reads c.takes (holding long_file) ≡ Err (too_long (codes "a") 3))
-        (Ok 0) }
+    ensures copy { HoldsHere
+        (λ X c. reads c.takes (holding long_file) ≡ Err (too_long (codes "a") 3)) (Ok 0) }
     ensures no_copy { HoldsHere
         (λ X c. reads c.takes (holding long_file) ≡ Err (too_long (codes "a") 3)) (Ok 1) → ⊥ }
     ensures refused { HoldsHere (λ X c. reads c.takes (holding long_file) ≡ Err (by 105)) (Err 5) }

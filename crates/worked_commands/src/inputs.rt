@@ -174,7 +174,8 @@ pub fn files_of_other_commands()
 
 /// Of several spoiled files the one that is read first is answered: memory, pool, map; memory, map, notes; memory, record.
 pub fn first_of_spoiled_files()
-    ensures boot_memory { reads (boot_files boot_all) (spoiled (codes "m" ∷ codes "p" ∷ codes "t" ∷ []))
+    ensures boot_memory { reads (boot_files boot_all)
+        (spoiled (codes "m" ∷ codes "p" ∷ codes "t" ∷ []))
         ≡ Err (unreadable (inputs.Mem memories.BadMagic)) }
     ensures boot_pool { reads (boot_files boot_all) (spoiled (codes "p" ∷ codes "t" ∷ []))
         ≡ Err (unreadable (inputs.Pool (pools.BadLine 1))) }

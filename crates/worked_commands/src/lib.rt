@@ -14,6 +14,7 @@ mod dumped;
 mod dumps;
 mod edges;
 mod entries;
+mod exchanges;
 mod execs;
 mod firsts;
 mod inputs;
@@ -47,6 +48,7 @@ pub use edges::{
     bytes_of_a_file, bytes_that_are_said, counts_of_faults, file_that_is_cut, file_that_is_put,
 };
 pub use entries::{command_of_words, command_without_files, copy_that_was_done, files_in_order};
+pub use exchanges::kept_list_is_run;
 pub use execs::{
     crash_kernel_is_run, execs_that_were_done, faulty_list_is_not_run, plain_list_is_not_run_twice,
     plain_list_is_run,

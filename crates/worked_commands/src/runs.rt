@@ -39,7 +39,8 @@ pub fn runs_that_are_asked()
 /// Where a new kernel starts, and where its purgatory's table of regions and digest lie: both addresses are 0 without one.
 pub fn startups()
     ensures none { purgatory_places 0 0 ≡ None }
-    ensures both { purgatory_places 0x3000 0x3100 ≡ Some (record { regions = 0x3000; digest = 0x3100 }) }
+    ensures both { purgatory_places 0x3000 0x3100
+        ≡ Some (record { regions = 0x3000; digest = 0x3100 }) }
     ensures table_at_0 { purgatory_places 0 0x3100
         ≡ Some (record { regions = 0; digest = 0x3100 }) }
     ensures digest_at_0 { purgatory_places 0x3000 0
@@ -71,7 +72,8 @@ pub fn texts_of_runs()
         ≡ tests.Wild 2 → run_text (Some Once) (kept_over m) (planned_startup purgatory_plan)
         ≡ codes "accepted words 4 links 1 pairs 1\nhead 12002 control 10000 swap 11000\n"
         ++ codes "start entry 2a00 rax 2badb002 rbx 9500 rsi 90000\nran 4\nregions wild\n" }
-    ensures twice { (m : Contents) → run_text (Some Twice) (kept_over m) (planned_startup purgatory_plan)
+    ensures twice { (m : Contents)
+        → run_text (Some Twice) (kept_over m) (planned_startup purgatory_plan)
         ≡ codes "accepted words 4 links 1 pairs 1\nhead 12002 control 10000 swap 11000\n"
         ++ codes "start entry 2a00 rax 2badb002 rbx 9500 rsi 90000\nran 4\nran 4\n" }
 {}

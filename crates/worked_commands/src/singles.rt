@@ -71,7 +71,8 @@ pub fn list_is_traced()
     ensures off { (m : Contents) (bytes : List ℕ) → IsFileOf (at m) bytes
         → traces (trace_over m 0x4000_0000_0002 mode.Plain 9)
         (Ok (one_output bytes (codes "off 400000000000 after 1\n"))) }
-    ensures nothing_else { (goods : Made) → traces (trace_over loaded 0x11002 mode.Plain 9) (Ok goods)
+    ensures nothing_else { (goods : Made)
+        → traces (trace_over loaded 0x11002 mode.Plain 9) (Ok goods)
         → goods ≡ one_output run_file (codes "done 4\n") }
     ensures not_refused { traces (trace_over loaded 0x11002 mode.Plain 9) (Err (by reasons.NotKept))
         → ⊥ }

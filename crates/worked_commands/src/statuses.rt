@@ -23,8 +23,8 @@ pub fn commands_that_ended()
     ensures done_code { code_of status.Done ≡ 0 }
     ensures not_accepted { answer_of (status.NotAccepted (record { word = 3; why = whys.RunsOff }))
         ≡ not_accepted (record { word = 3; why = whys.RunsOff }) }
-    ensures not_accepted_code { code_of (status.NotAccepted (record { word = 3; why = whys.RunsOff }))
-        ≡ 1 }
+    ensures not_accepted_code { code_of
+        (status.NotAccepted (record { word = 3; why = whys.RunsOff })) ≡ 1 }
     ensures unsaid { answer_of status.Unsaid ≡ unsaid }
     ensures unsaid_code { code_of status.Unsaid ≡ 5 }
     ensures memory { answer_of status.Memory ≡ memory }

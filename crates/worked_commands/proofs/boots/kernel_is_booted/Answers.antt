@@ -1,14 +1,16 @@
 -- By the one load.
-use Rattle.std.proofs.Common.{◌≡◌, ◌∙◌, [], ◌∷◌, Ok, Err, ap, arith, inl, inr}
+use Rattle.std.proofs.Common.{◌≡◌, ◌∙◌, [], ◌∷◌, Ok, Err, refl, sym, ap, arith, inl, inr}
 use Rattle.std.specs.Prelude.{codes}
 use Rattle.kexec_plan.specs.declared.fault.PlanFault.TheVariants as plans
 use Rattle.file_commands.specs.Taking.{by}
 use Rattle.kexec_main.specs.Boot.{boots}
 use Rattle.kexec_main.specs.Outputs.{Made}
 use Rattle.kexec_main.specs.declared.status.Reason.TheVariants as reasons
-use Rattle.worked_commands.specs.Loads.{boot_goods, boot_of, boot_text}
+use Rattle.worked_commands.specs.Loads.{boot_goods, boot_of, boot_text, few_plan}
 use Rattle.worked_commands.specs.Memories.{run_file}
 use Rattle.worked_commands.proofs.Loads.{plan_is, pool}
+use Rattle.worked_commands.proofs.Memories.{run_is}
+use Rattle.worked_commands.proofs.LoadWitness.{checked1, loaded1, sealed, told1}
 use Rattle.worked_commands.proofs.OneLoad.{boot_leaves, boot_says, known}
 use Rattle.std.specs.Fmt.{digits}
 use Rattle.worked_commands.proofs.boots.kernel_is_booted.Goals as goal
@@ -30,6 +32,10 @@ planned (inr (p, c, b, h)) = h
 pub returns-clause-plan : goal.returns-clause-plan
 unfolding digits
 returns-clause-plan c = plan_is
+
+pub returns-clause-made : goal.returns-clause-made
+unfolding digits
+returns-clause-made c = (few_plan, checked1, (loaded1, told1), sym (boot_says checked1 few_plan plan_is sealed told1), refl, (run_file, refl, run_is))
 
 pub returns-clause-nothing_else : goal.returns-clause-nothing_else
 unfolding digits
