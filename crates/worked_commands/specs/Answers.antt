@@ -8,8 +8,8 @@ use Rattle.file_commands.specs.Taking.{File, Refusal, by, ok}
 use Rattle.worked_commands.specs.Shelves.{Desk, Slate, desk, slate, holding}
 
 -- two outputs and a text
-abbrev pub copied : Option ℕ → List ℕ → Goods ℕ
-copied fault bytes = record {
+abbrev pub copy_goods : Option ℕ → List ℕ → Goods ℕ
+copy_goods fault bytes = record {
   outputs = (codes "o", bytes) ∷ (codes "r", codes "12") ∷ [];
   text = codes "ok\n";
   fault = fault;
@@ -19,7 +19,7 @@ copied fault bytes = record {
 abbrev pub copies : Option ℕ → List ℕ → Result (Goods ℕ) (Refusal ℕ) → Type 0
 copies fault [] (Ok goods) = ⊥
 copies fault [] (Err why) = why ≡ by 7
-copies fault (b ∷ bs) (Ok goods) = goods ≡ copied fault (b ∷ bs)
+copies fault (b ∷ bs) (Ok goods) = goods ≡ copy_goods fault (b ∷ bs)
 copies fault (b ∷ bs) (Err why) = ⊥
 
 -- `a` is copied, of at most three bytes
@@ -31,13 +31,14 @@ abbrev pub shelf : List File → (faults : ℕ) → Desk
 shelf fs faults = record { files = Some (holding fs); faults = faults }
 
 -- what was said, and the faults of the sink
-abbrev pub said : List ℕ → (faults : ℕ) → Slate
-said bytes faults = record { said = Some bytes; faults = faults }
+abbrev pub slate_with : List ℕ → (faults : ℕ) → Slate
+slate_with bytes faults = record { said = Some bytes; faults = faults }
 
 -- the answer to this copy over a shelf of these files, from the states before to those
 abbrev pub MeetsOver : List File → Option ℕ → Answer ℕ ℕ → Desk → Slate → Type 0
 MeetsOver fs fault answer now told =
-    MeetsTold desk slate (copy fault) (holding fs) (shelf fs 6) (said (codes "!") 8) answer now told
+    MeetsTold desk slate (copy fault) (holding fs) (shelf fs 6) (slate_with (codes "!") 8) answer
+    now told
 
 -- `a` alone
 abbrev pub one_file : List File
@@ -54,11 +55,11 @@ MeetsHere fault answer now told = MeetsOver one_file fault answer now told
 -- the same by what the calls did
 abbrev pub MeetsByCalls : Option ℕ → Answer ℕ ℕ → Desk → Slate → Type 0
 MeetsByCalls fault answer now told =
-    Meets desk slate (copy fault) (shelf one_file 6) (said (codes "!") 8) answer now told
+    Meets desk slate (copy fault) (shelf one_file 6) (slate_with (codes "!") 8) answer now told
 
 -- the copy as an entry: `o` has the bytes of `a`, and the text is as it is
-abbrev pub copying : Entry ℕ ℕ
-copying = record {
+abbrev pub copy_entry : Entry ℕ ℕ
+copy_entry = record {
   Inputs = List ℕ;
   command = copy None;
   did = λ D E x s o s' o'.
@@ -68,8 +69,8 @@ copying = record {
 }
 
 -- an entry that takes no file: its one output is `o`, of the byte of its number
-abbrev pub writing : Entry ℕ ℕ
-writing = record {
+abbrev pub write_entry : Entry ℕ ℕ
+write_entry = record {
   Inputs = ℕ;
   command = command_of (ok 0x41)
       (λ x r. r ≡ Ok (record { outputs = (codes "o", x ∷ []) ∷ []; text = []; fault = None }));
@@ -79,8 +80,8 @@ writing = record {
 
 -- words are an entry's number, and other words are refused for the reason 100 and this number more
 abbrev pub entry_of_number : ℕ → Entry ℕ ℕ
-entry_of_number zero = copying
-entry_of_number (suc n) = writing
+entry_of_number zero = copy_entry
+entry_of_number (suc n) = write_entry
 
 -- what the command that the words say makes: its type and what it takes
 abbrev pub HoldsHere : ((X : Type 0) → Command X ℕ ℕ → Type 0) → Result ℕ ℕ → Type 0

@@ -18,8 +18,8 @@ abbrev pub core_over : Contents → CoreInputs
 core_over m = record { memory = m; address = 0x3000; out = codes "o" }
 
 -- migrate r o of the record of `abc`
-abbrev pub migrated : MigrateInputs
-migrated = record { load_record = three_bytes_record; out = codes "o" }
+abbrev pub record_to_migrate : MigrateInputs
+record_to_migrate = record { load_record = three_bytes_record; out = codes "o" }
 
 -- trace m o of this memory, by this head and mode, with at most so many steps
 abbrev pub trace_over : Contents → (head : ℕ) → Mode → (limit : ℕ) → TraceInputs

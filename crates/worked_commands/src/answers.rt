@@ -3,7 +3,7 @@
 ghost use Rattle.std.specs.Prelude.{◌≡◌, ◌∷◌, [], List, ℕ, Some, None, codes};
 ghost use Rattle.file_commands.specs.Answers.{FilesCut, FilesPut, FilesUpTo, done, memory, not_accepted, refused, unread, unsaid, unwritten, with_outputs};
 ghost use Rattle.file_commands.specs.Taking.{by, too_long};
-ghost use Rattle.worked_commands.specs.Answers.{MeetsByCalls, MeetsHere, MeetsOver, long_file, one_file, said, shelf};
+ghost use Rattle.worked_commands.specs.Answers.{MeetsByCalls, MeetsHere, MeetsOver, long_file, one_file, slate_with, shelf};
 ghost use Rattle.worked_commands.specs.Shelves.{holding, two_files, with_c};
 
 /// Outputs are put one after another: of two with one name the last counts.
@@ -42,52 +42,53 @@ pub fn answers_over_told_files()
     ensures done { MeetsHere None done
         (shelf
         ((codes "a", codes "xyz") ∷ (codes "o", codes "xyz") ∷ (codes "r", codes "12") ∷ []) 6)
-        (said (codes "!ok\n") 8) }
+        (slate_with (codes "!ok\n") 8) }
     ensures not_said { MeetsHere None done
         (shelf
         ((codes "a", codes "xyz") ∷ (codes "o", codes "xyz") ∷ (codes "r", codes "12") ∷ []) 6)
-        (said (codes "!") 8) → ⊥ }
+        (slate_with (codes "!") 8) → ⊥ }
     ensures not_put { MeetsHere None done
         (shelf ((codes "a", codes "xyz") ∷ (codes "o", codes "xyz") ∷ []) 6)
-        (said (codes "!ok\n") 8) → ⊥ }
+        (slate_with (codes "!ok\n") 8) → ⊥ }
     ensures fault_is_answered { MeetsHere (Some 9) (not_accepted 9)
         (shelf
         ((codes "a", codes "xyz") ∷ (codes "o", codes "xyz") ∷ (codes "r", codes "12") ∷ []) 6)
-        (said (codes "!ok\n") 8) }
+        (slate_with (codes "!ok\n") 8) }
     ensures fault_is_not_done { MeetsHere (Some 9) done
         (shelf
         ((codes "a", codes "xyz") ∷ (codes "o", codes "xyz") ∷ (codes "r", codes "12") ∷ []) 6)
-        (said (codes "!ok\n") 8) → ⊥ }
+        (slate_with (codes "!ok\n") 8) → ⊥ }
     ensures unwritten { MeetsHere None (unwritten (codes "r"))
         (shelf
         ((codes "a", codes "xyz") ∷ (codes "o", codes "xyz") ∷ (codes "r", codes "1") ∷ []) 7)
-        (said (codes "!") 8) }
+        (slate_with (codes "!") 8) }
     ensures uncounted { MeetsHere None (unwritten (codes "r"))
         (shelf
         ((codes "a", codes "xyz") ∷ (codes "o", codes "xyz") ∷ (codes "r", codes "1") ∷ []) 6)
-        (said (codes "!") 8) → ⊥ }
+        (slate_with (codes "!") 8) → ⊥ }
     ensures unsaid { MeetsHere None unsaid
         (shelf
         ((codes "a", codes "xyz") ∷ (codes "o", codes "xyz") ∷ (codes "r", codes "12") ∷ []) 6)
-        (said (codes "!o") 9) }
+        (slate_with (codes "!o") 9) }
     ensures unread { MeetsHere None (unread (codes "a")) (shelf one_file 7)
-        (said (codes "!") 8) }
+        (slate_with (codes "!") 8) }
     ensures memory { MeetsHere None memory (shelf one_file 6)
-        (said (codes "!") 8) }
+        (slate_with (codes "!") 8) }
     ensures not_refused { MeetsHere None (refused (by 7)) (shelf one_file 6)
-        (said (codes "!") 8) → ⊥ }
+        (slate_with (codes "!") 8) → ⊥ }
 {}
 
-/// The copy is refused: a file without bytes for the command's own reason, and a longer one than four bytes for its length.
+/// The copy is refused: a file without bytes for the reason of the command, and one of four bytes for its length.
 pub fn answers_that_refuse()
-    ensures no_file { MeetsOver [] None (refused (by 7)) (shelf [] 6) (said (codes "!") 8) }
-    ensures other_reason { MeetsOver [] None (refused (by 8)) (shelf [] 6) (said (codes "!") 8)
-        → ⊥ }
+    ensures no_file { MeetsOver [] None (refused (by 7)) (shelf [] 6) (slate_with (codes "!") 8) }
+    ensures other_reason { MeetsOver [] None (refused (by 8)) (shelf [] 6)
+        (slate_with (codes "!") 8) → ⊥ }
     ensures too_long { MeetsOver long_file None
         (refused (too_long (codes "a") 3)) (shelf long_file 6)
-        (said (codes "!") 8) }
+        (slate_with (codes "!") 8) }
     ensures not_done { MeetsOver [] None done
-        (shelf ((codes "o", []) ∷ (codes "r", codes "12") ∷ []) 6) (said (codes "!ok\n") 8) → ⊥ }
+        (shelf ((codes "o", []) ∷ (codes "r", codes "12") ∷ []) 6)
+        (slate_with (codes "!ok\n") 8) → ⊥ }
 {}
 
 /// The copy answers by the calls that were made.
@@ -95,25 +96,25 @@ pub fn answers_by_calls()
     ensures done { MeetsByCalls None done
         (shelf
         ((codes "a", codes "xyz") ∷ (codes "o", codes "xyz") ∷ (codes "r", codes "12") ∷ []) 6)
-        (said (codes "!ok\n") 8) }
+        (slate_with (codes "!ok\n") 8) }
     ensures fault_is_answered { MeetsByCalls (Some 9) (not_accepted 9)
         (shelf
         ((codes "a", codes "xyz") ∷ (codes "o", codes "xyz") ∷ (codes "r", codes "12") ∷ []) 6)
-        (said (codes "!ok\n") 8) }
+        (slate_with (codes "!ok\n") 8) }
     ensures unwritten { MeetsByCalls None (unwritten (codes "r"))
         (shelf
         ((codes "a", codes "xyz") ∷ (codes "o", codes "xyz") ∷ (codes "r", codes "1") ∷ []) 7)
-        (said (codes "!") 8) }
+        (slate_with (codes "!") 8) }
     ensures unsaid { MeetsByCalls None unsaid
         (shelf
         ((codes "a", codes "xyz") ∷ (codes "o", codes "xyz") ∷ (codes "r", codes "12") ∷ []) 6)
-        (said (codes "!o") 9) }
+        (slate_with (codes "!o") 9) }
     ensures unread { MeetsByCalls None (unread (codes "a")) (shelf one_file 7)
-        (said (codes "!") 8) }
+        (slate_with (codes "!") 8) }
     ensures unread_of_another_name { MeetsByCalls None (unread (codes "o"))
-        (shelf one_file 7) (said (codes "!") 8) → ⊥ }
+        (shelf one_file 7) (slate_with (codes "!") 8) → ⊥ }
     ensures memory { MeetsByCalls None memory (shelf one_file 6)
-        (said (codes "!") 8) }
+        (slate_with (codes "!") 8) }
     ensures not_refused { MeetsByCalls None (refused (by 7))
-        (shelf one_file 6) (said (codes "!") 8) → ⊥ }
+        (shelf one_file 6) (slate_with (codes "!") 8) → ⊥ }
 {}

@@ -16,7 +16,7 @@ ghost use Rattle.worked_commands.specs.Inputs.{three_bytes_file, three_bytes_rec
 ghost use Rattle.worked_commands.specs.Lists.{GivenBy, Gives};
 ghost use Rattle.worked_commands.specs.Memories.{loaded, loaded_file, run_file};
 ghost use Rattle.worked_commands.specs.Names.{core_memory, migrate_record};
-ghost use Rattle.worked_commands.specs.Singles.{core_over, migrated, one_output, trace_over};
+ghost use Rattle.worked_commands.specs.Singles.{core_over, record_to_migrate, one_output, trace_over};
 ghost use Rattle.worked_commands.specs.Texts.{core_of_five};
 
 use kx_edge::{Shelf, Sink};
@@ -53,11 +53,11 @@ pub fn core_is_refused()
 
 /// A record is written in the second version, which has the digest of each segment.
 pub fn record_is_migrated()
-    ensures made { migrates migrated
+    ensures made { migrates record_to_migrate
         (Ok (one_output three_bytes_file (codes "record segments 1\n"))) }
-    ensures nothing_else { (goods : Made) → migrates migrated (Ok goods)
+    ensures nothing_else { (goods : Made) → migrates record_to_migrate (Ok goods)
         → goods ≡ one_output three_bytes_file (codes "record segments 1\n") }
-    ensures not_refused { (why : Refusal Reason) → migrates migrated (Err why) → ⊥ }
+    ensures not_refused { (why : Refusal Reason) → migrates record_to_migrate (Err why) → ⊥ }
 {}
 
 /// The run of the list that moves page 12 to page 2: all of it, or its first two steps; and a run that leaves memory.

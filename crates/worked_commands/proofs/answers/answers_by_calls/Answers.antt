@@ -7,7 +7,7 @@ use Rattle.file_commands.specs.Files.{whole_file}
 use Rattle.file_commands.specs.Taking.{FailedAt, GivesFile, Refusal, Took, by, ok, reads, refuse, too_long}
 use Rattle.file_commands.proofs.Steps.{took_told}
 use Rattle.worked_commands.specs.Shelves.{Desk, desk, holding, slate}
-use Rattle.worked_commands.specs.Answers.{copied, copies, one_file, said, shelf}
+use Rattle.worked_commands.specs.Answers.{copy_goods, copies, one_file, slate_with, shelf}
 use Rattle.worked_commands.proofs.Shelves.{differ, got, one_shelf}
 use Rattle.worked_commands.proofs.Copies.{not_refused, read_here, x_is}
 use Rattle.worked_commands.proofs.answers.answers_by_calls.Goals as goal
@@ -55,22 +55,22 @@ outputs = (codes "o", codes "xyz") ∷ (codes "r", codes "12") ∷ []
 put_all : PutAll desk outputs (shelf one_file 6) (shelf whole 6)
 put_all = (shelf with_o 6, puts_o, (shelf whole 6, puts_r, refl))
 
-says : SaysText slate (said (codes "!") 8) (codes "ok\n") (said (codes "!ok\n") 8)
+says : SaysText slate (slate_with (codes "!") 8) (codes "ok\n") (slate_with (codes "!ok\n") 8)
 says = record { did = refl; said = (codes "!", refl, refl); calm = refl }
 
-breaks : BreaksText slate (said (codes "!") 8) (codes "ok\n") (said (codes "!o") 9)
+breaks : BreaksText slate (slate_with (codes "!") 8) (codes "ok\n") (slate_with (codes "!o") 9)
 breaks = record { did = refl; said = (codes "!", 1, omega arith, refl, refl); rose = omega arith }
 
 pub returns-clause-done : goal.returns-clause-done
-returns-clause-done c = (codes "xyz", copied None (codes "xyz"), shelf one_file 6, took, refl, (refl, put_all, says))
+returns-clause-done c = (codes "xyz", copy_goods None (codes "xyz"), shelf one_file 6, took, refl, (refl, put_all, says))
 
 pub returns-clause-fault_is_answered : goal.returns-clause-fault_is_answered
-returns-clause-fault_is_answered c = (codes "xyz", copied (Some 9) (codes "xyz"), shelf one_file 6, took, refl, (refl, put_all, says))
+returns-clause-fault_is_answered c = (codes "xyz", copy_goods (Some 9) (codes "xyz"), shelf one_file 6, took, refl, (refl, put_all, says))
 
 pub returns-clause-unwritten : goal.returns-clause-unwritten
 returns-clause-unwritten c = (
   codes "xyz",
-  copied None (codes "xyz"),
+  copy_goods None (codes "xyz"),
   shelf one_file 6,
   took,
   refl,
@@ -78,7 +78,7 @@ returns-clause-unwritten c = (
 )
 
 pub returns-clause-unsaid : goal.returns-clause-unsaid
-returns-clause-unsaid c = (codes "xyz", copied None (codes "xyz"), shelf one_file 6, took, refl, (put_all, breaks))
+returns-clause-unsaid c = (codes "xyz", copy_goods None (codes "xyz"), shelf one_file 6, took, refl, (put_all, breaks))
 
 pub returns-clause-unread : goal.returns-clause-unread
 unfolding FailedAt

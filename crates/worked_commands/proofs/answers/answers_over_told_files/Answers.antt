@@ -5,7 +5,7 @@ use Rattle.file_commands.specs.Answers.{Goods, GoesOut}
 use Rattle.file_commands.specs.Files.{whole_file}
 use Rattle.file_commands.specs.Taking.{Refusal, by, reads}
 use Rattle.worked_commands.specs.Shelves.{desk, holding, slate}
-use Rattle.worked_commands.specs.Answers.{copied, copies, one_file, said, shelf}
+use Rattle.worked_commands.specs.Answers.{copy_goods, copies, one_file, slate_with, shelf}
 use Rattle.worked_commands.proofs.Shelves.{differ, lost, one_shelf}
 use Rattle.worked_commands.proofs.Copies.{made, not_refused, put, read_here, told, x_is}
 use Rattle.worked_commands.proofs.answers.answers_over_told_files.Goals as goal
@@ -16,7 +16,7 @@ whole = (codes "a", codes "xyz") ∷ (codes "o", codes "xyz") ∷ (codes "r", co
 abbrev both : List (List ℕ × List ℕ)
 both = (codes "r", codes "12") ∷ (codes "o", codes "xyz") ∷ one_file
 
-out : (fault : Option ℕ) → GoesOut desk slate (copied fault (codes "xyz")) (shelf one_file 6) (said (codes "!") 8) (shelf whole 6) (said (codes "!ok\n") 8)
+out : (fault : Option ℕ) → GoesOut desk slate (copy_goods fault (codes "xyz")) (shelf one_file 6) (slate_with (codes "!") 8) (shelf whole 6) (slate_with (codes "!ok\n") 8)
 out fault = record {
   shelf = refl;
   sink = refl;
@@ -25,7 +25,7 @@ out fault = record {
 }
 
 pub returns-clause-done : goal.returns-clause-done
-returns-clause-done c = (codes "xyz", copied None (codes "xyz"), read_here, refl, refl, out None)
+returns-clause-done c = (codes "xyz", copy_goods None (codes "xyz"), read_here, refl, refl, out None)
 
 pub returns-clause-not_said : goal.returns-clause-not_said
 returns-clause-not_said c = λ (x, goods, read, m, fault, o). differ (codes "!") (codes "!ok\n") refl (told None (codes "!") goods (made None x goods (x_is x read) m) o.said)
@@ -35,7 +35,7 @@ returns-clause-not_put c = λ (x, goods, read, m, fault, o).
     lost ((codes "a", codes "xyz") ∷ (codes "o", codes "xyz") ∷ []) both (codes "r") (codes "12") refl refl (put None ((codes "a", codes "xyz") ∷ (codes "o", codes "xyz") ∷ []) goods (made None x goods (x_is x read) m) o.put)
 
 pub returns-clause-fault_is_answered : goal.returns-clause-fault_is_answered
-returns-clause-fault_is_answered c = (codes "xyz", copied (Some 9) (codes "xyz"), read_here, refl, refl, out (Some 9))
+returns-clause-fault_is_answered c = (codes "xyz", copy_goods (Some 9) (codes "xyz"), read_here, refl, refl, out (Some 9))
 
 pub returns-clause-fault_is_not_done : goal.returns-clause-fault_is_not_done
 returns-clause-fault_is_not_done c = λ (x, goods, read, m, fault, o).
@@ -45,7 +45,7 @@ returns-clause-fault_is_not_done c = λ (x, goods, read, m, fault, o).
 pub returns-clause-unwritten : goal.returns-clause-unwritten
 returns-clause-unwritten c = (
   codes "xyz",
-  copied None (codes "xyz"),
+  copy_goods None (codes "xyz"),
   read_here,
   refl,
   record {
@@ -67,7 +67,7 @@ returns-clause-uncounted c = λ h. omega (arith, h.4.shelf)
 pub returns-clause-unsaid : goal.returns-clause-unsaid
 returns-clause-unsaid c = (
   codes "xyz",
-  copied None (codes "xyz"),
+  copy_goods None (codes "xyz"),
   read_here,
   refl,
   record {

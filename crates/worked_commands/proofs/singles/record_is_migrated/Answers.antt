@@ -11,7 +11,7 @@ use Rattle.load_record.specs.Head.{head_fault, head_text}
 use Rattle.segments.specs.Rules.{bare_refusal, shape_refusal}
 use Rattle.sha2.specs.Sha256.{compress, digest_bytes, first_words, hash_after, rounds, schedule, sha256}
 use Rattle.worked_commands.specs.Inputs.{three_bytes_file, three_bytes_record}
-use Rattle.worked_commands.specs.Singles.{migrated, one_output}
+use Rattle.worked_commands.specs.Singles.{record_to_migrate, one_output}
 use Rattle.worked_commands.proofs.singles.record_is_migrated.Goals as goal
 
 bytes_are : record_file three_bytes_record ≡ three_bytes_file
@@ -26,7 +26,7 @@ line_is : segments_line 1 ≡ codes "record segments 1\n"
 unfolding digits
 line_is = refl
 
-alone : (goods : Made) → migrates migrated (Ok goods) → goods ≡ one_output three_bytes_file (codes "record segments 1\n")
+alone : (goods : Made) → migrates record_to_migrate (Ok goods) → goods ≡ one_output three_bytes_file (codes "record segments 1\n")
 alone goods (text, fault, outputs, back) =
     let said : goods.text ≡ codes "record segments 1\n" = text ∙ line_is in
     let put : goods.outputs ≡ (codes "o", three_bytes_file) ∷ [] = outputs ∙ ap (λ bytes. (codes "o", bytes) ∷ []) bytes_are in
