@@ -1,0 +1,14 @@
+pub mod Shelves
+pub mod Reading
+pub mod Copies
+pub mod Passing
+pub mod EachFile
+pub mod Lists
+pub mod Memories
+pub mod Loads
+pub mod OneLoad
+pub mod Stepping
+pub mod CallFiles
+pub mod FirstFiles
+pub mod LoadWitness
+pub mod Exchange

@@ -1,0 +1,30 @@
+-- The source word has the fault.
+use Rattle.std.proofs.Common.{refl}
+use Rattle.std.specs.Prelude.{codes}
+use Rattle.page_memory.specs.Contents.{Contents, at}
+use Rattle.list_checker.specs.declared.fault.Why.TheVariants.{WrongBytes}
+use Rattle.kexec_main.specs.Check.{IsFaultIn}
+use Rattle.kexec_main.specs.Files.{list_files}
+use Rattle.worked_commands.specs.Lists.{HasList, HasSource, plain_record}
+use Rattle.worked_commands.proofs.Lists.{faulty, none_accepted}
+use Rattle.std.specs.Fmt.{digits}
+use Rattle.worked_commands.proofs.checks.fault_of_a_list_is_told.Goals as goal
+
+fault : (m : Contents) → HasList m → HasSource m (codes "abd") → IsFaultIn (list_files m plain_record) (record { word = 2; why = WrongBytes })
+fault m w s = (faulty (at m) w s, none_accepted (at m) w s)
+
+pub returns-clause-fault : goal.returns-clause-fault
+unfolding digits
+returns-clause-fault c = fault
+
+pub returns-clause-not_accepted : goal.returns-clause-not_accepted
+unfolding digits
+returns-clause-not_accepted c = λ m w s h. none_accepted (at m) w s h.0 h.1
+
+pub returns-clause-told : goal.returns-clause-told
+unfolding digits
+returns-clause-told c = λ m w s. (fault m w s, record { outputs = refl; text = refl; fault = refl })
+
+pub returns-clause-not_told : goal.returns-clause-not_told
+unfolding digits
+returns-clause-not_told c = λ m w s h. none_accepted (at m) w s h.items h.accepted

@@ -1,0 +1,223 @@
+//! What each command reads of its files, and which of several faults is answered. The files that are spoiled are `?`.
+
+ghost use Rattle.std.specs.Prelude.{◌≡◌, ◌+◌, ◌*◌, ◌^◌, ◌∷◌, [], true, false, Some, None, Ok, Err, codes};
+ghost use Rattle.crash_headers.specs.declared.fault.NoteFault.TheVariants as notes;
+ghost use Rattle.image_slots.specs.declared.fault.EventsFault.TheVariants as events;
+ghost use Rattle.image_slots.specs.Events.{Panic};
+ghost use Rattle.kx_pages.specs.declared.image.ImageType.TheVariants.{Auto};
+ghost use Rattle.kx_pages.specs.declared.image.Mode.TheVariants as mode;
+ghost use Rattle.kx_pages.specs.declared.image.Wish.TheVariants as wish;
+ghost use Rattle.load_record.specs.declared.fault.RecFault.TheVariants as records;
+ghost use Rattle.memory_map.specs.declared.fault.MapFault.TheVariants as maps;
+ghost use Rattle.page_memory.specs.declared.fault.MemFault.TheVariants as memories;
+ghost use Rattle.page_pool.specs.declared.fault.PoolFault.TheVariants as pools;
+ghost use Rattle.resident_planner.specs.declared.fault.PairsFault.TheVariants as pairs;
+ghost use Rattle.file_commands.specs.Taking.{reads};
+ghost use Rattle.kexec_words.specs.declared.commands.Runs.TheVariants.{Twice};
+ghost use Rattle.kexec_main.specs.Boot.{boot_files};
+ghost use Rattle.kexec_main.specs.BootResident.{raw_inputs, resident_files};
+ghost use Rattle.kexec_main.specs.CoreFile.{core_files};
+ghost use Rattle.kexec_main.specs.CrashInputs.{crash_request};
+ghost use Rattle.kexec_main.specs.Drill.{drill_files};
+ghost use Rattle.kexec_main.specs.Exec.{exec_files};
+ghost use Rattle.kexec_main.specs.Files.{crash_files, limit_by, list_files, load_by, load_files_of, memory_limit, record_limit, text_limit, usable_below};
+ghost use Rattle.kexec_main.specs.Inputs.{left_after, purgatory_limit};
+ghost use Rattle.kexec_main.specs.Load.{load_command_files};
+ghost use Rattle.kexec_main.specs.LoadPanic.{load_panic_files};
+ghost use Rattle.kexec_main.specs.Migrate.{migrate_files};
+ghost use Rattle.kexec_main.specs.Sample.{sample_files};
+ghost use Rattle.kexec_main.specs.Startup.{recorded_startup};
+ghost use Rattle.kexec_main.specs.Trace.{trace_files};
+ghost use Rattle.kexec_main.specs.declared.status.InputFault.TheVariants as inputs;
+ghost use Rattle.worked_commands.specs.Inputs.{all_asked, all_ram, each_file, few_read, spoiled, three_bytes, three_bytes_record, unreadable};
+ghost use Rattle.worked_commands.specs.Names.{all_inputs, boot_all, boot_raw, boot_resident_raw, core_memory, drill_events, exec_record, load_panic_of, load_raw, migrate_record, of_record, trace_memory};
+ghost use Rattle.worked_commands.specs.Texts.{no_memory};
+
+/// The limits of files: a memory file of 131,072 pages, a record of 16 segments and 65,536 pages, and so on.
+pub fn limits_of_files()
+    ensures memory { memory_limit ≡ 16 + 131072 * (8 + 4096) }
+    ensures load_record { record_limit ≡ 96 + (16 * (24 + 32) + 65536 * 4096) }
+    ensures text { text_limit ≡ 2 ^ 20 }
+    ensures purgatory { purgatory_limit ≡ 2 ^ 24 }
+    ensures left { left_after 10 (Some (codes "abc")) ≡ 7 }
+    ensures all_left { left_after 10 None ≡ 10 }
+{}
+
+/// The pages of a pool below its limit, which page 12 is the first past.
+pub fn pages_below_a_limit()
+    ensures limit { limit_by (Some 0x12) ≡ 0x12000 }
+    ensures no_limit { limit_by None ≡ 0x4000_0000_0000 }
+    ensures usable { usable_below (Some 0x12) (0x13 ∷ 0x11 ∷ 0x12 ∷ 0x10 ∷ [])
+        ≡ 0x11 ∷ 0x10 ∷ [] }
+    ensures all_usable { usable_below None (0x13 ∷ 0x11 ∷ []) ≡ 0x13 ∷ 0x11 ∷ [] }
+{}
+
+/// What `boot` and `load` read.
+pub fn files_of_boots_and_loads()
+    ensures boot { reads (boot_files (boot_raw (Some Twice))) each_file
+        ≡ Ok (record { load = few_read; runs = Some Twice; out = codes "o" }) }
+    ensures boot_all { reads (boot_files boot_all) each_file
+        ≡ Ok (record {
+          load = record {
+            memory = no_memory;
+            usable = 0x10 ∷ 0x11 ∷ [];
+            map = Some all_ram;
+            request = all_asked;
+          };
+          runs = None;
+          out = codes "o";
+        }) }
+    ensures load { reads (load_command_files (load_raw false)) each_file
+        ≡ Ok (record {
+          load = few_read;
+          wish = wish.Plain;
+          out = codes "o";
+          load_record = codes "r";
+        }) }
+    ensures load_kept { reads (load_command_files (load_raw true)) each_file
+        ≡ Ok (record {
+          load = few_read;
+          wish = wish.Kept;
+          out = codes "o";
+          load_record = codes "r";
+        }) }
+{}
+
+/// What `load-panic` reads: the request is that of a crash kernel, with its notes.
+pub fn files_of_load_panic()
+    ensures with_notes { reads (load_panic_files (load_panic_of (Some (codes "n")))) each_file
+        ≡ Ok (record {
+          load = record {
+            memory = no_memory;
+            map = all_ram;
+            request = record all_asked {
+              crash = true;
+              modules = [];
+              notes = record { start = 0x200000; size = 0x400 } ∷ [];
+            };
+          };
+          out = codes "o";
+          load_record = codes "r";
+        }) }
+    ensures without_notes { reads (load_panic_files (load_panic_of None)) each_file
+        ≡ Ok (record {
+          load = record {
+            memory = no_memory;
+            map = all_ram;
+            request = record all_asked { crash = true; modules = [] };
+          };
+          out = codes "o";
+          load_record = codes "r";
+        }) }
+{}
+
+/// What `check`, `dump`, `exec` and `migrate` read: by the kind of the record its list, or its head, and its segments.
+pub fn files_of_records()
+    ensures check { reads (load_files_of of_record) each_file
+        ≡ Ok (load_by no_memory three_bytes_record) }
+    ensures exec { reads (exec_files (exec_record true)) each_file
+        ≡ Ok (record {
+          load = load_by no_memory three_bytes_record;
+          twice = true;
+          out = codes "x";
+        }) }
+    ensures migrate { reads (migrate_files migrate_record) each_file
+        ≡ Ok (record { load_record = three_bytes_record; out = codes "o" }) }
+    ensures list { list_files no_memory three_bytes_record
+        ≡ record {
+          memory = no_memory;
+          image = record { head = 0x11002; mode = mode.Plain; control = 0x10 };
+          segments = three_bytes;
+          startup = recorded_startup three_bytes_record;
+        } }
+    ensures head { crash_files no_memory three_bytes_record
+        ≡ record {
+          memory = no_memory;
+          head = 0x11002;
+          segments = three_bytes;
+          startup = recorded_startup three_bytes_record;
+        } }
+{}
+
+/// What the other commands read.
+pub fn files_of_other_commands()
+    ensures resident { reads (resident_files boot_resident_raw) each_file
+        ≡ Ok (record { load = few_read; pairs = (2, 0x13) ∷ []; out = codes "o" }) }
+    ensures drill { reads (drill_files drill_events) each_file
+        ≡ Ok (record {
+          memory = no_memory;
+          pool = 0x10 ∷ 0x11 ∷ 0x12 ∷ [];
+          map = all_ram;
+          events = Panic ∷ [];
+          out = codes "o";
+        }) }
+    ensures trace { reads (trace_files (trace_memory (Some 0x13000))) each_file
+        ≡ Ok (record {
+          memory = no_memory;
+          head = 0x11002;
+          mode = mode.Kept 0x13;
+          limit = 9;
+          out = codes "o";
+        }) }
+    ensures trace_plain { reads (trace_files (trace_memory None)) each_file
+        ≡ Ok (record {
+          memory = no_memory;
+          head = 0x11002;
+          mode = mode.Plain;
+          limit = 9;
+          out = codes "o";
+        }) }
+    ensures core { reads (core_files core_memory) each_file
+        ≡ Ok (record { memory = no_memory; address = 0x3000; out = codes "o" }) }
+    ensures sample { reads (sample_files 77) each_file ≡ Ok 77 }
+{}
+
+/// Of several spoiled files the one that is read first is answered: memory, pool, map; memory, map, notes; memory, record.
+pub fn first_of_spoiled_files()
+    ensures boot_memory { reads (boot_files boot_all)
+        (spoiled (codes "m" ∷ codes "p" ∷ codes "t" ∷ []))
+        ≡ Err (unreadable (inputs.Mem memories.BadMagic)) }
+    ensures boot_pool { reads (boot_files boot_all) (spoiled (codes "p" ∷ codes "t" ∷ []))
+        ≡ Err (unreadable (inputs.Pool (pools.BadLine 1))) }
+    ensures boot_map { reads (boot_files boot_all) (spoiled (codes "t" ∷ []))
+        ≡ Err (unreadable (inputs.Map (maps.BadLine 1))) }
+    ensures panic_memory { reads (load_panic_files (load_panic_of (Some (codes "n"))))
+        (spoiled (codes "m" ∷ codes "t" ∷ codes "n" ∷ []))
+        ≡ Err (unreadable (inputs.Mem memories.BadMagic)) }
+    ensures panic_map { reads (load_panic_files (load_panic_of (Some (codes "n"))))
+        (spoiled (codes "t" ∷ codes "n" ∷ [])) ≡ Err (unreadable (inputs.Map (maps.BadLine 1))) }
+    ensures panic_notes { reads (load_panic_files (load_panic_of (Some (codes "n"))))
+        (spoiled (codes "n" ∷ [])) ≡ Err (unreadable (inputs.Notes (notes.BadLine 1))) }
+    ensures check_memory { reads (load_files_of of_record) (spoiled (codes "m" ∷ codes "r" ∷ []))
+        ≡ Err (unreadable (inputs.Mem memories.BadMagic)) }
+    ensures check_record { reads (load_files_of of_record) (spoiled (codes "r" ∷ []))
+        ≡ Err (unreadable (inputs.Rec records.BadMagic)) }
+    ensures migrate { reads (migrate_files migrate_record) (spoiled (codes "r" ∷ []))
+        ≡ Err (unreadable (inputs.Rec records.BadMagic)) }
+{}
+
+/// The same of `boot-resident`: memory, pool, pairs; and of `drill`: memory, pool, map, events.
+pub fn first_of_more_spoiled_files()
+    ensures resident_memory { reads (resident_files boot_resident_raw)
+        (spoiled (codes "m" ∷ codes "p" ∷ codes "l" ∷ []))
+        ≡ Err (unreadable (inputs.Mem memories.BadMagic)) }
+    ensures resident_pool { reads (resident_files boot_resident_raw)
+        (spoiled (codes "p" ∷ codes "l" ∷ []))
+        ≡ Err (unreadable (inputs.Pool (pools.BadLine 1))) }
+    ensures resident_pairs { reads (resident_files boot_resident_raw) (spoiled (codes "l" ∷ []))
+        ≡ Err (unreadable (inputs.Pairs (pairs.BadLine 1))) }
+    ensures drill_memory { reads (drill_files drill_events)
+        (spoiled (codes "m" ∷ codes "p" ∷ codes "t" ∷ codes "e" ∷ []))
+        ≡ Err (unreadable (inputs.Mem memories.BadMagic)) }
+    ensures drill_pool { reads (drill_files drill_events)
+        (spoiled (codes "p" ∷ codes "t" ∷ codes "e" ∷ []))
+        ≡ Err (unreadable (inputs.Pool (pools.BadLine 1))) }
+    ensures drill_map { reads (drill_files drill_events) (spoiled (codes "t" ∷ codes "e" ∷ []))
+        ≡ Err (unreadable (inputs.Map (maps.BadLine 1))) }
+    ensures drill_events { reads (drill_files drill_events) (spoiled (codes "e" ∷ []))
+        ≡ Err (unreadable (inputs.Events (events.BadLine 1))) }
+    ensures trace { reads (trace_files (trace_memory None)) (spoiled (codes "m" ∷ []))
+        ≡ Err (unreadable (inputs.Mem memories.BadMagic)) }
+    ensures core { reads (core_files core_memory) (spoiled (codes "m" ∷ []))
+        ≡ Err (unreadable (inputs.Mem memories.BadMagic)) }
+{}
