@@ -1,0 +1,35 @@
+//! The definitions of a plan, tried on worked examples.
+//!
+//! Nothing here is called. Each function has the name of an example, and its clauses say what the definitions give for
+//! it, mostly by computing; the places of parts are shown to be the least or the greatest that fit. Addresses are
+//! hexadecimal.
+#![tactic(auto)]
+
+mod commands;
+mod faults;
+mod formats;
+mod grounds;
+mod kernels;
+mod laying;
+mod places;
+mod purgatories;
+mod rules;
+
+pub use commands::command_of_a_crash_kernel;
+pub use faults::{faults_of_parts, want_of_memory};
+pub use formats::{forms_of_files, forms_that_are_given, parts_without_use};
+pub use grounds::{
+    grounds_of_requests, pages_for_parts, rows_and_limits, rules_of_segments, runs_of_memory,
+};
+pub use kernels::{
+    elf_kernels, linux_kernels, multiboot_kernels, parts_of_a_linux_kernel, raw_kernels,
+};
+pub use laying::{bytes_of_parts, rules_by_what_is_laid, segments_of_parts, what_is_told};
+pub use places::{
+    addresses_that_are_free, addresses_that_fit, holes_of_parts, numbers_that_pass,
+    pages_that_are_taken, places_of_parts,
+};
+pub use purgatories::{
+    places_of_symbols, purgatory_that_is_read, symbols_of_a_purgatory, what_a_purgatory_finds,
+};
+pub use rules::{rule_of_a_linux_kernel, rules_of_other_parts, sizes_of_parts};
