@@ -1,5 +1,5 @@
 -- The RAM of the machines.
-use Rattle.std.proofs.Common.{◌≡◌, ℕ, refl, arith}
+use Rattle.std.proofs.Common.{◌≡◌, ℕ, arith}
 use Rattle.std.proofs.lemmas.Bool.Decides.{nat_tests}
 use Rattle.kx_pages.specs.Spans.{in_spans}
 use Rattle.memory_map.specs.Maps.{is_ram}

@@ -4,7 +4,7 @@ use Rattle.std.specs.Prelude.{nat_le}
 use Rattle.std.proofs.lemmas.Bool.{cases_lt}
 use Rattle.kx_laws.proofs.Booleans.{true_false}
 use Rattle.hole_search.specs.declared.search.End.{End}
-use Rattle.hole_search.specs.declared.search.End.TheVariants.{Least, Greatest}
+use Rattle.hole_search.specs.declared.search.End.TheVariants.{Least}
 use Rattle.kexec_plan.specs.Parts.{part_size}
 use Rattle.kexec_plan.specs.Table.{highest}
 use Rattle.kexec_plan.specs.Holes.{hole, is_free}
@@ -49,12 +49,12 @@ highest_at ram taken part n most p k size some free below blocked =
 pub nowhere : (ram taken : ℕ → Bool) (part : Part) (n most : ℕ) → AreBlocked ram taken 0 most → hole ram taken (highest part n most) ≡ None
 nowhere ram taken part n most blocked =
     hole_is ram taken (highest part n most) None (λ x h.
-      let a = h.aligned in
-      let b = h.below in
-      let some : 4096 ≤ part_size n = omega arith in
-      let q = x / 4096 in
-      let t = free_is ram taken q (h.in_ram q (omega arith) (omega (arith, some))) (h.not_taken q (omega arith) (omega (arith, some))) in
-      absurd (true_false (sym t ∙ blocked q (omega arith) (omega (arith, a, b, some)))))
+    let a = h.aligned in
+    let b = h.below in
+    let some : 4096 ≤ part_size n = omega arith in
+    let q = x / 4096 in
+    let t = free_is ram taken q (h.in_ram q (omega arith) (omega (arith, some))) (h.not_taken q (omega arith) (omega (arith, some))) in
+    absurd (true_false (sym t ∙ blocked q (omega arith) (omega (arith, a, b, some)))))
 
 -- a part of k pages, as low as it can lie: no lower address has a free first and a free last page
 pub lowest_at : (ram taken : ℕ → Bool) (part : Part) (n align min most p k : ℕ) → part_size n ≡ 4096 * k → 0 < k → 4096 * p % align ≡ 0 → min ≤ 4096 * p → AreFree ram taken p k → 4096 * (p + k) ≤ most + 1 → ((x : ℕ) → x % align ≡ 0 → min ≤ x → x < 4096 * p → is_free ram taken (x / 4096) ≡ true → is_free ram taken ((x + part_size n - 1) / 4096) ≡ true → ⊥)

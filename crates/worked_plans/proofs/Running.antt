@@ -1,5 +1,5 @@
 -- The maximal runs of numbers that pass, and how many they are.
-use Rattle.std.proofs.Common.{◌≡◌, ℕ, ◌^◌, ◌≤◌, List, Bool, sym, ◌∙◌, inl, inr, arith}
+use Rattle.std.proofs.Common.{◌≡◌, ℕ, ◌^◌, List, Bool, sym, ◌∙◌, inl, inr, arith}
 use Rattle.std.proofs.lemmas.Bool.{cases_lt}
 use Rattle.kx_pages.specs.Spans.{Run, in_spans, pages, passing, AreApart}
 use Rattle.kx_pages.proofs.Counted.{passing_pages}

@@ -1,5 +1,5 @@
 -- What is laid in the examples (this project's own).
-use Rattle.std.specs.Prelude.{ℕ, [], ◌∷◌, Some, None, codes}
+use Rattle.std.specs.Prelude.{[], ◌∷◌, Some, None, codes}
 use Rattle.kexec_plan.specs.Laying.{Laid}
 use Rattle.worked_plans.specs.Machines.{page_four}
 

@@ -6,3 +6,4 @@ pub mod Purgatories
 pub mod Requests
 pub mod Forms
 pub mod Laid
+pub mod Plans

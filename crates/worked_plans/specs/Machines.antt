@@ -54,9 +54,18 @@ crash_rows =
 abbrev pub pages_at : ℕ → ℕ → SegmentValue
 pages_at p n = record { bytes = []; mem = 4096 * p; memsz = 4096 * n }
 
--- one row of 32 KiB
-abbrev pub little : MapValue
-little = record { rows = record { start = 0; size = 0x8000; kind = 1 } ∷ []; areas = [] }
+-- a machine with so many pages of RAM from this page on, and one of 16 MiB with so many pages reserved
+abbrev pub ram_of : (first count : ℕ) → MapValue
+ram_of first count = record {
+  rows = record { start = 4096 * first; size = 4096 * count; kind = 1 } ∷ [];
+  areas = [];
+}
+
+abbrev pub reserved_of : (first count : ℕ) → MapValue
+reserved_of first count = record {
+  rows = record { start = 0x10_0000; size = 0x100_0000; kind = 1 } ∷ [];
+  areas = record { start = 4096 * first; size = 4096 * count; kind = 0 } ∷ [];
+}
 
 -- ---- sets of pages: pages 2 to 6, and page 4
 abbrev pub two_to_six : ℕ → Bool

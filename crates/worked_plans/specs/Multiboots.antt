@@ -1,5 +1,5 @@
 -- A Multiboot kernel of 64 bytes with the addresses in its header (Multiboot Specification 0.6.96, section 3.1).
-use Rattle.std.specs.Prelude.{ℕ, ◌++◌, List, [], ◌∷◌, codes, replicate}
+use Rattle.std.specs.Prelude.{ℕ, ◌++◌, List, codes, replicate}
 use Rattle.byteorder.specs.Endian.{little_bytes}
 use Rattle.segments.specs.Values.{SegmentValue}
 use Rattle.kexec_plan.specs.Modules.{AskedModule}

@@ -3,7 +3,6 @@
 use Rattle.std.specs.Prelude.{ℕ, ◌+◌, ◌++◌, List, [], ◌∷◌, codes, replicate, true, false}
 use Rattle.byteorder.specs.Endian.{little_bytes}
 use Rattle.elf_image.specs.Object.{Relocatable}
-use Rattle.elf_image.specs.declared.section.Section.{Section}
 use Rattle.purgatory_link.specs.Sym.{Image}
 use Rattle.kexec_plan.specs.Purgatory.{PurgatoryValue, Linkage}
 

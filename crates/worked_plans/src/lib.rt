@@ -12,7 +12,9 @@ mod grounds;
 mod kernels;
 mod laying;
 mod places;
+mod plans;
 mod purgatories;
+mod refusals;
 mod rules;
 
 pub use commands::command_of_a_crash_kernel;
@@ -29,7 +31,12 @@ pub use places::{
     addresses_that_are_free, addresses_that_fit, holes_of_parts, numbers_that_pass,
     pages_that_are_taken, places_of_parts,
 };
+pub use plans::{
+    beginning_of_a_plan, crash_kernel, kernels_with_a_place, linux_kernel_behind_a_purgatory,
+    linux_kernel_with_an_initrd, multiboot_kernel_with_a_module, tables_that_are_apart,
+};
 pub use purgatories::{
     places_of_symbols, purgatory_that_is_read, symbols_of_a_purgatory, what_a_purgatory_finds,
 };
+pub use refusals::{parts_without_a_place, refusals_behind_the_places, refusals_of_files};
 pub use rules::{rule_of_a_linux_kernel, rules_of_other_parts, sizes_of_parts};

@@ -1,14 +1,11 @@
 -- By the runs of memory.
 use Rattle.std.proofs.Common.{refl, ap}
-use Rattle.kexec_plan.specs.Rules.{first_refusal, test_segments}
+use Rattle.kexec_plan.specs.Rules.{first_refusal, test_segments, unless_refused}
 use Rattle.segments.specs.Rules.{bare_refusal, refusal, shape_refusal}
+use Rattle.segments.specs.declared.fault.Kind.TheVariants.{Crash, Normal}
 use Rattle.std.specs.Prelude.{[], ◌∷◌}
-use Rattle.segments.specs.declared.fault.Kind.TheVariants.{Normal, Crash}
-use Rattle.segments.specs.Values.{SegmentValue}
-use Rattle.kexec_plan.specs.declared.fault.PlanFault.{PlanFault}
+use Rattle.worked_plans.proofs.Machining.{machine_runs}
 use Rattle.worked_plans.specs.Machines.{area, pages_at}
-use Rattle.worked_plans.proofs.Machining.{machine_runs, open_runs}
-use Rattle.kexec_plan.specs.Rules.{unless_refused}
 use Rattle.worked_plans.proofs.grounds.rules_of_segments.Goals as goal
 
 pub returns-clause-unknown : goal.returns-clause-unknown

@@ -1,5 +1,4 @@
 -- By the pages of the runs.
-use Rattle.std.proofs.Common.{refl}
 use Rattle.worked_plans.proofs.Machining.{machine_runs, open_runs}
 use Rattle.worked_plans.proofs.grounds.runs_of_memory.Goals as goal
 

@@ -1,22 +1,16 @@
 -- The places that fit, and that none is lower or higher.
-use Rattle.std.proofs.Common.{◌≡◌, ℕ, ◌+◌, ◌*◌, ◌/◌, ◌%◌, ◌≤◌, ◌<◌, true, false, Some, None, Ok, Err, refl, sym, ap, ◌∙◌, arith, inl, inr}
-use Rattle.std.specs.Prelude.{nat_le, nat_lt, ◌==◌, ◌&&◌}
-use Rattle.std.proofs.lemmas.Bool.Decides.{nat_tests}
-use Rattle.kexec_plan.specs.declared.fault.Part.TheVariants as parts
-use Rattle.kexec_plan.specs.Table.{highest, kernel_rule}
-use Rattle.kexec_plan.specs.Holes.{hole, is_free}
-use Rattle.kexec_plan.specs.Places.{place}
-use Rattle.kexec_plan.proofs.Holes.{hole_is}
-use Rattle.hole_search.specs.declared.search.End.TheVariants.{Least, Greatest}
-use Rattle.worked_plans.specs.LinuxKernels.{low_kernel}
-use Rattle.worked_plans.specs.Machines.{two_to_six, page_four}
-use Rattle.worked_plans.proofs.Placing.{AreFree, AreBlocked, free_is, highest_at, lowest_at, nowhere, placed, not_placed}
+use Rattle.std.proofs.Common.{◌≡◌, ℕ, ◌+◌, ◌/◌, ◌≤◌, Some, None, refl, arith}
+use Rattle.hole_search.specs.declared.search.End.TheVariants.{Least}
 use Rattle.hole_search.specs.inner.Holes.{Fits}
+use Rattle.kexec_plan.proofs.Holes.{hole_is}
+use Rattle.kexec_plan.specs.Holes.{hole}
 use Rattle.kexec_plan.specs.Parts.{part_size}
+use Rattle.kexec_plan.specs.Table.{highest}
 use Rattle.kexec_plan.specs.declared.fault.Part.{Part}
-use Rattle.kexec_plan.specs.declared.fault.PlanFault.{PlanFault}
-use Rattle.kexec_plan.specs.declared.fault.PlanFault.TheVariants as faults
-use Rattle.kx_laws.specs.Results.{◌>>=◌}
+use Rattle.std.proofs.lemmas.Bool.Decides.{nat_tests}
+use Rattle.worked_plans.proofs.Placing.{AreBlocked, AreFree, free_is, highest_at, lowest_at}
+use Rattle.worked_plans.specs.Machines.{page_four, two_to_six}
+use Rattle.kexec_plan.specs.declared.fault.Part.TheVariants as parts
 use Rattle.worked_plans.proofs.places.holes_of_parts.Goals as goal
 
 -- pages 5 and 6 are free, pages 2 and 3 are, and none from page 7 on
