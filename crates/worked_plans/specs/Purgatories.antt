@@ -2,6 +2,7 @@
 -- at 0x88, the digest at 0x188, and the start at 0x1a8.
 use Rattle.std.specs.Prelude.{ℕ, ◌+◌, ◌++◌, List, [], ◌∷◌, codes, replicate, true, false}
 use Rattle.byteorder.specs.Endian.{little_bytes}
+use Rattle.kx_pages.specs.declared.image.Start.{Start}
 use Rattle.elf_image.specs.Object.{Relocatable}
 use Rattle.purgatory_link.specs.Sym.{Image}
 use Rattle.kexec_plan.specs.Purgatory.{PurgatoryValue, Linkage}
@@ -108,3 +109,7 @@ overlapping_linkage = record {
   bytes = replicate 256 0x90;
   symbols = record { regs = 0x7010; regions = 0x7000; digest = 0x7004; start = 0x7000 };
 }
+
+-- a start with other numbers in all registers
+abbrev pub some_start : Start
+some_start = record { entry = 0x1122; rax = 0x33; rbx = 0x44; rsi = 0x55 }

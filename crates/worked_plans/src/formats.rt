@@ -24,7 +24,8 @@ pub fn forms_of_files()
     ensures bzimage_first { shown_format (with_bytes 0 (head 0 0xe452_4ffe) (linux_file 3))
         ≡ given_format [] types.Bzimage }
     ensures multiboot { shown_format multiboot_file ≡ given_format [] types.Multiboot }
-    ensures unknown_flag { shown_format (head 0x1_0004 0xe451_4ffa) ≡ given_format [] types.Multiboot }
+    ensures unknown_flag { shown_format (head 0x1_0004 0xe451_4ffa)
+        ≡ given_format [] types.Multiboot }
     ensures multiboot_before_elf { shown_format (0x7f ∷ codes "ELF" ++ head 0 0xe452_4ffe)
         ≡ given_format [] types.Multiboot }
     ensures elf { shown_format executable ≡ given_format [] types.Elf }

@@ -7,11 +7,11 @@ ghost use Rattle.crash_headers.specs.Headers.{headers};
 ghost use Rattle.crash_headers.specs.declared.fault.CrashFault.TheVariants as crash;
 ghost use Rattle.memory_map.specs.Maps.{core_ranges};
 ghost use Rattle.multiboot_image.specs.Info.{info};
-ghost use Rattle.kexec_plan.specs.Laying.{Image, Initrd, Headers, Parameters, Module, Information, rule_of, tell, bytes_of, push};
+ghost use Rattle.kexec_plan.specs.Laying.{Image, Initrd, Headers, Parameters, Module, Information, rule_of};
 ghost use Rattle.kexec_plan.specs.Table.{highest, parameters_rule, information_rule};
 ghost use Rattle.kexec_plan.specs.declared.fault.Part.TheVariants as parts;
 ghost use Rattle.kexec_plan.specs.declared.fault.PlanFault.TheVariants as faults;
-ghost use Rattle.worked_plans.specs.Laid.{laid};
+ghost use Rattle.worked_plans.specs.Laid.{laid, tell_here, bytes_here, push_here};
 ghost use Rattle.worked_plans.specs.LinuxKernels.{low_kernel};
 ghost use Rattle.worked_plans.specs.Machines.{machine, machine_rows, one_note};
 ghost use Rattle.worked_plans.specs.Multiboots.{a_module};
@@ -34,20 +34,20 @@ pub fn rules_by_what_is_laid()
 /// initrd, the address of the headers in the command, that of the parameters in rsi, a module behind the others, and that of
 /// the information in ebx, with Multiboot's magic number in eax.
 pub fn what_is_told()
-    ensures image { tell (Image (highest parts.Kernel 1 0x7fff) (codes "abc")) (record { at = 0x5000; size = 0x2000 }) laid
+    ensures image { tell_here (Image (highest parts.Kernel 1 0x7fff) (codes "abc"))
         ≡ record laid { start = record { entry = 0x5200; rax = 0x11; rbx = 0x12; rsi = 0x13 } } }
-    ensures initrd { tell (Initrd (highest parts.Initrd 1 0x7fff) (codes "initrd")) (record { at = 0x5000; size = 0x2000 }) laid
+    ensures initrd { tell_here (Initrd (highest parts.Initrd 1 0x7fff) (codes "initrd"))
         ≡ record laid { initrd = Some (0x5000, 6) } }
-    ensures headers { tell (Headers (highest parts.Headers 1 0x7fff) machine one_note) (record { at = 0x5000; size = 0x2000 }) laid
+    ensures headers { tell_here (Headers (highest parts.Headers 1 0x7fff) machine one_note)
         ≡ record laid { command = codes "quiet elfcorehdr=20K" } }
-    ensures parameters { tell (Parameters low_kernel machine_rows) (record { at = 0x5000; size = 0x2000 }) laid
+    ensures parameters { tell_here (Parameters low_kernel machine_rows)
         ≡ record laid { start = record { entry = 0x10; rax = 0x11; rbx = 0x12; rsi = 0x5000 } } }
-    ensures module { tell (Module a_module) (record { at = 0x5000; size = 0x2000 }) laid
+    ensures module { tell_here (Module a_module)
         ≡ record laid {
           slots = record { start = 0x7000; size = 5; text = codes "m0" }
               ∷ record { start = 0x5000; size = 5; text = codes "m1" } ∷ [];
         } }
-    ensures information { tell (Information machine_rows) (record { at = 0x5000; size = 0x2000 }) laid
+    ensures information { tell_here (Information machine_rows)
         ≡ record laid {
           start = record { entry = 0x10; rax = 0x2bad_b002; rbx = 0x5000; rsi = 0x13 };
         } }
@@ -55,37 +55,37 @@ pub fn what_is_told()
 
 /// The bytes of each part at its place, or why they cannot be made.
 pub fn bytes_of_parts()
-    ensures image { bytes_of (Image (highest parts.Kernel 1 0x7fff) (codes "abc")) (record { at = 0x5000; size = 0x2000 }) laid
+    ensures image { bytes_here (Image (highest parts.Kernel 1 0x7fff) (codes "abc")) laid
         ≡ Ok (codes "abc") }
-    ensures initrd { bytes_of (Initrd (highest parts.Initrd 1 0x7fff) (codes "initrd")) (record { at = 0x5000; size = 0x2000 }) laid
+    ensures initrd { bytes_here (Initrd (highest parts.Initrd 1 0x7fff) (codes "initrd")) laid
         ≡ Ok (codes "initrd") }
-    ensures headers { bytes_of (Headers (highest parts.Headers 1 0x7fff) machine one_note) (record { at = 0x5000; size = 0x2000 }) laid
+    ensures headers { bytes_here (Headers (highest parts.Headers 1 0x7fff) machine one_note) laid
         ≡ Ok (headers one_note (core_ranges machine)) }
-    ensures notes_in_the_area { bytes_of
+    ensures notes_in_the_area { bytes_here
         (Headers (highest parts.Headers 1 0x7fff) machine
-        (record { start = 0x40_0000; size = 0x400 } ∷ [])) (record { at = 0x5000; size = 0x2000 }) laid
+        (record { start = 0x40_0000; size = 0x400 } ∷ [])) laid
         ≡ Err (faults.Crash (crash.NotesOutside 0)) }
-    ensures parameters { bytes_of (Parameters low_kernel machine_rows) (record { at = 0x5000; size = 0x2000 }) laid
+    ensures parameters { bytes_here (Parameters low_kernel machine_rows) laid
         ≡ Ok (params_text low_kernel machine_rows (codes "quiet") 0x5000 (Some (0x6000, 9))) }
-    ensures long_command { bytes_of (Parameters low_kernel machine_rows) (record { at = 0x5000; size = 0x2000 })
+    ensures long_command { bytes_here (Parameters low_kernel machine_rows)
         (record laid { command = replicate 23 0x61 })
         ≡ Err (faults.Params (params.CommandTooLong 23 22)) }
-    ensures module { bytes_of (Module a_module) (record { at = 0x5000; size = 0x2000 }) laid ≡ Ok (codes "files") }
-    ensures information { bytes_of (Information machine_rows) (record { at = 0x5000; size = 0x2000 }) laid
+    ensures module { bytes_here (Module a_module) laid ≡ Ok (codes "files") }
+    ensures information { bytes_here (Information machine_rows) laid
         ≡ Ok (info 0x5000 machine_rows (codes "quiet")
         (record { start = 0x7000; size = 5; text = codes "m0" } ∷ [])) }
 {}
 
 /// A segment more behind the others; the first reason why there is none stays.
 pub fn segments_of_parts()
-    ensures pushed { push laid (record { at = 0x5000; size = 0x2000 }) (Ok (codes "abc"))
+    ensures pushed { push_here laid (Ok (codes "abc"))
         ≡ record laid {
           list = record { bytes = []; mem = 0x7000; memsz = 0x1000 }
               ∷ record { bytes = codes "abc"; mem = 0x5000; memsz = 0x2000 } ∷ [];
         } }
-    ensures first_fault { push laid (record { at = 0x5000; size = 0x2000 }) (Err faults.UnknownImage)
+    ensures first_fault { push_here laid (Err faults.UnknownImage)
         ≡ record laid { fault = Some faults.UnknownImage } }
-    ensures second_fault { push (record laid { fault = Some faults.NoReserved }) (record { at = 0x5000; size = 0x2000 })
+    ensures second_fault { push_here (record laid { fault = Some faults.NoReserved })
         (Err faults.UnknownImage)
         ≡ record laid { fault = Some faults.NoReserved } }
 {}

@@ -8,7 +8,7 @@ ghost use Rattle.kexec_plan.specs.Purgatory.{read_purgatory, some_purgatory, pur
 ghost use Rattle.kexec_plan.specs.Table.{highest};
 ghost use Rattle.kexec_plan.specs.declared.fault.Part.TheVariants as parts;
 ghost use Rattle.kexec_plan.specs.declared.fault.PlanFault.TheVariants as faults;
-ghost use Rattle.worked_plans.specs.Purgatories.{purgatory_file, purgatory_of, object_header, linked_image, small_linkage, overlapping_linkage, linkage};
+ghost use Rattle.worked_plans.specs.Purgatories.{purgatory_file, purgatory_of, object_header, linked_image, small_linkage, overlapping_linkage, linkage, some_start};
 
 /// A purgatory is an object, which is linked to whole pages.
 pub fn purgatory_that_is_read()
@@ -50,21 +50,18 @@ pub fn symbols_of_a_purgatory()
 /// What stands in place of the symbols: rax, rbx, rsi and rip of the kernel's start in the registers, then the table of
 /// regions and the digest, in this order. A digest that overlaps the table is written over it.
 pub fn what_a_purgatory_finds()
-    ensures registers { registers_text (record { entry = 0x1122; rax = 0x33; rbx = 0x44; rsi = 0x55 })
+    ensures registers { registers_text some_start
         ≡ little_bytes 8 0x33
         ++ (replicate 16 0 ++ (little_bytes 8 0x44
         ++ (replicate 16 0 ++ (little_bytes 8 0x55
         ++ (replicate 72 0 ++ little_bytes 8 0x1122))))) }
-    ensures registers_length { length
-        (registers_text (record { entry = 0x1122; rax = 0x33; rbx = 0x44; rsi = 0x55 })) ≡ 136 }
-    ensures armed { arm small_linkage (record { entry = 0x1122; rax = 0x33; rbx = 0x44; rsi = 0x55 })
-        (replicate 256 0xaa) (replicate 32 0xdd)
+    ensures registers_length { length (registers_text some_start) ≡ 136 }
+    ensures armed { arm small_linkage some_start (replicate 256 0xaa) (replicate 32 0xdd)
         ≡ replicate 4 0x90
-        ++ (registers_text (record { entry = 0x1122; rax = 0x33; rbx = 0x44; rsi = 0x55 })
+        ++ (registers_text some_start
         ++ (replicate 6 0x90 ++ (replicate 256 0xaa
         ++ (replicate 7 0x90 ++ (replicate 32 0xdd ++ replicate 8 0x90))))) }
-    ensures overlapping { arm overlapping_linkage
-        (record { entry = 0x1122; rax = 0x33; rbx = 0x44; rsi = 0x55 })
-        (replicate 256 0xaa) (replicate 32 0xdd)
+    ensures overlapping { arm overlapping_linkage some_start (replicate 256 0xaa)
+        (replicate 32 0xdd)
         ≡ replicate 4 0xaa ++ (replicate 32 0xdd ++ replicate 220 0xaa) }
 {}

@@ -36,7 +36,7 @@ use Rattle.worked_plans.specs.Machines.{area, crash_rows, machine, one_note}
 use Rattle.kexec_plan.specs.declared.fault.Part.TheVariants as parts
 use Rattle.worked_plans.proofs.plans.crash_kernel.Goals as goal
 
--- ---- crash
+-- ---- kernel, headers and parameters in the area
 abbrev crash0 : Laid
 crash0 = begin [] 0 (Some (codes "quiet"))
 

@@ -41,7 +41,7 @@ use Rattle.worked_plans.specs.Purgatories.{linkage, purgatory_of}
 use Rattle.kexec_plan.specs.declared.fault.Part.TheVariants as parts
 use Rattle.worked_plans.proofs.plans.linux_kernel_behind_a_purgatory.Goals as goal
 
--- ---- both
+-- ---- kernel and parameters, and then the purgatory
 abbrev both0 : Laid
 both0 = begin [] 0 None
 

@@ -30,7 +30,7 @@ use Rattle.worked_plans.specs.Machines.{machine, machine_rows}
 use Rattle.kexec_plan.specs.declared.fault.Part.TheVariants as parts
 use Rattle.worked_plans.proofs.plans.linux_kernel_with_an_initrd.Goals as goal
 
--- ---- high
+-- ---- a kernel that may lie above 4 GiB
 abbrev high0 : Laid
 high0 = begin [] 0 (Some (codes "quiet"))
 
@@ -93,7 +93,7 @@ high_tested : test_segments (Machine machine) high3.list ≡ Ok high3.list
 unfolding first_refusal test_segments refusal shape_refusal params params_fault params_text page_text row_text extension with_field zeros
 high_tested = ap (λ rs. unless_refused high3.list (refusal rs Normal high3.list)) machine_runs
 
--- ---- low
+-- ---- one that may not
 abbrev low0 : Laid
 low0 = begin [] 0 (Some (codes "quiet"))
 

@@ -29,54 +29,54 @@ use Rattle.worked_plans.specs.Multiboots.{a_module, multiboot_segment}
 use Rattle.kexec_plan.specs.declared.fault.Part.TheVariants as parts
 use Rattle.worked_plans.proofs.plans.multiboot_kernel_with_a_module.Goals as goal
 
--- ---- multi
-abbrev multi0 : Laid
-multi0 = begin (multiboot_segment ∷ []) 0x10_0020 (Some (codes "quiet"))
+-- ---- kernel, module and information
+abbrev modules0 : Laid
+modules0 = begin (multiboot_segment ∷ []) 0x10_0020 (Some (codes "quiet"))
 
-abbrev multi_part0 : PlanPart
-multi_part0 = Module a_module
+abbrev modules_part0 : PlanPart
+modules_part0 = Module a_module
 
-abbrev multi1 : Laid
-multi1 = laid_with multi0 multi_part0 0x7ff000 0x1000
+abbrev modules1 : Laid
+modules1 = laid_with modules0 modules_part0 0x7ff000 0x1000
 
-multi_free0 : AreFree (ram (Machine machine)) multi0.taken 0x7ff 1
+modules_free0 : AreFree (ram (Machine machine)) modules0.taken 0x7ff 1
 unfolding ram taken_by taking
-multi_free0 q from to = (grind (arith, nat_tests), grind (arith, nat_tests))
+modules_free0 q from to = (grind (arith, nat_tests), grind (arith, nat_tests))
 
-multi_blocked0 : AreBlocked (ram (Machine machine)) multi0.taken 0x800 0xffff_efff
+modules_blocked0 : AreBlocked (ram (Machine machine)) modules0.taken 0x800 0xffff_efff
 unfolding ram taken_by taking
-multi_blocked0 q from to = grind (arith, nat_tests)
+modules_blocked0 q from to = grind (arith, nat_tests)
 
-multi_place0 : place (ram (Machine machine)) multi0.taken (record { part = parts.Module; length = 5; end = Greatest; align = 4096; min = 0; most = 0xffff_efff }) ≡ Ok (record { at = 0x7ff000; size = 0x1000 })
-multi_place0 = placed (ram (Machine machine)) multi0.taken parts.Module 5 Greatest 4096 0 0xffff_efff 0x7ff000 refl (highest_at (ram (Machine machine)) multi0.taken parts.Module 5 0xffff_efff 0x7ff 1 refl (omega arith) multi_free0 (omega arith) multi_blocked0)
+modules_place0 : place (ram (Machine machine)) modules0.taken (record { part = parts.Module; length = 5; end = Greatest; align = 4096; min = 0; most = 0xffff_efff }) ≡ Ok (record { at = 0x7ff000; size = 0x1000 })
+modules_place0 = placed (ram (Machine machine)) modules0.taken parts.Module 5 Greatest 4096 0 0xffff_efff 0x7ff000 refl (highest_at (ram (Machine machine)) modules0.taken parts.Module 5 0xffff_efff 0x7ff 1 refl (omega arith) modules_free0 (omega arith) modules_blocked0)
 
-abbrev multi_part1 : PlanPart
-multi_part1 = Information machine_rows
+abbrev modules_part1 : PlanPart
+modules_part1 = Information machine_rows
 
-abbrev multi2 : Laid
-multi2 = laid_with multi1 multi_part1 0x7fe000 0x1000
+abbrev modules2 : Laid
+modules2 = laid_with modules1 modules_part1 0x7fe000 0x1000
 
-multi_free1 : AreFree (ram (Machine machine)) multi1.taken 0x7fe 1
+modules_free1 : AreFree (ram (Machine machine)) modules1.taken 0x7fe 1
 unfolding ram taken_by taking
-multi_free1 q from to = (grind (arith, nat_tests), grind (arith, nat_tests))
+modules_free1 q from to = (grind (arith, nat_tests), grind (arith, nat_tests))
 
-multi_blocked1 : AreBlocked (ram (Machine machine)) multi1.taken 0x7ff 0xffff_ffff
+modules_blocked1 : AreBlocked (ram (Machine machine)) modules1.taken 0x7ff 0xffff_ffff
 unfolding ram taken_by taking
-multi_blocked1 q from to = grind (arith, nat_tests)
+modules_blocked1 q from to = grind (arith, nat_tests)
 
-multi_place1 : place (ram (Machine machine)) multi1.taken (record { part = parts.Information; length = 215; end = Greatest; align = 4096; min = 0; most = 0xffff_ffff }) ≡ Ok (record { at = 0x7fe000; size = 0x1000 })
-multi_place1 = placed (ram (Machine machine)) multi1.taken parts.Information 215 Greatest 4096 0 0xffff_ffff 0x7fe000 refl (highest_at (ram (Machine machine)) multi1.taken parts.Information 215 0xffff_ffff 0x7fe 1 refl (omega arith) multi_free1 (omega arith) multi_blocked1)
+modules_place1 : place (ram (Machine machine)) modules1.taken (record { part = parts.Information; length = 215; end = Greatest; align = 4096; min = 0; most = 0xffff_ffff }) ≡ Ok (record { at = 0x7fe000; size = 0x1000 })
+modules_place1 = placed (ram (Machine machine)) modules1.taken parts.Information 215 Greatest 4096 0 0xffff_ffff 0x7fe000 refl (highest_at (ram (Machine machine)) modules1.taken parts.Information 215 0xffff_ffff 0x7fe 1 refl (omega arith) modules_free1 (omega arith) modules_blocked1)
 
-multi_laid : place_parts (ram (Machine machine)) multi0 (multi_part0 ∷ multi_part1 ∷ []) ≡ Ok multi2
-multi_laid =
-    parts_on (ram (Machine machine)) multi0 multi_part0 (multi_part1 ∷ []) 0x7ff000 0x1000 multi_place0
-    ∙ parts_on (ram (Machine machine)) multi1 multi_part1 ([]) 0x7fe000 0x1000 multi_place1
-    ∙ parts_done (ram (Machine machine)) multi2
+modules_laid : place_parts (ram (Machine machine)) modules0 (modules_part0 ∷ modules_part1 ∷ []) ≡ Ok modules2
+modules_laid =
+    parts_on (ram (Machine machine)) modules0 modules_part0 (modules_part1 ∷ []) 0x7ff000 0x1000 modules_place0
+    ∙ parts_on (ram (Machine machine)) modules1 modules_part1 ([]) 0x7fe000 0x1000 modules_place1
+    ∙ parts_done (ram (Machine machine)) modules2
 
-multi_tested : test_segments (Machine machine) multi2.list ≡ Ok multi2.list
+modules_tested : test_segments (Machine machine) modules2.list ≡ Ok modules2.list
 unfolding first_refusal test_segments refusal shape_refusal info info_text map_row_text mem_lower mem_upper module_text with_field zeros
-multi_tested = ap (λ rs. unless_refused multi2.list (refusal rs Normal multi2.list)) machine_runs
+modules_tested = ap (λ rs. unless_refused modules2.list (refusal rs Normal modules2.list)) machine_runs
 
 pub returns : goal.returns
 unfolding plan shown_format plan_as is_bzimage read_kernel some_purgatory multiboot_kernel find_header header_place header_of kludge_parts unknown_bit field
-returns c = ap (λ r. r >>= ending (Machine machine) false None) multi_laid ∙ plain_ending (Machine machine) false multi2 multi2.list refl multi_tested
+returns c = ap (λ r. r >>= ending (Machine machine) false None) modules_laid ∙ plain_ending (Machine machine) false modules2 modules2.list refl modules_tested

@@ -51,7 +51,7 @@ use Rattle.purgatory_link.specs.declared.fault.LinkFault.TheVariants as link_fau
 use Rattle.segments.specs.declared.fault.SegFault.TheVariants as rules
 use Rattle.worked_plans.proofs.refusals.refusals_behind_the_places.Goals as goal
 
--- ---- five
+-- ---- five pages: none is left for the purgatory
 abbrev five0 : Laid
 five0 = begin [] 0 (Some (replicate 23 0x61))
 
@@ -99,133 +99,133 @@ five_none q from to = grind (arith, nat_tests)
 five_nowhere : place (ram (Machine (ram_of 0x184 5))) five2.taken (purgatory_rule 0x7fff_ffff (purgatory_of 136)) ≡ Err (faults.NoHole parts.Purgatory)
 five_nowhere = not_placed (ram (Machine (ram_of 0x184 5))) five2.taken parts.Purgatory 4096 Greatest 4096 0 0x7fff_ffff refl (nowhere (ram (Machine (ram_of 0x184 5))) five2.taken parts.Purgatory 4096 0x7fff_ffff five_none)
 
--- ---- note
-abbrev note0 : Laid
-note0 = begin [] 0 (Some (replicate 23 0x61))
+-- ---- notes that lie in the area
+abbrev notes0 : Laid
+notes0 = begin [] 0 (Some (replicate 23 0x61))
 
-abbrev note_part0 : PlanPart
-note_part0 = Image (kernel_rule high_kernel 1025) (0xeb ∷ [])
+abbrev notes_part0 : PlanPart
+notes_part0 = Image (kernel_rule high_kernel 1025) (0xeb ∷ [])
 
-abbrev note1 : Laid
-note1 = laid_with note0 note_part0 0x400000 0x3000
+abbrev notes1 : Laid
+notes1 = laid_with notes0 notes_part0 0x400000 0x3000
 
-note_free0 : AreFree (ram (Reserved machine area)) note0.taken 0x400 3
+notes_free0 : AreFree (ram (Reserved machine area)) notes0.taken 0x400 3
 unfolding ram taken_by taking
-note_free0 q from to = (grind (arith, nat_tests), grind (arith, nat_tests))
+notes_free0 q from to = (grind (arith, nat_tests), grind (arith, nat_tests))
 
-note_lower : (x : ℕ) → x % 0x4000 ≡ 0 → 0x18_2000 ≤ x → x < 0x400000 → is_free (ram (Reserved machine area)) note0.taken (x / 4096) ≡ true → is_free (ram (Reserved machine area)) note0.taken ((x + part_size 0x3000 - 1) / 4096) ≡ true → ⊥
+notes_lower : (x : ℕ) → x % 0x4000 ≡ 0 → 0x18_2000 ≤ x → x < 0x400000 → is_free (ram (Reserved machine area)) notes0.taken (x / 4096) ≡ true → is_free (ram (Reserved machine area)) notes0.taken ((x + part_size 0x3000 - 1) / 4096) ≡ true → ⊥
 unfolding ram taken_by taking
-note_lower x a m l first last = grind (arith, nat_tests)
+notes_lower x a m l first last = grind (arith, nat_tests)
 
-note_place0 : place (ram (Reserved machine area)) note0.taken (record { part = parts.Kernel; length = 0x3000; end = Least; align = 0x4000; min = 0x18_2000; most = 0x3fff_ffff_ffff }) ≡ Ok (record { at = 0x400000; size = 0x3000 })
-note_place0 = placed (ram (Reserved machine area)) note0.taken parts.Kernel 0x3000 Least 0x4000 0x18_2000 0x3fff_ffff_ffff 0x400000 refl (lowest_at (ram (Reserved machine area)) note0.taken parts.Kernel 0x3000 0x4000 0x18_2000 0x3fff_ffff_ffff 0x400 3 refl (omega arith) refl (omega arith) note_free0 (omega arith) (note_lower))
+notes_place0 : place (ram (Reserved machine area)) notes0.taken (record { part = parts.Kernel; length = 0x3000; end = Least; align = 0x4000; min = 0x18_2000; most = 0x3fff_ffff_ffff }) ≡ Ok (record { at = 0x400000; size = 0x3000 })
+notes_place0 = placed (ram (Reserved machine area)) notes0.taken parts.Kernel 0x3000 Least 0x4000 0x18_2000 0x3fff_ffff_ffff 0x400000 refl (lowest_at (ram (Reserved machine area)) notes0.taken parts.Kernel 0x3000 0x4000 0x18_2000 0x3fff_ffff_ffff 0x400 3 refl (omega arith) refl (omega arith) notes_free0 (omega arith) (notes_lower))
 
-abbrev note_part1 : PlanPart
-note_part1 = Headers (highest parts.Headers 344 0x3fff_ffff_ffff) machine (record { start = 0x40_0000; size = 0x400 } ∷ [])
+abbrev notes_part1 : PlanPart
+notes_part1 = Headers (highest parts.Headers 344 0x3fff_ffff_ffff) machine (record { start = 0x40_0000; size = 0x400 } ∷ [])
 
-abbrev note2 : Laid
-note2 = laid_with note1 note_part1 0x4ff000 0x1000
+abbrev notes2 : Laid
+notes2 = laid_with notes1 notes_part1 0x4ff000 0x1000
 
-note_free1 : AreFree (ram (Reserved machine area)) note1.taken 0x4ff 1
+notes_free1 : AreFree (ram (Reserved machine area)) notes1.taken 0x4ff 1
 unfolding ram taken_by taking
-note_free1 q from to = (grind (arith, nat_tests), grind (arith, nat_tests))
+notes_free1 q from to = (grind (arith, nat_tests), grind (arith, nat_tests))
 
-note_blocked1 : AreBlocked (ram (Reserved machine area)) note1.taken 0x500 0x3fff_ffff_ffff
+notes_blocked1 : AreBlocked (ram (Reserved machine area)) notes1.taken 0x500 0x3fff_ffff_ffff
 unfolding ram taken_by taking
-note_blocked1 q from to = grind (arith, nat_tests)
+notes_blocked1 q from to = grind (arith, nat_tests)
 
-note_place1 : place (ram (Reserved machine area)) note1.taken (record { part = parts.Headers; length = 344; end = Greatest; align = 4096; min = 0; most = 0x3fff_ffff_ffff }) ≡ Ok (record { at = 0x4ff000; size = 0x1000 })
-note_place1 = placed (ram (Reserved machine area)) note1.taken parts.Headers 344 Greatest 4096 0 0x3fff_ffff_ffff 0x4ff000 refl (highest_at (ram (Reserved machine area)) note1.taken parts.Headers 344 0x3fff_ffff_ffff 0x4ff 1 refl (omega arith) note_free1 (omega arith) note_blocked1)
+notes_place1 : place (ram (Reserved machine area)) notes1.taken (record { part = parts.Headers; length = 344; end = Greatest; align = 4096; min = 0; most = 0x3fff_ffff_ffff }) ≡ Ok (record { at = 0x4ff000; size = 0x1000 })
+notes_place1 = placed (ram (Reserved machine area)) notes1.taken parts.Headers 344 Greatest 4096 0 0x3fff_ffff_ffff 0x4ff000 refl (highest_at (ram (Reserved machine area)) notes1.taken parts.Headers 344 0x3fff_ffff_ffff 0x4ff 1 refl (omega arith) notes_free1 (omega arith) notes_blocked1)
 
-abbrev note_part2 : PlanPart
-note_part2 = Parameters high_kernel crash_rows
+abbrev notes_part2 : PlanPart
+notes_part2 = Parameters high_kernel crash_rows
 
-abbrev note3 : Laid
-note3 = laid_with note2 note_part2 0x4fd000 0x2000
+abbrev notes3 : Laid
+notes3 = laid_with notes2 notes_part2 0x4fd000 0x2000
 
-note_free2 : AreFree (ram (Reserved machine area)) note2.taken 0x4fd 2
+notes_free2 : AreFree (ram (Reserved machine area)) notes2.taken 0x4fd 2
 unfolding ram taken_by taking
-note_free2 q from to = (grind (arith, nat_tests), grind (arith, nat_tests))
+notes_free2 q from to = (grind (arith, nat_tests), grind (arith, nat_tests))
 
-note_blocked2 : AreBlocked (ram (Reserved machine area)) note2.taken 0x4ff 0x3fff_ffff_ffff
+notes_blocked2 : AreBlocked (ram (Reserved machine area)) notes2.taken 0x4ff 0x3fff_ffff_ffff
 unfolding ram taken_by taking
-note_blocked2 q from to = grind (arith, nat_tests)
+notes_blocked2 q from to = grind (arith, nat_tests)
 
-note_place2 : place (ram (Reserved machine area)) note2.taken (record { part = parts.Parameters; length = 4137; end = Greatest; align = 4096; min = 0; most = 0x3fff_ffff_ffff }) ≡ Ok (record { at = 0x4fd000; size = 0x2000 })
-note_place2 = placed (ram (Reserved machine area)) note2.taken parts.Parameters 4137 Greatest 4096 0 0x3fff_ffff_ffff 0x4fd000 refl (highest_at (ram (Reserved machine area)) note2.taken parts.Parameters 4137 0x3fff_ffff_ffff 0x4fd 2 refl (omega arith) note_free2 (omega arith) note_blocked2)
+notes_place2 : place (ram (Reserved machine area)) notes2.taken (record { part = parts.Parameters; length = 4137; end = Greatest; align = 4096; min = 0; most = 0x3fff_ffff_ffff }) ≡ Ok (record { at = 0x4fd000; size = 0x2000 })
+notes_place2 = placed (ram (Reserved machine area)) notes2.taken parts.Parameters 4137 Greatest 4096 0 0x3fff_ffff_ffff 0x4fd000 refl (highest_at (ram (Reserved machine area)) notes2.taken parts.Parameters 4137 0x3fff_ffff_ffff 0x4fd 2 refl (omega arith) notes_free2 (omega arith) notes_blocked2)
 
-note_laid : place_parts (ram (Reserved machine area)) note0 (note_part0 ∷ note_part1 ∷ note_part2 ∷ []) ≡ Ok note3
+notes_laid : place_parts (ram (Reserved machine area)) notes0 (notes_part0 ∷ notes_part1 ∷ notes_part2 ∷ []) ≡ Ok notes3
 unfolding params_length digits outside without_area
-note_laid =
-    parts_on (ram (Reserved machine area)) note0 note_part0 (note_part1 ∷ note_part2 ∷ []) 0x400000 0x3000 note_place0
-    ∙ parts_on (ram (Reserved machine area)) note1 note_part1 (note_part2 ∷ []) 0x4ff000 0x1000 note_place1
-    ∙ parts_on (ram (Reserved machine area)) note2 note_part2 ([]) 0x4fd000 0x2000 note_place2
-    ∙ parts_done (ram (Reserved machine area)) note3
+notes_laid =
+    parts_on (ram (Reserved machine area)) notes0 notes_part0 (notes_part1 ∷ notes_part2 ∷ []) 0x400000 0x3000 notes_place0
+    ∙ parts_on (ram (Reserved machine area)) notes1 notes_part1 (notes_part2 ∷ []) 0x4ff000 0x1000 notes_place1
+    ∙ parts_on (ram (Reserved machine area)) notes2 notes_part2 ([]) 0x4fd000 0x2000 notes_place2
+    ∙ parts_done (ram (Reserved machine area)) notes3
 
--- ---- told
-abbrev told0 : Laid
-told0 = begin [] 0 (Some (codes "quiet!"))
+-- ---- a command that is one byte too long
+abbrev word0 : Laid
+word0 = begin [] 0 (Some (codes "quiet!"))
 
-abbrev told_part0 : PlanPart
-told_part0 = Image (kernel_rule high_kernel 1025) (0xeb ∷ [])
+abbrev word_part0 : PlanPart
+word_part0 = Image (kernel_rule high_kernel 1025) (0xeb ∷ [])
 
-abbrev told1 : Laid
-told1 = laid_with told0 told_part0 0x400000 0x3000
+abbrev word1 : Laid
+word1 = laid_with word0 word_part0 0x400000 0x3000
 
-told_free0 : AreFree (ram (Reserved machine area)) told0.taken 0x400 3
+word_free0 : AreFree (ram (Reserved machine area)) word0.taken 0x400 3
 unfolding ram taken_by taking
-told_free0 q from to = (grind (arith, nat_tests), grind (arith, nat_tests))
+word_free0 q from to = (grind (arith, nat_tests), grind (arith, nat_tests))
 
-told_lower : (x : ℕ) → x % 0x4000 ≡ 0 → 0x18_2000 ≤ x → x < 0x400000 → is_free (ram (Reserved machine area)) told0.taken (x / 4096) ≡ true → is_free (ram (Reserved machine area)) told0.taken ((x + part_size 0x3000 - 1) / 4096) ≡ true → ⊥
+word_lower : (x : ℕ) → x % 0x4000 ≡ 0 → 0x18_2000 ≤ x → x < 0x400000 → is_free (ram (Reserved machine area)) word0.taken (x / 4096) ≡ true → is_free (ram (Reserved machine area)) word0.taken ((x + part_size 0x3000 - 1) / 4096) ≡ true → ⊥
 unfolding ram taken_by taking
-told_lower x a m l first last = grind (arith, nat_tests)
+word_lower x a m l first last = grind (arith, nat_tests)
 
-told_place0 : place (ram (Reserved machine area)) told0.taken (record { part = parts.Kernel; length = 0x3000; end = Least; align = 0x4000; min = 0x18_2000; most = 0x3fff_ffff_ffff }) ≡ Ok (record { at = 0x400000; size = 0x3000 })
-told_place0 = placed (ram (Reserved machine area)) told0.taken parts.Kernel 0x3000 Least 0x4000 0x18_2000 0x3fff_ffff_ffff 0x400000 refl (lowest_at (ram (Reserved machine area)) told0.taken parts.Kernel 0x3000 0x4000 0x18_2000 0x3fff_ffff_ffff 0x400 3 refl (omega arith) refl (omega arith) told_free0 (omega arith) (told_lower))
+word_place0 : place (ram (Reserved machine area)) word0.taken (record { part = parts.Kernel; length = 0x3000; end = Least; align = 0x4000; min = 0x18_2000; most = 0x3fff_ffff_ffff }) ≡ Ok (record { at = 0x400000; size = 0x3000 })
+word_place0 = placed (ram (Reserved machine area)) word0.taken parts.Kernel 0x3000 Least 0x4000 0x18_2000 0x3fff_ffff_ffff 0x400000 refl (lowest_at (ram (Reserved machine area)) word0.taken parts.Kernel 0x3000 0x4000 0x18_2000 0x3fff_ffff_ffff 0x400 3 refl (omega arith) refl (omega arith) word_free0 (omega arith) (word_lower))
 
-abbrev told_part1 : PlanPart
-told_part1 = Headers (highest parts.Headers 288 0x3fff_ffff_ffff) machine []
+abbrev word_part1 : PlanPart
+word_part1 = Headers (highest parts.Headers 288 0x3fff_ffff_ffff) machine []
 
-abbrev told2 : Laid
-told2 = laid_with told1 told_part1 0x4ff000 0x1000
+abbrev word2 : Laid
+word2 = laid_with word1 word_part1 0x4ff000 0x1000
 
-told_free1 : AreFree (ram (Reserved machine area)) told1.taken 0x4ff 1
+word_free1 : AreFree (ram (Reserved machine area)) word1.taken 0x4ff 1
 unfolding ram taken_by taking
-told_free1 q from to = (grind (arith, nat_tests), grind (arith, nat_tests))
+word_free1 q from to = (grind (arith, nat_tests), grind (arith, nat_tests))
 
-told_blocked1 : AreBlocked (ram (Reserved machine area)) told1.taken 0x500 0x3fff_ffff_ffff
+word_blocked1 : AreBlocked (ram (Reserved machine area)) word1.taken 0x500 0x3fff_ffff_ffff
 unfolding ram taken_by taking
-told_blocked1 q from to = grind (arith, nat_tests)
+word_blocked1 q from to = grind (arith, nat_tests)
 
-told_place1 : place (ram (Reserved machine area)) told1.taken (record { part = parts.Headers; length = 288; end = Greatest; align = 4096; min = 0; most = 0x3fff_ffff_ffff }) ≡ Ok (record { at = 0x4ff000; size = 0x1000 })
-told_place1 = placed (ram (Reserved machine area)) told1.taken parts.Headers 288 Greatest 4096 0 0x3fff_ffff_ffff 0x4ff000 refl (highest_at (ram (Reserved machine area)) told1.taken parts.Headers 288 0x3fff_ffff_ffff 0x4ff 1 refl (omega arith) told_free1 (omega arith) told_blocked1)
+word_place1 : place (ram (Reserved machine area)) word1.taken (record { part = parts.Headers; length = 288; end = Greatest; align = 4096; min = 0; most = 0x3fff_ffff_ffff }) ≡ Ok (record { at = 0x4ff000; size = 0x1000 })
+word_place1 = placed (ram (Reserved machine area)) word1.taken parts.Headers 288 Greatest 4096 0 0x3fff_ffff_ffff 0x4ff000 refl (highest_at (ram (Reserved machine area)) word1.taken parts.Headers 288 0x3fff_ffff_ffff 0x4ff 1 refl (omega arith) word_free1 (omega arith) word_blocked1)
 
-abbrev told_part2 : PlanPart
-told_part2 = Parameters high_kernel crash_rows
+abbrev word_part2 : PlanPart
+word_part2 = Parameters high_kernel crash_rows
 
-abbrev told3 : Laid
-told3 = laid_with told2 told_part2 0x4fd000 0x2000
+abbrev word3 : Laid
+word3 = laid_with word2 word_part2 0x4fd000 0x2000
 
-told_free2 : AreFree (ram (Reserved machine area)) told2.taken 0x4fd 2
+word_free2 : AreFree (ram (Reserved machine area)) word2.taken 0x4fd 2
 unfolding ram taken_by taking
-told_free2 q from to = (grind (arith, nat_tests), grind (arith, nat_tests))
+word_free2 q from to = (grind (arith, nat_tests), grind (arith, nat_tests))
 
-told_blocked2 : AreBlocked (ram (Reserved machine area)) told2.taken 0x4ff 0x3fff_ffff_ffff
+word_blocked2 : AreBlocked (ram (Reserved machine area)) word2.taken 0x4ff 0x3fff_ffff_ffff
 unfolding ram taken_by taking
-told_blocked2 q from to = grind (arith, nat_tests)
+word_blocked2 q from to = grind (arith, nat_tests)
 
-told_place2 : place (ram (Reserved machine area)) told2.taken (record { part = parts.Parameters; length = 4120; end = Greatest; align = 4096; min = 0; most = 0x3fff_ffff_ffff }) ≡ Ok (record { at = 0x4fd000; size = 0x2000 })
-told_place2 = placed (ram (Reserved machine area)) told2.taken parts.Parameters 4120 Greatest 4096 0 0x3fff_ffff_ffff 0x4fd000 refl (highest_at (ram (Reserved machine area)) told2.taken parts.Parameters 4120 0x3fff_ffff_ffff 0x4fd 2 refl (omega arith) told_free2 (omega arith) told_blocked2)
+word_place2 : place (ram (Reserved machine area)) word2.taken (record { part = parts.Parameters; length = 4120; end = Greatest; align = 4096; min = 0; most = 0x3fff_ffff_ffff }) ≡ Ok (record { at = 0x4fd000; size = 0x2000 })
+word_place2 = placed (ram (Reserved machine area)) word2.taken parts.Parameters 4120 Greatest 4096 0 0x3fff_ffff_ffff 0x4fd000 refl (highest_at (ram (Reserved machine area)) word2.taken parts.Parameters 4120 0x3fff_ffff_ffff 0x4fd 2 refl (omega arith) word_free2 (omega arith) word_blocked2)
 
-told_laid : place_parts (ram (Reserved machine area)) told0 (told_part0 ∷ told_part1 ∷ told_part2 ∷ []) ≡ Ok told3
+word_laid : place_parts (ram (Reserved machine area)) word0 (word_part0 ∷ word_part1 ∷ word_part2 ∷ []) ≡ Ok word3
 unfolding params_length digits outside without_area
-told_laid =
-    parts_on (ram (Reserved machine area)) told0 told_part0 (told_part1 ∷ told_part2 ∷ []) 0x400000 0x3000 told_place0
-    ∙ parts_on (ram (Reserved machine area)) told1 told_part1 (told_part2 ∷ []) 0x4ff000 0x1000 told_place1
-    ∙ parts_on (ram (Reserved machine area)) told2 told_part2 ([]) 0x4fd000 0x2000 told_place2
-    ∙ parts_done (ram (Reserved machine area)) told3
+word_laid =
+    parts_on (ram (Reserved machine area)) word0 word_part0 (word_part1 ∷ word_part2 ∷ []) 0x400000 0x3000 word_place0
+    ∙ parts_on (ram (Reserved machine area)) word1 word_part1 (word_part2 ∷ []) 0x4ff000 0x1000 word_place1
+    ∙ parts_on (ram (Reserved machine area)) word2 word_part2 ([]) 0x4fd000 0x2000 word_place2
+    ∙ parts_done (ram (Reserved machine area)) word3
 
--- ---- long
+-- ---- a long command, and a purgatory
 abbrev long0 : Laid
 long0 = begin [] 0 (Some (replicate 23 0x61))
 
@@ -277,7 +277,7 @@ long_blocked q from to = grind (arith, nat_tests)
 long_purgatory : place (ram (Machine machine)) long2.taken (purgatory_rule 0x7fff_ffff (purgatory_of 128)) ≡ Ok (record { at = 0x7fd000; size = 4096 })
 long_purgatory = placed (ram (Machine machine)) long2.taken parts.Purgatory 4096 Greatest 4096 0 0x7fff_ffff 0x7fd000 refl (highest_at (ram (Machine machine)) long2.taken parts.Purgatory 4096 0x7fff_ffff 0x7fd 1 refl (omega arith) long_free (omega arith) long_blocked)
 
--- ---- half
+-- ---- a kernel of more than half of the pages
 abbrev half0 : Laid
 half0 = begin [] 0 None
 
@@ -325,7 +325,7 @@ half_tested : test_segments (Machine (ram_of 0x184 5)) half2.list ≡ Err (fault
 unfolding first_refusal test_segments refusal shape_refusal params params_fault params_text page_text row_text extension with_field zeros
 half_tested = ap (λ rs. unless_refused half2.list (refusal rs Normal half2.list)) five_runs
 
--- ---- raw
+-- ---- a raw kernel at page 0, and a purgatory
 abbrev raw0 : Laid
 raw0 = begin (record { bytes = codes "abc"; mem = 0; memsz = 0x1000 } ∷ []) 0 None
 
@@ -354,7 +354,7 @@ returns-clause-place_of_the_purgatory c = ap (λ r. r >>= ending (Machine (ram_o
 
 pub returns-clause-headers : goal.returns-clause-headers
 unfolding plan plan_as read_kernel some_purgatory linux_kernel kernel_reading with_field zeros tested_header read_header header_fault is_bzimage field count_ones params params_fault outside without_area digits
-returns-clause-headers c = ap (λ r. r >>= ending (Reserved machine area) true None) note_laid ∙ bytes_refused (Reserved machine area) true note3 (faults.Crash (crash_faults.NotesOutside 0)) refl
+returns-clause-headers c = ap (λ r. r >>= ending (Reserved machine area) true None) notes_laid ∙ bytes_refused (Reserved machine area) true notes3 (faults.Crash (crash_faults.NotesOutside 0)) refl
 
 pub returns-clause-parameters : goal.returns-clause-parameters
 unfolding plan plan_as read_kernel some_purgatory linux_kernel kernel_reading with_field zeros tested_header read_header header_fault is_bzimage field count_ones params params_fault read_purgatory object_reading linked_size read_table read_symbols read_relocs end object_header gather read_elf64 object_fault symbols_in relocs_in padding read_class strings_of rela_fault test_symbols symbol_in entry_of name_in
@@ -362,7 +362,7 @@ returns-clause-parameters c = ap (λ r. r >>= ending (Machine machine) false (So
 
 pub returns-clause-parameters_of_a_crash : goal.returns-clause-parameters_of_a_crash
 unfolding plan plan_as read_kernel some_purgatory linux_kernel kernel_reading with_field zeros tested_header read_header header_fault is_bzimage field count_ones params params_fault outside without_area digits
-returns-clause-parameters_of_a_crash c = ap (λ r. r >>= ending (Reserved machine area) true None) told_laid ∙ bytes_refused (Reserved machine area) true told3 (faults.Params (params_faults.CommandTooLong 23 22)) refl
+returns-clause-parameters_of_a_crash c = ap (λ r. r >>= ending (Reserved machine area) true None) word_laid ∙ bytes_refused (Reserved machine area) true word3 (faults.Params (params_faults.CommandTooLong 23 22)) refl
 
 pub returns-clause-symbols : goal.returns-clause-symbols
 unfolding plan plan_as read_kernel some_purgatory place_parts read_purgatory object_reading linked_size read_table read_symbols read_relocs end object_header gather read_elf64 object_fault symbols_in relocs_in padding read_class strings_of rela_fault test_symbols symbol_in entry_of name_in field
