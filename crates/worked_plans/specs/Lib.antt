@@ -7,3 +7,6 @@ pub mod Requests
 pub mod Forms
 pub mod Laid
 pub mod Plans
+pub mod Samples
+pub mod Residents
+pub mod Slots

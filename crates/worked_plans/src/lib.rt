@@ -15,7 +15,10 @@ mod places;
 mod plans;
 mod purgatories;
 mod refusals;
+mod residents;
 mod rules;
+mod samples;
+mod slots;
 
 pub use commands::command_of_a_crash_kernel;
 pub use faults::{faults_of_parts, want_of_memory};
@@ -39,4 +42,11 @@ pub use purgatories::{
     places_of_symbols, purgatory_that_is_read, symbols_of_a_purgatory, what_a_purgatory_finds,
 };
 pub use refusals::{parts_without_a_place, refusals_behind_the_places, refusals_of_files};
+pub use residents::{
+    order_of_pairs, pages_in_rising_order, planned_pairs, pool_with_too_few_pages,
+};
 pub use rules::{rule_of_a_linux_kernel, rules_of_other_parts, sizes_of_parts};
+pub use samples::{
+    digest_of_a_memory, memory_of_a_sample, segment_of_a_shape, segments_of_a_sample,
+};
+pub use slots::{calls_that_are_busy, pages_of_the_pool, states_of_a_load};
