@@ -1,4 +1,4 @@
-//! The definitions of a plan, tried on worked examples.
+//! The definitions of a plan, and some of samples, resident pages, slots and loads, tried on worked examples.
 //!
 //! Nothing here is called. Each function has the name of an example, and its clauses say what the definitions give for
 //! it, mostly by computing; the places of parts are shown to be the least or the greatest that fit. Addresses are
@@ -39,7 +39,8 @@ pub use plans::{
     linux_kernel_with_an_initrd, multiboot_kernel_with_a_module, tables_that_are_apart,
 };
 pub use purgatories::{
-    places_of_symbols, purgatory_that_is_read, symbols_of_a_purgatory, what_a_purgatory_finds,
+    places_of_symbols, purgatory_that_is_read, regions_of_a_plan, symbols_of_a_purgatory,
+    what_a_purgatory_finds,
 };
 pub use refusals::{parts_without_a_place, refusals_behind_the_places, refusals_of_files};
 pub use residents::{

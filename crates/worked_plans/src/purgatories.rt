@@ -1,13 +1,17 @@
 //! The purgatory of a plan: its symbols, and what it is to find.
 
-ghost use Rattle.std.specs.Prelude.{◌≡◌, ◌++◌, ◌∷◌, [], Some, None, Ok, Err, codes, length, replicate};
+ghost use Rattle.std.specs.Prelude.{◌≡◌, ◌++◌, ◌==◌, ◌∷◌, [], Some, None, Ok, Err, codes, length, replicate, if◌then◌else◌};
 ghost use Rattle.byteorder.specs.Endian.{little_bytes};
 ghost use Rattle.elf_image.specs.declared.fault.ElfFault.TheVariants as elf;
 ghost use Rattle.purgatory_link.specs.declared.fault.LinkFault.TheVariants as link;
+ghost use Rattle.purgatory_link.specs.Regions.{digest, others, wanted_bytes};
 ghost use Rattle.kexec_plan.specs.Purgatory.{read_purgatory, some_purgatory, purgatory_rule, place_by, symbol_place, address_by, symbol_address, symbols_of, linked_at, registers_text, arm};
 ghost use Rattle.kexec_plan.specs.Table.{highest};
 ghost use Rattle.kexec_plan.specs.declared.fault.Part.TheVariants as parts;
 ghost use Rattle.kexec_plan.specs.declared.fault.PlanFault.TheVariants as faults;
+ghost use Rattle.worked_plans.specs.Machines.{pages_at};
+ghost use Rattle.worked_plans.specs.Plans.{unarmed};
+ghost use Rattle.worked_plans.specs.Samples.{digest_of_nothing};
 ghost use Rattle.worked_plans.specs.Purgatories.{purgatory_file, purgatory_of, object_header, linked_image, small_linkage, overlapping_linkage, linkage, some_start};
 
 /// A purgatory is an object, which is linked to whole pages.
@@ -64,4 +68,13 @@ pub fn what_a_purgatory_finds()
     ensures overlapping { arm overlapping_linkage some_start (replicate 256 0xaa)
         (replicate 32 0xdd)
         ≡ replicate 4 0xaa ++ (replicate 32 0xdd ++ replicate 220 0xaa) }
+{}
+
+/// What a purgatory tests: every segment but its own. Of a kernel without pages the digest is that of nothing.
+pub fn regions_of_a_plan()
+    ensures others { others (pages_at 1 1 ∷ pages_at 2 1 ∷ pages_at 3 1 ∷ []) 1
+        ≡ pages_at 1 1 ∷ pages_at 3 1 ∷ [] }
+    ensures bytes { wanted_bytes (λ p. if p == 3 then None else Some (p ∷ [])) (5 ∷ 3 ∷ 4 ∷ [])
+        ≡ 5 ∷ 4 ∷ [] }
+    ensures digest { digest (pages_at 0x100 0 ∷ unarmed 0x7f_d000 ∷ []) 1 ≡ digest_of_nothing }
 {}

@@ -1,5 +1,5 @@
 -- Caller 8 meets the load of caller 7.
-use Rattle.std.proofs.Common.{◌≡◌, [], ◌∷◌, refl, arith}
+use Rattle.std.proofs.Common.{[], ◌∷◌, refl, arith}
 use Rattle.image_slots.specs.States.{Written}
 use Rattle.worked_plans.specs.Slots.{normal_image}
 use Rattle.worked_plans.proofs.slots.calls_that_are_busy.Goals as goal
