@@ -49,7 +49,8 @@ pub fn states_of_a_load()
     ensures swap { map (λ mode. swap_of (load_of mode)) (modes.Plain ∷ modes.Kept 0x13 ∷ [])
         ≡ 0 ∷ 0x13 ∷ [] }
     ensures memory { (with_memory (load_of modes.Plain) a_memory).memory ≡ a_memory }
-    ensures image { (with_memory (load_of modes.Plain) a_memory).image ≡ (load_of modes.Plain).image }
+    ensures image { (with_memory (load_of modes.Plain) a_memory).image
+        ≡ (load_of modes.Plain).image }
     ensures made { no_pages.made ≡ [] }
     ensures drawn { no_pages.drawn ≡ [] }
     ensures limit { no_pages.limit ≡ 0x4000_0000_0000 }
