@@ -1,0 +1,5 @@
+pub mod Placing
+pub mod Running
+pub mod Machining
+pub mod Planning
+pub mod Imaging

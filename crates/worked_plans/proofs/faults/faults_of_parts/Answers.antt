@@ -1,0 +1,30 @@
+-- By computing.
+use Rattle.std.proofs.Common.{refl}
+use Rattle.worked_plans.proofs.faults.faults_of_parts.Goals as goal
+
+pub returns-clause-kept : goal.returns-clause-kept
+returns-clause-kept c = refl
+
+pub returns-clause-told : goal.returns-clause-told
+returns-clause-told c = refl
+
+pub returns-clause-elf : goal.returns-clause-elf
+returns-clause-elf c = refl
+
+pub returns-clause-object : goal.returns-clause-object
+returns-clause-object c = refl
+
+pub returns-clause-bzimage : goal.returns-clause-bzimage
+returns-clause-bzimage c = refl
+
+pub returns-clause-params : goal.returns-clause-params
+returns-clause-params c = refl
+
+pub returns-clause-link : goal.returns-clause-link
+returns-clause-link c = refl
+
+pub returns-clause-multiboot : goal.returns-clause-multiboot
+returns-clause-multiboot c = refl
+
+pub returns-clause-crash : goal.returns-clause-crash
+returns-clause-crash c = refl

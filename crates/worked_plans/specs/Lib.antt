@@ -1,0 +1,12 @@
+pub mod Machines
+pub mod LinuxKernels
+pub mod Executables
+pub mod Multiboots
+pub mod Purgatories
+pub mod Requests
+pub mod Forms
+pub mod Laid
+pub mod Plans
+pub mod Samples
+pub mod Residents
+pub mod Slots
