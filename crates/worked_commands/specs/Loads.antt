@@ -2,13 +2,16 @@
 -- project's own).
 use Rattle.std.specs.Prelude.{ℕ, ◌++◌, List, [], ◌∷◌, None, codes}
 use Rattle.kx_pages.specs.declared.image.ImageType.TheVariants.{Auto}
+use Rattle.kx_pages.specs.declared.image.Mode.TheVariants as modes
 use Rattle.kx_pages.specs.declared.image.Wish.TheVariants.{Plain}
+use Rattle.load_states.specs.States.{Checked, no_pages}
 use Rattle.kexec_plan.specs.Requests.{Plan}
 use Rattle.kexec_main.specs.Boot.{BootInputs}
 use Rattle.kexec_main.specs.Load.{LoadCommand}
 use Rattle.kexec_main.specs.Outputs.{Made}
 use Rattle.worked_commands.specs.Inputs.{few_asked, few_read, three_bytes, three_bytes_file}
 use Rattle.worked_commands.specs.Memories.{loaded_file, run_file}
+use Rattle.worked_commands.specs.Texts.{no_memory}
 
 -- the kernel starts where it lies
 abbrev pub few_plan : Plan
@@ -38,6 +41,20 @@ boot_of_unknown = record {
   load = record few_read { request = record few_asked { image = Auto } };
   runs = None;
   out = codes "o";
+}
+
+-- no segments are loaded: the list is the done word alone
+abbrev pub nothing_loaded : Checked
+nothing_loaded = record {
+  load = record {
+    memory = no_memory;
+    pool = no_pages;
+    image = record { head = 4; mode = modes.Plain; control = 0x10 };
+    segments = [];
+  };
+  words = 1;
+  links = 0;
+  pairs = [];
 }
 
 -- what is said of the list

@@ -2,6 +2,9 @@
 //! and 12.
 
 ghost use Rattle.std.specs.Prelude.{◌≡◌, ◌∷◌, [], false, None, Ok, Err, codes};
+ghost use Rattle.kx_pages.specs.declared.image.Wish.TheVariants.{Plain};
+ghost use Rattle.load_states.specs.Ready.{Told};
+ghost use Rattle.load_states.specs.Runs.{EndsAfter};
 ghost use Rattle.kexec_plan.specs.Plan.{plan};
 ghost use Rattle.kexec_plan.specs.declared.fault.PlanFault.TheVariants as plans;
 ghost use Rattle.file_commands.specs.Taking.{by, too_long};
@@ -9,11 +12,12 @@ ghost use Rattle.kexec_words.specs.Values as words;
 ghost use Rattle.kexec_main.specs.Boot.{boots};
 ghost use Rattle.kexec_main.specs.Laid.{HasLaid};
 ghost use Rattle.kexec_main.specs.Load.{loads};
+ghost use Rattle.kexec_main.specs.Loads.{NormalLoad};
 ghost use Rattle.kexec_main.specs.Outputs.{Made};
 ghost use Rattle.kexec_main.specs.declared.status.Reason.TheVariants as reasons;
-ghost use Rattle.worked_commands.specs.Inputs.{each_file, few_asked, three_bytes_file};
+ghost use Rattle.worked_commands.specs.Inputs.{each_file, few_asked, few_read, three_bytes_file};
 ghost use Rattle.worked_commands.specs.Lists.{GivenBy, Gives};
-ghost use Rattle.worked_commands.specs.Loads.{boot_goods, boot_of, boot_of_unknown, boot_text, few_plan, load_goods, load_of_few, load_text};
+ghost use Rattle.worked_commands.specs.Loads.{boot_goods, boot_of, boot_of_unknown, boot_text, few_plan, load_goods, load_of_few, load_text, nothing_loaded};
 ghost use Rattle.worked_commands.specs.Memories.{loaded_file, run_file};
 ghost use Rattle.worked_commands.specs.Names.{boot_raw, load_raw};
 
@@ -62,6 +66,14 @@ pub fn kernel_has_no_plan()
     ensures other_fault { boots boot_of_unknown (Err (by (reasons.Plan plans.Memory))) → ⊥ }
     ensures other_reason { boots boot_of_unknown (Err (by reasons.NotKept)) → ⊥ }
     ensures not_made { (goods : Made) → boots boot_of_unknown (Ok goods) → ⊥ }
+{}
+
+/// A list of the done word alone is accepted for no segments, and its run ends. But it is not a load of the kernel, whose
+/// plan has a segment.
+pub fn nothing_is_loaded()
+    ensures accepted { Told nothing_loaded.load 1 0 [] }
+    ensures ends { EndsAfter nothing_loaded.load 1 }
+    ensures not_the_plan { NormalLoad Plain few_read few_plan nothing_loaded → ⊥ }
 {}
 
 /// What stands after `boot` and `load` of the files, each laid by the rules.

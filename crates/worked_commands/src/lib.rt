@@ -32,7 +32,8 @@ pub use answers::{
     outputs_up_to_a_fault,
 };
 pub use boots::{
-    kernel_has_no_plan, kernel_is_booted, kernel_is_loaded, loads_that_were_done, pool_is_too_small,
+    kernel_has_no_plan, kernel_is_booted, kernel_is_loaded, loads_that_were_done,
+    nothing_is_loaded, pool_is_too_small,
 };
 pub use calls::{
     command_of_the_words, commands_in_order, commands_that_were_done, refusals_of_files,
