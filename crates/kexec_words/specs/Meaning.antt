@@ -281,20 +281,28 @@ abbrev pub answer_by : {A : Type 0} → App → (List Row → Result A UsageWhy)
     → Result A UsageWhy
 answer_by app read words = answer_where (fault_of app words) (read (matches_of app words))
 
--- the command of this name
+-- the command of this name: of those that neither load a kernel nor read a load record
+abbrev pub name_of_other : Text → Option Name
+name_of_other t = if bytes_eq t (codes "trace") then Some name.Trace
+    else (if bytes_eq t (codes "sample") then Some name.Sample
+    else (if bytes_eq t (codes "drill") then Some name.Drill
+    else (if bytes_eq t (codes "core") then Some name.Core else None)))
+
+-- the same, of those and the commands that read a load record
+abbrev pub name_of_reader : Text → Option Name
+name_of_reader t = if bytes_eq t (codes "check") then Some name.Check
+    else (if bytes_eq t (codes "dump") then Some name.Dump
+    else (if bytes_eq t (codes "exec") then Some name.Exec
+    else (if bytes_eq t (codes "migrate") then Some name.Migrate
+    else name_of_other t)))
+
+-- the same, of all commands
 abbrev pub name_of : Text → Option Name
 name_of t = if bytes_eq t (codes "boot") then Some name.Boot
     else (if bytes_eq t (codes "load") then Some name.Load
     else (if bytes_eq t (codes "load-panic") then Some name.LoadPanic
-    else (if bytes_eq t (codes "check") then Some name.Check
-    else (if bytes_eq t (codes "dump") then Some name.Dump
-    else (if bytes_eq t (codes "exec") then Some name.Exec
-    else (if bytes_eq t (codes "trace") then Some name.Trace
-    else (if bytes_eq t (codes "migrate") then Some name.Migrate
-    else (if bytes_eq t (codes "sample") then Some name.Sample
     else (if bytes_eq t (codes "boot-resident") then Some name.BootResident
-    else (if bytes_eq t (codes "drill") then Some name.Drill
-    else (if bytes_eq t (codes "core") then Some name.Core else None)))))))))))
+    else name_of_reader t)))
 
 abbrev pub command_by_name : Option Name → List Text → Result CommandValue UsageWhy
 command_by_name None words = Err why.Command
