@@ -6,8 +6,6 @@
 mod fault;
 mod parameters;
 mod setup_data;
-#[cfg(test)]
-mod tests;
 mod zero_page;
 
 pub use fault::ParamsFault;

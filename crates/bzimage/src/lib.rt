@@ -9,8 +9,6 @@ mod fault;
 mod image;
 mod setup_header;
 mod signature;
-#[cfg(test)]
-mod tests;
 
 pub use fault::BzFault;
 pub use image::{BzImage, read};

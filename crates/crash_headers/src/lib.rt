@@ -10,8 +10,6 @@ mod headers;
 mod note;
 mod program_header;
 mod ranges;
-#[cfg(test)]
-mod tests;
 
 pub use fault::{CrashFault, NoteFault};
 pub use headers::{length, make};

@@ -8,8 +8,6 @@
 mod file_header;
 mod numbers;
 mod program_header;
-#[cfg(test)]
-mod tests;
 
 pub use file_header::FileHeader;
 pub use numbers::{

@@ -18,16 +18,10 @@ mod load;
 mod loads;
 mod numbers;
 mod object;
-#[cfg(test)]
-mod object_tests;
 mod program_header;
 mod reloc;
 mod section;
 mod symbol;
-#[cfg(test)]
-mod test_files;
-#[cfg(test)]
-mod tests;
 
 pub use exec::{Exec, read_exec};
 pub use fault::{ElfFault, ElfPart};

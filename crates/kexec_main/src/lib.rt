@@ -15,76 +15,36 @@
 //! | `run`, `calm` | the top call, and the same over files in memory |
 #![tactic(auto)]
 
-#[cfg(test)]
-mod below_tests;
 mod boot;
 mod boot_resident;
 mod calm;
 mod check;
 mod core_file;
 mod core_inputs;
-#[cfg(test)]
-mod core_tests;
-#[cfg(test)]
-mod crash_example;
 mod crash_exec;
 mod crash_loading;
-#[cfg(test)]
-mod crash_tests;
-#[cfg(test)]
-mod device_tests;
 mod drill;
 mod drill_inputs;
-#[cfg(test)]
-mod drill_tests;
 mod dump;
-#[cfg(test)]
-mod each_command_tests;
 mod exec;
-#[cfg(test)]
-mod fault_tests;
 mod files;
-#[cfg(test)]
-mod first_example;
 mod inputs;
-#[cfg(test)]
-mod kept_tests;
-#[cfg(test)]
-mod kernel_fault_tests;
-#[cfg(test)]
-mod kernel_files;
-#[cfg(test)]
-mod kernel_tests;
 pub mod laws;
-#[cfg(test)]
-mod limit_tests;
 mod load;
 mod load_inputs;
 mod load_panic;
 mod loading;
-#[cfg(test)]
-mod long_list_tests;
 mod migrate;
 mod migrate_inputs;
 mod output;
-#[cfg(test)]
-mod refused_memory_tests;
 mod replies;
-#[cfg(test)]
-mod resident_tests;
 mod run;
 mod running;
 mod sample;
-#[cfg(test)]
-mod scene;
 mod startup;
 mod status;
-#[cfg(test)]
-mod status_tests;
 mod text;
 mod trace;
-#[cfg(test)]
-mod wild_list_tests;
 
 pub use calm::kexec_in_memory;
 pub use run::kexec;

@@ -10,8 +10,6 @@ mod fault;
 mod finishing;
 mod format;
 mod ground;
-#[cfg(test)]
-mod kernel_tests;
 mod kernels;
 mod laying;
 mod parts;
@@ -19,15 +17,9 @@ mod places;
 mod planning;
 mod promise;
 mod purgatory;
-#[cfg(test)]
-mod refusal_tests;
 mod request;
 mod symbols;
 mod table;
-#[cfg(test)]
-mod test_files;
-#[cfg(test)]
-mod tests;
 
 pub use fault::{Part, PlanFault};
 pub use planning::plan;

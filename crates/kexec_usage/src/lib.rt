@@ -12,8 +12,6 @@ mod lookup;
 mod mistake;
 mod old_words;
 mod refusal;
-#[cfg(test)]
-mod tests;
 
 pub use asking::{asks_for_help, asks_for_version};
 pub use files::file_with;

@@ -27,6 +27,3 @@ pub use faults::{UsageWhy, Which, WordsFault};
 pub use help::{Help, Usage, arguments_of, help_of, usage_of};
 pub use reading::read;
 pub use table::{Argument, Form, Kind};
-
-#[cfg(test)]
-mod tests;

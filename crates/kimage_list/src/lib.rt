@@ -9,8 +9,6 @@ mod open_list;
 mod pages;
 mod table;
 mod taking;
-#[cfg(test)]
-mod tests;
 mod writer;
 mod written;
 

@@ -14,10 +14,6 @@ mod list;
 mod missing;
 mod reading;
 mod reasons;
-#[cfg(test)]
-mod refused_tests;
-#[cfg(test)]
-mod tests;
 mod walked;
 
 pub use crash::check_crash;

@@ -8,10 +8,6 @@
 
 mod accepted;
 mod crash;
-#[cfg(test)]
-mod exchange_tests;
-#[cfg(test)]
-mod fill_tests;
 mod filling;
 mod hold;
 mod lay;
@@ -19,8 +15,6 @@ pub mod load_laws;
 mod loaded;
 mod ran;
 mod run;
-#[cfg(test)]
-mod tests;
 
 pub use accepted::{Accepted, AcceptedKept, AcceptedPlain};
 pub use crash::{AcceptedCrash, CrashLoaded, load_crash};

@@ -24,8 +24,6 @@ mod pages;
 mod ranges;
 mod reader;
 mod row;
-#[cfg(test)]
-mod tests;
 
 pub use fault::MapFault;
 use kx_pages::{PageSet, Span};

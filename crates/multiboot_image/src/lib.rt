@@ -8,13 +8,9 @@
 mod fault;
 mod header;
 mod info;
-#[cfg(test)]
-mod info_tests;
 mod map_rows;
 mod modules;
 mod parts;
-#[cfg(test)]
-mod tests;
 
 pub use fault::MbFault;
 pub use header::{Header, Kludge, find_header};

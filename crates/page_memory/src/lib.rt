@@ -15,8 +15,6 @@ mod layout;
 mod memory;
 mod pieces;
 mod table;
-#[cfg(test)]
-mod tests;
 
 pub use fault::{HeavyFault, MemFault};
 pub use file::{agreeing_have_one_file, reads_back};

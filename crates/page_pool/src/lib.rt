@@ -25,8 +25,6 @@ ghost use Rattle.page_pool.specs.inner.Grammar.{IsPoolLine};
 
 mod fault;
 mod file;
-#[cfg(test)]
-mod tests;
 
 pub use fault::PoolFault;
 use file::pages_of;

@@ -14,24 +14,16 @@
 
 mod digests;
 mod fault;
-#[cfg(test)]
-mod file_tests;
 mod form;
 mod layout;
 mod linked;
 mod names;
 mod put;
 mod region_test;
-#[cfg(test)]
-mod region_tests;
 mod reloc;
 mod relocate;
 mod symbols;
 mod taken;
-#[cfg(test)]
-mod test_objects;
-#[cfg(test)]
-mod tests;
 
 pub use digests::{digest_of, regions_of};
 pub use fault::LinkFault;

@@ -8,8 +8,6 @@ mod fault;
 mod list;
 mod rules;
 mod segment;
-#[cfg(test)]
-mod tests;
 
 pub use fault::{Kind, SegFault};
 pub use list::Segments;

@@ -1,0 +1,61 @@
+//! Memories, pools and their pages.
+
+ghost use Rattle.std.specs.Prelude.{◌≡◌, ℕ, false, IfOk};
+ghost use Rattle.page_pool.specs.Pages.{is_filed};
+
+use kx_pages::Page;
+use page_memory::Memory;
+use page_pool::Pool;
+use std::alloc::Global;
+use std::test::Fail;
+
+/// The page of this number.
+pub(crate) fn page(number: u64) -> Result<Page, &'static str> {
+    Page::new(number).ok_or("a page")
+}
+
+/// The page becomes these bytes, then zeros.
+pub(crate) fn put(memory: &mut Memory, number: u64, bytes: &[u8]) -> Result<(), Fail> {
+    let page = page(number)?;
+    if bytes.len() > 4096 {
+        return Err("too many bytes".into());
+    }
+    memory.hold(page)?;
+    memory.set(page, bytes);
+    Ok(())
+}
+
+/// A memory whose pages of these numbers are these bytes, then zeros.
+pub(crate) fn memory_of(alloc: Global, pages: &[(u64, &[u8])]) -> Result<Memory, Fail> {
+    let mut memory = Memory::empty(alloc);
+    for (number, bytes) in pages {
+        put(&mut memory, *number, bytes)?;
+    }
+    Ok(memory)
+}
+
+/// A pool of these pages.
+pub(crate) fn pool_of(alloc: Global, numbers: &[u64]) -> Result<Pool, Fail>
+    ensures { IfOk result (λ p. (q : ℕ) → is_filed p q ≡ false) }
+{
+    let mut pages = Vec::new(alloc);
+    for number in numbers {
+        pages.push(page(*number)?)?;
+    }
+    if pages.len() > 262144 {
+        return Err("at most 262,144 pages".into());
+    }
+    match Pool::new(alloc, pages) {
+        Ok(pool) => Ok(pool),
+        Err(_) => Err("a pool".into()),
+    }
+}
+
+/// The bytes of these words.
+pub(crate) fn bytes_of(alloc: Global, words: &[u64]) -> Result<Vec<u8>, Fail> {
+    let mut bytes = Vec::new(alloc);
+    for word in words {
+        bytes.extend_from_slice(&word.to_le_bytes())?;
+    }
+    Ok(bytes)
+}

@@ -1,0 +1,15 @@
+//! Tests of the words, as people write them: which command they are, and the sentence about words that are refused.
+//!
+//! Tests that call only what their crates export stand in crates of their own: a build of tests proves their crate once
+//! more, and so the crates are proved once.
+//!
+//! | Module | What it has |
+//! |---|---|
+//! | `reading_tests` | the command that words are, or why they are refused, and the help (kexec_words) |
+//! | `sentence_tests` | the words behind a command, and the sentence about a refusal (kexec_usage) |
+#![tactic(auto)]
+
+#[cfg(test)]
+mod reading_tests;
+#[cfg(test)]
+mod sentence_tests;
