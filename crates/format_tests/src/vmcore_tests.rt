@@ -105,8 +105,8 @@ fn file_of_two_loads_and_a_note(rt: HostRuntime) -> Result<(), Fail> {
     Ok(())
 }
 
-// Loads that begin and end inside pages, in any order, and among them the rows of two processors' notes: behind the one note
-// of the first row 4 bytes are left, and 4 behind the two of the second row.
+// Loads that begin and end inside pages, in any order, and among them the program headers of two processors' notes: behind
+// the one note of the first 4 bytes are left, and 4 behind the two of the second.
 const MIXED: &[Plain] = &[
     (LOAD, 0x10_2002, 5),
     (NOTE, 0x1234, 20),

@@ -1,7 +1,8 @@
 ghost use Rattle.std.specs.Prelude.{◌≤◌};
 
+use crate::memories::reads_as;
 use image_slots::{EventsFault, Reply, Slots, SlotsFault, SlotsRefused, read_events};
-use kx_pages::{Page, PageSet, Span};
+use kx_pages::{PageSet, Span};
 use page_memory::Memory;
 use page_pool::Pool;
 use std::alloc::{AllocError, Global};
@@ -54,23 +55,6 @@ fn told(alloc: Global, replies: &[Reply]) -> Result<String, AllocError> {
         text.push_str(", ")?;
     }
     Ok(text)
-}
-
-// The page of this number has these bytes, and then zeros.
-fn has_bytes(memory: &Memory, number: u64, bytes: &[u8]) -> bool {
-    match Page::new(number) {
-        Some(page) => bytes.len() <= 4096 && memory.equals(page, bytes),
-        None => false,
-    }
-}
-
-// Each of these pages has these bytes.
-fn reads_as(memory: &Memory, pages: &[(u64, &[u8])]) -> bool {
-    let mut same = true;
-    for (number, bytes) in pages {
-        same = same && has_bytes(memory, *number, bytes);
-    }
-    same
 }
 
 struct Row {

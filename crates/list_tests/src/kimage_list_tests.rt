@@ -4,9 +4,9 @@ ghost use Rattle.std.specs.Prelude.{◌≡◌, ℕ, ◌+◌, ◌%◌, ◌≤◌,
 ghost use Rattle.page_pool.specs.Pages.{is_filed};
 ghost use Rattle.kx_pages.specs.Spans.{in_span, in_spans, pages};
 
-use crate::memories::pool_of;
+use crate::memories::{bytes_of, page, pool_of, reads_as};
 use kimage_list::{BeginFault, BeginRefused, ListWriter, Written};
-use kx_pages::{Mode, Page, PageSet, Span, Wish};
+use kx_pages::{ADDRESS_LIMIT, Image, Mode, Page, PageSet, Span, Wish};
 use page_memory::Memory;
 use page_pool::Pool;
 use std::alloc::Global;
@@ -83,29 +83,33 @@ fn load_below(
     load_from(alloc, pool, first, count, Wish::Plain)
 }
 
+// The list of a plain load, which begins in page 11 (hexadecimal).
+fn plain_image() -> Result<Image, &'static str> {
+    Ok(Image {
+        head: 0x11002,
+        mode: Mode::Plain,
+        control: page(0x10)?,
+    })
+}
+
 #[test]
 fn loads_two_pages_over_pools_with_destinations(rt: HostRuntime) -> Result<(), Fail> {
-    let own = load_over(rt.alloc(), &[2, 3, 0x10, 0x11], 2, Wish::Plain)?
-        .ok()
-        .ok_or("a list")?;
-    let exchanged = load_over(rt.alloc(), &[0x10, 0x11, 0x12, 2], 2, Wish::Plain)?
-        .ok()
-        .ok_or("a list")?;
-    for (written, last) in [(&own, 0x3008), (&exchanged, 0x12008)] {
-        let image = written.image;
-        assert_eq!(rt; image.control.number(), 0x10);
-        assert_eq!(rt; image.head, 0x11002);
-        assert_eq!(rt; image.mode, Mode::Plain);
-        assert_eq!(rt; written.memory.word(0x11000), 0x2001);
-        assert_eq!(rt; written.memory.word(0x11008), 0x2008);
-        assert_eq!(rt; written.memory.word(0x11010), last);
-        assert_eq!(rt; written.memory.word(0x11018), 4);
-        assert_eq!(rt; written.memory.word(0x11020), 0);
-        assert_eq!(rt; written.memory.word(0x2000), 0x61);
-        assert_eq!(rt; written.pool.left(), 0);
+    for (numbers, words, source) in [
+        ([2, 3, 0x10, 0x11], [0x2001, 0x2008, 0x3008, 4], 3),
+        ([0x10, 0x11, 0x12, 2], [0x2001, 0x2008, 0x12008, 4], 0x12),
+    ] {
+        let Written {
+            memory,
+            pool,
+            image,
+        } = load_over(rt.alloc(), &numbers, 2, Wish::Plain)?
+            .ok()
+            .ok_or("a list")?;
+        assert_eq!(rt; (image, pool.left()), (plain_image()?, 0));
+        let list = bytes_of(rt.alloc(), &words)?;
+        let pages: [(u64, &[u8]); 3] = [(0x11, &list), (2, b"a"), (source, b"b")];
+        assert!(rt; reads_as(&memory, &pages));
     }
-    assert_eq!(rt; own.memory.word(0x3000), 0x62);
-    assert_eq!(rt; exchanged.memory.word(0x12000), 0x62);
     Ok(())
 }
 
@@ -114,26 +118,24 @@ fn keeps_a_swap_page(rt: HostRuntime) -> Result<(), Fail> {
     let written = load_over(rt.alloc(), &[0x10, 0x11, 0x12, 0x13, 2], 2, Wish::Kept)?
         .ok()
         .ok_or("a list")?;
-    let swap = Page::new(0x11).ok_or("a page")?;
-    let image = written.image;
-    assert_eq!(rt; image.control.number(), 0x10);
-    assert_eq!(rt; image.mode, Mode::Kept { swap });
-    assert_eq!(rt; image.head, 0x12002);
-    assert_eq!(rt; written.memory.word(0x12000), 0x2001);
-    assert_eq!(rt; written.memory.word(0x12008), 0x2008);
-    assert_eq!(rt; written.memory.word(0x12010), 0x13008);
-    assert_eq!(rt; written.memory.word(0x12018), 4);
+    let image = Image {
+        head: 0x12002,
+        mode: Mode::Kept { swap: page(0x11)? },
+        control: page(0x10)?,
+    };
+    assert_eq!(rt; written.image, image);
+    let list = bytes_of(rt.alloc(), &[0x2001, 0x2008, 0x13008, 4])?;
+    assert!(rt; reads_as(&written.memory, &[(0x12, &list)]));
     Ok(())
 }
 
 #[test]
 fn refuses_a_pool_that_is_one_page_short(rt: HostRuntime) -> Result<(), Fail> {
-    let refused = load_over(rt.alloc(), &[0x10, 0x11, 0x12], 2, Wish::Plain)?
+    let BeginRefused { why, pool, .. } = load_over(rt.alloc(), &[0x10, 0x11, 0x12], 2, Wish::Plain)?
         .err()
         .ok_or("a refusal")?;
-    assert_eq!(rt; refused.why, BeginFault::NoPages { pool: 3, need: 4 });
-    assert_eq!(rt; refused.pool.left(), 3);
-    let text = format!(in rt.alloc(); "{}", refused.why)?;
+    assert_eq!(rt; (why, pool.left()), (BeginFault::NoPages { pool: 3, need: 4 }, 3));
+    let text = format!(in rt.alloc(); "{why}")?;
     assert_eq!(rt;
         text.as_str(),
         "the pool has 3 usable pages left and the load takes 4: give the pool more pages"
@@ -141,24 +143,28 @@ fn refuses_a_pool_that_is_one_page_short(rt: HostRuntime) -> Result<(), Fail> {
     Ok(())
 }
 
+// A link page has 512 slots: one for the destination word, 510 for sources, and in the last one the done word or a link.
 #[test]
 fn takes_a_second_link_page_for_511_pages(rt: HostRuntime) -> Result<(), Fail> {
     let mut numbers = Vec::new(rt.alloc());
     for n in 0x1000..0x1210 {
         numbers.push(n)?;
     }
-    let one = load_over(rt.alloc(), &numbers, 510, Wish::Plain)?
-        .ok()
-        .ok_or("a list")?;
-    assert_eq!(rt; one.pool.left(), 0x210 - 512);
-    assert_eq!(rt; one.memory.word(0x1001ff8), 4);
-    let two = load_over(rt.alloc(), &numbers, 511, Wish::Plain)?
-        .ok()
-        .ok_or("a list")?;
-    assert_eq!(rt; two.pool.left(), 0x210 - 514);
-    assert_eq!(rt; two.memory.word(0x1001ff8), 0x1200002);
-    assert_eq!(rt; two.memory.word(0x1200000), 0x1201008);
-    assert_eq!(rt; two.memory.word(0x1200008), 4);
+    for (count, taken, words) in [
+        (510, 512, [4, 0, 0]),
+        (511, 514, [0x120_0002, 0x120_1008, 4]),
+    ] {
+        let Written { memory, pool, .. } = load_over(rt.alloc(), &numbers, count, Wish::Plain)?
+            .ok()
+            .ok_or("a list")?;
+        assert_eq!(rt; pool.left(), 0x210 - taken);
+        let found = [
+            memory.word(0x100_1ff8),
+            memory.word(0x120_0000),
+            memory.word(0x120_0008),
+        ];
+        assert_eq!(rt; found, words);
+    }
     Ok(())
 }
 
@@ -170,23 +176,9 @@ const LIMIT: u64 = 0x10_0000;
 fn passes_over_pages_that_are_not_usable(rt: HostRuntime) -> Result<(), Fail> {
     let no_destination: &[u64] = &[0x10, 0x200, 0x11, 0x12, 2];
     let the_destination: &[u64] = &[0x300, 0x10, 0x11, 0x12];
-    for (numbers, first, count, words, letter, passed) in [
-        (
-            no_destination,
-            2,
-            2,
-            [0x2001, 0x2008, 0x12008, 4],
-            0x62,
-            0x200,
-        ),
-        (
-            the_destination,
-            0x300,
-            1,
-            [0x30_0001, 0x12008, 4, 0],
-            0x61,
-            0x300,
-        ),
+    for (numbers, first, count, words, last, passed) in [
+        (no_destination, 2, 2, [0x2001, 0x2008, 0x12008, 4], b"b", 0x200),
+        (the_destination, 0x300, 1, [0x30_0001, 0x12008, 4, 0], b"a", 0x300),
     ] {
         let Written {
             memory,
@@ -195,17 +187,12 @@ fn passes_over_pages_that_are_not_usable(rt: HostRuntime) -> Result<(), Fail> {
         } = load_below(rt.alloc(), numbers, LIMIT, first, count)?
             .ok()
             .ok_or("a list")?;
-        assert_eq!(rt; image.control.number(), 0x10);
-        assert_eq!(rt; image.head, 0x11002);
-        assert_eq!(rt; memory.word(0x11000), words[0]);
-        assert_eq!(rt; memory.word(0x11008), words[1]);
-        assert_eq!(rt; memory.word(0x11010), words[2]);
-        assert_eq!(rt; memory.word(0x11018), words[3]);
-        assert_eq!(rt; memory.word(0x12000), letter);
-        assert_eq!(rt; pool.left(), 0);
-        let mut rest = pool.below(0x4000_0000_0000);
-        assert_eq!(rt; rest.draw().map(|p| p.number()), Some(passed));
-        assert_eq!(rt; rest.left(), 0);
+        assert_eq!(rt; (image, pool.left()), (plain_image()?, 0));
+        let list = bytes_of(rt.alloc(), &words)?;
+        assert!(rt; reads_as(&memory, &[(0x11, &list), (0x12, last)]));
+        let mut rest = pool.below(ADDRESS_LIMIT);
+        let drawn = rest.draw().map(|p| p.number());
+        assert_eq!(rt; (drawn, rest.left()), (Some(passed), 0));
     }
     Ok(())
 }
@@ -214,20 +201,17 @@ fn passes_over_pages_that_are_not_usable(rt: HostRuntime) -> Result<(), Fail> {
 fn counts_usable_pages_alone(rt: HostRuntime) -> Result<(), Fail> {
     let no_destination: &[u64] = &[0x10, 0x200, 0x11, 0x12];
     let the_destination: &[u64] = &[0x300, 0x10, 0x11];
-    for (numbers, first, count, pool, need) in [
-        (no_destination, 2, 2, 3, 4),
-        (the_destination, 0x300, 1, 2, 3),
+    for (numbers, limit, first, count, passed, pool, need) in [
+        (no_destination, LIMIT, 2, 2, 1, 3, 4),
+        (the_destination, LIMIT, 0x300, 1, 1, 2, 3),
+        (no_destination, 0, 2, 1, 4, 0, 3),
     ] {
-        let refused = load_below(rt.alloc(), numbers, LIMIT, first, count)?
+        let refused = load_below(rt.alloc(), numbers, limit, first, count)?
             .err()
             .ok_or("a refusal")?;
         assert_eq!(rt; refused.why, BeginFault::NoPages { pool, need });
-        assert_eq!(rt; refused.pool.left(), pool);
-        assert_eq!(rt; refused.pool.unusable(), 1);
+        let left = (refused.pool.left(), refused.pool.unusable());
+        assert_eq!(rt; left, (pool, passed));
     }
-    let refused = load_below(rt.alloc(), no_destination, 0, 2, 1)?
-        .err()
-        .ok_or("a refusal")?;
-    assert_eq!(rt; refused.why, BeginFault::NoPages { pool: 0, need: 3 });
     Ok(())
 }

@@ -1,9 +1,10 @@
 ghost use Rattle.std.specs.Prelude.{IfOk};
 ghost use Rattle.kx_laws.specs.inner.Cuts.{IsCutAt};
 
-use kx_pages::{Mode, Page, Start};
+use crate::memories::page;
+use kx_pages::{Image, Mode, Start};
 use load_record::{DigestedRecord, FIRST_BYTES, LoadRecord, RecFault};
-use segments::SegFault;
+use segments::{SegFault, Segment};
 use std::test::Fail;
 
 // The versions of a record's file: the second has a digest before the bytes of each segment.
@@ -104,23 +105,20 @@ fn faults(rt: &HostRuntime, file: &[u8]) -> Result<[Option<RecFault>; 2], Fail> 
 #[test]
 fn both_versions_are_read_and_the_second_is_written(rt: HostRuntime) -> Result<(), Fail> {
     let file = file_with(&rt, Version::Second, 4, 0x2000)?;
-    assert_eq!(rt; file.len(), 155);
-    assert!(rt; file[120..].starts_with(&DIGEST_OF_ABC));
     let first = file_with(&rt, Version::First, 4, 0x2000)?;
-    assert_eq!(rt; first.len(), 123);
+    let image = Image {
+        head: 0x11002,
+        mode: Mode::Plain,
+        control: page(0x10)?,
+    };
     for spelled in [&file, &first] {
         let record = LoadRecord::read(rt.alloc(), spelled)
             .ok()
             .ok_or("a record")?;
-        let written = record.write(rt.alloc())?;
-        assert!(rt; written == file);
+        let found = (record.image, record.start.entry, record.crash);
+        assert_eq!(rt; found, (image, 0x2000, false));
         assert_eq!(rt; record.segments.count(), 1);
-        let image = record.image;
-        assert_eq!(rt; image.head, 0x11002);
-        assert_eq!(rt; image.mode, Mode::Plain);
-        assert_eq!(rt; image.control.address(), 0x10000);
-        assert_eq!(rt; record.start.entry, 0x2000);
-        assert!(rt; !record.crash);
+        assert!(rt; record.write(rt.alloc())? == file);
         assert!(rt; record.into_file(rt.alloc())? == file);
     }
     Ok(())
@@ -229,6 +227,11 @@ fn bytes_of_the_first_version_have_no_digest(rt: HostRuntime) -> Result<(), Fail
     Ok(())
 }
 
+// Whether a segment has these bytes, and a page of memory at this address.
+fn is_segment(segment: &Segment, bytes: &[u8], mem: u64) -> bool {
+    segment.bytes.as_slice() == bytes && (segment.mem, segment.memsz) == (mem, 0x1000)
+}
+
 #[test]
 fn the_first_segment_keeps_the_buffer_of_its_file(rt: HostRuntime) -> Result<(), Fail> {
     let written = file_of_two(&rt, Version::Second)?;
@@ -242,13 +245,10 @@ fn the_first_segment_keeps_the_buffer_of_its_file(rt: HostRuntime) -> Result<(),
         assert!(rt; record.write(rt.alloc())? == written);
         let segments = record.segments;
         assert_eq!(rt; segments.count(), 2);
-        let first = segments.segment(0);
-        assert!(rt; first.bytes.as_slice() == b"abc".as_slice());
-        assert_eq!(rt; (first.mem, first.memsz), (0x2000, 0x1000));
+        let (first, second) = (segments.segment(0), segments.segment(1));
+        assert!(rt; is_segment(first, b"abc", 0x2000));
+        assert!(rt; is_segment(second, LONGER, 0x3000));
         assert!(rt; version == Version::First || first.bytes.capacity() == room);
-        let second = segments.segment(1);
-        assert!(rt; second.bytes.as_slice() == LONGER.as_slice());
-        assert_eq!(rt; (second.mem, second.memsz), (0x3000, 0x1000));
         let again = LoadRecord::read(rt.alloc(), &file)
             .ok()
             .ok_or("the record again")?;
@@ -268,8 +268,8 @@ fn the_digests_of_either_version_are_kept(rt: HostRuntime) -> Result<(), Fail> {
             .ok()
             .ok_or("a record")?;
         assert_eq!(rt; digested.record().segments.count(), 2);
-        assert_eq!(rt; *digested.digest(0), DIGEST_OF_ABC);
-        assert_eq!(rt; *digested.digest(1), DIGEST_OF_LONGER);
+        let digests = (*digested.digest(0), *digested.digest(1));
+        assert_eq!(rt; digests, (DIGEST_OF_ABC, DIGEST_OF_LONGER));
         assert!(rt; digested.into_file()? == written);
     }
     Ok(())
@@ -298,11 +298,6 @@ fn distinct_file(rt: &HostRuntime, version: Version) -> Result<Vec<u8>, Fail> {
     Ok(file)
 }
 
-// The number of the control page.
-fn control_page(record: &LoadRecord) -> u64 {
-    record.image.control.number()
-}
-
 // Numbers that change places between two fields change this record and no other of the tests.
 #[test]
 fn each_number_has_its_place(rt: HostRuntime) -> Result<(), Fail> {
@@ -312,17 +307,18 @@ fn each_number_has_its_place(rt: HostRuntime) -> Result<(), Fail> {
         rbx: 0x4142_4344_4546_4748,
         rsi: 0x5152_5354_5556_5758,
     };
-    let swap = Page::new(0x122).ok_or("a page")?;
+    let image = Image {
+        head: 0x1_2002,
+        mode: Mode::Kept { swap: page(0x122)? },
+        control: page(0x111)?,
+    };
     let written = distinct_file(&rt, Version::Second)?;
     for version in [Version::First, Version::Second] {
         let file = distinct_file(&rt, version)?;
         let record = LoadRecord::read(rt.alloc(), &file).ok().ok_or("a record")?;
-        assert_eq!(rt; record.start, start);
+        assert_eq!(rt; (record.image, record.start), (image, start));
         let purgatory = (record.regions, record.digest);
         assert_eq!(rt; purgatory, (0x6162_6364_6566_6768, 0x7172_7374_7576_7778));
-        assert_eq!(rt; record.image.mode, Mode::Kept { swap });
-        assert_eq!(rt; record.image.head, 0x1_2002);
-        assert_eq!(rt; control_page(&record), 0x111);
         assert!(rt; record.write(rt.alloc())? == written);
     }
     Ok(())

@@ -1,4 +1,4 @@
-use crate::memories::{bytes_of, page, put};
+use crate::memories::{bytes_of, page, put, reads_as};
 use kx_pages::Mode;
 use page_memory::Memory;
 use relocate_machine::{Machine, Outcome, Step, Writes, run, run_held};
@@ -37,18 +37,14 @@ fn lists_with_a_done_word_end(rt: HostRuntime) -> Result<(), Fail> {
 
 #[test]
 fn wild_lists_run_on_or_are_off(rt: HostRuntime) -> Result<(), Fail> {
-    assert_eq!(rt;
-        trace(&rt, &[0x20002], 1000)?,
-        Outcome::Running { limit: 1000 }
-    );
-    assert_eq!(rt;
-        trace(&rt, &[0x20001, 0x30008, 4], 5)?,
-        Outcome::Running { limit: 5 }
-    );
-    assert_eq!(rt;
-        trace(&rt, &[0x2001; 512], 600)?,
-        Outcome::Running { limit: 600 }
-    );
+    let lists: [(&[u64], u64); 3] = [
+        (&[0x20002], 1000),
+        (&[0x20001, 0x30008, 4], 5),
+        (&[0x2001; 512], 600),
+    ];
+    for (words, limit) in lists {
+        assert_eq!(rt; trace(&rt, words, limit)?, Outcome::Running { limit });
+    }
     let off = Outcome::Off {
         address: 0x4000_0000_0000,
         steps: 2,
@@ -84,7 +80,7 @@ fn a_word_with_two_bits_goes_by_the_first(rt: HostRuntime) -> Result<(), Fail> {
     let mut memory = memory_with(&rt, &[0x2009, 0x30008, 4])?;
     let outcome = run(&mut memory, 0x20002, Mode::Plain, 10)?;
     assert_eq!(rt; outcome, Outcome::Done { steps: 4 });
-    assert!(rt; memory.equals(page(2)?, b"b"));
+    assert!(rt; reads_as(&memory, &[(2, b"b")]));
     Ok(())
 }
 
@@ -95,8 +91,7 @@ fn a_source_that_was_written_is_copied_as_it_is_then(rt: HostRuntime) -> Result<
     put(&mut memory, 3, b"c")?;
     let outcome = run(&mut memory, 0x20002, Mode::Plain, 10)?;
     assert_eq!(rt; outcome, Outcome::Done { steps: 5 });
-    assert!(rt; memory.equals(page(3)?, b"b"));
-    assert!(rt; memory.equals(page(4)?, b"b"));
+    assert!(rt; reads_as(&memory, &[(3, b"b"), (4, b"b")]));
     Ok(())
 }
 
@@ -107,9 +102,7 @@ fn a_kept_move_exchanges_two_pages(rt: HostRuntime) -> Result<(), Fail> {
     let mode = Mode::Kept { swap: page(0x22)? };
     let outcome = run(&mut memory, 0x20002, mode, 10)?;
     assert_eq!(rt; outcome, Outcome::Done { steps: 4 });
-    assert!(rt; memory.equals(page(2)?, b"b"));
-    assert!(rt; memory.equals(page(0x30)?, b"a"));
-    assert!(rt; memory.equals(page(0x22)?, b"b"));
+    assert!(rt; reads_as(&memory, &[(2, b"b"), (0x30, b"a"), (0x22, b"b")]));
     Ok(())
 }
 
@@ -121,7 +114,7 @@ fn a_list_goes_on_in_the_next_page(rt: HostRuntime) -> Result<(), Fail> {
     put(&mut memory, 0x21, &bytes_of(rt.alloc(), &[0, 0x30008, 4])?)?;
     let outcome = run(&mut memory, 0x20002, Mode::Plain, 1000)?;
     assert_eq!(rt; outcome, Outcome::Done { steps: 516 });
-    assert!(rt; memory.equals(page(2)?, b"b"));
+    assert!(rt; reads_as(&memory, &[(2, b"b")]));
     // the page behind it is not held and reads as zeros, so the run goes on through it
     let off = trace(&rt, &words, 5000)?;
     assert_eq!(rt; off, Outcome::Running { limit: 5000 });
@@ -144,9 +137,7 @@ fn a_link_to_the_own_page_goes_back_to_its_start(rt: HostRuntime) -> Result<(), 
     let mut memory = memory_with(&rt, &[0x30008, 0x20002])?;
     let outcome = run(&mut memory, 0x20002, Mode::Plain, 7)?;
     assert_eq!(rt; outcome, Outcome::Running { limit: 7 });
-    for number in [0, 1, 2] {
-        assert!(rt; memory.equals(page(number)?, b"b"));
-    }
+    assert!(rt; reads_as(&memory, &[(0, b"b"), (1, b"b"), (2, b"b")]));
     assert!(rt; !memory.held(page(3)?));
     Ok(())
 }
@@ -173,7 +164,7 @@ fn a_list_that_is_moved_over_is_read_as_it_is_then(rt: HostRuntime) -> Result<()
         put(&mut memory, 0x21, &later)?;
         let outcome = run(&mut memory, 0x20002, mode, 10)?;
         assert_eq!(rt; outcome, Outcome::Done { steps: 6 });
-        assert!(rt; memory.equals(page(2)?, b"b"));
+        assert!(rt; reads_as(&memory, &[(2, b"b")]));
         assert!(rt; !memory.held(page(9)?));
     }
     Ok(())
@@ -188,15 +179,8 @@ fn kept_moves_follow_each_other(rt: HostRuntime) -> Result<(), Fail> {
     let outcome = run(&mut memory, 0x20002, mode, 10)?;
     assert_eq!(rt; outcome, Outcome::Done { steps: 7 });
     // b goes to page 2 and a to 30, c to page 3 and its zeros to 31, then those to 2 and b to 31
-    for (number, bytes) in [
-        (0x30, b"a"),
-        (3, b"c"),
-        (2, b"\0"),
-        (0x31, b"b"),
-        (0x22, b"\0"),
-    ] {
-        assert!(rt; memory.equals(page(number)?, bytes));
-    }
+    let pages: [(u64, &[u8]); 5] = [(0x30, b"a"), (3, b"c"), (2, b""), (0x31, b"b"), (0x22, b"")];
+    assert!(rt; reads_as(&memory, &pages));
     Ok(())
 }
 

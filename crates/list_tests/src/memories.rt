@@ -34,6 +34,23 @@ pub(crate) fn memory_of(alloc: Global, pages: &[(u64, &[u8])]) -> Result<Memory,
     Ok(memory)
 }
 
+// The page of this number is these bytes, then zeros.
+fn has_bytes(memory: &Memory, number: u64, bytes: &[u8]) -> bool {
+    match Page::new(number) {
+        Some(page) => bytes.len() <= 4096 && memory.equals(page, bytes),
+        None => false,
+    }
+}
+
+/// Whether the page of each of these numbers is these bytes, then zeros.
+pub(crate) fn reads_as(memory: &Memory, pages: &[(u64, &[u8])]) -> bool {
+    let mut same = true;
+    for (number, bytes) in pages {
+        same = same && has_bytes(memory, *number, bytes);
+    }
+    same
+}
+
 /// A pool of these pages.
 pub(crate) fn pool_of(alloc: Global, numbers: &[u64]) -> Result<Pool, Fail>
     ensures { IfOk result (λ p. (q : ℕ) → is_filed p q ≡ false) }

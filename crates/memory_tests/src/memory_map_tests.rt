@@ -14,59 +14,66 @@ fn is_fault(alloc: Global, text: &[u8], fault: MapFault) -> bool {
     Map::read(alloc, text).err() == Some(fault)
 }
 
+// How many rows, core ranges and rows of a crash kernel a map has.
+fn counts(map: &Map) -> (usize, usize, usize) {
+    (
+        map.rows().len(),
+        map.core_ranges().len(),
+        map.crash_rows().len(),
+    )
+}
+
+// How many pages of RAM a map has, and in how many spans.
+fn ram_of(map: &Map) -> (u64, usize) {
+    let ram = map.ram();
+    (ram.total(), ram.spans())
+}
+
 #[test]
 fn a_crash_kernels_area_is_reserved_and_no_ram(rt: HostRuntime) -> Result<(), Fail> {
     let map = Map::read(rt.alloc(), LAPTOP)?;
-    assert_eq!(rt; map.ram().total(), 982910);
-    assert_eq!(rt; map.ram().spans(), 4);
+    assert_eq!(rt; (ram_of(&map), counts(&map)), ((982910, 4), (5, 4, 3)));
     let area = map.reserved_area().ok_or("an area")?;
-    assert_eq!(rt; area.first(), 0x2d000);
-    assert_eq!(rt; area.count(), 65536);
-    assert_eq!(rt; map.rows().len(), 5);
-    assert_eq!(rt; map.core_ranges().len(), 4);
+    assert_eq!(rt; (area.first(), area.count()), (0x2d000, 65536));
     let third = map.core_ranges().get(2).ok_or("a third range")?;
-    assert_eq!(rt; third.start, 0x3d00_0000);
-    assert_eq!(rt; third.size, 0x82fd_f000);
-    assert_eq!(rt; map.crash_rows().len(), 3);
+    let behind_the_area = Row {
+        start: 0x3d00_0000,
+        size: 0x82fd_f000,
+        kind: 1,
+    };
+    assert_eq!(rt; *third, behind_the_area);
     let first = map.crash_rows().get(0).ok_or("a first row")?;
-    assert_eq!(rt;
-        *first,
-        Row {
-            start: 0x2d00_0000,
-            size: 0x1000_0000,
-            kind: 1
-        }
-    );
+    let the_area = Row {
+        start: 0x2d00_0000,
+        size: 0x1000_0000,
+        kind: 1,
+    };
+    assert_eq!(rt; *first, the_area);
     Ok(())
 }
 
 #[test]
 fn names_the_first_fault(rt: HostRuntime) {
-    let alloc = rt.alloc();
-    assert!(rt;
-        is_fault(
-            alloc,
+    let rows: [(&[u8], MapFault); 6] = [
+        (
             b"00001000-00000fff : System RAM",
-            MapFault::Backwards { line: 1 }
-        )
-    );
-    assert!(rt;
-        is_fault(
-            alloc,
+            MapFault::Backwards { line: 1 },
+        ),
+        (
             b"0-fff : System RAM\n0-7ff : System RAM",
-            MapFault::RamOverlaps { line: 2 }
-        )
-    );
-    assert!(rt; is_fault(alloc, b"0-7ff : System RAM", MapFault::NoRam));
-    assert!(rt; is_fault(alloc, b"", MapFault::NoRam));
-    assert!(rt;
-        is_fault(
-            alloc,
+            MapFault::RamOverlaps { line: 2 },
+        ),
+        (b"0-7ff : System RAM", MapFault::NoRam),
+        (b"", MapFault::NoRam),
+        (
             b"0-7ff : System RAM\n\n",
-            MapFault::BadLine { line: 2 }
-        )
-    );
-    assert!(rt; is_fault(alloc, b"0-7ff: System RAM", MapFault::BadLine { line: 1 }));
+            MapFault::BadLine { line: 2 },
+        ),
+        (b"0-7ff: System RAM", MapFault::BadLine { line: 1 }),
+    ];
+    for (text, wanted) in rows {
+        assert!(rt; is_fault(rt.alloc(), text, wanted));
+    }
 }
 
 #[test]
@@ -108,12 +115,9 @@ fffc0000-ffffffff : Reserved
 100000000-17fffffff : System RAM
 ",
     )?;
-    assert_eq!(rt; map.ram().total(), 158 + 523996 + 524288);
-    assert_eq!(rt; map.ram().spans(), 3);
+    assert_eq!(rt; ram_of(&map), (158 + 523996 + 524288, 3));
+    assert_eq!(rt; counts(&map), (9, 3, 6));
     assert!(rt; map.reserved_area().is_none());
-    assert_eq!(rt; map.rows().len(), 9);
-    assert_eq!(rt; map.core_ranges().len(), 3);
-    assert_eq!(rt; map.crash_rows().len(), 6);
     Ok(())
 }
 
@@ -128,21 +132,18 @@ fn bytes_past_the_limit_are_passed_over(rt: HostRuntime) -> Result<(), Fail> {
 400000000000-40000000ffff : Crash kernel",
     )?;
     let ram = map.ram();
-    assert_eq!(rt; ram.total(), 1);
+    assert_eq!(rt; (ram.total(), map.rows().len()), (1, 2));
     if ram.spans() > 0 {
         assert_eq!(rt; ram.span(0).first(), 0x3_ffff_ffff);
     }
     assert!(rt; map.reserved_area().is_none());
-    assert_eq!(rt; map.rows().len(), 2);
     let last = map.crash_rows().get(0).ok_or("a row")?;
-    assert_eq!(rt;
-        *last,
-        Row {
-            start: 0x3fff_ffff_efff,
-            size: 1,
-            kind: 4
-        }
-    );
+    let storage = Row {
+        start: 0x3fff_ffff_efff,
+        size: 1,
+        kind: 4,
+    };
+    assert_eq!(rt; *last, storage);
     Ok(())
 }
 
@@ -159,26 +160,17 @@ fn crash_areas_meet_and_touch(rt: HostRuntime) -> Result<(), Fail> {
 1f000-20fff : Crash kernel
 ",
     )?;
-    assert_eq!(rt; map.core_ranges().len(), 4);
-    let first = map.core_ranges().get(0).ok_or("a first range")?;
-    assert_eq!(rt;
-        *first,
-        Row {
-            start: 0x21000,
-            size: 0xf000,
-            kind: 1
-        }
-    );
-    let third = map.core_ranges().get(2).ok_or("a third range")?;
-    assert_eq!(rt;
-        *third,
-        Row {
-            start: 0x4800,
-            size: 0x3800,
-            kind: 1
-        }
-    );
-    assert_eq!(rt; map.ram().total(), 1 + 3 + 7 + 15);
+    let ranges = map.core_ranges();
+    assert_eq!(rt; (map.ram().total(), ranges.len()), (1 + 3 + 7 + 15, 4));
+    for (place, start, size) in [(0, 0x21000, 0xf000), (2, 0x4800, 0x3800)] {
+        let range = ranges.get(place).ok_or("a range")?;
+        let wanted = Row {
+            start,
+            size,
+            kind: 1,
+        };
+        assert_eq!(rt; *range, wanted);
+    }
     Ok(())
 }
 

@@ -21,11 +21,10 @@ fn reads_what_it_writes(rt: HostRuntime) -> Result<(), Fail> {
     let file = memory.write().ok().ok_or("a file")?;
     assert_eq!(rt; file.len(), 16 + 2 * 4104);
     let again = Memory::read(rt.alloc(), &file).ok().ok_or("a memory")?;
-    assert_eq!(rt; again.byte(0x3001), 98);
-    assert_eq!(rt; again.word(0x2000), 0x63_6261);
-    assert!(rt; again.equals(second, b"abc"));
-    assert!(rt; again.agrees(&memory, first));
-    assert_eq!(rt; again.sets(), 0);
+    let found = (again.byte(0x3001), again.word(0x2000), again.sets());
+    assert_eq!(rt; found, (98, 0x63_6261, 0));
+    let same = (again.equals(second, b"abc"), again.agrees(&memory, first));
+    assert_eq!(rt; same, (true, true));
     Ok(())
 }
 
@@ -40,8 +39,8 @@ fn a_file_that_is_handed_in_is_the_memory(rt: HostRuntime) -> Result<(), Fail> {
         memory.copy(later, first);
         memory.set(first, b"abc");
     }
-    assert!(rt; memory.equals(later, &[98; 4096]));
-    assert!(rt; memory.equals(first, b"abc"));
+    let same = (memory.equals(later, &[98; 4096]), memory.equals(first, b"abc"));
+    assert_eq!(rt; same, (true, true));
     assert_eq!(rt;
         Memory::from_file(rt.alloc(), Vec::new(rt.alloc())).err(),
         Some(MemFault::BadMagic)
@@ -122,8 +121,8 @@ fn a_page_that_is_swapped_with_itself_stays(rt: HostRuntime) -> Result<(), Fail>
         memory.set(same, b"abc");
         memory.swap(same, same, swap);
     }
-    assert_eq!(rt; memory.word(0x5000), 0x63_6261);
-    assert_eq!(rt; memory.word(0x6000), 0x63_6261);
+    let words = (memory.word(0x5000), memory.word(0x6000));
+    assert_eq!(rt; words, (0x63_6261, 0x63_6261));
     Ok(())
 }
 

@@ -52,9 +52,7 @@ fn draws_in_the_order_of_the_text(rt: HostRuntime) -> Result<(), Fail> {
     if pool.left() > 3 {
         assert_eq!(rt; pool.page(3).number(), 0x3_ffff_fffe);
     }
-    let first = pool.draw();
-    assert_eq!(rt; first.map(|p| p.number()), Some(0x10));
-    assert_eq!(rt; pool.draw().map(|p| p.number()), Some(0x11));
+    assert!(rt; draws(&mut pool, &[0x10, 0x11]));
     assert_eq!(rt; pool.left(), 2);
     Ok(())
 }
@@ -75,28 +73,37 @@ fn files_and_takes_a_drawn_page(rt: HostRuntime) -> Result<(), Fail> {
 
 #[test]
 fn names_the_first_fault(rt: HostRuntime) -> Result<(), Fail> {
-    let alloc = rt.alloc();
     let page = Page::new(3).ok_or("a page")?;
-    assert!(rt; is_fault(alloc, b"2-4\n3\n", PoolFault::Repeats { page }));
-    assert!(rt; is_fault(alloc, b"3\n5-4\n", PoolFault::Backwards { line: 2 }));
-    assert!(rt; is_fault(alloc, b"4-2", PoolFault::Backwards { line: 1 }));
-    assert!(rt; is_fault(alloc, b"1\n\n2\n", PoolFault::BadLine { line: 2 }));
-    assert!(rt; is_fault(alloc, b"400000000", PoolFault::PastLimit { line: 1 }));
-    assert!(rt; is_fault(alloc, b"0-3ffff\n3ffff", PoolFault::TooMany { line: 2 }));
-    assert_eq!(rt; count(alloc, b"0-3ffff"), Some(262144));
-    assert_eq!(rt; count(alloc, b""), Some(0));
-    assert_eq!(rt; Pool::empty(alloc).left(), 0);
+    let rows: [(&[u8], PoolFault); 8] = [
+        (b"2-4\n3\n", PoolFault::Repeats { page }),
+        (b"3\n5-4\n", PoolFault::Backwards { line: 2 }),
+        (b"4-2", PoolFault::Backwards { line: 1 }),
+        (b"1\n\n2\n", PoolFault::BadLine { line: 2 }),
+        (b"400000000", PoolFault::PastLimit { line: 1 }),
+        (b"0-3ffff\n3ffff", PoolFault::TooMany { line: 2 }),
+        // a range that is cut off
+        (b"10-", PoolFault::BadLine { line: 1 }),
+        (b"10-1", PoolFault::Backwards { line: 1 }),
+    ];
+    for (text, wanted) in rows {
+        assert!(rt; is_fault(rt.alloc(), text, wanted));
+    }
     Ok(())
 }
 
 #[test]
-fn each_prefix_of_a_range_is_read_or_refused(rt: HostRuntime) {
-    let alloc = rt.alloc();
-    assert_eq!(rt; count(alloc, b"1"), Some(1));
-    assert_eq!(rt; count(alloc, b"10"), Some(1));
-    assert!(rt; is_fault(alloc, b"10-", PoolFault::BadLine { line: 1 }));
-    assert!(rt; is_fault(alloc, b"10-1", PoolFault::Backwards { line: 1 }));
-    assert_eq!(rt; count(alloc, b"10-12"), Some(3));
+fn counts_the_pages_of_a_text(rt: HostRuntime) {
+    let rows: [(&[u8], u64); 5] = [
+        (b"", 0),
+        (b"1", 1),
+        (b"10", 1),
+        (b"10-12", 3),
+        (b"0-3ffff", 262144),
+    ];
+    for (text, wanted) in rows {
+        assert_eq!(rt; count(rt.alloc(), text), Some(wanted));
+    }
+    assert_eq!(rt; Pool::empty(rt.alloc()).left(), 0);
 }
 
 #[test]
@@ -111,14 +118,18 @@ fn says_what_is_wrong(rt: HostRuntime) -> Result<(), Fail> {
 
 #[test]
 fn passes_over_pages_that_are_not_usable(rt: HostRuntime) {
-    let alloc = rt.alloc();
     let five = b"10\n200\n11\n12\n2";
-    assert!(rt; gives(alloc, five, 0x10_0000, &[0x10, 0x11, 0x12, 2], 1));
-    assert!(rt; gives(alloc, b"10\n200\n11-12", 0x10_0000, &[0x10, 0x11, 0x12], 1));
-    assert!(rt; gives(alloc, five, 0, &[], 5));
-    assert!(rt; gives(alloc, five, ADDRESS_LIMIT, &[0x10, 0x200, 0x11, 0x12, 2], 0));
-    assert!(rt; gives(alloc, b"101\n100\nff", 0x10_0000, &[0xff], 2));
-    assert!(rt; gives(alloc, b"", 0x10_0000, &[], 0));
+    let rows: [(&[u8], u64, &[u64], u64); 6] = [
+        (five, 0x10_0000, &[0x10, 0x11, 0x12, 2], 1),
+        (b"10\n200\n11-12", 0x10_0000, &[0x10, 0x11, 0x12], 1),
+        (five, 0, &[], 5),
+        (five, ADDRESS_LIMIT, &[0x10, 0x200, 0x11, 0x12, 2], 0),
+        (b"101\n100\nff", 0x10_0000, &[0xff], 2),
+        (b"", 0x10_0000, &[], 0),
+    ];
+    for (text, limit, pages, unusable) in rows {
+        assert!(rt; gives(rt.alloc(), text, limit, pages, unusable));
+    }
 }
 
 #[test]
@@ -126,8 +137,7 @@ fn gives_the_passed_pages_once_the_limit_is_raised(rt: HostRuntime) -> Result<()
     let mut pool = limited(rt.alloc(), b"10\n200\n11\n300\n12", 0x10_0000).ok_or("a pool")?;
     assert!(rt; draws(&mut pool, &[0x10, 0x11]));
     let mut pool = pool.below(0x20_1000);
-    assert_eq!(rt; pool.left(), 2);
-    assert_eq!(rt; pool.unusable(), 1);
+    assert_eq!(rt; (pool.left(), pool.unusable()), (2, 1));
     assert!(rt; draws(&mut pool, &[0x200]));
     let mut pool = pool.below(ADDRESS_LIMIT);
     assert_eq!(rt; pool.unusable(), 0);

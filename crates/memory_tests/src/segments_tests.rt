@@ -23,66 +23,86 @@ fn refusal(alloc: Global, places: &[(u64, u64)]) -> Result<Option<SegFault>, Fai
 
 #[test]
 fn segments_may_touch_and_not_overlap(rt: HostRuntime) -> Result<(), Fail> {
-    let a = rt.alloc();
     let overlap = Some(SegFault::Overlap { i: 1, j: 0 });
-    assert_eq!(rt;
-        refusal(a, &[(0x100000, 0x2000), (0x102000, 0x2000)])?,
-        None
-    );
-    assert_eq!(rt;
-        refusal(a, &[(0x100000, 0x3000), (0x102000, 0x2000)])?,
-        overlap
-    );
-    assert_eq!(rt; refusal(a, &[(0x100000, 0x4000), (0x102000, 0)])?, overlap);
-    assert_eq!(rt; refusal(a, &[(0x100000, 0), (0x100000, 0x4000)])?, None);
+    for (places, wanted) in [
+        ([(0x100000, 0x2000), (0x102000, 0x2000)], None),
+        ([(0x100000, 0x3000), (0x102000, 0x2000)], overlap),
+        ([(0x100000, 0x4000), (0x102000, 0)], overlap),
+        ([(0x100000, 0), (0x100000, 0x4000)], None),
+    ] {
+        assert_eq!(rt; refusal(rt.alloc(), &places)?, wanted);
+    }
     Ok(())
 }
 
 #[test]
 fn addresses_are_page_addresses_below_the_limit(rt: HostRuntime) -> Result<(), Fail> {
-    let a = rt.alloc();
-    let bad = SegFault::BadAddress { i: 0 };
-    assert_eq!(rt; bad.errno(), 99);
-    assert_eq!(rt; refusal(a, &[(0x800, 0x1000)])?, Some(bad));
-    assert_eq!(rt; refusal(a, &[(0x3fff_ffff_f000, 0x1000)])?, Some(bad));
-    assert_eq!(rt; refusal(a, &[(0x3fff_ffff_e000, 0x1000)])?, None);
+    let bad = Some(SegFault::BadAddress { i: 0 });
+    for (mem, wanted) in [
+        (0x800, bad),
+        (0x3fff_ffff_f000, bad),
+        (0x3fff_ffff_e000, None),
+    ] {
+        assert_eq!(rt; refusal(rt.alloc(), &[(mem, 0x1000)])?, wanted);
+    }
     Ok(())
 }
 
 #[test]
 fn counts_have_their_limits(rt: HostRuntime) -> Result<(), Fail> {
-    let a = rt.alloc();
-    assert_eq!(rt; refusal(a, &[])?, Some(SegFault::NoSegments));
-    assert_eq!(rt; refusal(a, &[(0x1000, 0); 16])?, None);
-    assert_eq!(rt; refusal(a, &[(0x1000, 0); 17])?, Some(SegFault::TooMany));
-    assert_eq!(rt; refusal(a, &[(0x1000, 65536 * 4096)])?, None);
-    assert_eq!(rt;
-        refusal(a, &[(0x1000, 65537 * 4096)])?,
-        Some(SegFault::TooLarge { pages: 65537 })
-    );
+    let rows: [(&[(u64, u64)], Option<SegFault>); 5] = [
+        (&[], Some(SegFault::NoSegments)),
+        (&[(0x1000, 0); 16], None),
+        (&[(0x1000, 0); 17], Some(SegFault::TooMany)),
+        (&[(0x1000, 65536 * 4096)], None),
+        (
+            &[(0x1000, 65537 * 4096)],
+            Some(SegFault::TooLarge { pages: 65537 }),
+        ),
+    ];
+    for (places, wanted) in rows {
+        assert_eq!(rt; refusal(rt.alloc(), places)?, wanted);
+    }
     Ok(())
 }
 
+// The numbers of Linux's errors: EADDRNOTAVAIL and EINVAL.
+#[test]
+fn each_fault_has_its_errno(rt: HostRuntime) {
+    let found = (
+        SegFault::BadAddress { i: 0 }.errno(),
+        SegFault::HalfOfMemory.errno(),
+    );
+    assert_eq!(rt; found, (99, 22));
+}
+
+// RAM is eight pages, from page 100 (hexadecimal) on.
 #[test]
 fn half_of_memory_is_enough(rt: HostRuntime) -> Result<(), Fail> {
-    let a = rt.alloc();
-    let mut ram = PageSet::new(a);
+    let mut ram = PageSet::new(rt.alloc());
     ram.add(Span::new(0x100, 8).ok_or("a span")?)?;
-    let four = Segments::new(a, list(a, &[(0x100000, 0x4000)])?, &ram, Kind::Normal);
-    assert!(rt; four.is_ok());
-    let five = Segments::new(a, list(a, &[(0x100000, 0x5000)])?, &ram, Kind::Normal);
-    assert_eq!(rt; five.err(), Some(SegFault::HalfOfMemory));
-    assert_eq!(rt; SegFault::HalfOfMemory.errno(), 22);
-    let outside = Segments::new(a, list(a, &[(0x2000, 0x1000)])?, &ram, Kind::Normal);
-    assert_eq!(rt; outside.err(), Some(SegFault::NotRam { i: 0 }));
     let area = Span::new(0x100, 2).ok_or("a span")?;
-    let beside = Segments::new(
-        a,
-        list(a, &[(0x102000, 0x1000)])?,
-        &ram,
-        Kind::Crash { area },
-    );
-    assert_eq!(rt; beside.err(), Some(SegFault::OutsideReserved { i: 0 }));
+    for (place, kind, wanted) in [
+        ((0x100000, 0x4000), Kind::Normal, None),
+        (
+            (0x100000, 0x5000),
+            Kind::Normal,
+            Some(SegFault::HalfOfMemory),
+        ),
+        (
+            (0x2000, 0x1000),
+            Kind::Normal,
+            Some(SegFault::NotRam { i: 0 }),
+        ),
+        (
+            (0x102000, 0x1000),
+            Kind::Crash { area },
+            Some(SegFault::OutsideReserved { i: 0 }),
+        ),
+    ] {
+        let segments = Segments::new(rt.alloc(), list(rt.alloc(), &[place])?, &ram, kind);
+        assert_eq!(rt; segments.err(), wanted);
+    }
     Ok(())
 }
 
@@ -98,21 +118,18 @@ fn a_page_has_its_bytes(rt: HostRuntime) -> Result<(), Fail> {
         memsz: 0x2000,
     })?;
     let mut segments = Segments::bare(a, one).ok().ok_or("segments")?;
-    assert_eq!(rt; segments.count(), 1);
-    assert_eq!(rt; segments.pages(), 2);
-    assert_eq!(rt; segments.spans().total(), 2);
-    assert_eq!(rt; segments.need(Wish::Plain), 4);
-    assert_eq!(rt; segments.need(Wish::Kept), 5);
+    assert_eq!(rt; (segments.count(), segments.pages()), (1, 2));
+    let need = (segments.need(Wish::Plain), segments.need(Wish::Kept));
+    assert_eq!(rt; need, (4, 5));
     if segments.count() == 1 && segments.segment(0).bytes.len() == 3 {
-        assert_eq!(rt; segments.span(0).first(), 2);
-        assert_eq!(rt; segments.span(0).count(), 2);
+        let span = segments.span(0);
+        assert_eq!(rt; (span.first(), span.count()), (2, 2));
         segments.replace(0, b"abd");
     }
-    let two = Page::new(2).ok_or("a page")?;
-    let three = Page::new(3).ok_or("a page")?;
-    let four = Page::new(4).ok_or("a page")?;
-    assert!(rt; segments.wanted(two) == Some(b"abd".as_slice()));
-    assert!(rt; segments.wanted(three) == Some(b"".as_slice()));
-    assert!(rt; segments.wanted(four).is_none());
+    let rows: [(u64, Option<&[u8]>); 3] = [(2, Some(b"abd")), (3, Some(b"")), (4, None)];
+    for (number, wanted) in rows {
+        let page = Page::new(number).ok_or("a page")?;
+        assert!(rt; segments.wanted(page) == wanted);
+    }
     Ok(())
 }
