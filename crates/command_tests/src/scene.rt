@@ -232,10 +232,8 @@ pub(crate) fn first_other(file: &[u8], places: &[(usize, &[u8])]) -> Option<usiz
 
 /// Puts bytes into a file at this place, if it has room for all of them.
 pub(crate) fn patch(file: &mut [u8], at: usize, bytes: &[u8]) {
-    if let Some((_, behind)) = file.split_at_mut_checked(at)
-        && let Some((place, _)) = behind.split_at_mut_checked(bytes.len())
-    {
-        place.copy_from_slice(bytes);
+    if at <= file.len() && bytes.len() <= file.len() - at {
+        file[at..at + bytes.len()].copy_from_slice(bytes);
     }
 }
 

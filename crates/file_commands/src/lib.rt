@@ -25,8 +25,6 @@ mod command;
 mod goods;
 mod stop;
 mod take;
-#[cfg(test)]
-mod tests;
 
 pub use command::{Command, run};
 pub use goods::{File, Goods, deliver};

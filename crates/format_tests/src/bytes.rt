@@ -1,14 +1,12 @@
 //! Files, byte by byte.
 
-use std::alloc::Global;
+use std::alloc::{AllocError, Global};
 use std::test::Fail;
 
 /// Puts these bytes into the file at this place, if it has room for all of them.
 pub(crate) fn put(file: &mut [u8], at: usize, bytes: &[u8]) {
-    if let Some((_, behind)) = file.split_at_mut_checked(at)
-        && let Some((place, _)) = behind.split_at_mut_checked(bytes.len())
-    {
-        place.copy_from_slice(bytes);
+    if at <= file.len() && bytes.len() <= file.len() - at {
+        file[at..at + bytes.len()].copy_from_slice(bytes);
     }
 }
 
@@ -23,4 +21,30 @@ pub(crate) fn file_of(
         put(&mut file, *at, bytes);
     }
     Ok(file)
+}
+
+fn stand(file: &[u8], at: usize, wanted: &[u8]) -> bool {
+    match file.get(at..) {
+        Some(behind) => behind.starts_with(wanted),
+        None => false,
+    }
+}
+
+/// The first of these places of a file where other bytes stand.
+pub(crate) fn first_other(file: &[u8], places: &[(usize, &[u8])]) -> Option<usize> {
+    for (at, wanted) in places {
+        if !stand(file, *at, wanted) {
+            return Some(*at);
+        }
+    }
+    None
+}
+
+/// The numbers as bytes, the lowest first.
+pub(crate) fn spell(alloc: Global, numbers: &[u64]) -> Result<Vec<u8>, AllocError> {
+    let mut bytes = Vec::new(alloc);
+    for number in numbers {
+        bytes.extend_from_slice(&number.to_le_bytes())?;
+    }
+    Ok(bytes)
 }

@@ -1,5 +1,7 @@
+use crate::bytes::spell;
 use crash_headers::{CrashFault, Note, NoteFault, length, make, read_notes};
 use memory_map::Map;
+use std::alloc::Global;
 use std::test::Fail;
 
 const MACHINE: &[u8] = b"00100000-0fffffff : System RAM\n  04000000-05ffffff : Crash kernel\n";
@@ -60,58 +62,46 @@ const PLACES: [(&[u8], u64, u64, bool); 14] = [
     (TOUCHING, 0x0fff_ffff, 2, false),
 ];
 
-// A text, and how many notes it has, or the line that is none.
-const TEXTS: [(&[u8], Result<usize, u64>); 16] = [
+// How many notes a text has, or why it is refused.
+fn count(alloc: Global, text: &[u8]) -> Result<usize, NoteFault> {
+    Ok(read_notes(alloc, text)?.len())
+}
+
+// What is said of a text whose first line is no note, and of one whose second is none.
+const BAD_FIRST: Result<usize, NoteFault> = Err(NoteFault::BadLine { line: 1 });
+
+const BAD_SECOND: Result<usize, NoteFault> = Err(NoteFault::BadLine { line: 2 });
+
+const TEXTS: [(&[u8], Result<usize, NoteFault>); 16] = [
     (b"", Ok(0)),
     (b"200000 400\n", Ok(1)),
     (b"200000 400", Ok(1)),
     (b"200000 400\n3FFc00 abcd\n", Ok(2)),
     (b"3fffffffffff 1", Ok(1)),
-    (b"3fffffffffff 2", Err(1)),
+    (b"3fffffffffff 2", BAD_FIRST),
     (b"0 400000000000", Ok(1)),
-    (b"ffffffffffffffff ffffffffffffffff", Err(1)),
-    (b"200000 0", Err(1)),
-    (b"200000", Err(1)),
-    (b"200000  400", Err(1)),
-    (b" 200000 400", Err(1)),
-    (b"200000 400 ", Err(1)),
-    (b"200000 400\n\n", Err(2)),
-    (b"200000 400\n0200000g 400\n", Err(2)),
-    (b"00000000000200000 400", Err(1)),
+    (b"ffffffffffffffff ffffffffffffffff", BAD_FIRST),
+    (b"200000 0", BAD_FIRST),
+    (b"200000", BAD_FIRST),
+    (b"200000  400", BAD_FIRST),
+    (b" 200000 400", BAD_FIRST),
+    (b"200000 400 ", BAD_FIRST),
+    (b"200000 400\n\n", BAD_SECOND),
+    (b"200000 400\n0200000g 400\n", BAD_SECOND),
+    (b"00000000000200000 400", BAD_FIRST),
 ];
 
 // A text of two notes. Its first bytes have so many notes, or a line that is none, where there are at least as many bytes
 // as the first number says and fewer than the second.
 const TWO_NOTES: &[u8] = b"200000 400\n3FFc00 abcd\n";
 
-const CUTS: [(usize, usize, Result<usize, u64>); 5] = [
+const CUTS: [(usize, usize, Result<usize, NoteFault>); 5] = [
     (0, 1, Ok(0)),
-    (1, 8, Err(1)),
+    (1, 8, BAD_FIRST),
     (8, 12, Ok(1)),
-    (12, 19, Err(2)),
+    (12, 19, BAD_SECOND),
     (19, 24, Ok(2)),
 ];
-
-// The number in the eight bytes at this place.
-fn number_at(bytes: &[u8], at: usize) -> Option<u64> {
-    let (_, rest) = bytes.split_at_checked(at)?;
-    let (number, _) = rest.split_at_checked(8)?;
-    let mut value = [0; 8];
-    value.copy_from_slice(number);
-    Some(u64::from_le_bytes(value))
-}
-
-// Whether these numbers of eight bytes each stand at this place.
-fn are_at(bytes: &[u8], at: usize, numbers: &[u64]) -> bool {
-    let mut place = at;
-    for number in numbers {
-        if number_at(bytes, place) != Some(*number) {
-            return false;
-        }
-        place = place.saturating_add(8);
-    }
-    true
-}
 
 // A note, and the two ranges beside the crash area.
 #[test]
@@ -122,13 +112,12 @@ fn headers_of_one_note_and_two_ranges(rt: HostRuntime) -> Result<(), Fail> {
         start: 0x0020_0000,
         size: 0x400,
     };
-    let bytes = make(alloc, &map, &[note])?;
-    assert_eq!(rt; bytes.len(), 232);
+    let mut wanted = spell(alloc, &HEAD)?;
+    for row in [NOTE, FIRST, SECOND] {
+        wanted.extend_from_slice(&spell(alloc, &row)?)?;
+    }
+    assert!(rt; make(alloc, &map, &[note])? == wanted);
     assert_eq!(rt; length(&map, 1), 232);
-    assert!(rt; are_at(&bytes, 0, &HEAD));
-    assert!(rt; are_at(&bytes, 64, &NOTE));
-    assert!(rt; are_at(&bytes, 120, &FIRST));
-    assert!(rt; are_at(&bytes, 176, &SECOND));
     Ok(())
 }
 
@@ -148,6 +137,11 @@ fn notes_lie_inside_one_core_range(rt: HostRuntime) -> Result<(), Fail> {
     Ok(())
 }
 
+// How many bytes the headers have, or why there are none.
+fn made_length(alloc: Global, map: &Map, notes: &[Note]) -> Result<usize, CrashFault> {
+    Ok(make(alloc, map, notes)?.len())
+}
+
 #[test]
 fn at_most_1024_program_headers(rt: HostRuntime) -> Result<(), Fail> {
     let alloc = rt.alloc();
@@ -161,47 +155,39 @@ fn at_most_1024_program_headers(rt: HostRuntime) -> Result<(), Fail> {
         size: 0x400,
     };
     let mut notes = vec![in alloc; inside; 1022]?;
-    assert_eq!(rt; make(alloc, &map, &notes)?.len(), 57_408);
+    assert_eq!(rt; made_length(alloc, &map, &notes), Ok(57_408));
     notes.push(outside)?;
-    assert_eq!(rt;
-        make(alloc, &map, &notes).err(),
-        Some(CrashFault::TooManyRanges { count: 1025 })
-    );
-    assert_eq!(rt; length(&map, 1023), 57_464);
-    assert_eq!(rt; length(&map, usize::MAX), u64::MAX);
+    let fault = CrashFault::TooManyRanges { count: 1025 };
+    assert_eq!(rt; made_length(alloc, &map, &notes), Err(fault));
+    let lengths = (length(&map, 1023), length(&map, usize::MAX));
+    assert_eq!(rt; lengths, (57_464, u64::MAX));
     Ok(())
 }
 
 #[test]
-fn each_text_of_notes_is_read_or_refused(rt: HostRuntime) -> Result<(), Fail> {
-    let alloc = rt.alloc();
+fn each_text_of_notes_is_read_or_refused(rt: HostRuntime) {
     for (text, wanted) in TEXTS {
-        let found = read_notes(alloc, text);
-        match wanted {
-            Ok(count) => assert_eq!(rt; found?.len(), count),
-            Err(line) => assert_eq!(rt; found.err(), Some(NoteFault::BadLine { line })),
-        }
+        assert_eq!(rt; count(rt.alloc(), text), wanted);
     }
-    let notes = read_notes(alloc, b"200000 400\n3FFc00 abcd\n")?;
-    let last = notes.last().ok_or("a note")?;
-    assert_eq!(rt;
-        *last,
-        Note {
-            start: 0x3f_fc00,
-            size: 0xabcd
-        }
-    );
+}
+
+#[test]
+fn a_note_is_a_start_and_a_size(rt: HostRuntime) -> Result<(), Fail> {
+    let notes = read_notes(rt.alloc(), TWO_NOTES)?;
+    let wanted = Note {
+        start: 0x3f_fc00,
+        size: 0xabcd,
+    };
+    assert_eq!(rt; notes.last().copied(), Some(wanted));
     Ok(())
 }
 
 #[test]
 fn each_prefix_of_a_text_is_read_as_far_as_it_goes(rt: HostRuntime) -> Result<(), Fail> {
-    let alloc = rt.alloc();
     for (first, end, wanted) in CUTS {
         for length in first..end {
-            let found = read_notes(alloc, TWO_NOTES.get(..length).ok_or("a prefix")?);
-            let told = found.map(|notes| notes.len());
-            assert_eq!(rt; told, wanted.map_err(|line| NoteFault::BadLine { line }));
+            let text = TWO_NOTES.get(..length).ok_or("a prefix")?;
+            assert_eq!(rt; count(rt.alloc(), text), wanted);
         }
     }
     Ok(())
@@ -214,11 +200,9 @@ fn at_most_1024_lines(rt: HostRuntime) -> Result<(), Fail> {
     for _ in 0..1024 {
         text.extend_from_slice(b"200000 400\n")?;
     }
-    assert_eq!(rt; read_notes(alloc, &text)?.len(), 1024);
+    assert_eq!(rt; count(alloc, &text), Ok(1024));
     text.extend_from_slice(b"200000 400\n")?;
-    assert_eq!(rt;
-        read_notes(alloc, &text).err(),
-        Some(NoteFault::BadLine { line: 1025 })
-    );
+    let fault = NoteFault::BadLine { line: 1025 };
+    assert_eq!(rt; count(alloc, &text), Err(fault));
     Ok(())
 }

@@ -1,3 +1,4 @@
+use crate::bytes::first_other;
 use crate::purgatory_objects::{BASE, Example, linked, loaded, object, reloc, section, symbols_of};
 use elf_image::Reloc;
 use purgatory_link::{LinkFault, Linked, size};
@@ -17,16 +18,8 @@ fn fault(rt: &HostRuntime, value: u64, reloc: Reloc) -> Result<Option<LinkFault>
 // Whether it is linked and begins with eight bytes of the file, and then these.
 fn fills(rt: &HostRuntime, value: u64, reloc: Reloc, wanted: &[u8]) -> Result<bool, Fail> {
     match one(rt, value, reloc)? {
-        Ok(linked) => Ok(stand(&linked.bytes, 0, &[7; 8]) && stand(&linked.bytes, 8, wanted)),
+        Ok(linked) => Ok(first_other(&linked.bytes, &[(0, &[7; 8]), (8, wanted)]).is_none()),
         Err(_) => Ok(false),
-    }
-}
-
-// Whether these bytes stand at this place.
-fn stand(bytes: &[u8], at: usize, wanted: &[u8]) -> bool {
-    match bytes.get(at..) {
-        Some(behind) => behind.starts_with(wanted),
-        None => false,
     }
 }
 
@@ -122,7 +115,8 @@ fn fields_may_touch(rt: HostRuntime) -> Result<(), Fail> {
     let relocs = [reloc(10, 8, 1, 1), reloc(10, 0, 1, 2), reloc(10, 4, 1, 3)];
     let object = object(rt.alloc(), 0, &relocs)?;
     let linked = linked(&rt, &object).ok().ok_or("a linked object")?;
-    assert!(rt; stand(&linked.bytes, 0, &[2, 0, 0, 0, 3, 0, 0, 0, 1, 0, 0, 0, 7]));
+    let fields: &[u8] = &[2, 0, 0, 0, 3, 0, 0, 0, 1, 0, 0, 0, 7];
+    assert_eq!(rt; first_other(&linked.bytes, &[(0, fields)]), None);
     Ok(())
 }
 
@@ -258,7 +252,7 @@ fn symbols_are_found_and_set(rt: HostRuntime) -> Result<(), Fail> {
     assert_eq!(rt; found, (Some((BASE + 33, 2)), None));
     assert_eq!(rt; linked.set_symbol(b"other", &[]), Err(LinkFault::NoSymbol));
     assert_eq!(rt; linked.set_symbol(b"entry64_regs", &[1, 2]), Ok(()));
-    assert!(rt; stand(&linked.bytes, 32, &[7, 1, 2, 7]));
+    assert_eq!(rt; first_other(&linked.bytes, &[(32, &[7, 1, 2, 7])]), None);
     Ok(())
 }
 

@@ -1,5 +1,6 @@
 //! A small machine in memory, for tests: its headers, written out from the standard, and bytes at addresses.
 
+use crate::bytes::spell;
 use kx_pages::{ADDRESS_LIMIT, PAGE_SIZE, Page};
 use page_memory::Memory;
 use std::alloc::{AllocError, Global};
@@ -26,15 +27,6 @@ pub(crate) type Plain = (u64, u64, u64);
 /// The row whose place is its address, and which is as large in the file as in memory.
 pub(crate) fn row((kind, start, size): Plain) -> Row {
     [kind, start, 0, start, size, size, 0]
-}
-
-/// The numbers as bytes, the lowest first.
-pub(crate) fn spell(alloc: Global, numbers: &[u64]) -> Result<Vec<u8>, AllocError> {
-    let mut bytes = Vec::new(alloc);
-    for number in numbers {
-        bytes.extend_from_slice(&number.to_le_bytes())?;
-    }
-    Ok(bytes)
 }
 
 /// The headers of a core file for x86-64 with these rows (ELF gABI, chapters 4 and 5).

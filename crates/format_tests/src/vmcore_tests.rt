@@ -1,6 +1,7 @@
 //! Core files of a small machine: their places, their bytes, and the notes that are kept.
 
-use crate::vmcore_machine::{HEADERS, LOAD, NOTE, Plain, headers, put, spell, tell};
+use crate::bytes::{first_other, spell};
+use crate::vmcore_machine::{HEADERS, LOAD, NOTE, Plain, headers, put, tell};
 use crash_headers::Note;
 use memory_map::Map;
 use page_memory::Memory;
@@ -82,14 +83,11 @@ fn core(
 // Whether the file has these bytes at these places, and zeros behind the rows at all others.
 fn has_alone(file: &[u8], rows_end: usize, parts: &[(usize, &[u8])]) -> bool {
     let mut some: usize = 0;
-    for (place, part) in parts {
-        match file.get(*place..) {
-            Some(rest) if rest.starts_with(part) => (),
-            _ => return false,
-        }
+    for (_, part) in parts {
         some = some.saturating_add(part.iter().filter(|b| **b != 0).count());
     }
-    file.iter().skip(rows_end).filter(|b| **b != 0).count() == some
+    let found = file.iter().skip(rows_end).filter(|b| **b != 0).count();
+    first_other(file, parts).is_none() && found == some
 }
 
 #[test]
@@ -235,10 +233,9 @@ fn the_greatest_file_is_made(rt: HostRuntime) -> Result<(), Fail> {
         (core.bytes.len(), core.loads, core.notes),
         (0x2000_1003, 2, 0)
     );
-    assert!(rt;
-        core.bytes
-            .get(0x1000_1003..)
-            .is_some_and(|b| b.starts_with(b" last page"))
+    assert_eq!(rt;
+        first_other(&core.bytes, &[(0x1000_1003, b" last page")]),
+        None
     );
     Ok(())
 }

@@ -1,40 +1,13 @@
-use crate::memories::put;
-use kx_pages::{Image, Mode, Page};
+use crate::memories::{b_and_c, image, kept_by, memory_of};
+use kx_pages::Mode;
 use list_checker::{CheckFault, ListFault, Why, check, check_crash, walk};
 use page_memory::Memory;
-use segments::{Segment, Segments};
 use std::alloc::Global;
 use std::test::*;
 
 // Pages 2 and 3 are b and c, and page 0x20 has these words.
 fn memory_with(alloc: Global, words: &[u8]) -> Result<Memory, Fail> {
-    let mut memory = Memory::empty(alloc);
-    put(&mut memory, 2, b"b")?;
-    put(&mut memory, 3, b"c")?;
-    put(&mut memory, 0x20, words)?;
-    Ok(memory)
-}
-
-// Pages 3 and 4 are to be b and c.
-fn b_and_c(alloc: Global) -> Result<Segments, Fail> {
-    let mut bytes = vec![in alloc; 0; 4097]?;
-    bytes[0] = b'b';
-    bytes[4096] = b'c';
-    let mut list = Vec::new(alloc);
-    list.push(Segment {
-        bytes,
-        mem: 0x3000,
-        memsz: 0x2000,
-    })?;
-    Ok(Segments::bare(alloc, list).ok().ok_or("segments")?)
-}
-
-fn image(mode: Mode) -> Result<Image, Fail> {
-    Ok(Image {
-        head: 0x20002,
-        mode,
-        control: Page::new(0x21).ok_or("a page")?,
-    })
+    memory_of(alloc, &[(2, b"b"), (3, b"c"), (0x20, words)])
 }
 
 // 0x4001, 0x3008, 0x3001, 0x2008, 4
@@ -47,10 +20,15 @@ const DOWNWARDS: &[u8] = b"\x01\x30\0\0\0\0\0\0\x08\x20\0\0\0\0\0\0\x08\x30\0\0\
 #[test]
 fn a_source_may_be_written_later(rt: HostRuntime) -> Result<(), Fail> {
     let memory = memory_with(rt.alloc(), UPWARDS)?;
-    let segments = b_and_c(rt.alloc())?;
-    let accept = check(rt.alloc(), &memory, &image(Mode::Plain)?, &segments)
-        .ok()
-        .ok_or("accepted")?;
+    let segments = b_and_c(rt.alloc(), 0x3000)?;
+    let accept = check(
+        rt.alloc(),
+        &memory,
+        &image(0x20002, Mode::Plain, 0x21)?,
+        &segments,
+    )
+    .ok()
+    .ok_or("accepted")?;
     assert_eq!(rt; (accept.words, accept.links, accept.pairs.len()), (6, 1, 2));
     Ok(())
 }
@@ -58,8 +36,8 @@ fn a_source_may_be_written_later(rt: HostRuntime) -> Result<(), Fail> {
 // Why these words are refused in this mode.
 fn refusal(alloc: Global, words: &[u8], mode: Mode) -> Result<Option<CheckFault>, Fail> {
     let memory = memory_with(alloc, words)?;
-    let segments = b_and_c(alloc)?;
-    Ok(check(alloc, &memory, &image(mode)?, &segments).err())
+    let segments = b_and_c(alloc, 0x3000)?;
+    Ok(check(alloc, &memory, &image(0x20002, mode, 0x21)?, &segments).err())
 }
 
 #[test]
@@ -75,12 +53,11 @@ fn a_source_may_not_be_written_before(rt: HostRuntime) -> Result<(), Fail> {
 
 #[test]
 fn kept_pairs_may_not_meet(rt: HostRuntime) -> Result<(), Fail> {
-    let swap = Page::new(0x22).ok_or("a page")?;
     let fault = ListFault {
         word: 4,
         why: Why::PairsMeet,
     };
-    let found = refusal(rt.alloc(), UPWARDS, Mode::Kept { swap })?;
+    let found = refusal(rt.alloc(), UPWARDS, kept_by(0x22)?)?;
     assert_eq!(rt; found, Some(CheckFault::List { fault }));
     Ok(())
 }
@@ -96,7 +73,7 @@ fn a_walk_goes_up_to_its_done_word(rt: HostRuntime) -> Result<(), Fail> {
 // What is said of the crash list of this head, which is refused.
 fn crash_refusal(alloc: Global, head: u64) -> Result<String, Fail> {
     let memory = memory_with(alloc, UPWARDS)?;
-    let fault = check_crash(&memory, head, &b_and_c(alloc)?)
+    let fault = check_crash(&memory, head, &b_and_c(alloc, 0x3000)?)
         .err()
         .ok_or("refused")?;
     Ok(format!(in alloc; "{fault}")?)
@@ -112,9 +89,7 @@ fn a_crash_list_without_its_pages_is_refused(rt: HostRuntime) -> Result<(), Fail
 
 #[test]
 fn a_crash_list_has_its_pages_already(rt: HostRuntime) -> Result<(), Fail> {
-    let mut memory = memory_with(rt.alloc(), UPWARDS)?;
-    put(&mut memory, 3, b"b")?;
-    put(&mut memory, 4, b"c")?;
-    assert!(rt; check_crash(&memory, 4, &b_and_c(rt.alloc())?).is_ok());
+    let memory = memory_of(rt.alloc(), &[(3, b"b"), (4, b"c")])?;
+    assert!(rt; check_crash(&memory, 4, &b_and_c(rt.alloc(), 0x3000)?).is_ok());
     Ok(())
 }

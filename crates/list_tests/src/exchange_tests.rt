@@ -1,7 +1,7 @@
 //! The load that has most exchanges: each page of the segment is drawn when the page before it was loaded.
 
-use crate::fill_tests::{load, one_segment};
-use crate::memories::pool_of;
+use crate::fill_tests::load;
+use crate::memories::{one_segment, pool_of};
 use kx_pages::Wish;
 use list_checker::Pair;
 use load_states::Accepted;
@@ -13,26 +13,21 @@ const PAGES: u64 = 65536;
 
 const FIRST: u64 = 0x10_0000;
 
-// The link page that is drawn before page `k` of the segment, where one is: each has 511 words but its last.
-fn link_before(k: u64) -> Option<u64> {
-    let words = k.saturating_add(2);
-    if words.is_multiple_of(511) {
-        Some((words / 511).saturating_add(0x1f))
-    } else {
-        None
-    }
-}
-
-// Pages 0x10, 0x11 and 0x12, and then the pages of the segment but its last, each behind the link page that is drawn
-// before it, where one is.
+// Pages 0x10, 0x11 and 0x12, and then the pages of the segment but its last. Each link page has 511 words and a link, and the
+// next one, from 0x20 on, is drawn when it is full; the first begins with the destination word and the first source.
 fn free_pages(alloc: Global) -> Result<Vec<u64>, Fail> {
     let mut free = Vec::new(alloc);
     free.extend_from_slice(&[0x10, 0x11, 0x12])?;
+    let mut words = 2u64;
+    let mut link = 0x20u64;
     for k in 0..PAGES - 1 {
-        if let Some(link) = link_before(k) {
+        if words == 511 {
             free.push(link)?;
+            link = link.saturating_add(1);
+            words = 0;
         }
         free.push(FIRST.saturating_add(k))?;
+        words = words.saturating_add(1);
     }
     Ok(free)
 }

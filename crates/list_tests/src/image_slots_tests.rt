@@ -1,7 +1,7 @@
 ghost use Rattle.std.specs.Prelude.{◌≤◌};
 
 use crate::memories::reads_as;
-use image_slots::{EventsFault, Reply, Slots, SlotsFault, SlotsRefused, read_events};
+use image_slots::{EventsFault, Slots, SlotsFault, SlotsRefused, read_events};
 use kx_pages::{PageSet, Span};
 use page_memory::Memory;
 use page_pool::Pool;
@@ -14,71 +14,34 @@ fn slots_over(
     alloc: Global,
     pool: &[u8],
     reserved: u64,
-) -> Result<Result<Slots, SlotsRefused>, Fail>
-    requires { reserved ≤ 256 }
-{
+) -> Result<Result<Slots, SlotsRefused>, Fail> {
+    let below = Span::new(0, 0x100).ok_or("a span")?;
+    let area = Span::new(0x80, reserved).filter(|area| area.count() > 0);
     let pool = Pool::read(alloc, pool)?;
     let mut ram = PageSet::new(alloc);
-    ram.add(Span::new(0, 0x100).ok_or("a span")?)?;
-    let area = if reserved == 0 {
-        None
-    } else {
-        Some(Span::new(0x80, reserved).ok_or("a span")?)
-    };
+    ram.add(below)?;
     Ok(Slots::new(alloc, Memory::empty(alloc), pool, ram, area))
-}
-
-// A reply in the words of the command `drill`, but that a fault of segments has its parts too.
-fn words_of(alloc: Global, reply: Reply) -> Result<String, AllocError> {
-    match reply {
-        Reply::Memory => format!(in alloc; "memory"),
-        Reply::Done => format!(in alloc; "done"),
-        Reply::Gone => format!(in alloc; "gone"),
-        Reply::Busy { caller } => format!(in alloc; "busy {caller}"),
-        Reply::Opened => format!(in alloc; "opened"),
-        Reply::NoArea => format!(in alloc; "no-area"),
-        Reply::NotOpen => format!(in alloc; "not-open"),
-        Reply::Written => format!(in alloc; "written"),
-        Reply::NotWritten => format!(in alloc; "not-written"),
-        Reply::BadSegments { fault } => format!(in alloc; "segments {fault:?}"),
-        Reply::NoPages { pool, need } => format!(in alloc; "no-pages {pool} {need}"),
-        Reply::NoImage => format!(in alloc; "no-image"),
-        Reply::Touched { page } => format!(in alloc; "touched {:x}", page.number()),
-    }
-}
-
-// The replies, each behind a comma.
-fn told(alloc: Global, replies: &[Reply]) -> Result<String, AllocError> {
-    let mut text = String::new(alloc);
-    for reply in replies {
-        text.push_str(&words_of(alloc, *reply)?)?;
-        text.push_str(", ")?;
-    }
-    Ok(text)
 }
 
 struct Row {
     pool: &'static [u8],
     reserved: u64,
     events: &'static [u8],
-    replies: &'static [u8],
+    replies: &'static str,
     left: u64,
     pages: &'static [(u64, &'static [u8])],
 }
 
 // Whether the events of the row are answered so, and leave so many pages and these bytes.
 fn holds(alloc: Global, row: &Row) -> Result<bool, Fail> {
-    if row.reserved > 256 {
-        return Ok(false);
-    }
     let mut slots = slots_over(alloc, row.pool, row.reserved)?
         .ok()
         .ok_or("slots")?;
     let events = read_events(alloc, row.events)?;
     let replies = slots.apply_each(alloc, events)?;
-    let text = told(alloc, &replies)?;
+    let told = format!(in alloc; "{:?}", replies.as_slice())?;
     Ok(
-        text.as_bytes() == row.replies
+        told.as_str() == row.replies
             && slots.left() == row.left
             && reads_as(slots.memory(), row.pages),
     )
@@ -92,7 +55,7 @@ const ROWS: [Row; 7] = [
         pool: b"10-17",
         reserved: 0,
         events: b"open 1 normal\nopen 2 crash\nadd 1 2000 1000 61\nwrite 1\nstore 12 ff\nstore 2 ff\ninstall 1\nopen 2 crash\nexec 1\nexec 1\n",
-        replies: b"done, busy 1, done, done, touched 12, done, done, no-area, done, gone, ",
+        replies: "[Done, Busy { caller: 1 }, Done, Done, Touched { page: Page { number: 18 } }, Done, Done, NoArea, Done, Gone]",
         left: 5,
         pages: &[(2, b"a"), (0x12, b"a")],
     },
@@ -101,7 +64,7 @@ const ROWS: [Row; 7] = [
         pool: b"10-15",
         reserved: 0,
         events: b"open 1 normal\nadd 1 2000 1000 61\nwrite 1\ninstall 1\nopen 1 normal\nadd 1 3000 1000 62\nwrite 1\ninstall 1\nopen 2 kept\nadd 2 4000 1000 63\nwrite 2\npanic\nexec 2",
-        replies: b"done, done, done, done, done, done, done, done, done, done, no-pages 3 4, no-image, done, ",
+        replies: "[Done, Done, Done, Done, Done, Done, Done, Done, Done, Done, NoPages { pool: 3, need: 4 }, NoImage, Done]",
         left: 3,
         pages: &[(2, b""), (3, b"b"), (4, b"")],
     },
@@ -110,7 +73,7 @@ const ROWS: [Row; 7] = [
         pool: b"10-15",
         reserved: 0,
         events: b"open 1 normal\nadd 1 2000 1000 61\nwrite 1\nstore 10 01\ncancel 1\nstore 10 01\nopen 2 normal\nadd 2 2000 1000 62\nwrite 2\nstore 10 02\nstore 13 03\nstore 15 03\n",
-        replies: b"done, done, done, touched 10, done, done, done, done, done, done, touched 13, touched 15, ",
+        replies: "[Done, Done, Done, Touched { page: Page { number: 16 } }, Done, Done, Done, Done, Done, Done, Touched { page: Page { number: 19 } }, Touched { page: Page { number: 21 } }]",
         left: 3,
         pages: &[(0x10, b"\x02"), (2, b"")],
     },
@@ -119,7 +82,7 @@ const ROWS: [Row; 7] = [
         pool: b"10-15",
         reserved: 16,
         events: b"open 1 crash\nadd 1 80000 1000 6b\nwrite 1\nstore 80 00\npanic\ninstall 1\nstore 80 00\nopen 2 crash\nadd 2 81000 1000 6c\nwrite 2\nstore 80 01\nstore 81 01\npanic\ncancel 2\nstore 81 01\nunload 1 crash\n",
-        replies: b"done, done, done, touched 80, no-image, done, touched 80, done, done, done, done, touched 81, no-image, done, done, no-image, ",
+        replies: "[Done, Done, Done, Touched { page: Page { number: 128 } }, NoImage, Done, Touched { page: Page { number: 128 } }, Done, Done, Done, Done, Touched { page: Page { number: 129 } }, NoImage, Done, Done, NoImage]",
         left: 6,
         pages: &[(0x80, b"\x01"), (0x81, b"\x01")],
     },
@@ -128,7 +91,7 @@ const ROWS: [Row; 7] = [
         pool: b"10-15",
         reserved: 0,
         events: b"open 1 normal\nadd 1 2001 1000 61\nwrite 1\nadd 1 2000 1000 61\nwrite 1\ninstall 1\ncancel 1\nopen 1 normal\ninstall 1\nopen 1 kept\nadd 1 2000 1000 61\nwrite 1\nwrite 1\nadd 1 3000 1000 62\ninstall 1\nunload 2 normal\nunload 2 normal\nexec 1\n",
-        replies: b"done, done, segments BadAddress { i: 0 }, not-open, not-open, not-open, not-open, done, not-written, opened, done, done, written, written, done, done, no-image, no-image, ",
+        replies: "[Done, Done, BadSegments { fault: BadAddress { i: 0 } }, NotOpen, NotOpen, NotOpen, NotOpen, Done, NotWritten, Opened, Done, Done, Written, Written, Done, Done, NoImage, NoImage]",
         left: 6,
         pages: &[(2, b""), (0x12, b"a")],
     },
@@ -137,7 +100,7 @@ const ROWS: [Row; 7] = [
         pool: b"10-15",
         reserved: 0,
         events: b"open 1 kept\nadd 1 2000 1000 61\nwrite 1\nstore 2 62\ninstall 1\nexec 2\npanic\nstore 2 63\n",
-        replies: b"done, done, done, done, done, done, gone, gone, ",
+        replies: "[Done, Done, Done, Done, Done, Done, Gone, Gone]",
         left: 2,
         pages: &[(2, b"a"), (0x13, b"b")],
     },
@@ -146,7 +109,7 @@ const ROWS: [Row; 7] = [
         pool: b"10-15",
         reserved: 16,
         events: b"open 1 normal\nadd 1 2000 1000 61\nwrite 1\ninstall 1\nopen 2 crash\nadd 2 8f000 1000 6b\nwrite 2\nopen 1 normal\ninstall 2\nunload 1 normal\npanic\nexec 1\n",
-        replies: b"done, done, done, done, done, done, done, busy 2, done, done, done, gone, ",
+        replies: "[Done, Done, Done, Done, Done, Done, Done, Busy { caller: 2 }, Done, Done, Done, Gone]",
         left: 6,
         pages: &[(2, b""), (0x8f, b"k")],
     },

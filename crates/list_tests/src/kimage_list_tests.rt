@@ -4,9 +4,9 @@ ghost use Rattle.std.specs.Prelude.{◌≡◌, ℕ, ◌+◌, ◌%◌, ◌≤◌,
 ghost use Rattle.page_pool.specs.Pages.{is_filed};
 ghost use Rattle.kx_pages.specs.Spans.{in_span, in_spans, pages};
 
-use crate::memories::{bytes_of, page, pool_of, reads_as};
+use crate::memories::{bytes_of, image, kept_by, pool_of, reads_as};
 use kimage_list::{BeginFault, BeginRefused, ListWriter, Written};
-use kx_pages::{ADDRESS_LIMIT, Image, Mode, Page, PageSet, Span, Wish};
+use kx_pages::{ADDRESS_LIMIT, Mode, Page, PageSet, Span, Wish};
 use page_memory::Memory;
 use page_pool::Pool;
 use std::alloc::Global;
@@ -83,15 +83,6 @@ fn load_below(
     load_from(alloc, pool, first, count, Wish::Plain)
 }
 
-// The list of a plain load, which begins in page 11 (hexadecimal).
-fn plain_image() -> Result<Image, &'static str> {
-    Ok(Image {
-        head: 0x11002,
-        mode: Mode::Plain,
-        control: page(0x10)?,
-    })
-}
-
 #[test]
 fn loads_two_pages_over_pools_with_destinations(rt: HostRuntime) -> Result<(), Fail> {
     for (numbers, words, source) in [
@@ -101,11 +92,14 @@ fn loads_two_pages_over_pools_with_destinations(rt: HostRuntime) -> Result<(), F
         let Written {
             memory,
             pool,
-            image,
+            image: found,
         } = load_over(rt.alloc(), &numbers, 2, Wish::Plain)?
             .ok()
             .ok_or("a list")?;
-        assert_eq!(rt; (image, pool.left()), (plain_image()?, 0));
+        assert_eq!(rt;
+            (found, pool.left()),
+            (image(0x11002, Mode::Plain, 0x10)?, 0)
+        );
         let list = bytes_of(rt.alloc(), &words)?;
         let pages: [(u64, &[u8]); 3] = [(0x11, &list), (2, b"a"), (source, b"b")];
         assert!(rt; reads_as(&memory, &pages));
@@ -118,12 +112,7 @@ fn keeps_a_swap_page(rt: HostRuntime) -> Result<(), Fail> {
     let written = load_over(rt.alloc(), &[0x10, 0x11, 0x12, 0x13, 2], 2, Wish::Kept)?
         .ok()
         .ok_or("a list")?;
-    let image = Image {
-        head: 0x12002,
-        mode: Mode::Kept { swap: page(0x11)? },
-        control: page(0x10)?,
-    };
-    assert_eq!(rt; written.image, image);
+    assert_eq!(rt; written.image, image(0x12002, kept_by(0x11)?, 0x10)?);
     let list = bytes_of(rt.alloc(), &[0x2001, 0x2008, 0x13008, 4])?;
     assert!(rt; reads_as(&written.memory, &[(0x12, &list)]));
     Ok(())
@@ -134,7 +123,10 @@ fn refuses_a_pool_that_is_one_page_short(rt: HostRuntime) -> Result<(), Fail> {
     let BeginRefused { why, pool, .. } = load_over(rt.alloc(), &[0x10, 0x11, 0x12], 2, Wish::Plain)?
         .err()
         .ok_or("a refusal")?;
-    assert_eq!(rt; (why, pool.left()), (BeginFault::NoPages { pool: 3, need: 4 }, 3));
+    assert_eq!(rt;
+        (why, pool.left()),
+        (BeginFault::NoPages { pool: 3, need: 4 }, 3)
+    );
     let text = format!(in rt.alloc(); "{why}")?;
     assert_eq!(rt;
         text.as_str(),
@@ -177,17 +169,34 @@ fn passes_over_pages_that_are_not_usable(rt: HostRuntime) -> Result<(), Fail> {
     let no_destination: &[u64] = &[0x10, 0x200, 0x11, 0x12, 2];
     let the_destination: &[u64] = &[0x300, 0x10, 0x11, 0x12];
     for (numbers, first, count, words, last, passed) in [
-        (no_destination, 2, 2, [0x2001, 0x2008, 0x12008, 4], b"b", 0x200),
-        (the_destination, 0x300, 1, [0x30_0001, 0x12008, 4, 0], b"a", 0x300),
+        (
+            no_destination,
+            2,
+            2,
+            [0x2001, 0x2008, 0x12008, 4],
+            b"b",
+            0x200,
+        ),
+        (
+            the_destination,
+            0x300,
+            1,
+            [0x30_0001, 0x12008, 4, 0],
+            b"a",
+            0x300,
+        ),
     ] {
         let Written {
             memory,
             pool,
-            image,
+            image: found,
         } = load_below(rt.alloc(), numbers, LIMIT, first, count)?
             .ok()
             .ok_or("a list")?;
-        assert_eq!(rt; (image, pool.left()), (plain_image()?, 0));
+        assert_eq!(rt;
+            (found, pool.left()),
+            (image(0x11002, Mode::Plain, 0x10)?, 0)
+        );
         let list = bytes_of(rt.alloc(), &words)?;
         assert!(rt; reads_as(&memory, &[(0x11, &list), (0x12, last)]));
         let mut rest = pool.below(ADDRESS_LIMIT);

@@ -5,7 +5,7 @@
 //!
 //! | Module | What it has |
 //! |---|---|
-//! | `memories` | memories, pools and their pages |
+//! | `memories` | memories, pools and segments that several tests begin with |
 //! | `kimage_list_tests`, `resident_planner_tests`, `pairs_tests` | lists that are made, and the pairs of resident pages |
 //! | `checker_tests`, `refused_list_tests` | lists that are accepted, and one for each reason to refuse a list |
 //! | `machine_tests` | runs, step by step |

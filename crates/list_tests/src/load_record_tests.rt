@@ -1,10 +1,10 @@
 ghost use Rattle.std.specs.Prelude.{IfOk};
 ghost use Rattle.kx_laws.specs.inner.Cuts.{IsCutAt};
 
-use crate::memories::page;
-use kx_pages::{Image, Mode, Start};
+use crate::memories::{image, kept_by};
+use kx_pages::{Mode, Start};
 use load_record::{DigestedRecord, FIRST_BYTES, LoadRecord, RecFault};
-use segments::{SegFault, Segment};
+use segments::{SegFault, Segment, Segments};
 use std::test::Fail;
 
 // The versions of a record's file: the second has a digest before the bytes of each segment.
@@ -106,47 +106,51 @@ fn faults(rt: &HostRuntime, file: &[u8]) -> Result<[Option<RecFault>; 2], Fail> 
 fn both_versions_are_read_and_the_second_is_written(rt: HostRuntime) -> Result<(), Fail> {
     let file = file_with(&rt, Version::Second, 4, 0x2000)?;
     let first = file_with(&rt, Version::First, 4, 0x2000)?;
-    let image = Image {
-        head: 0x11002,
-        mode: Mode::Plain,
-        control: page(0x10)?,
-    };
+    let image = image(0x11002, Mode::Plain, 0x10)?;
     for spelled in [&file, &first] {
         let record = LoadRecord::read(rt.alloc(), spelled)
             .ok()
             .ok_or("a record")?;
-        let found = (record.image, record.start.entry, record.crash);
-        assert_eq!(rt; found, (image, 0x2000, false));
-        assert_eq!(rt; record.segments.count(), 1);
+        let found = (record.image, record.start.entry, record.segments.count());
+        assert_eq!(rt; (found, record.crash), ((image, 0x2000, 1), false));
         assert!(rt; record.write(rt.alloc())? == file);
         assert!(rt; record.into_file(rt.alloc())? == file);
     }
     Ok(())
 }
 
-// A file that is cut off in its head or in either segment tells its length, and one that goes on tells where.
+// What is told of a file that has so many bytes and goes on: in its head or in either segment, the number of its bytes.
+fn cut_after(bytes: usize) -> RecFault {
+    if bytes < 8 {
+        RecFault::BadMagic
+    } else {
+        RecFault::Truncated { at: bytes as u64 }
+    }
+}
+
+// Whether each prefix of a file is refused as cut off, the file is read, and a byte more is refused where it stands.
+fn ends_where_it_must(rt: &HostRuntime, mut file: Vec<u8>) -> Result<bool, Fail> {
+    for bytes in 0..file.len() {
+        if faults(rt, &file[..bytes])? != [Some(cut_after(bytes)); 2] {
+            return Ok(false);
+        }
+    }
+    let whole = faults(rt, &file)?;
+    let trailing = RecFault::Trailing {
+        at: file.len() as u64,
+    };
+    file.push(0)?;
+    Ok(whole == [None; 2] && faults(rt, &file)? == [Some(trailing); 2])
+}
+
 #[test]
 fn each_prefix_of_a_file_is_refused(rt: HostRuntime) -> Result<(), Fail> {
-    let files = [
-        (file_with(&rt, Version::First, 4, 0x2000)?, 123),
-        (file_with(&rt, Version::Second, 4, 0x2000)?, 155),
-        (file_of_two(&rt, Version::First)?, 203),
-        (file_of_two(&rt, Version::Second)?, 267),
-    ];
-    for (mut file, length) in files {
-        assert_eq!(rt; file.len(), length);
-        for at in 0..file.len() {
-            let wanted = if at < 8 {
-                RecFault::BadMagic
-            } else {
-                RecFault::Truncated { at: at as u64 }
-            };
-            assert_eq!(rt; faults(&rt, &file[..at])?, [Some(wanted); 2]);
-        }
-        assert_eq!(rt; faults(&rt, &file)?, [None; 2]);
-        file.push(0)?;
-        let wanted = RecFault::Trailing { at: length as u64 };
-        assert_eq!(rt; faults(&rt, &file)?, [Some(wanted); 2]);
+    for (version, lengths) in [(Version::First, (123, 203)), (Version::Second, (155, 267))] {
+        let one = file_with(&rt, version, 4, 0x2000)?;
+        let two = file_of_two(&rt, version)?;
+        assert_eq!(rt; (one.len(), two.len()), lengths);
+        assert!(rt; ends_where_it_must(&rt, one)?);
+        assert!(rt; ends_where_it_must(&rt, two)?);
     }
     Ok(())
 }
@@ -232,6 +236,19 @@ fn is_segment(segment: &Segment, bytes: &[u8], mem: u64) -> bool {
     segment.bytes.as_slice() == bytes && (segment.mem, segment.memsz) == (mem, 0x1000)
 }
 
+// The room of the first segment's buffer, where these are the two segments of the file.
+fn room_of_two(segments: &Segments) -> Option<usize> {
+    if segments.count() != 2 {
+        return None;
+    }
+    let (first, second) = (segments.segment(0), segments.segment(1));
+    if is_segment(first, b"abc", 0x2000) && is_segment(second, LONGER, 0x3000) {
+        Some(first.bytes.capacity())
+    } else {
+        None
+    }
+}
+
 #[test]
 fn the_first_segment_keeps_the_buffer_of_its_file(rt: HostRuntime) -> Result<(), Fail> {
     let written = file_of_two(&rt, Version::Second)?;
@@ -242,17 +259,20 @@ fn the_first_segment_keeps_the_buffer_of_its_file(rt: HostRuntime) -> Result<(),
         let record = LoadRecord::from_file(rt.alloc(), front, rest)
             .ok()
             .ok_or("a record")?;
+        let found = room_of_two(&record.segments).ok_or("two segments")?;
+        assert!(rt; version == Version::First || found == room);
         assert!(rt; record.write(rt.alloc())? == written);
-        let segments = record.segments;
-        assert_eq!(rt; segments.count(), 2);
-        let (first, second) = (segments.segment(0), segments.segment(1));
-        assert!(rt; is_segment(first, b"abc", 0x2000));
-        assert!(rt; is_segment(second, LONGER, 0x3000));
-        assert!(rt; version == Version::First || first.bytes.capacity() == room);
-        let again = LoadRecord::read(rt.alloc(), &file)
-            .ok()
-            .ok_or("the record again")?;
-        assert!(rt; again.into_file(rt.alloc())? == written);
+    }
+    Ok(())
+}
+
+#[test]
+fn two_segments_are_written_as_they_were_read(rt: HostRuntime) -> Result<(), Fail> {
+    let written = file_of_two(&rt, Version::Second)?;
+    for version in [Version::First, Version::Second] {
+        let file = file_of_two(&rt, version)?;
+        let record = LoadRecord::read(rt.alloc(), &file).ok().ok_or("a record")?;
+        assert!(rt; record.into_file(rt.alloc())? == written);
     }
     Ok(())
 }
@@ -307,11 +327,7 @@ fn each_number_has_its_place(rt: HostRuntime) -> Result<(), Fail> {
         rbx: 0x4142_4344_4546_4748,
         rsi: 0x5152_5354_5556_5758,
     };
-    let image = Image {
-        head: 0x1_2002,
-        mode: Mode::Kept { swap: page(0x122)? },
-        control: page(0x111)?,
-    };
+    let image = image(0x1_2002, kept_by(0x122)?, 0x111)?;
     let written = distinct_file(&rt, Version::Second)?;
     for version in [Version::First, Version::Second] {
         let file = distinct_file(&rt, version)?;
@@ -333,10 +349,8 @@ fn file_with_both(
 ) -> Result<Vec<u8>, Fail> {
     let mut file = file_with(rt, version, one.0, one.1)?;
     let at = other.0.saturating_mul(8).saturating_add(8);
-    if let Some((_, behind)) = file.split_at_mut_checked(at)
-        && let Some((place, _)) = behind.split_at_mut_checked(8)
-    {
-        place.copy_from_slice(&other.1.to_le_bytes());
+    if at <= file.len() && file.len() - at >= 8 {
+        file[at..at + 8].copy_from_slice(&other.1.to_le_bytes());
     }
     Ok(file)
 }

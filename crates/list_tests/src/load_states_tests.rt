@@ -1,4 +1,4 @@
-use crate::memories::{memory_of, page};
+use crate::memories::{b_and_c, image, kept_by, memory_of, page};
 use kx_pages::{Image, Mode};
 use list_checker::{CheckFault, ListFault, Why};
 use load_states::{
@@ -6,35 +6,12 @@ use load_states::{
 };
 use page_memory::Memory;
 use page_pool::Pool;
-use segments::{Segment, Segments};
 use std::alloc::Global;
 use std::test::*;
-
-// Two pages from this address on are to be b and c.
-fn b_and_c(alloc: Global, mem: u64) -> Result<Segments, Fail> {
-    let mut bytes = vec![in alloc; 0; 4097]?;
-    bytes[0] = b'b';
-    bytes[4096] = b'c';
-    let mut list = Vec::new(alloc);
-    list.push(Segment {
-        bytes,
-        mem,
-        memsz: 0x2000,
-    })?;
-    Ok(Segments::bare(alloc, list).ok().ok_or("segments")?)
-}
 
 fn load(alloc: Global, memory: Memory, image: Image, mem: u64) -> Result<Loaded, Fail> {
     let pool = Pool::new(alloc, Vec::new(alloc)).ok().ok_or("a pool")?;
     Ok(Loaded::from_parts(memory, pool, image, b_and_c(alloc, mem)?))
-}
-
-fn plain_image() -> Result<Image, &'static str> {
-    Ok(Image {
-        head: 0x20002,
-        mode: Mode::Plain,
-        control: page(0x21)?,
-    })
 }
 
 // The list 0x4001, 0x3008, 0x3001, 0x2008, 4: page 3 is a source before it is a destination.
@@ -49,7 +26,7 @@ const PLAIN: [(u64, &[u8]); 3] = [
 
 fn plain(alloc: Global) -> Result<AcceptedPlain, Fail> {
     let memory = memory_of(alloc, &PLAIN)?;
-    match load(alloc, memory, plain_image()?, 0x3000)?.accept(alloc) {
+    match load(alloc, memory, image(0x20002, Mode::Plain, 0x21)?, 0x3000)?.accept(alloc) {
         Ok(Accepted::Plain(accepted)) => Ok(accepted),
         _ => Err("accepted".into()),
     }
@@ -63,12 +40,7 @@ const KEPT: [(u64, &[u8]); 4] = [(2, b"b"), (3, b"old"), (0x13, b"c"), (0x12, KE
 
 fn kept(alloc: Global) -> Result<AcceptedKept, Fail> {
     let memory = memory_of(alloc, &KEPT)?;
-    let swap = page(0x11)?;
-    let image = Image {
-        head: 0x12002,
-        mode: Mode::Kept { swap },
-        control: page(0x10)?,
-    };
+    let image = image(0x12002, kept_by(0x11)?, 0x10)?;
     match load(alloc, memory, image, 0x2000)?.accept(alloc) {
         Ok(Accepted::Kept(accepted)) => Ok(accepted),
         _ => Err("accepted".into()),
@@ -129,7 +101,12 @@ fn a_write_to_an_own_source_stays(rt: HostRuntime) -> Result<(), Fail> {
 
 // The head links to a page of zeros, whose first word has no flag.
 fn refused(alloc: Global) -> Result<NotAccepted, Fail> {
-    let loaded = load(alloc, Memory::empty(alloc), plain_image()?, 0x3000)?;
+    let loaded = load(
+        alloc,
+        Memory::empty(alloc),
+        image(0x20002, Mode::Plain, 0x21)?,
+        0x3000,
+    )?;
     match loaded.accept(alloc) {
         Ok(_) => Err("refused".into()),
         Err(refused) => Ok(refused),

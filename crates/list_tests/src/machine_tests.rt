@@ -1,4 +1,4 @@
-use crate::memories::{bytes_of, page, put, reads_as};
+use crate::memories::{bytes_of, kept_by, memory_of, page, put, reads_as};
 use kx_pages::Mode;
 use page_memory::Memory;
 use relocate_machine::{Machine, Outcome, Step, Writes, run, run_held};
@@ -6,10 +6,8 @@ use std::test::Fail;
 
 // A memory with these words in page 20 (hexadecimal), and `b` in page 30.
 fn memory_with(rt: &HostRuntime, words: &[u64]) -> Result<Memory, Fail> {
-    let mut memory = Memory::empty(rt.alloc());
-    put(&mut memory, 0x20, &bytes_of(rt.alloc(), words)?)?;
-    put(&mut memory, 0x30, b"b")?;
-    Ok(memory)
+    let words = bytes_of(rt.alloc(), words)?;
+    memory_of(rt.alloc(), &[(0x20, &words), (0x30, b"b")])
 }
 
 // How a plain run of these words comes out.
@@ -99,7 +97,7 @@ fn a_source_that_was_written_is_copied_as_it_is_then(rt: HostRuntime) -> Result<
 fn a_kept_move_exchanges_two_pages(rt: HostRuntime) -> Result<(), Fail> {
     let mut memory = memory_with(&rt, &[0x2001, 0x30008, 4])?;
     put(&mut memory, 2, b"a")?;
-    let mode = Mode::Kept { swap: page(0x22)? };
+    let mode = kept_by(0x22)?;
     let outcome = run(&mut memory, 0x20002, mode, 10)?;
     assert_eq!(rt; outcome, Outcome::Done { steps: 4 });
     assert!(rt; reads_as(&memory, &[(2, b"b"), (0x30, b"a"), (0x22, b"b")]));
@@ -158,7 +156,7 @@ fn a_limit_is_met_inside_a_page(rt: HostRuntime) -> Result<(), Fail> {
 #[test]
 fn a_list_that_is_moved_over_is_read_as_it_is_then(rt: HostRuntime) -> Result<(), Fail> {
     let later = bytes_of(rt.alloc(), &[0, 0, 0x2001, 0x30008, 4])?;
-    let modes = [Mode::Plain, Mode::Kept { swap: page(0x22)? }];
+    let modes = [Mode::Plain, kept_by(0x22)?];
     for mode in modes {
         let mut memory = memory_with(&rt, &[0x20001, 0x21008, 0x9001, 0x30008, 4])?;
         put(&mut memory, 0x21, &later)?;
@@ -175,7 +173,7 @@ fn kept_moves_follow_each_other(rt: HostRuntime) -> Result<(), Fail> {
     let mut memory = memory_with(&rt, &[0x2001, 0x30008, 0x31008, 0x2001, 0x31008, 4])?;
     put(&mut memory, 2, b"a")?;
     put(&mut memory, 0x31, b"c")?;
-    let mode = Mode::Kept { swap: page(0x22)? };
+    let mode = kept_by(0x22)?;
     let outcome = run(&mut memory, 0x20002, mode, 10)?;
     assert_eq!(rt; outcome, Outcome::Done { steps: 7 });
     // b goes to page 2 and a to 30, c to page 3 and its zeros to 31, then those to 2 and b to 31

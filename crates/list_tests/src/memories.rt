@@ -1,17 +1,33 @@
-//! Memories, pools and their pages.
+//! Pages, images, memories, pools and segments.
 
 ghost use Rattle.std.specs.Prelude.{◌≡◌, ℕ, false, IfOk};
 ghost use Rattle.page_pool.specs.Pages.{is_filed};
 
-use kx_pages::Page;
+use kx_pages::{Image, Mode, Page};
 use page_memory::Memory;
 use page_pool::Pool;
+use segments::{Segment, Segments};
 use std::alloc::Global;
 use std::test::Fail;
 
 /// The page of this number.
 pub(crate) fn page(number: u64) -> Result<Page, &'static str> {
     Page::new(number).ok_or("a page")
+}
+
+/// The mode in which context is preserved, with this swap page.
+pub(crate) fn kept_by(swap: u64) -> Result<Mode, &'static str> {
+    Ok(Mode::Kept { swap: page(swap)? })
+}
+
+/// A list with this head, this mode and this control page.
+pub(crate) fn image(head: u64, mode: Mode, control: u64) -> Result<Image, &'static str> {
+    let control = page(control)?;
+    Ok(Image {
+        head,
+        mode,
+        control,
+    })
 }
 
 /// The page becomes these bytes, then zeros.
@@ -66,6 +82,27 @@ pub(crate) fn pool_of(alloc: Global, numbers: &[u64]) -> Result<Pool, Fail>
         Ok(pool) => Ok(pool),
         Err(_) => Err("a pool".into()),
     }
+}
+
+/// One segment: these bytes, then zeros, in so much memory at this address.
+pub(crate) fn one_segment(
+    alloc: Global,
+    bytes: Vec<u8>,
+    mem: u64,
+    memsz: u64,
+) -> Result<Segments, Fail> {
+    match Segments::bare(alloc, vec![in alloc; Segment { bytes, mem, memsz }]?) {
+        Ok(segments) => Ok(segments),
+        Err(_) => Err("segments".into()),
+    }
+}
+
+/// Two pages from this address on are to be b and c.
+pub(crate) fn b_and_c(alloc: Global, mem: u64) -> Result<Segments, Fail> {
+    let mut bytes = vec![in alloc; 0; 4097]?;
+    bytes[0] = b'b';
+    bytes[4096] = b'c';
+    one_segment(alloc, bytes, mem, 0x2000)
 }
 
 /// The bytes of these words.

@@ -1,10 +1,9 @@
 //! A list for each reason: page 0x30 is b, the words are in page 0x20, and page 2 is to be b.
 
-use crate::memories::{bytes_of, page, put};
-use kx_pages::{Image, Mode};
+use crate::memories::{bytes_of, image, kept_by, memory_of, one_segment, page};
+use kx_pages::Mode;
 use list_checker::{CheckFault, Why, check};
 use page_memory::Memory;
-use segments::{Segment, Segments};
 use std::alloc::Global;
 use std::test::*;
 
@@ -15,24 +14,7 @@ const HEAD: u64 = 0x20002;
 const GOOD: &[u64] = &[0x2001, 0x30008, 4];
 
 fn memory_with(alloc: Global, words: &[u64]) -> Result<Memory, Fail> {
-    let mut memory = Memory::empty(alloc);
-    put(&mut memory, 0x20, &bytes_of(alloc, words)?)?;
-    put(&mut memory, 0x30, b"b")?;
-    Ok(memory)
-}
-
-// The page at this address is to be b.
-fn b_at(alloc: Global, mem: u64) -> Result<Segments, Fail> {
-    let segment = Segment {
-        bytes: b"b".to_vec(alloc)?,
-        mem,
-        memsz: 4096,
-    };
-    Ok(
-        Segments::bare(alloc, vec![in alloc; segment]?)
-            .ok()
-            .ok_or("segments")?,
-    )
+    memory_of(alloc, &[(0x20, &bytes_of(alloc, words)?), (0x30, b"b")])
 }
 
 // The word of this list that is refused, and why, where the page at `wanted` is to be b.
@@ -43,13 +25,10 @@ fn refusal(
     mode: Mode,
     wanted: u64,
 ) -> Result<Option<(u64, Why)>, Fail> {
-    let image = Image {
-        head,
-        mode,
-        control: page(0x21)?,
-    };
+    let image = image(head, mode, 0x21)?;
     let memory = memory_with(alloc, words)?;
-    match check(alloc, &memory, &image, &b_at(alloc, wanted)?) {
+    let segments = one_segment(alloc, b"b".to_vec(alloc)?, wanted, 4096)?;
+    match check(alloc, &memory, &image, &segments) {
         Ok(_) => Ok(None),
         Err(CheckFault::List { fault }) => Ok(Some((fault.word, fault.why))),
         Err(CheckFault::Memory) => Err("no memory".into()),
@@ -109,7 +88,7 @@ fn a_link_page_is_not_written(rt: HostRuntime) -> Result<(), Fail> {
 #[test]
 fn the_swap_page_is_no_other(rt: HostRuntime) -> Result<(), Fail> {
     for (swap, word) in [(0x30, 2), (0x21, 0)] {
-        let mode = Mode::Kept { swap: page(swap)? };
+        let mode = kept_by(swap)?;
         let found = refusal(rt.alloc(), GOOD, HEAD, mode, 0x2000)?;
         assert_eq!(rt; found, Some((word, Why::SwapTouched)), "{swap:x}");
     }

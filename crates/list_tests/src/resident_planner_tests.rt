@@ -1,12 +1,12 @@
 ghost use Rattle.std.specs.Prelude.{IfOk};
 ghost use Rattle.kx_pages.specs.Lists.{Distinct};
 
-use crate::memories::{page, put};
+use crate::memories::{bytes_of, one_segment, page, put, reads_as};
 use kx_pages::Page;
 use list_checker::{Pair, check};
 use page_memory::Memory;
 use resident_planner::{Made, ResidentFault, ResidentRefused, plan_resident, read_pairs};
-use segments::{Segment, Segments};
+use segments::Segments;
 use std::alloc::Global;
 use std::test::*;
 
@@ -30,13 +30,7 @@ fn kernel_of(alloc: Global, letters: &[u8]) -> Result<Segments, Fail> {
         bytes.push(*letter)?;
     }
     let memsz = bytes.len().next_multiple_of(4096) as u64;
-    let mut list = Vec::new(alloc);
-    list.push(Segment {
-        bytes,
-        mem: 0x2000,
-        memsz,
-    })?;
-    Ok(Segments::bare(alloc, list).ok().ok_or("segments")?)
+    one_segment(alloc, bytes, 0x2000, memsz)
 }
 
 // So many pages from this one on.
@@ -186,29 +180,20 @@ fn resident_pages_are_sources(rt: HostRuntime) -> Result<(), Fail> {
     Ok(())
 }
 
-// The first words of the link page 0x11.
-fn words(memory: &Memory) -> [u64; 5] {
-    let mut words = [0; 5];
-    for i in 0..5 {
-        words[i] = memory.word(0x11000 + 8 * i as u64);
-    }
-    words
-}
-
 #[test]
 fn the_list_and_the_copy_lie_in_the_pool(rt: HostRuntime) -> Result<(), Fail> {
     let made = planned(rt.alloc(), b"..yx", b"xy", b"2 3\n3 2", (16, 3))?
         .ok()
         .ok_or("a list")?;
-    assert_eq!(rt; words(&made.memory), [0x3001, 0x2008, 0x2001, 0x12008, 4]);
-    let memory = &made.memory;
-    let pages = (
-        memory.byte(0x2000),
-        memory.byte(0x3000),
-        memory.byte(0x10000),
-    );
-    assert_eq!(rt; pages, (b'y', b'x', 0));
-    assert_eq!(rt; (memory.byte(0x12000), memory.byte(0x12001)), (b'x', 0));
+    let list = bytes_of(rt.alloc(), &[0x3001, 0x2008, 0x2001, 0x12008, 4])?;
+    let pages: [(u64, &[u8]); 5] = [
+        (0x11, &list),
+        (2, b"y"),
+        (3, b"x"),
+        (0x10, b""),
+        (0x12, b"x"),
+    ];
+    assert!(rt; reads_as(&made.memory, &pages));
     Ok(())
 }
 

@@ -39,7 +39,10 @@ fn a_file_that_is_handed_in_is_the_memory(rt: HostRuntime) -> Result<(), Fail> {
         memory.copy(later, first);
         memory.set(first, b"abc");
     }
-    let same = (memory.equals(later, &[98; 4096]), memory.equals(first, b"abc"));
+    let same = (
+        memory.equals(later, &[98; 4096]),
+        memory.equals(first, b"abc"),
+    );
     assert_eq!(rt; same, (true, true));
     assert_eq!(rt;
         Memory::from_file(rt.alloc(), Vec::new(rt.alloc())).err(),

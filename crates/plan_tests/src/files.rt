@@ -32,10 +32,8 @@ pub(crate) const RAW: ImageType = ImageType::Raw {
 
 /// Puts these bytes into the file at this place, if it has room for all of them.
 pub(crate) fn put(file: &mut [u8], at: usize, bytes: &[u8]) {
-    if let Some((_, behind)) = file.split_at_mut_checked(at)
-        && let Some((place, _)) = behind.split_at_mut_checked(bytes.len())
-    {
-        place.copy_from_slice(bytes);
+    if at <= file.len() && bytes.len() <= file.len() - at {
+        file[at..at + bytes.len()].copy_from_slice(bytes);
     }
 }
 

@@ -5,7 +5,9 @@ ghost use Rattle.file_commands.specs.Taking.{ok, ◌>>=◌};
 ghost use Rattle.file_commands.specs.Files.{all_files, optional_file, whole_file};
 ghost use Rattle.file_commands.specs.inner.Calls.{file_of};
 
-use crate::{Command, File, Goods, MakeFault, Stop, TakeFault, run, take_all, take_optional};
+use file_commands::{
+    Command, File, Goods, MakeFault, Stop, TakeFault, run, take_all, take_optional,
+};
 use kx_edge::{MemoryShelf, MemorySink, Shelf, ShelfFault};
 use std::alloc::{AllocError, Global};
 use std::test::Fail;
@@ -100,20 +102,26 @@ fn names(alloc: Global, list: &[&str]) -> Result<Vec<String>, AllocError> {
         .try_collect(alloc)
 }
 
-// Some files, with room for the output. The calls with these numbers fail.
+// The files of a shelf.
+const FILES: [(&str, &str); 5] = [
+    ("h", "head "),
+    ("a", "abcd"),
+    ("b", "efghi"),
+    ("l", "longer"),
+    ("e", ""),
+];
+
+fn named_file(alloc: Global, name: &str, text: &str) -> Result<(String, Vec<u8>), AllocError> {
+    let name = String::from_str(alloc, name)?;
+    let bytes = text.as_bytes().to_vec(alloc)?;
+    Ok((name, bytes))
+}
+
+// These files, with room for the output. The calls with these numbers fail.
 fn shelf(alloc: Global, failing: &[u64]) -> Result<MemoryShelf, AllocError> {
     let mut files = Vec::new(alloc);
-    for (name, bytes) in [
-        ("h", "head "),
-        ("a", "abcd"),
-        ("b", "efghi"),
-        ("l", "longer"),
-        ("e", ""),
-    ] {
-        files.push((
-            String::from_str(alloc, name)?,
-            bytes.as_bytes().to_vec(alloc)?,
-        ))?;
+    for (name, text) in FILES {
+        files.push(named_file(alloc, name, text)?)?;
     }
     let mut shelf = MemoryShelf::new(alloc, files, failing.to_vec(alloc)?);
     shelf.reserve("out", 20)?;

@@ -4,7 +4,7 @@ use Rattle.file_commands.specs.inner.Calls.{file_of}
 use Rattle.file_commands.specs.Files.{all_files, optional_file, whole_file}
 use Rattle.file_commands.specs.Taking.{ok, and_then}
 use Rattle.file_commands.proofs.Steps.{start, next, stopped, finished}
-use Rattle.file_commands.proofs.tests.JoinCommand.take.Goals as goal
+use Rattle.edge_tests.proofs.joining_tests.JoinCommand.take.Goals as goal
 
 pub returns-in_err-head : goal.returns-in_err-head
 returns-in_err-head g c =
