@@ -12,6 +12,7 @@ pub mod Mapped
 pub mod EventFile
 pub mod Pages
 pub mod Again
+pub mod Drawn
 pub mod Ending
 pub mod Reread
 pub mod Resident

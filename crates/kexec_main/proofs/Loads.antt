@@ -30,6 +30,7 @@ use Rattle.kexec_main.specs.Inputs.{LoadInputs}
 use Rattle.kexec_main.specs.Loading.{IsLoaded, RefusesLoad}
 use Rattle.kexec_main.specs.Loads.{CanLoad, NormalLoad}
 use Rattle.kexec_main.specs.Runs.{after_runs}
+use Rattle.kexec_main.proofs.Drawn.{control_drawn, links_drawn, sources_drawn, swap_drawn}
 use Rattle.kexec_main.proofs.Ending.{loaded_bare}
 use Rattle.kexec_main.proofs.Together.{same_after, sealed_alike}
 
@@ -47,6 +48,10 @@ normal wish i p c l told = record {
   only_pool_pages = l.laid.others;
   accepted = told;
   ends = list_ends c.load c.words c.links c.pairs (loaded_bare wish i p c.load l) told;
+  control_is_drawn = control_drawn wish i p c l;
+  swap_is_drawn = swap_drawn wish i p c l;
+  list_is_drawn = links_drawn wish i p c l told;
+  sources_are_drawn = sources_drawn wish i p c l told;
 }
 
 -- a memory without a file is too heavy for one

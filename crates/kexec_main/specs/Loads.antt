@@ -1,11 +1,14 @@
 -- What is promised of the load of a kernel (this project's own).
-use Rattle.std.specs.Prelude.{◌≡◌, ℕ, ◌≤◌, length, take, Ok}
+use Rattle.std.specs.Prelude.{◌≡◌, ℕ, ◌≤◌, List, length, take, Ok, Some}
+use Rattle.std.specs.List.{AllByRecursion}
 use Rattle.kx_pages.specs.Bytes.{Mem}
-use Rattle.kx_pages.specs.Lists.{count}
+use Rattle.kx_pages.specs.Lists.{Has, count}
+use Rattle.kx_pages.specs.Modes.{swap_page}
 use Rattle.kx_pages.specs.declared.image.Wish.{Wish}
 use Rattle.page_memory.specs.Contents.{at}
 use Rattle.segments.specs.Values.{need}
 use Rattle.kimage_list.specs.Laying.{mode_with}
+use Rattle.list_checker.specs.Walk.{links}
 use Rattle.load_states.specs.States.{Checked, swap_of}
 use Rattle.load_states.specs.Ready.{Told}
 use Rattle.load_states.specs.Fillings.{IsSealed}
@@ -16,6 +19,10 @@ use Rattle.kexec_main.specs.Inputs.{LoadInputs}
 use Rattle.kexec_main.specs.Loading.{IsLoaded}
 use Rattle.kexec_main.specs.Outputs.{IsTooHeavy}
 
+-- the pages that a load of the plan draws: the first usable ones of the pool, as many as it takes
+abbrev pub drawn_pages : Wish → LoadInputs → Plan → List ℕ
+drawn_pages wish i p = take (need wish p.segments) i.usable
+
 -- A kernel was loaded, whatever memory held.
 pub record NormalLoad (wish : Wish) (i : LoadInputs) (p : Plan) (c : Checked) : Type 0 where
   -- the request has this plan
@@ -25,13 +32,20 @@ pub record NormalLoad (wish : Wish) (i : LoadInputs) (p : Plan) (c : Checked) : 
   -- what is loaded are the plan's segments, in the mode that is asked for
   pub segments : c.load.segments ≡ p.segments
   pub mode : c.load.image.mode ≡ mode_with wish (swap_of c.load)
-  -- memory is as it was at every page but the first usable ones of the pool
-  pub only_pool_pages : (q : ℕ) → count q (take (need wish p.segments) i.usable) ≡ 0
+  -- memory is as it was at every page but those that were drawn
+  pub only_pool_pages : (q : ℕ) → count q (drawn_pages wish i p) ≡ 0
       → at c.load.memory q ≡ at i.memory q
   -- the list is accepted for the segments, by a walk of so many words with so many link pages and these pairs
   pub accepted : Told c.load c.words c.links c.pairs
   -- and its run ends within its entries: the machine is done after as many steps as the walk has words
   pub ends : EndsAfter c.load c.words
+  -- All that the run needs or writes besides the segments' own pages was drawn: the control page, with context preserved
+  -- the swap page, the pages of the list, and those from which the segments' bytes are copied.
+  pub control_is_drawn : Has c.load.image.control (drawn_pages wish i p)
+  pub swap_is_drawn : (swap : ℕ) → swap_page c.load.image.mode ≡ Some swap
+      → Has swap (drawn_pages wish i p)
+  pub list_is_drawn : AllByRecursion (λ l. Has l (drawn_pages wish i p)) (links accepted.items)
+  pub sources_are_drawn : AllByRecursion (λ q. Has q.1 (drawn_pages wish i p)) c.pairs
 
 -- its list, control page and sources are those that the rules of taking pages and laying a list give
 abbrev pub IsLaid : Wish → LoadInputs → Plan → Checked → Type 0

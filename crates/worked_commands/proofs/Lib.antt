@@ -12,3 +12,5 @@ pub mod CallFiles
 pub mod FirstFiles
 pub mod LoadWitness
 pub mod Exchange
+pub mod DrawnLoads
+pub mod DrawnZeros

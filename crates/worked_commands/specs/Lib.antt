@@ -16,3 +16,4 @@ pub mod Panics
 pub mod Residents
 pub mod Firsts
 pub mod Kept
+pub mod Drawn

@@ -9,6 +9,7 @@ mod answers;
 mod boots;
 mod calls;
 mod checks;
+mod drawn;
 mod drills;
 mod dumped;
 mod dumps;
@@ -41,6 +42,9 @@ pub use calls::{
 };
 pub use checks::{
     accepted_list_is_told, checks_that_were_done, crash_kernel_is_told, fault_of_a_list_is_told,
+};
+pub use drawn::{
+    drawn_pages_are_a_load, each_field_of_a_load_is_needed, swap_through_a_live_page_is_no_load,
 };
 pub use drills::{events_have_replies, events_that_were_done, pool_meets_the_area};
 pub use dumped::{crash_kernel_is_dumped, dumps_that_were_done, list_is_dumped};
