@@ -1,6 +1,6 @@
 //! A list while it is written: the steps of the writer.
 
-ghost use Rattle.std.specs.Prelude.{◌≡◌, ℕ, ◌<◌, ◌≤◌, ◌+◌, ◌*◌, ◌∷◌, List, [], length, None, Some};
+ghost use Rattle.std.specs.Prelude.{◌≡◌, ℕ, ◌<◌, ◌≤◌, ◌+◌, ◌∷◌, List, [], length, None, Some};
 ghost use Rattle.page_memory.specs.Contents.{at};
 ghost use Rattle.page_memory.specs.inner.Contents.{IsHeld};
 ghost use Rattle.page_memory.specs.inner.Memory.{set_word};

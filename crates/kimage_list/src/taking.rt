@@ -8,7 +8,7 @@
 //!
 //! The link pages, the control page and the swap page are no destinations either, so the list stands while it runs.
 
-ghost use Rattle.std.specs.Prelude.{◌≡◌, ◌≢◌, ℕ, Bool, Some, IsSome, ◌==◌};
+ghost use Rattle.std.specs.Prelude.{◌≡◌, ◌≢◌, ℕ, Bool, Some, ◌==◌};
 ghost use Rattle.kimage_list.specs.Load.{Loading, is_for, draw, take_page};
 ghost use Rattle.kimage_list.specs.inner.Tables.{slot};
 ghost use Rattle.kimage_list.specs.Tracking.{whole_pool};

@@ -1,6 +1,6 @@
 //! The memory file.
 
-ghost use Rattle.std.specs.Prelude.{[], ◌≡◌, ◌≤◌, ◌<◌, ◌+◌, ◌*◌, ◌^◌, ℕ, length, ◌++◌, ◌≢◌, ◌↔◌, drop, IfOk, IfErr, IfSome, IsSome, OnOk, nat_le, take, if◌then◌else◌};
+ghost use Rattle.std.specs.Prelude.{◌≡◌, ◌≤◌, ◌<◌, ◌+◌, ◌*◌, ◌^◌, length, ◌++◌, ◌↔◌, drop, IfOk, IfErr, IfSome, IsSome, OnOk, nat_le, take, if◌then◌else◌};
 ghost use Rattle.page_memory.specs.declared.fault.MemFault.TheVariants.{PastLimit};
 ghost use Rattle.std.specs.BTreeMap.{IsOrdered};
 ghost use Rattle.std.specs.List.{AllByRecursion};

@@ -7,9 +7,9 @@
 //! While frames are exchanged, `slots` says in which slot the frame of each page lies, and `owners` says of each slot
 //! whose frame it has: both are kept, so that an exchange is never preceded by a search.
 
-ghost use Rattle.std.specs.Prelude.{◌≡◌, ◌≢◌, ◌≤◌, ◌<◌, ◌+◌, ◌-◌, ◌*◌, ◌++◌, ℕ, List, length, take, drop, set, slice_index, IfOk, IfErr, OnOk, ◌==◌};
+ghost use Rattle.std.specs.Prelude.{◌≡◌, ◌≤◌, ◌<◌, ◌+◌, ◌-◌, ◌*◌, ◌++◌, ℕ, length, take, set, slice_index, IfOk, IfErr, OnOk, ◌==◌};
 ghost use Rattle.std.specs.BTreeMap.{IsOrdered};
-ghost use Rattle.std.specs.List.{flat_map, IsDistinct};
+ghost use Rattle.std.specs.List.{IsDistinct};
 ghost use Rattle.std.specs.Ordering.{nat_cmp};
 ghost use Rattle.page_memory.specs.File.{text_of};
 ghost use Rattle.page_memory.specs.inner.File.{HasNoFile, IsFileOf};
