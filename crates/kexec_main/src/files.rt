@@ -21,7 +21,7 @@ use segments::Segments;
 use std::alloc::Global;
 
 /// The most bytes of a memory file: 16 and 4,104 for each of 131,072 pages.
-const MEMORY_LIMIT: usize = 537_919_504;
+const MEMORY_FILE_LIMIT: usize = 537_919_504;
 
 /// The most bytes of a pool file, of a memory map, of a file of notes, of a file of pairs and of a file of events.
 pub(crate) const TEXT_LIMIT: usize = 1_048_576;
@@ -47,7 +47,7 @@ pub(crate) fn take_memory<S: Shelf>(
 ) -> Result<Memory, TakeFault<Reason>>
     ensures { Takes S.Shelf (memory_file (string_bytes name)) (λ m. m) shelf.old result shelf.new }
 {
-    let bytes = take_file(alloc, name, MEMORY_LIMIT, shelf)?;
+    let bytes = take_file(alloc, name, MEMORY_FILE_LIMIT, shelf)?;
     match Memory::from_file(alloc, bytes) {
         Ok(memory) => Ok(memory),
         Err(MemFault::Memory) => Err(TakeFault::Memory),

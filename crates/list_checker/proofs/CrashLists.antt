@@ -1,5 +1,5 @@
 -- Crash lists.
-use Rattle.std.proofs.Common.{◌≡◌, ℕ, ◌^◌, List, [], ◌∷◌, Option, Some, None, Bool, true, false, refl, sym, ap, ◌∙◌, arith}
+use Rattle.std.proofs.Common.{◌≡◌, ℕ, ◌^◌, List, [], ◌∷◌, Option, Some, None, Bool, true, false, refl, sym, ap, ◌∙◌, arith, Err}
 use Rattle.std.specs.Prelude.{◌%◌, ◌/◌, not, leb, map, cond}
 use Rattle.std.specs.Option.{option_map}
 use Rattle.std.specs.List.{find, AllByRecursion}
@@ -18,6 +18,10 @@ use Rattle.kx_laws.proofs.Options.{some_same}
 use Rattle.list_checker.proofs.Checking.{decode_is_code}
 use Rattle.kx_pages.proofs.Lists.{Each-at, Each-from_Has}
 use Rattle.kx_laws.proofs.Booleans.{not_false}
+use Rattle.kx_pages.specs.Items.{below_limit}
+use Rattle.kx_pages.specs.declared.item.WordFault.TheVariants as faults
+use Rattle.list_checker.specs.inner.Items.{IsBelow}
+use Rattle.list_checker.proofs.Items.{above}
 
 module _ (M : Mem) (W : Wants) where
   abbrev Right : ℕ → Type 0
@@ -37,6 +41,22 @@ module _ (M : Mem) (W : Wants) where
       go : (b : Bool) → leb (2 ^ 34) p ≡ b → ⊥
       go true t = none-some PastLimit (sym e ∙ ap (λ b. cond b (Some PastLimit) (Some HeadKind)) t)
       go false t = none-some HeadKind (sym e ∙ ap (λ b. cond b (Some PastLimit) (Some HeadKind)) t)
+
+  -- what a crash list without segments tells of its head, each crash list tells
+  pub head_tells : (all : List ℕ) (o : Option Item) (why : Why) → crash_reason (λ p. []) (λ p. None) [] o ≡ Some why → crash_reason M W all o ≡ Some why
+  head_tells all None why h = h
+  head_tells all (Some (Link p)) why h = h
+  head_tells all (Some (Destination p)) why h = h
+  head_tells all (Some (Source p)) why h = h
+  head_tells all (Some (Done p)) why h = absurd (none-some why h)
+
+  -- and where it tells nothing, the head is a done word
+  pub head_is_done : (o : Option Item) → crash_reason (λ p. []) (λ p. None) [] o ≡ None → (p : ℕ) × (o ≡ Some (Done p))
+  head_is_done None h = absurd (none-some Flags (sym h))
+  head_is_done (Some (Link p)) h = absurd (not_head p h)
+  head_is_done (Some (Destination p)) h = absurd (not_head p h)
+  head_is_done (Some (Source p)) h = absurd (not_head p h)
+  head_is_done (Some (Done p)) h = (p, refl)
 
   done_word : (p w : ℕ) → w ≡ code (Done p) → w % 4096 ≡ 4
   done_word p w e = grind arith
@@ -74,3 +94,17 @@ first_reason test (x ∷ xs) = step (test x) (find test xs) (first_of (map {B = 
     step : (b : Bool) (o : Option ℕ) (w : Option Why) → option_map Missing o ≡ w → option_map Missing (cond b (Some x) o) ≡ cond b (Some (Missing x)) w
     step true o w e = refl
     step false o w e = e
+
+module _ (M : Mem) (W : Wants) (all : List ℕ) where
+  -- an item whose page lies below the limit is a done word, or no head
+  pub head_kind : (i : Item) → IsBelow i → ((p : ℕ) → i ≡ Done p → ⊥) → first_of (crash_reasons M W all i) ≡ Some HeadKind
+  head_kind (Link p) b n = rw b refl
+  head_kind (Destination p) b n = rw b refl
+  head_kind (Source p) b n = rw b refl
+  head_kind (Done p) b n = absurd (n p refl)
+
+  pub past_head : (i : Item) → below_limit i ≡ Err faults.PastLimit → first_of (crash_reasons M W all i) ≡ Some PastLimit
+  past_head (Link p) h = rw (above (leb (2 ^ 34) p) (Link p) faults.PastLimit h).0 refl
+  past_head (Destination p) h = rw (above (leb (2 ^ 34) p) (Destination p) faults.PastLimit h).0 refl
+  past_head (Source p) h = rw (above (leb (2 ^ 34) p) (Source p) faults.PastLimit h).0 refl
+  past_head (Done p) h = cc

@@ -1,4 +1,5 @@
 pub mod Lists
+pub mod Items
 pub mod Kept
 pub mod Checking
 pub mod Ending

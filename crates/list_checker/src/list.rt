@@ -1,6 +1,6 @@
 //! Checking a list in a memory.
 
-ghost use Rattle.std.specs.Prelude.{◌≡◌, ℕ, ◌+◌, ◌<◌, ◌^◌, IfOk, IfErr};
+ghost use Rattle.std.specs.Prelude.{◌+◌, ◌<◌, IfOk, IfErr};
 ghost use Rattle.segments.specs.inner.Rules.{IsBare};
 ghost use Rattle.list_checker.specs.inner.Checked.{IsAccept, IsCheckFault};
 
