@@ -1,5 +1,5 @@
 -- Crash lists.
-use Rattle.std.proofs.Common.{◌≡◌, ℕ, ◌^◌, List, [], ◌∷◌, Option, Some, None, Bool, true, false, refl, sym, ap, ◌∙◌, arith, Err}
+use Rattle.std.proofs.Common.{◌≡◌, ℕ, ◌^◌, List, [], ◌∷◌, Option, Some, None, Bool, true, false, refl, sym, ap, ◌∙◌, arith}
 use Rattle.std.specs.Prelude.{◌%◌, ◌/◌, not, leb, map, cond}
 use Rattle.std.specs.Option.{option_map}
 use Rattle.std.specs.List.{find, AllByRecursion}
@@ -18,10 +18,6 @@ use Rattle.kx_laws.proofs.Options.{some_same}
 use Rattle.list_checker.proofs.Checking.{decode_is_code}
 use Rattle.kx_pages.proofs.Lists.{Each-at, Each-from_Has}
 use Rattle.kx_laws.proofs.Booleans.{not_false}
-use Rattle.kx_pages.specs.Items.{below_limit}
-use Rattle.kx_pages.specs.declared.item.WordFault.TheVariants as faults
-use Rattle.list_checker.specs.inner.Items.{IsBelow}
-use Rattle.list_checker.proofs.Items.{above}
 
 module _ (M : Mem) (W : Wants) where
   abbrev Right : ℕ → Type 0
@@ -94,17 +90,3 @@ first_reason test (x ∷ xs) = step (test x) (find test xs) (first_of (map {B = 
     step : (b : Bool) (o : Option ℕ) (w : Option Why) → option_map Missing o ≡ w → option_map Missing (cond b (Some x) o) ≡ cond b (Some (Missing x)) w
     step true o w e = refl
     step false o w e = e
-
-module _ (M : Mem) (W : Wants) (all : List ℕ) where
-  -- an item whose page lies below the limit is a done word, or no head
-  pub head_kind : (i : Item) → IsBelow i → ((p : ℕ) → i ≡ Done p → ⊥) → first_of (crash_reasons M W all i) ≡ Some HeadKind
-  head_kind (Link p) b n = rw b refl
-  head_kind (Destination p) b n = rw b refl
-  head_kind (Source p) b n = rw b refl
-  head_kind (Done p) b n = absurd (n p refl)
-
-  pub past_head : (i : Item) → below_limit i ≡ Err faults.PastLimit → first_of (crash_reasons M W all i) ≡ Some PastLimit
-  past_head (Link p) h = rw (above (leb (2 ^ 34) p) (Link p) faults.PastLimit h).0 refl
-  past_head (Destination p) h = rw (above (leb (2 ^ 34) p) (Destination p) faults.PastLimit h).0 refl
-  past_head (Source p) h = rw (above (leb (2 ^ 34) p) (Source p) faults.PastLimit h).0 refl
-  past_head (Done p) h = cc

@@ -1,5 +1,4 @@
 pub mod Lists
-pub mod Items
 pub mod Kept
 pub mod Checking
 pub mod Ending

@@ -161,17 +161,17 @@ impl Earlier {
     }
 
     // Adds a word that fits what came before it.
-    pub(crate) fn add(&mut self, item: Item) -> Result<(), AllocError>
+    pub(crate) fn add(&mut self, item: &Item) -> Result<(), AllocError>
         ensures { OnOk result ((swap : Option ℕ) (s : spec.Earlier) → Shows swap self.old s →
-            Fits s item → Shows swap self.new (spec.with_item s item)) }
+            Fits s item.now → Shows swap self.new (spec.with_item s item.now)) }
     {
         match item {
-            Item::Link(p) => self.add_link(p),
+            Item::Link(p) => self.add_link(*p),
             Item::Destination(d) => {
-                self.add_destination(d);
+                self.add_destination(*d);
                 Ok(())
             }
-            Item::Source(p) => self.add_source(p),
+            Item::Source(p) => self.add_source(*p),
             Item::Done(_) => Ok(()),
         }
     }

@@ -56,8 +56,8 @@ pub fn check(
         if let Item::Done(_) = item {
             return Ok(earlier.accept(words));
         }
-        earlier.add(item)?;
-        let next = following(place, item);
+        earlier.add(&item)?;
+        let next = following(place, &item);
         place = Some(next);
         w = memory.word(next);
     }

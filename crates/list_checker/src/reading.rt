@@ -30,13 +30,13 @@ fn met_again(links: &BTreeSet<Page>, p: Page) -> Option<Why>
 }
 
 // Why a word cannot be followed.
-fn obstacle(links: &BTreeSet<Page>, place: Option<u64>, item: Item) -> Option<Why>
-    ensures { (s : spec.Earlier) → ShowsLinks links.now s → IsBelow item →
-        result ≡ why_by walk_reasons place s (Some item) }
+fn obstacle(links: &BTreeSet<Page>, place: Option<u64>, item: &Item) -> Option<Why>
+    ensures { (s : spec.Earlier) → ShowsLinks links.now s → IsBelow item.now →
+        result ≡ why_by walk_reasons place s (Some item.now) }
 {
     match item {
         Item::Done(_) => None,
-        Item::Link(p) => met_again(links, p),
+        Item::Link(p) => met_again(links, *p),
         Item::Destination(_) => place_reason(place),
         Item::Source(_) => place_reason(place),
     }
@@ -46,7 +46,7 @@ fn follow(links: &BTreeSet<Page>, place: Option<u64>, w: u64) -> Result<Item, Wh
     ensures { (s : spec.Earlier) → ShowsLinks links.now s → IsFollowed place s w result }
 {
     let item = Item::of_word(w)?;
-    match obstacle(links, place, item) {
+    match obstacle(links, place, &item) {
         None => Ok(item),
         Some(why) => Err(why),
     }
@@ -61,12 +61,12 @@ fn insert_link(links: &mut BTreeSet<Page>, p: Page) -> Result<(), AllocError>
 }
 
 // Adds the page of a link.
-fn add_link(links: &mut BTreeSet<Page>, item: Item) -> Result<(), AllocError>
-    ensures { OnOk result ((s : spec.Earlier) → ShowsLinks links.old s → FitsLinks s item →
-        ShowsLinks links.new (spec.with_item s item)) }
+fn add_link(links: &mut BTreeSet<Page>, item: &Item) -> Result<(), AllocError>
+    ensures { OnOk result ((s : spec.Earlier) → ShowsLinks links.old s → FitsLinks s item.now →
+        ShowsLinks links.new (spec.with_item s item.now)) }
 {
     match item {
-        Item::Link(p) => insert_link(links, p),
+        Item::Link(p) => insert_link(links, *p),
         _ => Ok(()),
     }
 }
@@ -94,8 +94,8 @@ pub fn walk(alloc: Global, memory: &Memory, head: u64) -> Result<Walk, AllocErro
         if let Item::Done(_) = item {
             return Ok(Walk { words, fault: None });
         }
-        add_link(&mut links, item)?;
-        let next = following(place, item);
+        add_link(&mut links, &item)?;
+        let next = following(place, &item);
         place = Some(next);
         w = memory.word(next);
         word += 1;

@@ -230,18 +230,18 @@ pub(crate) fn refusal(
     segments: &Segments,
     earlier: &Earlier,
     place: Option<u64>,
-    item: Item,
+    item: &Item,
 ) -> Option<Why>
-    ensures { (s : spec.Earlier) → Shows (swap_page image.now.mode) earlier.now s → IsBelow item →
-        result ≡ why_refused memory.now segments.now image.now place s (Some item) }
+    ensures { (s : spec.Earlier) → Shows (swap_page image.now.mode) earlier.now s → IsBelow item.now →
+        result ≡ why_refused memory.now segments.now image.now place s (Some item.now) }
 {
     match item {
         Item::Done(_) => done_reason(image, segments, earlier, place),
-        Item::Link(p) => link_reason(image, earlier, place, p),
+        Item::Link(p) => link_reason(image, earlier, place, *p),
         Item::Destination(_) => place_reason(place),
         Item::Source(p) => match place_reason(place) {
             Some(why) => Some(why),
-            None => source_reason(memory, image, segments, earlier, p),
+            None => source_reason(memory, image, segments, earlier, *p),
         },
     }
 }
@@ -262,16 +262,16 @@ pub(crate) fn judge(
     // for its clause: what every value of the type keeps
     let _known = segments.count();
     let item = Item::of_word(w)?;
-    match refusal(memory, image, segments, earlier, place, item) {
+    match refusal(memory, image, segments, earlier, place, &item) {
         None => Ok(item),
         Some(why) => Err(why),
     }
 }
 
 /// Where the word after an item stands.
-pub(crate) fn following(place: Option<u64>, item: Item) -> u64
-    requires { Leads place item }
-    ensures next { result ≡ spec.following place item }
+pub(crate) fn following(place: Option<u64>, item: &Item) -> u64
+    requires { Leads place item.now }
+    ensures next { result ≡ spec.following place item.now }
     ensures place { IsPlace result }
 {
     match item {

@@ -7,7 +7,6 @@ use Rattle.kx_pages.specs.declared.item.Item.{Item}
 use Rattle.kx_pages.specs.declared.item.Item.TheVariants.{Link, Destination, Source, Done}
 use Rattle.list_checker.specs.declared.fault.Why.{Why}
 use Rattle.kx_pages.specs.Items.{decode}
-use Rattle.list_checker.specs.Walk.{links}
 use Rattle.kx_pages.specs.Lists.{has}
 use Rattle.list_checker.specs.Faults.{Earlier, why_by, walk_reasons}
 
