@@ -1,7 +1,9 @@
 -- Runs of entries that pass a test, one byte more.
-use Rattle.std.proofs.Common.{◌≡◌, ℕ, zero, suc, ◌+◌, ◌-◌, ◌*◌, ◌<◌, ◌≤◌, ◌++◌, ◌∷◌, List, [], length, get_or, Bool, true, false, sym, ap, ◌∙◌, subst, inl, inr, arith}
+use Rattle.std.proofs.Common.{◌≡◌, ℕ, zero, suc, ◌+◌, ◌-◌, ◌*◌, ◌<◌, ◌≤◌, ◌++◌, ◌∷◌, List, [], length, get_or, Bool, true, false, Some, refl, sym, ap, ◌∙◌, subst, inl, inr, arith}
 use Rattle.std.proofs.lemmas.Bool.{cases_lt}
 use Rattle.std.proofs.lemmas.List.{length_push, get_or_push, get_or_append_left}
+use Rattle.std.specs.List.{slice_get}
+use Rattle.std.proofs.lemmas.Option.{slice_get_within, get_or_from_slice_get}
 use Rattle.elf_image.specs.inner.Runs.{Runs, AreRuns}
 
 pub none_noted : (test : ℕ → Bool) (r : Runs) → r.lengths ≡ [] → AreRuns test r
@@ -36,15 +38,18 @@ one_noted test r new passes n room end is fails few many are here = record { eac
         let seen = ap (λ l. get_or l i 0) is in
         let same : r.end - 1 - i + 24 * k ≡ new.end - 1 - i + 24 * k = ap (λ m. m - 1 - i + 24 * k) (sym end) in
         subst (λ p. test p ≡ true) same (elim (cases_lt i (length r.lengths)) [
-          | inl l ↦ let old = get_or_append_left r.lengths (n ∷ []) i 0 l in are.each i k l (omega (arith, seen, old, run))
+          | inl l ↦ let old = get_or_append_left r.lengths (n ∷ []) 0 i l in are.each i k l (omega (arith, seen, old, run))
           | inr l ↦
               let last : i ≡ length r.lengths = omega (arith, l, below, long) in
-              let new_one = get_or_push r.lengths n 0 i last in
+              let new_one = get_or_push r.lengths n 0 i (sym last) in
               subst (λ j. test (r.end - 1 - j + 24 * k) ≡ true) (sym last) (at_next test r passes n k room are here next (omega (arith, seen, new_one, run)))
         ])
 
 -- what is noted of a byte
-pub noted_at : (test : ℕ → Bool) (r : Runs) (at k n : ℕ) → at < r.end → r.end - 1 - at < length r.lengths → n ≡ get_or r.lengths (r.end - 1 - at) 0 → AreRuns test r → k < n → test (at + 24 * k) ≡ true
-noted_at test r at k n below within is are few =
-    let on : r.end - 1 - (r.end - 1 - at) + 24 * k ≡ at + 24 * k = omega (arith, below) in
-    subst (λ p. test p ≡ true) on (are.each (r.end - 1 - at) k within (omega (arith, is, few)))
+pub noted_at : (test : ℕ → Bool) (r : Runs) (xs : List ℕ) (end at k n : ℕ) → end ≡ r.end → xs ≡ r.lengths → at < end → slice_get xs (end - 1 - at) ≡ Some n → AreRuns test r → k < n → test (at + 24 * k) ≡ true
+noted_at test r xs end at k n same is below there are few =
+    let i = end - 1 - at in
+    let within : i < length r.lengths = subst (λ l. i < length l) is (slice_get_within xs i n there) in
+    let noted : n ≡ get_or r.lengths i 0 = sym (get_or_from_slice_get xs i n 0 there) ∙ ap (λ l. get_or l i 0) is in
+    let on : r.end - 1 - i + 24 * k ≡ at + 24 * k = omega (arith, below, same) in
+    subst (λ p. test p ≡ true) on (are.each i k within (omega (arith, noted, few)))

@@ -4,7 +4,7 @@
 //! same 500,000 entries each. So each entry is tested where it stands, once, and there it is noted how many entries in a
 //! row from it on pass the test: those of a section that do are passed over in one step.
 
-ghost use Rattle.std.specs.Prelude.{◌≡◌, ℕ, ◌+◌, ◌-◌, ◌*◌, ◌^◌, ◌<◌, ◌≤◌, Bool, true, [], length, get_or, IfOk, OnOk};
+ghost use Rattle.std.specs.Prelude.{◌≡◌, ℕ, ◌+◌, ◌-◌, ◌*◌, ◌^◌, ◌<◌, ◌≤◌, Bool, true, false, [], length, get_or, IfOk, OnOk};
 ghost use Rattle.elf_image.specs.inner.Runs.{AreRuns};
 
 use std::alloc::{AllocError, Global};
@@ -61,6 +61,20 @@ impl EntryRuns {
         self.lengths[count - 24]
     }
 
+    // What is to be noted for the next entry, which passes or not.
+    fn next(&self, passes: bool) -> u32
+        ensures fails { passes ≡ false → result ≡ 0 }
+        ensures few { length self.now.lengths < 24 → result ≤ 1 }
+        ensures many { 24 ≤ length self.now.lengths
+            → result ≤ get_or self.now.lengths (length self.now.lengths - 24) 0 + 1 }
+    {
+        if passes {
+            self.behind().saturating_add(1)
+        } else {
+            0
+        }
+    }
+
     /// Notes whether the entry passes that stands at the next byte, the one before those that are noted.
     pub fn push(&mut self, passes: bool) -> Result<(), AllocError>
         requires { length self.old.lengths < self.old.end }
@@ -71,11 +85,7 @@ impl EntryRuns {
         ensures length { OnOk result
             (length self.new.lengths ≡ length self.old.lengths + 1) }
     {
-        let length = if passes {
-            self.behind().saturating_add(1)
-        } else {
-            0
-        };
+        let length = self.next(passes);
         self.lengths.push(length)?;
         Ok(())
     }

@@ -3,6 +3,9 @@
 ghost use Rattle.std.specs.Prelude.{◌≡◌, ℕ, ◌^◌, ◌+◌, ◌<◌, ◌≤◌, ◌≤ℤ◌, pos, negsuc, neg_ℤ, Some, None, if◌then◌else◌};
 ghost use Rattle.purgatory_link.specs.Formulas.{form_of, wide, formula, fits, modulo};
 
+/// The type of a relocation that puts nothing.
+pub(crate) const R_X86_64_NONE: u32 = 0;
+
 /// What a relocation computes, and the field that it goes to (x86-64 psABI, "Relocation Types").
 #[derive(Clone, Copy, Drop)]
 pub enum Form {
@@ -24,7 +27,7 @@ impl Form {
         ensures { result ≡ form_of kind }
     {
         match kind {
-            0 => Some(Form::Empty),
+            R_X86_64_NONE => Some(Form::Empty),
             1 => Some(Form::Whole),
             2 | 4 => Some(Form::Relative),
             10 => Some(Form::Unsigned),
