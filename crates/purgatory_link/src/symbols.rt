@@ -75,10 +75,10 @@ pub(crate) fn symbol_value(
     if index == 0 {
         return Ok(0);
     }
-    match symbols.get(index) {
-        Some(symbol) => value_of(base, starts, index, &symbol),
-        None => Err(LinkFault::Undefined { symbol: index }),
-    }
+    let Some(symbol) = symbols.get(index) else {
+        return Err(LinkFault::Undefined { symbol: index });
+    };
+    value_of(base, starts, index, &symbol)
 }
 
 // Puts the symbol behind the names, with this address.
