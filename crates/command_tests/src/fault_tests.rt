@@ -377,7 +377,7 @@ const PLANS: &[(&str, u8, &str)] = &[
     (
         "boot --map ram --type raw --at 2000 --purgatory no_symbols m p o k",
         8,
-        "Plan { fault: Link { fault: NoSymbol } }",
+        "Plan { fault: Link { fault: NoSymbol { symbol: Registers } } }",
     ),
     (
         "boot --map ram m p o half",

@@ -12,6 +12,7 @@
 //! | `crash_headers_tests` | crash headers, and the text of notes |
 //! | `vmcore_machine`, `vmcore_tests`, `vmcore_fault_tests` | a machine that stopped; its core file, or why there is none |
 //! | `purgatory_objects`, `purgatory_tests`, `purgatory_file_tests` | objects of purgatories, linked |
+//! | `overlap_tests` | objects whose sections of relocations have the same entries |
 //! | `region_tests` | the regions that a purgatory tests |
 #![tactic(auto)]
 
@@ -33,6 +34,8 @@ mod multiboot_information_tests;
 mod multiboot_tests;
 #[cfg(test)]
 mod object_tests;
+#[cfg(test)]
+mod overlap_tests;
 #[cfg(test)]
 mod purgatory_file_tests;
 #[cfg(test)]

@@ -1,7 +1,7 @@
 use crate::bytes::{file_of, put};
 use elf_image::{
     ElfFault, ElfPart, Object, Reloc, RelocSection, SHN_ABS, SHN_COMMON, SHN_UNDEF, SHT_NOBITS,
-    SHT_NULL, SHT_REL, Section, Symbol, read_object,
+    SHT_NULL, SHT_REL, Section, SymbolTable, read_object,
 };
 use std::alloc::Global;
 use std::test::Fail;
@@ -101,23 +101,41 @@ fn sections_are_read(rt: HostRuntime) -> Result<(), Fail> {
     Ok(())
 }
 
-// Whether a symbol has this name, section, value and size.
-fn is(symbol: &Symbol, (name, section, value, size): (&[u8], u16, u64, u64)) -> bool {
-    symbol.name.as_slice() == name
+// Whether the symbol of this index has this name, section, value and size.
+fn is(
+    symbols: &SymbolTable,
+    index: usize,
+    (name, section, value, size): (&[u8], u16, u64, u64),
+) -> bool {
+    let Some(symbol) = symbols.get(index) else {
+        return false;
+    };
+    symbols.strings.text(symbol.name) == name
         && (symbol.section, symbol.value, symbol.size) == (section, value, size)
 }
 
 #[test]
 fn symbols_are_read(rt: HostRuntime) -> Result<(), Fail> {
     let object = object(rt.alloc())?;
-    match object.symbols.as_slice() {
-        [null, entry, absolute] => {
-            assert!(rt; is(null, (b"", 0, 0, 0)));
-            assert!(rt; is(entry, (b"entry", 1, 4, 8)));
-            assert!(rt; is(absolute, (b"abs", 0xfff1, 0x1234, 0)));
-        }
-        _ => return Err(Fail::new("three symbols")),
-    }
+    assert_eq!(rt; object.symbols.len(), 3);
+    assert!(rt; is(&object.symbols, 0, (b"", 0, 0, 0)));
+    assert!(rt; is(&object.symbols, 1, (b"entry", 1, 4, 8)));
+    assert!(rt; is(&object.symbols, 2, (b"abs", 0xfff1, 0x1234, 0)));
+    assert_eq!(rt; object.symbols.get(3), None);
+    Ok(())
+}
+
+// The name of symbol 1 begins in the middle of what was its name.
+#[test]
+fn names_may_share_their_bytes(rt: HostRuntime) -> Result<(), Fail> {
+    let mut file = object_file(rt.alloc())?;
+    put(&mut file, 152, &[3]);
+    let object = read_object(rt.alloc(), &file)?;
+    assert!(rt; is(&object.symbols, 1, (b"try", 1, 4, 8)));
+    assert!(rt; object.symbols.strings.has_text(3, b"try"));
+    assert!(rt; !object.symbols.strings.has_text(3, b"tr"));
+    assert!(rt; !object.symbols.strings.has_text(3, b"try\0abs"));
+    assert!(rt; !object.symbols.strings.has_text(1, b"try"));
     Ok(())
 }
 

@@ -1,13 +1,14 @@
 //! Objects of the tests.
 
-ghost use Rattle.std.specs.Prelude.{◌≡◌, ℕ, ◌<◌, List, true, length};
+ghost use Rattle.std.specs.Prelude.{◌≡◌, ℕ, ◌<◌, List, true, length, map};
+ghost use Rattle.elf_image.specs.inner.Symbol.{called, named};
 ghost use Rattle.std.specs.List.{All};
 ghost use Rattle.elf_image.specs.inner.Section.{IsInside};
 ghost use Rattle.elf_image.specs.Reloc.{entry_of};
 ghost use Rattle.elf_image.specs.inner.Reloc.{AreInside};
 ghost use Rattle.elf_image.specs.inner.Object.{IsDefined, IsRelocSection, IsObject};
 
-use elf_image::{Object, Reloc, RelocSection, Section, Symbol};
+use elf_image::{Object, Reloc, RelocSection, Section, StringTable, Symbol, SymbolTable};
 use purgatory_link::{LinkFault, Linked, link, size};
 use std::alloc::Global;
 use std::test::Fail;
@@ -38,14 +39,15 @@ fn are_inside(sections: &[Section], file: &[u8]) -> bool
 }
 
 fn is_defined(sections: usize, symbol: &Symbol) -> bool
-    ensures { result ≡ true → IsDefined sections symbol.now }
+    ensures { result ≡ true → (name : List ℕ) → IsDefined sections (called name symbol.now) }
 {
     let section = symbol.section;
     (section as usize) < sections || section == 0xfff1 || section == 0xfff2
 }
 
-fn are_defined(sections: usize, symbols: &[Symbol]) -> bool
-    ensures { result ≡ true → All (IsDefined sections) symbols.now }
+fn all_defined(sections: usize, symbols: &[Symbol]) -> bool
+    ensures { result ≡ true → (strings : List ℕ)
+        → All (IsDefined sections) (map (named strings) symbols.now) }
 {
     for symbol in symbols {
         if !is_defined(sections, symbol) {
@@ -53,6 +55,12 @@ fn are_defined(sections: usize, symbols: &[Symbol]) -> bool
         }
     }
     true
+}
+
+fn are_defined(sections: usize, symbols: &SymbolTable) -> bool
+    ensures { result ≡ true → All (IsDefined sections) symbols.now }
+{
+    all_defined(sections, &symbols.symbols)
 }
 
 // Whether the symbol of each entry is one of so many.
@@ -118,6 +126,22 @@ impl Example {
         self.object.reloc_sections = [joined].to_vec(alloc)?;
         Ok(())
     }
+
+    /// Puts so many sections of section 1's relocations in front, each of which has the first `count` of the file.
+    pub(crate) fn cover(&mut self, sections: usize, count: usize) -> Result<(), Fail> {
+        for section in 0..sections {
+            self.object.reloc_sections.insert(
+                0,
+                RelocSection {
+                    section,
+                    target: 1,
+                    offset: FILE.len(),
+                    count,
+                },
+            )?;
+        }
+        Ok(())
+    }
 }
 
 /// The object linked.
@@ -161,17 +185,21 @@ pub(crate) fn section(kind: u32, alloc: bool, size: u64, target: u32) -> Section
 pub(crate) fn symbols_of(
     alloc: Global,
     rows: &[(&[u8], u16, u64, u64)],
-) -> Result<Vec<Symbol>, Fail> {
+) -> Result<SymbolTable, Fail> {
     let mut symbols = Vec::new(alloc);
+    let mut strings = Vec::new(alloc);
     for (name, section, value, size) in rows {
         symbols.push(Symbol {
-            name: name.to_vec(alloc)?,
+            name: u32::try_from(strings.len()).unwrap_or(u32::MAX),
             section: *section,
             value: *value,
             size: *size,
         })?;
+        strings.extend_from_slice(name)?;
+        strings.push(0)?;
     }
-    Ok(symbols)
+    let strings = StringTable::new(strings);
+    Ok(SymbolTable { symbols, strings })
 }
 
 /// A relocation of section 1, by the symbol of this index, which stands alone in section 5.

@@ -1,7 +1,7 @@
 use crate::bytes::first_other;
 use crate::purgatory_objects::{BASE, Example, linked, loaded, object, reloc, section, symbols_of};
 use elf_image::Reloc;
-use purgatory_link::{LinkFault, Linked, size};
+use purgatory_link::{LinkFault, Linked, PurgatorySymbol, size};
 use std::test::Fail;
 
 // What comes of the object with one relocation.
@@ -250,7 +250,11 @@ fn symbols_are_found_and_set(rt: HostRuntime) -> Result<(), Fail> {
     let mut linked = linked_with(&rt, &SYMBOLS)?;
     let found = (linked.symbol(b"entry64_regs"), linked.symbol(b"absolute"));
     assert_eq!(rt; found, (Some((BASE + 33, 2)), None));
-    assert_eq!(rt; linked.set_symbol(b"other", &[]), Err(LinkFault::NoSymbol));
+    let symbol = PurgatorySymbol::Other;
+    assert_eq!(rt; linked.set_symbol(b"other", &[]), Err(LinkFault::NoSymbol { symbol }));
+    let symbol = PurgatorySymbol::Digest;
+    let missing = linked.set_symbol(b"purgatory_sha256_digest", &[]);
+    assert_eq!(rt; missing, Err(LinkFault::NoSymbol { symbol }));
     assert_eq!(rt; linked.set_symbol(b"entry64_regs", &[1, 2]), Ok(()));
     assert_eq!(rt; first_other(&linked.bytes, &[(32, &[7, 1, 2, 7])]), None);
     Ok(())

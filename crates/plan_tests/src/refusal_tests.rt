@@ -7,7 +7,7 @@ use crash_headers::{CrashFault, Note};
 use elf_image::ElfFault;
 use kexec_plan::{Part, PlanFault, Request};
 use kx_pages::ImageType;
-use purgatory_link::LinkFault;
+use purgatory_link::{LinkFault, PurgatorySymbol};
 use segments::SegFault;
 use std::alloc::Global;
 use std::test::Fail;
@@ -184,11 +184,23 @@ fn parts_of_other_kernels_without_a_place_are_refused(rt: HostRuntime) -> Result
 /// Bytes of a purgatory's file, their place, and why it is not linked with them.
 const LINK_ROWS: [(usize, &[u8], LinkFault); 6] = [
     (0xe70, &[3], LinkFault::BadAlign { section: 1 }),
-    (0xe98, &[0, 0xc, 0, 0, 0, 0, 0, 0, 24], LinkFault::NoSymbol),
+    (
+        0xe98,
+        &[0, 0xc, 0, 0, 0, 0, 0, 0, 24],
+        LinkFault::NoSymbol {
+            symbol: PurgatorySymbol::Registers,
+        },
+    ),
     (0xc28, &[128], LinkFault::WrongSize { found: 128 }),
     (0xc40, &[1], LinkFault::WrongSize { found: 257 }),
     (0xc58, &[0], LinkFault::WrongSize { found: 0 }),
-    (0xc60, &[0], LinkFault::NoSymbol),
+    (
+        0xc60,
+        &[0],
+        LinkFault::NoSymbol {
+            symbol: PurgatorySymbol::Start,
+        },
+    ),
 ];
 
 // A raw kernel and the purgatory with these bytes at this place.

@@ -1,0 +1,117 @@
+use crate::bytes::{file_of, first_other, put};
+use crate::purgatory_objects::{Example, linked, object, reloc};
+use elf_image::{ElfFault, read_object};
+use purgatory_link::LinkFault;
+use std::alloc::Global;
+use std::test::Fail;
+
+/// How many sections of relocations have the same entries.
+const SECTIONS: usize = 40;
+
+/// Where those entries stand: 8 of them, with 24 bytes each. The section headers follow.
+const ENTRIES: usize = 64 + 48;
+
+const HEADERS: usize = ENTRIES + 8 * 24;
+
+// Puts a section header with this type, offset, size, sh_link and sh_info, and entries of 24 bytes.
+fn put_section(file: &mut [u8], index: usize, [kind, offset, size, link, info]: [usize; 5]) {
+    let at = index.saturating_mul(64).saturating_add(HEADERS);
+    put(file, at.saturating_add(4), &(kind as u32).to_le_bytes());
+    put(file, at.saturating_add(24), &(offset as u64).to_le_bytes());
+    put(file, at.saturating_add(32), &(size as u64).to_le_bytes());
+    put(file, at.saturating_add(40), &(link as u32).to_le_bytes());
+    put(file, at.saturating_add(44), &(info as u32).to_le_bytes());
+    put(file, at.saturating_add(56), &[24]);
+}
+
+// An object of two symbols without names, and of so many sections of the same relocations, by symbol 0.
+fn covered(alloc: Global) -> Result<Vec<u8>, Fail> {
+    let count = SECTIONS + 3;
+    let bytes: [(usize, &[u8]); 5] = [
+        (0, &[0x7f, b'E', b'L', b'F', 2, 1, 1]),
+        (16, &[1, 0, 62, 0]),
+        (40, &(HEADERS as u64).to_le_bytes()),
+        (58, &[64, 0]),
+        (60, &(count as u16).to_le_bytes()),
+    ];
+    let mut file = file_of(alloc, HEADERS + 64 * count, &bytes)?;
+    put_section(&mut file, 1, [2, 64, 48, 2, 0]);
+    put_section(&mut file, 2, [3, 64, 1, 0, 0]);
+    for i in 0..SECTIONS {
+        put_section(&mut file, i.saturating_add(3), [4, ENTRIES, 8 * 24, 1, 2]);
+    }
+    Ok(file)
+}
+
+#[test]
+fn sections_that_cover_the_same_entries_are_read(rt: HostRuntime) -> Result<(), Fail> {
+    let file = covered(rt.alloc())?;
+    let object = read_object(rt.alloc(), &file)?;
+    assert_eq!(rt; object.reloc_sections.len(), SECTIONS);
+    for section in &object.reloc_sections {
+        assert_eq!(rt; (section.offset, section.count, section.target), (ENTRIES, 8, 2));
+    }
+    Ok(())
+}
+
+#[test]
+fn the_first_entry_without_its_symbol_is_told(rt: HostRuntime) -> Result<(), Fail> {
+    let mut file = covered(rt.alloc())?;
+    let (third, fifth) = (ENTRIES + 2 * 24, ENTRIES + 4 * 24);
+    put(&mut file, fifth + 12, &[2]);
+    let at = fifth as u64 + 8;
+    assert_eq!(rt; read_object(rt.alloc(), &file).err(), Some(ElfFault::BadIndex { at }));
+    // A section with fewer entries comes first, and has all their symbols; then one that begins behind them.
+    put_section(&mut file, 3, [4, ENTRIES, 4 * 24, 1, 2]);
+    put_section(&mut file, 4, [4, third + 1, 24, 1, 2]);
+    assert_eq!(rt; read_object(rt.alloc(), &file).err(), Some(ElfFault::BadIndex { at }));
+    put(&mut file, third + 12, &[2]);
+    let at = third as u64 + 8;
+    assert_eq!(rt; read_object(rt.alloc(), &file).err(), Some(ElfFault::BadIndex { at }));
+    Ok(())
+}
+
+// The object with two relocations of type 0, one of 32 bits at place 8, and another of type 0: by symbol 1, and the last by
+// this symbol. Sections of relocations have the same two in front.
+fn idle(alloc: Global, last: usize) -> Result<Example, Fail> {
+    let relocs = [
+        reloc(0, 99, 1, 0),
+        reloc(0, 8, 1, 0),
+        reloc(10, 8, 1, 5),
+        reloc(0, 8, last, 0),
+    ];
+    let mut example = object(alloc, 2, &relocs)?;
+    example.join_relocs(alloc, 1)?;
+    example.cover(SECTIONS, 2)?;
+    Ok(example)
+}
+
+#[test]
+fn relocations_that_put_nothing_may_be_shared(rt: HostRuntime) -> Result<(), Fail> {
+    let example = idle(rt.alloc(), 1)?;
+    let linked = linked(&rt, &example).ok().ok_or("a linked object")?;
+    assert_eq!(rt; first_other(&linked.bytes, &[(0, &[7; 8]), (8, &[7, 0, 0, 0, 7])]), None);
+    Ok(())
+}
+
+#[test]
+fn the_symbol_of_one_that_puts_nothing_has_a_value(rt: HostRuntime) -> Result<(), Fail> {
+    for (symbol, fault) in [
+        (3, LinkFault::Undefined { symbol: 3 }),
+        (4, LinkFault::Undefined { symbol: 4 }),
+        (5, LinkFault::Common { symbol: 5 }),
+    ] {
+        let example = idle(rt.alloc(), symbol)?;
+        assert_eq!(rt; linked(&rt, &example).err(), Some(fault));
+    }
+    Ok(())
+}
+
+#[test]
+fn a_field_that_two_sections_relocate_is_refused(rt: HostRuntime) -> Result<(), Fail> {
+    let mut example = idle(rt.alloc(), 1)?;
+    example.cover(1, 3)?;
+    let place = crate::purgatory_objects::BASE + 8;
+    assert_eq!(rt; linked(&rt, &example).err(), Some(LinkFault::RelocsMeet { place }));
+    Ok(())
+}
