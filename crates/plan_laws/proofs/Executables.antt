@@ -79,19 +79,22 @@ kept l (m ∷ ms) h (inr k) = by (has_memory m) (kept l ms h k)
 not_file : (a : ℕ) (m : Load) → m.filesz ≤ m.memsz → is_memory_of a m ≡ false → is_file_of a m ≡ false
 not_file a m room e = grind (arith, nat_tests)
 
+counted : (a : ℕ) (m : Load) (b : Bool) → is_memory_of a m ≡ b → cond (is_memory_of a m) 1 0 ≡ cond {A = ℕ} b 1 0
+counted a m b is = ap (λ b. cond {A = ℕ} b 1 0) is
+
 no_file : (n a : ℕ) (ls : List Load) → AreLoads n ls → count_by (is_memory_of a) ls ≡ 0 → is_file ls a ≡ false
 no_file n a [] k e = refl
-no_file n a (m ∷ ms) k e = by (is_memory_of a m) refl
+no_file n a (m ∷ ms) k e = by (is_memory_of a m) refl (λ none. no_file n a ms k.1 none)
   where
-    by : (b : Bool) → is_memory_of a m ≡ b → is_file (m ∷ ms) a ≡ false
-    by true is = absurd (omega (arith, count_cons a m ms, ap (λ b. cond b 1 0) is, e))
-    by false is =
+    by : (b : Bool) → is_memory_of a m ≡ b → (count_by (is_memory_of a) ms ≡ 0 → is_file ms a ≡ false) → is_file (m ∷ ms) a ≡ false
+    by true is rest = absurd (omega (arith, count_cons a m ms, counted a m true is, e))
+    by false is rest =
         ap (λ b. b || is_file ms a) (not_file a m k.0.fits is)
-        ∙ no_file n a ms k.1 (omega (arith, count_cons a m ms, ap (λ b. cond b 1 0) is, e))
+        ∙ rest (omega (arith, count_cons a m ms, counted a m false is, e))
 
 at_least : (a : ℕ) (l : Load) (ls : List Load) → Among l ls → is_memory_of a l ≡ true → 1 ≤ count_by (is_memory_of a) ls
 at_least a l [] k h = absurd k
-at_least a l (m ∷ ms) (inl e) h = omega (arith, count_cons a m ms, ap (λ b. cond b 1 0) (ap (is_memory_of a) e ∙ h))
+at_least a l (m ∷ ms) (inl e) h = omega (arith, count_cons a m ms, counted a m true (ap (is_memory_of a) e ∙ h))
 at_least a l (m ∷ ms) (inr k) h = omega (arith, count_cons a m ms, at_least a l ms k h)
 
 abbrev own_byte : ℕ → List ℕ → Load → ℕ → ℕ
@@ -100,15 +103,13 @@ own_byte a file l rest = cond (is_file_of a l) (slice_index file (l.offset + (a 
 byte_is : (n a : ℕ) (file : List ℕ) (l : Load) (ls : List Load) → AreLoads n ls → count_by (is_memory_of a) ls ≤ 1 → Among l ls → is_memory_of a l ≡ true → byte_at file ls a ≡ own_byte a file l 0
 byte_is n a file l [] k one h m = absurd h
 byte_is n a file l (x ∷ xs) k one (inl e) m =
-    let none = byte_none file xs a (no_file n a xs k.1 (omega (arith, one, count_cons a x xs, ap (λ b. cond b 1 0) (ap (is_memory_of a) e ∙ m)))) in
+    let none = byte_none file xs a (no_file n a xs k.1 (omega (arith, one, count_cons a x xs, counted a x true (ap (is_memory_of a) e ∙ m)))) in
     ap (own_byte a file x) none ∙ ap (λ l. own_byte a file l 0) e
-byte_is n a file l (x ∷ xs) k one (inr h) m = by (is_memory_of a x) refl
+byte_is n a file l (x ∷ xs) k one (inr h) m = by (is_memory_of a x) refl (byte_is n a file l xs k.1 (omega (arith, one, count_cons a x xs)) h m)
   where
-    by : (b : Bool) → is_memory_of a x ≡ b → byte_at file (x ∷ xs) a ≡ own_byte a file l 0
-    by true is = absurd (omega (arith, one, count_cons a x xs, ap (λ b. cond b 1 0) is, at_least a l xs h m))
-    by false is =
-        cond-false (is_file_of a x) _ _ (not_file a x k.0.fits is)
-        ∙ byte_is n a file l xs k.1 (omega (arith, one, count_cons a x xs)) h m
+    by : (b : Bool) → is_memory_of a x ≡ b → byte_at file xs a ≡ own_byte a file l 0 → byte_at file (x ∷ xs) a ≡ own_byte a file l 0
+    by true is rest = absurd (omega (arith, one, count_cons a x xs, counted a x true is, at_least a l xs h m))
+    by false is rest = cond-false (is_file_of a x) _ _ (not_file a x k.0.fits is) ∙ rest
 
 -- ---- the segment that has an address
 span_low : (r : Run) (q : ℕ) → in_span r q ≡ true → r.first ≤ q
@@ -119,35 +120,36 @@ span_high r q e = grind (arith, nat_tests)
 
 in_runs : (rs : List Run) (q : ℕ) → in_spans rs q ≡ true → (i : ℕ) × (r : Run) × (slice_get rs i ≡ Some r) × (in_span r q ≡ true)
 in_runs [] q e = cc
-in_runs (r ∷ rs) q e = by (in_span r q) refl e
+in_runs (r ∷ rs) q e = by (in_span r q) refl e (λ e. in_runs rs q e)
   where
-    by : (b : Bool) → in_span r q ≡ b → (b || in_spans rs q) ≡ true → (i : ℕ) × (x : Run) × (slice_get (r ∷ rs) i ≡ Some x) × (in_span x q ≡ true)
-    by true is e = (0, r, refl, is)
-    by false is e = let k = in_runs rs q e in (suc k.0, k.1, k.2, k.3)
+    by : (b : Bool) → in_span r q ≡ b → (b || in_spans rs q) ≡ true → (in_spans rs q ≡ true → (i : ℕ) × (x : Run) × (slice_get rs i ≡ Some x) × (in_span x q ≡ true)) → (i : ℕ) × (x : Run) × (slice_get (r ∷ rs) i ≡ Some x) × (in_span x q ≡ true)
+    by true is e rest = (0, r, refl, is)
+    by false is e rest = let k = rest e in (suc k.0, k.1, k.2, k.3)
 
 behind_last : (f : ℕ → Bool) (n k : ℕ) → up_to_last f n ≤ k → k < n → f k ≡ false
 unfolding up_to_last
 behind_last f zero k h l = absurd (omega (arith, l))
-behind_last f (suc n) k h l = by (f n) refl h
+behind_last f (suc n) k h l = by (f n) refl h (λ h less. behind_last f n k h less)
   where
-    by : (b : Bool) → f n ≡ b → cond b (suc n) (up_to_last f n) ≤ k → f k ≡ false
-    by true is h = absurd (omega (arith, h, l))
-    by false is h =
+    by : (b : Bool) → f n ≡ b → cond b (suc n) (up_to_last f n) ≤ k → (up_to_last f n ≤ k → k < n → f k ≡ false) → f k ≡ false
+    by true is h rest = absurd (omega (arith, h, l))
+    by false is h rest =
         elim (cases_lt k n) [
-          | inl less ↦ behind_last f n k h less
+          | inl less ↦ rest h less
           | inr more ↦ (let e : k ≡ n = omega (arith, more, l) in ap f e) ∙ is
         ]
 
+-- where the bytes of a run of pages end
+abbrev length_of : List Load → ℕ → ℕ → ℕ
+length_of ls a n = up_to_last (λ k. is_file ls (a + k)) n
+
 index_of_bytes : (file : List ℕ) (ls : List Load) (a n k : ℕ) → k < n → slice_index (bytes_of file ls a n) k ≡ byte_at file ls (a + k)
 index_of_bytes file ls a n k h =
-    elim (cases_lt k u) [
-      | inl less ↦ get_or-map-range_with_len (byte_at file ls) a u k (a + k) 0 less refl
-      | inr more ↦ get_or-eq_default (bytes_of file ls a n) 0 (let long = length-map-range_with_len (byte_at file ls) a u in omega (arith, long, more))
+    elim (cases_lt k (length_of ls a n)) [
+      | inl less ↦ get_or-map-range_with_len (byte_at file ls) a (length_of ls a n) k (a + k) 0 less refl
+      | inr more ↦ get_or-eq_default (bytes_of file ls a n) 0 (let long = length-map-range_with_len (byte_at file ls) a (length_of ls a n) in omega (arith, long, more))
           ∙ sym (byte_none file ls (a + k) (behind_last (λ k. is_file ls (a + k)) n k more h))
     ]
-  where
-    abbrev u : ℕ
-    u = up_to_last (λ k. is_file ls (a + k)) n
 
 -- an address of a page that is met has its byte in a segment
 stands : (file : List ℕ) (ls : List Load) (a : ℕ) → a < 2 ^ 46 → is_met ls (a / 4096) ≡ true → HasByte a (byte_at file ls a) (segments_of file ls)

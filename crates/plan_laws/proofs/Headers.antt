@@ -85,7 +85,7 @@ loaded file x l e p h = by (has_memory l) refl
         record { bytes = λ k inside. absurd (omega (arith, inside, room, empty)); zeros = λ k past inside. absurd (omega (arith, inside, empty)) }
 
 row_inside : (n i count at first most : ℕ) → i < count → at ≡ first + n * i → first + n * count ≤ most → at + n ≤ most
-row_inside n i count at first most h e k = let next = mul-le-mul_left {suc i} {count} n h in omega (arith, e, k, next, mul-suc n i)
+row_inside n i count at first most h e k = let next = mul-le-mul_left {m = suc i} {n = count} n h in omega (arith, e, k, next, mul-suc n i)
 
 -- the load of these numbers
 abbrev load : (offset filesz paddr memsz : ℕ) → Load
@@ -141,7 +141,7 @@ module _ (file : List ℕ) (x : Executable) (e : exec_reading file ≡ Ok x) (p 
       let table = subst (λ (h : Header). h.file.phoff + entry_size h.wide * h.file.phnum ≤ length file) (sym same) (has_table file h p.read).inside in
       let l_is = row (row_inside (entry_size wide) i (header_read wide file).file.phnum at (header_read wide file).file.phoff (length file) below place table) in
       let read = ap (λ at. row_at wide file at) (sym place) ∙ l_is in
-      loaded file x l e p (given (load_at h file) 0 h.file.phnum i i l refl (subst (λ (h : Header). i < h.file.phnum) same below)
+      loaded file x l e p (given (load_at h file) 0 h.file.phnum i i l (omega arith) (subst (λ (h : Header). i < h.file.phnum) same below)
       (subst (λ (h : Header). load_at h file i ≡ Some l) same read))
 
   pub loads64 : h.wide ≡ true → AreLoaded64 file (segments_of file x.loads)

@@ -36,11 +36,11 @@ in_window b u n file within = sym (field-append b u (take n file) (drop n file) 
 
 passes : (f : ℕ → Bool) (xs : List ℕ) (x : ℕ) → find f xs ≡ Some x → f x ≡ true
 passes f [] x e = cc
-passes f (y ∷ ys) x e = by (f y) refl e
+passes f (y ∷ ys) x e = by (f y) refl e (λ e. passes f ys x e)
   where
-    by : (b : Bool) → f y ≡ b → cond b (Some y) (find f ys) ≡ Some x → f x ≡ true
-    by true is e = (let same : y ≡ x = cc in ap f (sym same)) ∙ is
-    by false is e = passes f ys x e
+    by : (b : Bool) → f y ≡ b → cond b (Some y) (find f ys) ≡ Some x → (find f ys ≡ Some x → f x ≡ true) → f x ≡ true
+    by true is e rest = (let same : y ≡ x = cc in ap f (sym same)) ∙ is
+    by false is e rest = rest e
 
 and_right : (a b : Bool) → (a && b) ≡ true → b ≡ true
 and_right true b e = e
@@ -254,7 +254,7 @@ kernel_is_loaded file h l there e =
 
 -- ---- with more segments
 byte_left : (a b : ℕ) (ss ts : List SegmentValue) → HasByte a b ss → HasByte a b (ss ++ ts)
-byte_left a b ss ts (s, one, rest) = (s, one_left s ss ts one, rest)
+byte_left a b ss ts (x, one, inside, is) = (x, one_left x ss ts one, inside, is)
 
 loaded_left : (file : List ℕ) (place a n m : ℕ) (ss ts : List SegmentValue) → IsLoaded file place a n m ss → IsLoaded file place a n m (ss ++ ts)
 loaded_left file place a n m ss ts l = record {
