@@ -49,7 +49,10 @@ fn sections_that_cover_the_same_entries_are_read(rt: HostRuntime) -> Result<(), 
     let object = read_object(rt.alloc(), &file)?;
     assert_eq!(rt; object.reloc_sections.len(), SECTIONS);
     for section in &object.reloc_sections {
-        assert_eq!(rt; (section.offset, section.count, section.target), (ENTRIES, 8, 2));
+        assert_eq!(rt;
+            (section.offset, section.count, section.target),
+            (ENTRIES, 8, 2)
+        );
     }
     Ok(())
 }
@@ -60,14 +63,23 @@ fn the_first_entry_without_its_symbol_is_told(rt: HostRuntime) -> Result<(), Fai
     let (third, fifth) = (ENTRIES + 2 * 24, ENTRIES + 4 * 24);
     put(&mut file, fifth + 12, &[2]);
     let at = fifth as u64 + 8;
-    assert_eq!(rt; read_object(rt.alloc(), &file).err(), Some(ElfFault::BadIndex { at }));
+    assert_eq!(rt;
+        read_object(rt.alloc(), &file).err(),
+        Some(ElfFault::BadIndex { at })
+    );
     // A section with fewer entries comes first, and has all their symbols; then one that begins behind them.
     put_section(&mut file, 3, [4, ENTRIES, 4 * 24, 1, 2]);
     put_section(&mut file, 4, [4, third + 1, 24, 1, 2]);
-    assert_eq!(rt; read_object(rt.alloc(), &file).err(), Some(ElfFault::BadIndex { at }));
+    assert_eq!(rt;
+        read_object(rt.alloc(), &file).err(),
+        Some(ElfFault::BadIndex { at })
+    );
     put(&mut file, third + 12, &[2]);
     let at = third as u64 + 8;
-    assert_eq!(rt; read_object(rt.alloc(), &file).err(), Some(ElfFault::BadIndex { at }));
+    assert_eq!(rt;
+        read_object(rt.alloc(), &file).err(),
+        Some(ElfFault::BadIndex { at })
+    );
     Ok(())
 }
 
@@ -90,7 +102,10 @@ fn idle(alloc: Global, last: usize) -> Result<Example, Fail> {
 fn relocations_that_put_nothing_may_be_shared(rt: HostRuntime) -> Result<(), Fail> {
     let example = idle(rt.alloc(), 1)?;
     let linked = linked(&rt, &example).ok().ok_or("a linked object")?;
-    assert_eq!(rt; first_other(&linked.bytes, &[(0, &[7; 8]), (8, &[7, 0, 0, 0, 7])]), None);
+    assert_eq!(rt;
+        first_other(&linked.bytes, &[(0, &[7; 8]), (8, &[7, 0, 0, 0, 7])]),
+        None
+    );
     Ok(())
 }
 
@@ -112,6 +127,9 @@ fn a_field_that_two_sections_relocate_is_refused(rt: HostRuntime) -> Result<(), 
     let mut example = idle(rt.alloc(), 1)?;
     example.cover(1, 3)?;
     let place = crate::purgatory_objects::BASE + 8;
-    assert_eq!(rt; linked(&rt, &example).err(), Some(LinkFault::RelocsMeet { place }));
+    assert_eq!(rt;
+        linked(&rt, &example).err(),
+        Some(LinkFault::RelocsMeet { place })
+    );
     Ok(())
 }

@@ -251,7 +251,10 @@ fn symbols_are_found_and_set(rt: HostRuntime) -> Result<(), Fail> {
     let found = (linked.symbol(b"entry64_regs"), linked.symbol(b"absolute"));
     assert_eq!(rt; found, (Some((BASE + 33, 2)), None));
     let symbol = PurgatorySymbol::Other;
-    assert_eq!(rt; linked.set_symbol(b"other", &[]), Err(LinkFault::NoSymbol { symbol }));
+    assert_eq!(rt;
+        linked.set_symbol(b"other", &[]),
+        Err(LinkFault::NoSymbol { symbol })
+    );
     let symbol = PurgatorySymbol::Digest;
     let missing = linked.set_symbol(b"purgatory_sha256_digest", &[]);
     assert_eq!(rt; missing, Err(LinkFault::NoSymbol { symbol }));

@@ -198,9 +198,9 @@ load_stands n file l ls sound h =
     let fits = good.fits in
     let low = good.low in
     let at = λ (k : ℕ) (inside : k < l.memsz).
-        (let m = in_memory (l.paddr + k) l (omega arith) (omega (arith, inside)) in
-        subst (λ byte. HasByte (l.paddr + k) byte (segments_of file ls)) (byte_is n (l.paddr + k) file l ls sound.each (sound.apart (l.paddr + k)) h m)
-        (stands file ls (l.paddr + k) (omega (arith, low, inside)) (met ((l.paddr + k) / 4096) l ls (meets (l.paddr + k) l m) h))) in
+    (let m = in_memory (l.paddr + k) l (omega arith) (omega (arith, inside)) in
+    subst (λ byte. HasByte (l.paddr + k) byte (segments_of file ls)) (byte_is n (l.paddr + k) file l ls sound.each (sound.apart (l.paddr + k)) h m)
+    (stands file ls (l.paddr + k) (omega (arith, low, inside)) (met ((l.paddr + k) / 4096) l ls (meets (l.paddr + k) l m) h))) in
     record {
       bytes = λ k inside.
           subst (λ byte. HasByte (l.paddr + k) byte (segments_of file ls))

@@ -29,8 +29,6 @@ use Rattle.plan_laws.proofs.Private.{MultibootSite}
 
 -- ---- the header that was found
 
-
-
 in_window : (b u n : ℕ) (file : List ℕ) → b + u ≤ length (take n file) → field b u (take n file) ≡ field b u file
 in_window b u n file within = sym (field-append b u (take n file) (drop n file) within) ∙ ap (field b u) (take-append-drop n file)
 
@@ -171,8 +169,8 @@ module _ (file : List ℕ) (at : ℕ) (k : Kludge) where
         (0, refl),
         (omega arith, omega (arith, inside, met)),
         ap (slice_index (segment file s).bytes) index
-        ∙ get_or-append_right (replicate r 0) (take count (drop (place s) file)) r (r + i) 0 (length-replicate r 0) (omega arith)
-        ∙ ap (slice_index (take count (drop (place s) file))) back ∙ is,
+            ∙ get_or-append_right (replicate r 0) (take count (drop (place s) file)) r (r + i) 0 (length-replicate r 0) (omega arith)
+            ∙ ap (slice_index (take count (drop (place s) file))) back ∙ is,
       )
     where
       less : (a b : ℕ) → a < b → nat_lt a b ≡ true
@@ -196,10 +194,10 @@ module _ (file : List ℕ) (at : ℕ) (k : Kludge) where
       let whole = g.whole in
       let low = g.low in
       let long : count ≤ memory =
-          elim (cases_eq k.bss_end_addr 0) [
-            | inl z ↦ omega (arith, no_bss z)
-            | inr n ↦ (let some : 0 < k.bss_end_addr = omega (arith, n) in let up = g.memory some in omega (arith, bss some, up))
-          ] in
+      elim (cases_eq k.bss_end_addr 0) [
+        | inl z ↦ omega (arith, no_bss z)
+        | inr n ↦ (let some : 0 < k.bss_end_addr = omega (arith, n) in let up = g.memory some in omega (arith, bss some, up))
+      ] in
       record {
         entry_addr = f.entry_addr;
         place = place s;

@@ -60,13 +60,7 @@ impl LinkBuffer {
 
 // Whether a relocation stands at this byte of the file that puts nothing, whatever section it is of: its type is
 // R_X86_64_NONE, and its symbol has a value.
-fn is_idle(
-    base: u64,
-    object: &Object,
-    file: &[u8],
-    starts: &[Option<u64>],
-    at: usize,
-) -> bool
+fn is_idle(base: u64, object: &Object, file: &[u8], starts: &[Option<u64>], at: usize) -> bool
     ensures { result ≡ true → is_idle base object.now file.now starts.now at ≡ true }
 {
     if file.len() < 24 || at > file.len() - 24 {
@@ -79,8 +73,7 @@ fn is_idle(
         count: 1,
     }
     .reloc(file, 0);
-    reloc.kind == R_X86_64_NONE
-        && symbol_value(base, starts, &object.symbols, reloc.symbol).is_ok()
+    reloc.kind == R_X86_64_NONE && symbol_value(base, starts, &object.symbols, reloc.symbol).is_ok()
 }
 
 // Runs of relocations that put nothing, from each byte of the file on.
