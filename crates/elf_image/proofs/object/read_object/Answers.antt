@@ -1,4 +1,4 @@
-use Rattle.std.proofs.Common.{◌≡◌, ap, sym, ◌∙◌, Ok, subst, length, arith}
+use Rattle.std.proofs.Common.{◌≡◌, ap, sym, ◌∙◌, Ok, subst, length}
 use Rattle.elf_image.proofs.Failing.{Fails}
 use Rattle.elf_image.specs.Reloc.{read_relocs}
 use Rattle.elf_image.proofs.Objects.{table_fails, object_symbols_fail, object_relocs_fail, object_told}
