@@ -1,5 +1,5 @@
 -- What a command makes and delivers, and what each of its answers says. This project's own.
-use Rattle.std.specs.Prelude.{◌≡◌, ℕ, ◌≤◌, ◌⊎◌, List, [], ◌∷◌, ◌++◌, length, take, Option, Some, None, Result, Ok, Err}
+use Rattle.std.specs.Prelude.{◌≡◌, ℕ, ◌≤◌, ◌⊎◌, List, [], ◌∷◌, ◌++◌, length, take, Option, Some, None, option_map, Result, Ok, Err}
 use Rattle.std.specs.FinMap.{insert}
 use Rattle.kx_edge.specs.Edge.{Files, Rose, PutFile, PutPrefix, Said, SaidPrefix}
 use Rattle.kx_edge.specs.declared.edge.Shelf.{Ghosts as Shelf}
@@ -36,13 +36,12 @@ abbrev pub with_outputs : Files → List File → Files
 with_outputs held [] = held
 with_outputs held (o ∷ os) = with_outputs (insert held o.0 o.1) os
 
--- all outputs were put. Files that are told afterwards were told before.
+-- All outputs were put. Where files were told before, exactly these are told afterwards; where none were, none are.
 abbrev pub FilesPut : Option Files → List File → Option Files → Type 0
-FilesPut old outputs None = Unit {0}
-FilesPut old outputs (Some now) =
-    (held : Files) × (old ≡ Some held) × (now ≡ with_outputs held outputs)
+FilesPut old outputs new = new ≡ option_map (λ held. with_outputs held outputs) old
 
--- the outputs before one of this name are whole, and it has a prefix of its bytes
+-- The outputs before one of this name are whole, and it has a prefix of its bytes. Files that are told afterwards were told
+-- before.
 abbrev pub FilesUpTo : Option Files → List File → List ℕ → List ℕ → Option Files → Type 0
 FilesUpTo old before name bytes None = Unit {0}
 FilesUpTo old before name bytes (Some now) =
