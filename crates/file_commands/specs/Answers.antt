@@ -4,7 +4,7 @@ use Rattle.std.specs.FinMap.{insert}
 use Rattle.kx_edge.specs.Edge.{Files, Rose, PutFile, PutPrefix, Said, SaidPrefix}
 use Rattle.kx_edge.specs.declared.edge.Shelf.{Ghosts as Shelf}
 use Rattle.kx_edge.specs.declared.edge.Sink.{Ghosts as Sink}
-use Rattle.file_commands.specs.Taking.{File, Refusal, Take, Took, FailedAt, Same, reads}
+use Rattle.file_commands.specs.Taking.{File, Refusal, Take, Took, FailedAt, WantedAt, Same, reads}
 
 -- how a command ended
 pub data Answer (F R : Type 0) : Type 0 where
@@ -101,10 +101,10 @@ module _ {S O : Type 0} (D : Shelf S) (E : Sink O) where
   Delivers goods s o other s' o' = ⊥
 
   -- What an answer says of a command, from one state of shelf and sink to another: the takes, the goods and what was
-  -- delivered of them.
+  -- delivered of them. Where memory was wanted, some of the takes were made, and nothing was put or said.
   abbrev pub Meets : {X F R : Type 0} → Command X F R → S → O → Answer F R → S → O → Type 0
   Meets c s o (unread name) s' o' = FailedAt D c.takes s name s' × (o' ≡ o)
-  Meets c s o memory s' o' = Same D s s' × (o' ≡ o)
+  Meets c s o memory s' o' = WantedAt D c.takes s s' × (o' ≡ o)
   Meets {X} c s o (refused a) s' o' =
       (Took D c.takes s (Err a) s' ⊎ ((x : X) × Took D c.takes s (Ok x) s' × c.makes x (Err a)))
       × (o' ≡ o)
