@@ -104,7 +104,7 @@ fn a_record_is_written_as_version_2(rt: HostRuntime) -> Result<(), Fail> {
     play(&rt, rt.alloc(), RECORDS, &[MIGRATE_NEW])
 }
 
-// Over files in memory alone, on the shelf that never fails.
+// Over files in memory alone, on the shelf that fails only outside its room.
 #[test]
 fn the_first_boot_is_done_in_memory(rt: HostRuntime) -> Result<(), Fail> {
     let alloc = rt.alloc();

@@ -4,6 +4,7 @@
 ghost use Rattle.std.specs.Prelude.{◌≡◌};
 ghost use Rattle.std.specs.Process.{exit_status};
 
+mod causes;
 mod ending;
 mod files;
 mod hints;
@@ -16,6 +17,7 @@ mod words;
 #[cfg(test)]
 mod words_tests;
 
+use causes::{Cause, cause_of};
 use ending::{Details, Ending};
 use hints::hint_of;
 use kexec_main::kexec;
@@ -42,8 +44,13 @@ fn main(rt: HostRuntime) -> ExitCode {
     let mut shelf = HostShelf::new(&rt);
     let mut sink = StdSink::new(&rt);
     let status = kexec(rt.alloc(), &words, &mut shelf, &mut sink);
+    let cause = match (shelf.cause(), sink.cause()) {
+        (Some(cause), _) => Some(cause_of(&rt, &words, &status, cause)),
+        (None, Some(error)) => Some(Cause::System { error }),
+        (None, None) => None,
+    };
     let details = Details {
-        cause: shelf.cause().or(sink.cause()),
+        cause,
         hint: hint_of(&rt, &words, &status),
     };
     finish(&rt, &Ending::of(rt.alloc(), &words, &status, details))

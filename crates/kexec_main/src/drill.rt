@@ -38,7 +38,7 @@ pub(crate) struct DrillWords {
 }
 
 // Takes a file of events and reads it.
-#[tactic(auto, unfolding(file_commands::specs::Taking::and_then, file_commands::specs::Taking::Took, file_commands::specs::Taking::FailedAt, file_commands::specs::inner::Calls::TakesNot))]
+#[tactic(auto, unfolding(file_commands::specs::Taking::and_then, file_commands::specs::Taking::Took, file_commands::specs::Taking::FailedAt, file_commands::specs::Taking::WantedAt, file_commands::specs::inner::Calls::TakesNot))]
 fn take_events<S: Shelf>(
     alloc: Global,
     name: String,

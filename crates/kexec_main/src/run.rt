@@ -109,9 +109,8 @@ pub fn kexec<S: Shelf, O: Sink>(
         (λ X c. MeetsTold S.Shelf O.Sink c held shelf.old out.old (answer_of result) shelf.new
         out.new) (command_of (map string_bytes words.now))) }
 
-    // What stands after each command that answered Done, over a shelf that tells its files at the call. What it says of the
-    // files after the command it says where the shelf tells them at the return too (FilesPut): a shelf may tell files at the
-    // call and none at the return, and of that one it says what was loaded and what was said, and nothing of OUT. `meets`
+    // What stands after each command that answered Done, over a shelf that tells its files at the call: it tells them at the
+    // return too, with each output put (FilesPut), and a sink that told its bytes tells these and the text (Said). `meets`
     // says of every shelf that each output was put, once, with its bytes.
     ensures done { (c : CommandValue) → command_of (map string_bytes words.now) ≡ Ok c
         → answer_of result ≡ done
