@@ -136,7 +136,7 @@ no_such_plan = (
 nothing_wanted : (p : ℕ) (bytes : List ℕ) → want [] p ≡ Some bytes → ⊥
 nothing_wanted p bytes e = let f : ◌≡◌ {A = Option (List ℕ)} None (Some bytes) = e in cc
 
-nothing_told : Told nothing_loaded.load 1 0 []
+pub nothing_told : Told nothing_loaded.load 1 0 []
 nothing_told = record {
   items = Done 0 ∷ [];
   accepted = record {

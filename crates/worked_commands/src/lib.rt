@@ -27,6 +27,10 @@ mod singles;
 mod statuses;
 mod takes;
 mod texts;
+mod wrong_boots;
+mod wrong_execs;
+mod wrong_panics;
+mod wrong_residents;
 
 pub use answers::{
     answers_by_calls, answers_over_told_files, answers_that_refuse, outputs_in_their_order,
@@ -81,4 +85,13 @@ pub use takes::{
 pub use texts::{
     hexadecimal_numbers, lines_of_a_crash_kernel, lines_of_a_load, lines_of_a_purgatory,
     lines_of_runs, lines_of_single_commands,
+};
+pub use wrong_boots::{fields_that_a_boot_needs, fields_that_follow_from_a_load, right_boot};
+pub use wrong_execs::{
+    fields_that_an_exec_needs, fields_that_follow_from_an_accepted_list, right_exec,
+};
+pub use wrong_panics::{fields_that_a_crash_load_needs, fields_that_follow_from_a_crash_plan};
+pub use wrong_residents::{
+    fields_that_a_resident_boot_needs, fields_that_follow_from_a_resident_list,
+    right_resident_boot,
 };
