@@ -1,19 +1,17 @@
 -- The list that moves page 12 to page 2, found in memory: what is so of its run.
-use Rattle.std.proofs.Common.{◌≡◌, ◌∙◌, ℕ, List, [], ◌∷◌, Option, Some, None, refl, sym, ap, arith, inl, inr}
+use Rattle.std.proofs.Common.{[], ◌∷◌, None, refl, arith, inl, inr}
 use Rattle.kx_pages.specs.declared.image.Mode.TheVariants as modes
 use Rattle.kx_pages.specs.declared.image.Wish.TheVariants.{Plain}
-use Rattle.kx_pages.specs.Modes.{swap_page}
 use Rattle.kx_laws.proofs.Options.{none_some}
 use Rattle.page_memory.specs.Contents.{at}
 use Rattle.segments.specs.Rules.{bare_refusal, shape_refusal}
-use Rattle.segments.specs.Values.{overlay, want}
 use Rattle.segments.specs.inner.Rules.{IsBare}
 use Rattle.load_states.specs.Ready.{Told}
 use Rattle.load_states.specs.Runs.{EndsAfter}
 use Rattle.load_states.proofs.Ready.{list_ends}
 use Rattle.kexec_main.specs.Loads.{NormalLoad}
 use Rattle.kexec_main.specs.Outputs.{IsFileOf}
-use Rattle.kexec_main.specs.Runs.{Leaves, MachineLeaves, after_runs, memory_after}
+use Rattle.kexec_main.specs.Runs.{Leaves, MachineLeaves, after_runs}
 use Rattle.kexec_main.proofs.Ending.{machine_leaves}
 use Rattle.kexec_main.proofs.Leaving.{leaves_by}
 use Rattle.worked_commands.specs.Drawn.{found}

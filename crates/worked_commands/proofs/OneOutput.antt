@@ -1,13 +1,13 @@
 -- What the one output of a run, and the text that was said, tell of it.
-use Rattle.std.proofs.Common.{◌≡◌, ◌∙◌, ℕ, List, [], ◌∷◌, ◌++◌, Option, Some, None, Result, Ok, ap, arith, refl, sym}
+use Rattle.std.proofs.Common.{◌≡◌, ◌∙◌, ℕ, List, [], ◌++◌, None, ap, arith, refl, sym}
 use Rattle.std.specs.Ordering.{nat_cmp}
 use Rattle.std.specs.Cmp.Lexicographic.{slice_cmp}
-use Rattle.std.specs.FinMap.{FinMap, empty, get, get-empty, insert}
+use Rattle.std.specs.FinMap.{empty, get, get-empty, insert}
 use Rattle.std.specs.Prelude.{get_or}
 use Rattle.kx_laws.proofs.Options.{none_some, some_same}
 use Rattle.kx_laws.proofs.Results.{ok_same}
 use Rattle.kx_pages.specs.Bytes.{Mem, page_of}
-use Rattle.page_memory.specs.Contents.{at, frame_at, zero_page}
+use Rattle.page_memory.specs.Contents.{frame_at, zero_page}
 use Rattle.page_memory.specs.File.{file, read_pages, text_of}
 use Rattle.page_memory.specs.Memory.{Agree}
 use Rattle.page_memory.specs.declared.fault.MemFault.{MemFault}
@@ -25,7 +25,7 @@ put_is name a b (held, same, now) =
 -- where nothing was put, it has nothing
 pub put_something : (name a : List ℕ) → IsPut name a empty → ⊥
 put_something name a (held, same, now) =
-    none_some (None {A = List ℕ}) a refl (sym (get-empty (slice_cmp nat_cmp) name) ∙ ap (λ m. get m name) now ∙ get_same held name name a refl)
+    none_some {A = List ℕ} None a refl (sym (get-empty (slice_cmp nat_cmp) name) ∙ ap (λ m. get m name) now ∙ get_same held name name a refl)
 
 pub is_put : (name a : List ℕ) → IsPut name a (insert empty name a)
 is_put name a = (empty, refl, refl)

@@ -1,16 +1,17 @@
 -- Boots of which all is so but one field.
-use Rattle.std.proofs.Common.{◌≡◌, ◌∙◌, ◌+◌, ◌≤◌, ◌++◌, ℕ, List, [], ◌∷◌, Option, Some, None, refl, sym, ap, arith, inl, inr}
+use Rattle.std.proofs.Common.{◌≡◌, ◌∙◌, ℕ, List, [], Option, Some, None, refl, sym, ap, arith, inl, inr}
 use Rattle.std.specs.FinMap.{empty}
-use Rattle.std.specs.Prelude.{◌⊎◌, codes}
+use Rattle.std.specs.Fmt.{digits}
+use Rattle.std.specs.Prelude.{codes}
 use Rattle.kx_pages.specs.Bytes.{Mem}
 use Rattle.kx_pages.specs.declared.image.Mode.TheVariants as modes
-use Rattle.kx_pages.specs.declared.image.Wish.{Wish}
 use Rattle.page_memory.specs.Contents.{at}
-use Rattle.segments.specs.Rules.{bare_refusal, shape_refusal}
 use Rattle.segments.specs.Values.{SegmentValue, want}
 use Rattle.segments.specs.inner.Rules.{IsBare}
 use Rattle.segments.proofs.Laws.{AreSegments-from_IsBare, want-from_Has}
 use Rattle.purgatory_link.specs.inner.Tie.{HasWanted}
+use Rattle.relocate_machine.specs.Machine.{kind_of, step_of}
+use Rattle.relocate_machine.specs.Run.{run_from}
 use Rattle.load_states.specs.States.{Checked, swap_of}
 use Rattle.kimage_list.specs.Laying.{mode_with}
 use Rattle.kexec_plan.specs.Finish.{HasTableApart}
@@ -28,17 +29,15 @@ use Rattle.kexec_main.specs.Startup.{planned_startup}
 use Rattle.kexec_main.proofs.Ending.{ends_again, machine_leaves}
 use Rattle.kexec_main.proofs.Leaving.{has_mode, leaves_by}
 use Rattle.worked_commands.specs.Drawn.{found}
-use Rattle.worked_commands.specs.Inputs.{few_read, no_pages_file, three_bytes}
+use Rattle.worked_commands.specs.Inputs.{no_pages_file, three_bytes}
 use Rattle.worked_commands.specs.Loads.{boot_text, few_plan, nothing_loaded}
 use Rattle.worked_commands.specs.Memories.{abc_page, run_file}
 use Rattle.worked_commands.specs.Texts.{no_memory}
 use Rattle.worked_commands.specs.Wrong.{BootNeeds, BootsTo, nothing_text, with_o}
 use Rattle.worked_commands.proofs.DrawnLoads.{nothing_told}
-use Rattle.worked_commands.proofs.FoundLoad.{few_load, is_memory, leaves, runs, told}
-use Rattle.worked_commands.proofs.LoadWitness.{sealed}
-use Rattle.worked_commands.proofs.Loads.{one_plan, plan_is}
+use Rattle.worked_commands.proofs.FoundLoad.{few_load, is_memory, leaves, runs}
+use Rattle.worked_commands.proofs.Loads.{one_plan}
 use Rattle.worked_commands.proofs.Memories.{no_page, no_pages_are, wanted}
-use Rattle.worked_commands.proofs.OneLoad.{boot_says}
 use Rattle.worked_commands.proofs.OneOutput.{is_put, is_said, no_empty_file, not_zeros, one_memory, put_is, put_something, said_is}
 
 -- ---- what follows from a load
@@ -81,7 +80,8 @@ no_table (inl h) = omega (arith, h)
 no_table (inr h) = omega (arith, h)
 
 says : run_text None found (planned_startup few_plan) ≡ boot_text
-says = boot_says found few_plan plan_is _ told
+unfolding digits
+says = refl
 
 abbrev Finds : Checked → Type 0
 Finds c = HasTableApart few_plan → IsOnce None → test (after_runs None c) few_plan.regions few_plan.digest ≡ Same
@@ -104,10 +104,10 @@ right = record {
   said = rw says (is_said boot_text);
 }
 
--- nothing was loaded
-nothing_bare : IsBare nothing_loaded.load.segments
-unfolding bare_refusal shape_refusal
-nothing_bare = refl
+-- nothing was loaded: the machine is done at the head
+nothing_runs : MachineLeaves None nothing_loaded
+unfolding run_from step_of kind_of
+nothing_runs = λ q. refl
 
 wanted_by : (ss : List SegmentValue) → ss ≡ three_bytes → want ss 2 ≡ Some abc_page
 wanted_by ss e = ap (λ ss. want ss 2) e ∙ wanted
@@ -121,7 +121,7 @@ without_load = (
   (
     tt,
     (
-      machine_leaves None nothing_loaded modes.Plain refl tt nothing_bare nothing_told,
+      nothing_runs,
       (
         leaves_by None nothing_loaded modes.Plain refl tt nothing_told,
         (finds nothing_loaded, (no_pages_are, (is_put (codes "o") no_pages_file, (is_said nothing_text, tt)))),

@@ -1,5 +1,5 @@
 -- Loads of a crash kernel of which all is so but one field.
-use Rattle.std.proofs.Common.{◌≡◌, ◌≢◌, ◌∙◌, ℕ, List, [], ◌∷◌, true, false, Option, Some, None, Result, Ok, Err, refl, sym, ap, arith}
+use Rattle.std.proofs.Common.{◌≡◌, ◌≢◌, ◌∙◌, ℕ, List, [], true, false, Some, None, Result, Ok, Err, refl, sym, ap, arith}
 use Rattle.kx_laws.proofs.Options.{none_some}
 use Rattle.kx_pages.specs.Spans.{Run, in_span}
 use Rattle.page_memory.specs.Contents.{Contents, at}

@@ -1,5 +1,5 @@
 -- Runs of `boot-resident` of which all is so but one field.
-use Rattle.std.proofs.Common.{◌≡◌, ◌≢◌, ◌∙◌, ◌++◌, ◌≤◌, ℕ, List, [], ◌∷◌, length, drop, true, false, cond, Option, Some, None, Ok, refl, sym, ap, subst, arith, inl, inr}
+use Rattle.std.proofs.Common.{◌≡◌, ◌≢◌, ◌∙◌, ℕ, List, [], ◌∷◌, length, drop, true, false, cond, None, refl, sym, ap, subst, arith, inl, inr}
 use Rattle.std.specs.FinMap.{empty}
 use Rattle.std.specs.Fmt.{digits}
 use Rattle.std.specs.Prelude.{codes, eqb, get_or, unwrap_or}
@@ -21,7 +21,7 @@ use Rattle.list_checker.specs.Walk.{IsAccepted, links, pairs}
 use Rattle.load_states.specs.Ready.{Told}
 use Rattle.load_states.specs.Runs.{EndsAfter}
 use Rattle.load_states.specs.States.{Checked, Load}
-use Rattle.load_states.specs.inner.Runs.{IsSameCheck, IsSameLoad}
+use Rattle.load_states.specs.inner.Runs.{IsSameLoad}
 use Rattle.load_states.proofs.Alike.{tells_alike}
 use Rattle.load_states.proofs.Ready.{list_ends}
 use Rattle.resident_planner.specs.Cycles.{deviating}
@@ -42,7 +42,7 @@ use Rattle.worked_commands.specs.Inputs.{three_bytes}
 use Rattle.worked_commands.specs.Lists.{HasList, one_move}
 use Rattle.worked_commands.specs.Loads.{few_plan}
 use Rattle.worked_commands.specs.Memories.{abc_page, list_page, loaded, memory_with, run_file}
-use Rattle.worked_commands.specs.Texts.{no_memory, plain_image}
+use Rattle.worked_commands.specs.Texts.{no_memory}
 use Rattle.worked_commands.specs.Wrong.{ResidentNeeds, ResidentTo, elsewhere, elsewhere_file, elsewhere_pages, made_list, made_text, none_resident, run_elsewhere, with_o, without_a_pool}
 use Rattle.worked_commands.proofs.FoundLoad.{bare, ends, is_memory, leaves, runs, told}
 use Rattle.worked_commands.proofs.Lists.{accepted}

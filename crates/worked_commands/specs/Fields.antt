@@ -3,9 +3,10 @@
 use Rattle.std.specs.Prelude.{◌≡◌, ℕ, List, [], ◌∷◌, Some, None, Ok, false}
 use Rattle.std.specs.FinMap.{empty}
 use Rattle.kx_pages.specs.Spans.{Run, in_span}
-use Rattle.page_memory.specs.Contents.{at}
+use Rattle.page_memory.specs.Contents.{Contents, at}
 use Rattle.memory_map.specs.Maps.{reserved_area}
 use Rattle.segments.specs.Values.{want}
+use Rattle.load_record.specs.File.{Record}
 use Rattle.load_states.specs.Ready.{Told}
 use Rattle.load_states.specs.Runs.{EndsAfter}
 use Rattle.load_states.specs.States.{Checked, CrashLoad}
@@ -21,10 +22,10 @@ use Rattle.kexec_plan.specs.Requests.{Plan}
 use Rattle.kexec_words.specs.Values.{BootResidentValue, BootValue, ExecValue}
 use Rattle.kx_edge.specs.Edge.{Files, Said}
 use Rattle.file_commands.specs.Answers.{FilesPut}
-use Rattle.kexec_main.specs.declared.files.LoadFiles.{LoadFiles}
 use Rattle.kexec_main.specs.BootResident.{IsResident, ResidentInputs, load_with, resident_text}
 use Rattle.kexec_main.specs.CrashInputs.{CrashInputs}
 use Rattle.kexec_main.specs.Exec.{files_text, load_of, runs_asked}
+use Rattle.kexec_main.specs.Files.{list_files}
 use Rattle.kexec_main.specs.Inputs.{LoadInputs}
 use Rattle.kexec_main.specs.Loads.{NormalLoad}
 use Rattle.kexec_main.specs.Outputs.{IsFileOf}
@@ -59,19 +60,20 @@ fields_of_boot b i p c output now text =
     ∷ IsPut b.out output now
     ∷ IsSaid (run_text b.kept c (planned_startup p)) text ∷ []
 
--- HasExecuted
-abbrev pub fields_of_exec : ExecValue → LoadFiles → Checked → (output : List ℕ) → Files
+-- HasExecuted, of a memory and the record of a list
+abbrev pub fields_of_exec : ExecValue → Contents → Record → Checked → (output : List ℕ) → Files
     → (text : List ℕ) → List (Type 0)
-fields_of_exec e files c output now text =
-    (c.load ≡ load_of files)
+fields_of_exec e m r c output now text =
+    (c.load ≡ load_of (list_files m r))
     ∷ Told c.load c.words c.links c.pairs
     ∷ EndsAfter c.load c.words
-    ∷ EndsAgain (runs_asked e.twice files) c
-    ∷ MachineLeaves (runs_asked e.twice files) c
-    ∷ Leaves (runs_asked e.twice files) c (after_runs (runs_asked e.twice files) c)
-    ∷ IsFileOf (after_runs (runs_asked e.twice files) c) output
+    ∷ EndsAgain (runs_asked e.twice (list_files m r)) c
+    ∷ MachineLeaves (runs_asked e.twice (list_files m r)) c
+    ∷ Leaves (runs_asked e.twice (list_files m r)) c
+    (after_runs (runs_asked e.twice (list_files m r)) c)
+    ∷ IsFileOf (after_runs (runs_asked e.twice (list_files m r)) c) output
     ∷ IsPut e.out output now
-    ∷ IsSaid (files_text e.twice files c) text ∷ []
+    ∷ IsSaid (files_text e.twice (list_files m r) c) text ∷ []
 
 -- PanicLoad
 abbrev pub fields_of_panic : CrashInputs → Plan → Run → CrashLoad → List (Type 0)

@@ -1,13 +1,12 @@
 -- Runs of which all that is promised is so but one field (this project's own). All are about the kernel `abc`.
-use Rattle.std.specs.Prelude.{ℕ, List, [], ◌∷◌, None, Ok, codes, false}
+use Rattle.std.specs.Prelude.{ℕ, List, [], ◌∷◌, None, codes, false}
 use Rattle.std.specs.FinMap.{empty, insert}
-use Rattle.kx_pages.specs.Spans.{Run}
 use Rattle.page_memory.specs.Contents.{Contents}
 use Rattle.page_memory.specs.File.{text_of}
+use Rattle.load_record.specs.File.{Record}
 use Rattle.load_states.specs.States.{Checked, CrashLoad}
 use Rattle.resident_planner.specs.declared.plan.Made.{Made as ResidentList}
 use Rattle.kx_edge.specs.Edge.{Files}
-use Rattle.kexec_main.specs.declared.files.LoadFiles.{LoadFiles}
 use Rattle.kexec_main.specs.Boot.{HasBooted}
 use Rattle.kexec_main.specs.BootResident.{HasBootedResident, ResidentInputs, resident_text}
 use Rattle.kexec_main.specs.CrashInputs.{CrashInputs}
@@ -51,37 +50,31 @@ BootNeeds n c output now text =
 abbrev pub nothing_text : List ℕ
 nothing_text = run_text None nothing_loaded (planned_startup few_plan)
 
--- ---- `exec`
-abbrev pub ExecsTo : LoadFiles → Files → List ℕ → Type 0
-ExecsTo files now text =
+-- ---- `exec` of the loaded memory and of a record
+abbrev pub ExecsTo : Record → Files → List ℕ → Type 0
+ExecsTo r now text =
     HasExecuted desk slate (desk_with empty) (slate_with []) (desk_with now) (slate_with text)
-    (exec_record false) files
+    (exec_record false) (list_files loaded r)
 
-abbrev pub ExecNeeds : ℕ → LoadFiles → Checked → List ℕ → Files → List ℕ → Type 0
-ExecNeeds n files c output now text =
-    EachBut n (fields_of_exec (exec_record false) files c output now text)
-    × (ExecsTo files now text → ⊥)
+abbrev pub ExecNeeds : ℕ → Record → Checked → List ℕ → Files → List ℕ → Type 0
+ExecNeeds n r c output now text =
+    EachBut n (fields_of_exec (exec_record false) loaded r c output now text)
+    × (ExecsTo r now text → ⊥)
 
-abbrev pub move_files : LoadFiles
-move_files = list_files loaded plain_record
+-- what would be said of another list than the record's
+abbrev pub text_of_exec : Record → Checked → List ℕ
+text_of_exec r c = files_text false (list_files loaded r) c
 
--- the list of the done word alone, in the memory of the files, is run in place of theirs
+-- the list of the done word alone, in the same memory, is run in place of the record's
 abbrev pub nothing_found : Checked
 nothing_found = record nothing_loaded { load = record nothing_loaded.load { memory = loaded } }
 
-abbrev pub nothing_found_text : List ℕ
-nothing_found_text = files_text false move_files nothing_found
-
--- the control page of these is the source of the list, which is not accepted so
-abbrev pub control_files : LoadFiles
-control_files =
-    list_files loaded (record plain_record { image = record plain_image { control = 0x12 } })
+-- the control page of this record is the source of its list, which is not accepted so
+abbrev pub control_record : Record
+control_record = record plain_record { image = record plain_image { control = 0x12 } }
 
 abbrev pub control_found : Checked
-control_found = record found { load = load_of control_files }
-
-abbrev pub control_text : List ℕ
-control_text = files_text false control_files control_found
+control_found = record found { load = load_of (list_files loaded control_record) }
 
 -- ---- `load-panic`
 abbrev pub PanicNeeds : ℕ → CrashInputs → CrashLoad → Type 0

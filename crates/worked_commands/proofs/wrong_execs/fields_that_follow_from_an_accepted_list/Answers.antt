@@ -4,13 +4,13 @@ use Rattle.worked_commands.proofs.WrongExecs.{again_follows, end_follows, leaves
 use Rattle.worked_commands.proofs.wrong_execs.fields_that_follow_from_an_accepted_list.Goals as goal
 
 pub returns-clause-ends : goal.returns-clause-ends
-returns-clause-ends c = λ files c bare is t. end_follows (exec_record false) files c is t bare
+returns-clause-ends c = λ m r c bare is t. end_follows (exec_record false) m r c is t bare
 
 pub returns-clause-ends_again : goal.returns-clause-ends_again
-returns-clause-ends_again c = λ e files c bare is t. again_follows e files c is t bare
+returns-clause-ends_again c = λ e m r c bare is t. again_follows e m r c is t bare
 
 pub returns-clause-runs : goal.returns-clause-runs
-returns-clause-runs c = λ e files c bare is t. runs_follow e files c is t bare
+returns-clause-runs c = λ e m r c bare is t. runs_follow e m r c is t bare
 
 pub returns-clause-leaves : goal.returns-clause-leaves
-returns-clause-leaves c = λ e files c is t. leaves_follow e files c is t
+returns-clause-leaves c = λ e m r c is t. leaves_follow e m r c is t
