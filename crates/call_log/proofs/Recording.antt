@@ -4,7 +4,7 @@ use Rattle.kx_edge.specs.declared.edge.Shelf.{Ghosts as Shelf}
 use Rattle.kx_edge.specs.declared.edge.Sink.{Ghosts as Sink}
 use Rattle.call_log.specs.declared.recorder.Recorder.{Recorder}
 use Rattle.call_log.specs.declared.recording_sink.RecordingSink.{RecordingSink}
-use Rattle.call_log.specs.Calls.{Logs, put, said, taken, unput, unsaid, untaken}
+use Rattle.call_log.specs.Calls.{Logs, put, said, taken, unput, unsaid, untaken, wanting}
 use Rattle.call_log.proofs.Replaying.{KeepsLog, KeepsText}
 
 -- what contracts see of a recorder over a shelf, and of a recording sink over a sink
@@ -14,6 +14,7 @@ recorder_over D = record {
   faults = λ s. D.faults s.inner;
   gives = λ s name most bytes t. D.gives s.inner name most bytes t.inner × Logs s.log (taken name most bytes) t.log × (length bytes ≤ most);
   fails = λ s name t. D.fails s.inner name t.inner × Logs s.log (untaken name) t.log;
+  wants = λ s name t. D.wants s.inner name t.inner × Logs s.log (wanting name) t.log;
   puts = λ s name bytes t. D.puts s.inner name bytes t.inner × Logs s.log (put name bytes) t.log;
   cuts = λ s name bytes t. D.cuts s.inner name bytes t.inner × Logs s.log (unput name bytes) t.log;
 }
@@ -31,6 +32,7 @@ keeps_log D = record {
   gives = λ s name most bytes t h. h.1;
   within = λ s name most bytes t h. h.2;
   fails = λ s name t h. h.1;
+  wants = λ s name t h. h.1;
   puts = λ s name bytes t h. h.1;
   cuts = λ s name bytes t h. h.1;
 }

@@ -1,5 +1,5 @@
 -- What holds of the files that a log tells.
-use Rattle.std.proofs.Common.{◌≡◌, ◌∙◌, ℕ, List, [], ◌∷◌, Result, Ok, ap, refl, sym, subst}
+use Rattle.std.proofs.Common.{◌≡◌, ◌∙◌, ℕ, List, [], ◌∷◌, Some, Result, Ok, ap, refl, sym, subst}
 use Rattle.std.specs.FinMap.{insert}
 use Rattle.kx_edge.specs.Edge.{Files}
 use Rattle.file_commands.specs.Taking.{File, Refusal, Take, file, ok, reads, refuse}
@@ -43,8 +43,8 @@ module _ {X F R : Type 0} (c : Command X F R) (held : Files) (calls text : List 
       record {
         shelf = refl;
         sink = refl;
-        put = (held, refl, puts_after c.takes held calls (puts_of goods.outputs) (Ok x) h ∙ puts_are goods.outputs held);
-        said = ([], refl, refl);
+        put = ap Some (puts_after c.takes held calls (puts_of goods.outputs) (Ok x) h ∙ puts_are goods.outputs held);
+        said = refl;
       },
     ),
   )

@@ -50,6 +50,7 @@ of_files = record {
   faults = λ held. 0;
   gives = λ held name most bytes now. (bytes ≡ read_of held name most) × (now ≡ held);
   fails = λ held name now. ⊥;
+  wants = λ held name now. ⊥;
   puts = λ held name bytes now. now ≡ insert held name bytes;
   cuts = λ held name bytes now. ⊥;
 }
