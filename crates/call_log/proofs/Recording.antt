@@ -4,7 +4,8 @@ use Rattle.kx_edge.specs.declared.edge.Shelf.{Ghosts as Shelf}
 use Rattle.kx_edge.specs.declared.edge.Sink.{Ghosts as Sink}
 use Rattle.call_log.specs.declared.recorder.Recorder.{Recorder}
 use Rattle.call_log.specs.declared.recording_sink.RecordingSink.{RecordingSink}
-use Rattle.call_log.specs.Calls.{Logs, put, said, taken, unput, unsaid, untaken, wanting}
+use Rattle.call_log.specs.Calls.{put, said, taken, unput, unsaid, untaken, wanting}
+use Rattle.call_log.specs.inner.Calls.{Logs}
 use Rattle.call_log.proofs.Replaying.{KeepsLog, KeepsText}
 
 -- what contracts see of a recorder over a shelf, and of a recording sink over a sink
