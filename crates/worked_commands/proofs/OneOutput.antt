@@ -19,23 +19,25 @@ use Rattle.worked_commands.specs.Memories.{abc_page}
 
 -- what was put under the name is what the shelf has there
 pub put_is : (name a b : List ℕ) → IsPut name a (insert empty name b) → a ≡ b
-put_is name a b (held, same, now) =
-    some_same a b (sym (get_same held name name a refl) ∙ ap (λ m. get m name) (sym now) ∙ get_same empty name name b refl)
+put_is name a b put =
+    let same = some_same (insert empty name b) (insert empty name a) put in
+    some_same a b (sym (get_same empty name name a refl) ∙ ap (λ m. get m name) (sym same) ∙ get_same empty name name b refl)
 
 -- where nothing was put, it has nothing
 pub put_something : (name a : List ℕ) → IsPut name a empty → ⊥
-put_something name a (held, same, now) =
-    none_some {A = List ℕ} None a refl (sym (get-empty (slice_cmp nat_cmp) name) ∙ ap (λ m. get m name) now ∙ get_same held name name a refl)
+put_something name a put =
+    let same = some_same empty (insert empty name a) put in
+    none_some {A = List ℕ} None a refl (sym (get-empty (slice_cmp nat_cmp) name) ∙ ap (λ m. get m name) same ∙ get_same empty name name a refl)
 
 pub is_put : (name a : List ℕ) → IsPut name a (insert empty name a)
-is_put name a = (empty, refl, refl)
+is_put name a = refl
 
 pub is_said : (text : List ℕ) → IsSaid text text
-is_said text = ([], refl, refl)
+is_said text = refl
 
 -- what was said is the text
 pub said_is : (line text : List ℕ) → IsSaid line text → text ≡ line
-said_is line text (before, same, now) = now ∙ ap (λ b. b ++ line) (sym (some_same [] before same))
+said_is line text said = some_same text line said
 
 -- no memory has an empty file
 pub no_empty_file : (N : Mem) → IsFileOf N [] → ⊥

@@ -8,8 +8,6 @@ use Rattle.kx_pages.specs.declared.image.Mode.TheVariants as modes
 use Rattle.page_memory.specs.Contents.{at}
 use Rattle.segments.specs.Values.{SegmentValue, want}
 use Rattle.segments.specs.inner.Rules.{IsBare}
-use Rattle.segments.proofs.Laws.{AreSegments-from_IsBare, want-from_Has}
-use Rattle.purgatory_link.specs.inner.Tie.{HasWanted}
 use Rattle.relocate_machine.specs.Machine.{kind_of, step_of}
 use Rattle.relocate_machine.specs.Run.{run_from}
 use Rattle.load_states.specs.States.{Checked, swap_of}
@@ -19,15 +17,15 @@ use Rattle.kexec_plan.specs.Requests.{Plan}
 use Rattle.kexec_plan.proofs.Bare.{planned_bare}
 use Rattle.kexec_plan.proofs.Regions.{same_where_planned}
 use Rattle.kexec_words.specs.declared.commands.Runs.{Runs}
-use Rattle.kexec_words.specs.declared.commands.Runs.TheVariants.{Once, Twice}
 use Rattle.purgatory_link.specs.declared.region_test.RegionTest.TheVariants.{Same}
 use Rattle.purgatory_link.specs.RegionTest.{test}
 use Rattle.kexec_main.specs.Inputs.{LoadInputs}
 use Rattle.kexec_main.specs.Loads.{NormalLoad}
-use Rattle.kexec_main.specs.Runs.{Arrives, EndsAgain, IsOnce, Leaves, MachineLeaves, after_runs, run_text, wish_of}
+use Rattle.kexec_main.specs.Runs.{EndsAgain, IsOnce, Leaves, MachineLeaves, after_runs, run_text, wish_of}
 use Rattle.kexec_main.specs.Startup.{planned_startup}
 use Rattle.kexec_main.proofs.Ending.{ends_again, machine_leaves}
 use Rattle.kexec_main.proofs.Leaving.{has_mode, leaves_by}
+use Rattle.kexec_main.proofs.Proving.{arrives, has_wanted_of}
 use Rattle.worked_commands.specs.Drawn.{found}
 use Rattle.worked_commands.specs.Inputs.{no_pages_file, three_bytes}
 use Rattle.worked_commands.specs.Loads.{boot_text, few_plan, nothing_loaded}
@@ -41,18 +39,6 @@ use Rattle.worked_commands.proofs.Memories.{no_page, no_pages_are, wanted}
 use Rattle.worked_commands.proofs.OneOutput.{is_put, is_said, no_empty_file, not_zeros, one_memory, put_is, put_something, said_is}
 
 -- ---- what follows from a load
--- one run leaves each page of the segments what it is to have
-arrives : (runs : Option Runs) (c : Checked) (N : Mem) → IsOnce runs → Leaves runs c N → Arrives c N
-arrives None c N once h = h.0
-arrives (Some Once) c N once h = h
-arrives (Some Twice) c N once h = absurd once
-
--- which is that each has what is wanted
-has_wanted_of : (ss : List SegmentValue) (N : Mem) → IsBare ss → ((q : ℕ) (bytes : List ℕ) → want ss q ≡ Some bytes → N q ≡ bytes) → HasWanted N ss
-has_wanted_of ss N bare h = λ q has.
-    let w = want-from_Has ss q (AreSegments-from_IsBare ss bare).placed has in
-    w.1 ∙ ap Some (sym (h q w.0 w.1))
-
 module _ (asked : Option Runs) (i : LoadInputs) (p : Plan) (c : Checked) (l : NormalLoad (wish_of asked) i p c) where
   bare : IsBare c.load.segments
   bare = rw l.segments (planned_bare i.request i.map p l.planned)
