@@ -1,15 +1,15 @@
 -- The devices under a log went by the calls that the log has, and by no others.
-use Rattle.std.proofs.Common.{◌≡◌, ◌∙◌, ℕ, List, [], ◌∷◌, ◌++◌, Option, Some, Result, Ok, Err, ap, refl, subst, sym, inl, inr}
+use Rattle.std.proofs.Common.{◌≡◌, ℕ, List, [], ◌∷◌, ◌++◌, Option, Some, Result, Ok, Err, ap, refl, subst, inl, inr}
 use Rattle.kx_edge.specs.declared.edge.Shelf.{Ghosts as Shelf}
 use Rattle.kx_edge.specs.declared.edge.Sink.{Ghosts as Sink}
 use Rattle.file_commands.specs.Taking.{FailedAt, File, Refusal, Take, Took, WantedAt, file, ok, refuse}
-use Rattle.file_commands.specs.Answers.{Answer, Command, Goods, Meets, PutAll, PutUpTo, done, memory, not_accepted, refused, unread, unsaid, unwritten}
+use Rattle.file_commands.specs.Answers.{Answer, Command, Meets, PutAll, PutUpTo, done, memory, not_accepted, refused, unread, unsaid, unwritten}
 use Rattle.call_log.specs.declared.log.Logging.{Logging}
 use Rattle.call_log.specs.declared.recorder.Recorder.{Recorder}
 use Rattle.call_log.specs.declared.recording_sink.RecordingSink.{RecordingSink}
 use Rattle.call_log.specs.Calls.{Call, ShelfGoes, SinkGoes, put, said, taken, unput, untaken, wanting}
 use Rattle.call_log.specs.Calls as of_log
-use Rattle.call_log.specs.inner.Calls.{Logs, log_at_first}
+use Rattle.call_log.specs.inner.Calls.{log_at_first}
 use Rattle.call_log.proofs.Growing.{Grew, grew_more, grew_none, grew_same, grew_then, is_log, was_empty}
 use Rattle.call_log.proofs.Recording.{recorder_over, recording_over}
 

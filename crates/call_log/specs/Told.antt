@@ -5,7 +5,7 @@ use Rattle.kx_edge.specs.Edge.{Files, read_of}
 use Rattle.kx_edge.specs.declared.edge.Shelf.{Ghosts as Shelf}
 use Rattle.kx_edge.specs.declared.edge.Sink.{Ghosts as Sink}
 use Rattle.file_commands.specs.Answers.{Answer, not_accepted, refused}
-use Rattle.call_log.specs.Calls.{Call, put, said, taken}
+use Rattle.call_log.specs.Calls.{Call, put, taken}
 
 -- each take of the log gave what is read of these files
 abbrev pub ReadAs : Files → List Call → Type 0

@@ -22,7 +22,7 @@ use Rattle.list_checker.proofs.Unique.{walk_same}
 use Rattle.load_states.specs.Fillings.{IsSealed}
 use Rattle.load_states.specs.Loads.{entries_of}
 use Rattle.load_states.specs.Ready.{Told}
-use Rattle.load_states.specs.States.{Checked, Load}
+use Rattle.load_states.specs.States.{Checked}
 use Rattle.load_states.proofs.LaidAccepted.{served_well}
 use Rattle.load_states.proofs.Outside.{no_source, no_swap, walk_in}
 use Rattle.kexec_plan.specs.Requests.{Plan}

@@ -1,5 +1,5 @@
 -- A load by the rules uses as many pages as it counts, each of them once.
-use Rattle.std.proofs.Common.{◌≡◌, ◌∙◌, ℕ, zero, suc, ◌+◌, ◌*◌, ◌/◌, ◌<◌, ◌≤◌, List, [], ◌∷◌, ◌++◌, length, take, drop, Option, Some, None, ap, arith, refl, subst, sym}
+use Rattle.std.proofs.Common.{◌≡◌, ◌∙◌, ℕ, zero, suc, ◌+◌, ◌*◌, ◌/◌, ◌≤◌, List, [], ◌∷◌, ◌++◌, length, take, drop, ap, arith, refl, subst, sym}
 use Rattle.std.specs.List.{AllByRecursion}
 use Rattle.std.specs.Prelude.{is_some, slice_index}
 use Rattle.std.proofs.lemmas.List.{length-drop, length-take-le}
@@ -12,13 +12,13 @@ use Rattle.kx_pages.specs.declared.image.Wish.TheVariants.{Plain, Kept}
 use Rattle.kx_pages.specs.declared.item.Item.{Item}
 use Rattle.kx_pages.specs.declared.item.Item.TheVariants.{Destination, Done, Link, Source}
 use Rattle.kx_pages.proofs.Counting.{Distinct-from_count, Each-from_count, count-append, no_longer}
-use Rattle.kx_pages.proofs.Lists.{Each-drop, Each-map, Each-take}
+use Rattle.kx_pages.proofs.Lists.{Each-drop, Each-take}
 use Rattle.page_memory.specs.Contents.{at}
 use Rattle.kx_pages.specs.Bytes.{Mem}
-use Rattle.segments.specs.Values.{SegmentValue, is_destination, need, want}
+use Rattle.segments.specs.Values.{is_destination, need, want}
 use Rattle.segments.proofs.Laws.{AreSegments-from_IsBare}
 use Rattle.kimage_list.specs.Laying.{chain, items, links_of, list_of, mode_with}
-use Rattle.kimage_list.specs.Load.{Entry, Loading, Move, Start}
+use Rattle.kimage_list.specs.Load.{Entry, Move, Start}
 use Rattle.kimage_list.specs.inner.Load.{pages_of}
 use Rattle.kimage_list.proofs.Enough.{has_of_count}
 use Rattle.kimage_list.proofs.Lists.{heads_same, length-items, nil_cons}
@@ -28,15 +28,11 @@ use Rattle.list_checker.proofs.Unique.{walk_same}
 use Rattle.load_states.specs.Fillings.{IsSealed}
 use Rattle.load_states.specs.Loads.{entries_of}
 use Rattle.load_states.specs.Ready.{Told}
-use Rattle.load_states.specs.States.{Checked, Load}
+use Rattle.load_states.specs.States.{Load}
 use Rattle.load_states.proofs.Exact.{loads_exactly}
 use Rattle.load_states.proofs.LaidAccepted.{pairs-chained, served_well}
 use Rattle.load_states.proofs.Outside.{walk_in}
-use Rattle.kexec_plan.specs.Plan.{plan}
-use Rattle.kexec_plan.specs.Requests.{Plan}
 use Rattle.kexec_plan.proofs.Bare.{planned_bare}
-use Rattle.kexec_main.specs.Inputs.{LoadInputs}
-use Rattle.kexec_main.specs.Loading.{IsLoaded}
 use Rattle.kexec_main.specs.inner.TooFew.{NoLoadOverFewer, UsesEachPageOnce, pages_used, swap_pages}
 use Rattle.kexec_main.proofs.Drawn.{OnLink, on_items}
 
