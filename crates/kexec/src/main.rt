@@ -17,11 +17,12 @@ mod words;
 #[cfg(test)]
 mod words_tests;
 
+use call_log::Logging;
 use causes::{Cause, cause_of};
 use ending::{Details, Ending};
 use hints::hint_of;
-use kexec_main::kexec;
 use kx_edge::{HostShelf, StdSink};
+use recorded_kexec::kexec_recorded;
 use std::process::ExitCode;
 use words::read_words;
 
@@ -41,10 +42,14 @@ fn main(rt: HostRuntime) -> ExitCode {
         Ok(words) => words,
         Err(error) => return finish(&rt, &Ending::without_words(error)),
     };
-    let mut shelf = HostShelf::new(&rt);
-    let mut sink = StdSink::new(&rt);
-    let status = kexec(rt.alloc(), &words, &mut shelf, &mut sink);
-    let cause = match (shelf.cause(), sink.cause()) {
+    let (status, shelf, sink) = kexec_recorded(
+        rt.alloc(),
+        &words,
+        HostShelf::new(&rt),
+        StdSink::new(&rt),
+        Logging::Off,
+    );
+    let cause = match (shelf.inner.cause(), sink.inner.cause()) {
         (Some(cause), _) => Some(cause_of(&rt, &words, &status, cause)),
         (None, Some(error)) => Some(Cause::System { error }),
         (None, None) => None,

@@ -1,5 +1,5 @@
 -- What `drill` takes and makes (this project's own).
-use Rattle.std.specs.Prelude.{◌≡◌, ◌⊎◌, ℕ, List, [], ◌∷◌, Option, None, map, Result, Ok, Err}
+use Rattle.std.specs.Prelude.{◌≡◌, ◌⊎◌, ℕ, List, [], ◌∷◌, Option, None, Result, Ok, Err}
 use Rattle.std.specs.List.{find}
 use Rattle.kx_edge.specs.Edge.{Said}
 use Rattle.kx_edge.specs.declared.edge.Shelf.{Ghosts as Shelf}

@@ -91,6 +91,7 @@ fn run_words<S: Shelf, O: Sink>(
 /// Three kinds of clauses: over every shelf and sink; over files that are told; and what a device's count of faults says.
 /// The host's shelf tells no files, since other programs may change them at any time. What is said over told files is said
 /// of it too, by the one body: it serves all shelves, and sees of each what it took, and never whether its files are told.
+/// `kexec_recorded` of recorded_kexec, which the program calls, says it of the bytes that a log of the calls has.
 pub fn kexec<S: Shelf, O: Sink>(
     alloc: Global,
     words: &[String],
