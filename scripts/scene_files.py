@@ -69,6 +69,11 @@ def hex_of(word):
         return None
 
 
+def name_of(word):
+    """A word as the name of a file, which may have blanks between quotes."""
+    return word.decode() if isinstance(word, Text) else word
+
+
 def number_of(word):
     return int(word, 16 if word.startswith("0x") else 10)
 
@@ -139,7 +144,7 @@ class Builder:
     def add_keyword(self, word, rest, world, lenient):
         """A word that wants others behind it."""
         if word == "like":
-            name = rest.pop(0)
+            name = name_of(rest.pop(0))
             if name not in world and not lenient:
                 raise ValueError(f"'{name}' is not a file that is there")
             content = world.get(name, b"")
