@@ -1,7 +1,7 @@
-use crate::bytes::{file_of, first_other, put};
-use crate::purgatory_objects::{Example, linked, object, reloc};
+//! Objects whose sections of relocations have the same entries.
+
+use crate::bytes::{file_of, put};
 use elf_image::{ElfFault, read_object};
-use purgatory_link::LinkFault;
 use std::alloc::Global;
 use std::test::Fail;
 
@@ -79,57 +79,6 @@ fn the_first_entry_without_its_symbol_is_told(rt: HostRuntime) -> Result<(), Fai
     assert_eq!(rt;
         read_object(rt.alloc(), &file).err(),
         Some(ElfFault::BadIndex { at })
-    );
-    Ok(())
-}
-
-// The object with two relocations of type 0, one of 32 bits at place 8, and another of type 0: by symbol 1, and the last by
-// this symbol. Sections of relocations have the same two in front.
-fn idle(alloc: Global, last: usize) -> Result<Example, Fail> {
-    let relocs = [
-        reloc(0, 99, 1, 0),
-        reloc(0, 8, 1, 0),
-        reloc(10, 8, 1, 5),
-        reloc(0, 8, last, 0),
-    ];
-    let mut example = object(alloc, 2, &relocs)?;
-    example.join_relocs(alloc, 1)?;
-    example.cover(SECTIONS, 2)?;
-    Ok(example)
-}
-
-#[test]
-fn relocations_that_put_nothing_may_be_shared(rt: HostRuntime) -> Result<(), Fail> {
-    let example = idle(rt.alloc(), 1)?;
-    let linked = linked(&rt, &example).ok().ok_or("a linked object")?;
-    assert_eq!(rt;
-        first_other(&linked.bytes, &[(0, &[7; 8]), (8, &[7, 0, 0, 0, 7])]),
-        None
-    );
-    Ok(())
-}
-
-#[test]
-fn the_symbol_of_one_that_puts_nothing_has_a_value(rt: HostRuntime) -> Result<(), Fail> {
-    for (symbol, fault) in [
-        (3, LinkFault::Undefined { symbol: 3 }),
-        (4, LinkFault::Undefined { symbol: 4 }),
-        (5, LinkFault::Common { symbol: 5 }),
-    ] {
-        let example = idle(rt.alloc(), symbol)?;
-        assert_eq!(rt; linked(&rt, &example).err(), Some(fault));
-    }
-    Ok(())
-}
-
-#[test]
-fn a_field_that_two_sections_relocate_is_refused(rt: HostRuntime) -> Result<(), Fail> {
-    let mut example = idle(rt.alloc(), 1)?;
-    example.cover(1, 3)?;
-    let place = crate::purgatory_objects::BASE + 8;
-    assert_eq!(rt;
-        linked(&rt, &example).err(),
-        Some(LinkFault::RelocsMeet { place })
     );
     Ok(())
 }
