@@ -59,6 +59,7 @@ with_pages m [] = m
 with_pages m (x ∷ xs) = with_page (with_pages m xs) x.0 x.1
 
 at-with_pages : (m : Contents) (xs : List (ℕ × List ℕ)) → at (with_pages m xs) ≡ put_all (at m) xs
+unfolding with_pages
 at-with_pages m [] = refl
 at-with_pages m (x ∷ xs) = at-with_page (with_pages m xs) x.0 x.1 ∙ ap (λ N. put N x.0 x.1) (at-with_pages m xs)
 
