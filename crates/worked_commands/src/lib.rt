@@ -19,6 +19,7 @@ mod exchanges;
 mod execs;
 mod firsts;
 mod inputs;
+mod logs;
 mod panics;
 mod replies;
 mod residents;
