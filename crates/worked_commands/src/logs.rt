@@ -1,4 +1,4 @@
-//! What the logs of a copy say: of `a` to `o`, with a second output `r` and a text.
+//! What logs say: of a copy of `a` to `o`, with a second output `r` and a text, and of two commands.
 
 ghost use Rattle.std.specs.Prelude.{◌≡◌, ◌∷◌, [], Some, None, codes};
 ghost use Rattle.call_log.specs.Calls.{ShelfGoes, SinkGoes, put, said, unput, unsaid as say_failed, untaken, wanting};
@@ -7,7 +7,13 @@ ghost use Rattle.call_log.specs.Told.{IsSteady, IsUnrefused, ReadAs, of_bytes, o
 ghost use Rattle.file_commands.specs.Answers.{done, memory, not_accepted, refused, unread, unsaid, unwritten};
 ghost use Rattle.file_commands.specs.Taking.{by, too_long};
 ghost use Rattle.worked_commands.specs.Answers.{copy, long_file, one_file, shelf, slate_with};
-ghost use Rattle.worked_commands.specs.Logs.{a_taken, copy_calls, copy_text};
+ghost use Rattle.kexec_words.specs.Values as words;
+ghost use Rattle.recorded_kexec.specs.Boot.{HasBootedLogged};
+ghost use Rattle.recorded_kexec.specs.Told.{HasDoneLogged, HasLaidLogged};
+ghost use Rattle.worked_commands.specs.Inputs.{each_file};
+ghost use Rattle.worked_commands.specs.Loads.{boot_text};
+ghost use Rattle.worked_commands.specs.Logs.{a_taken, boot_calls, copy_calls, copy_text, migrate_calls};
+ghost use Rattle.worked_commands.specs.Names.{boot_raw, migrate_record};
 ghost use Rattle.worked_commands.specs.Shelves.{desk, holding, slate};
 
 /// Each answer has its log: the take, the puts of what was made of its bytes, and the text.
@@ -56,4 +62,15 @@ pub fn files_of_a_log()
     ensures changed { IsSteady (a_taken (codes "xyz") ∷ a_taken (codes "xy") ∷ []) → ⊥ }
     ensures unrefused { IsUnrefused (unwritten (codes "r")) }
     ensures is_refused { IsUnrefused (refused (by 7)) → ⊥ }
+{}
+
+/// The log of a boot of the kernel `abc` says that OUT is the file of the run, whatever the shelf; and that of a migrated
+/// record says what stands over files with which it agrees.
+pub fn logs_of_commands()
+    ensures booted { HasBootedLogged (boot_raw None) boot_calls (said boot_text ∷ []) }
+    ensures not_said { HasBootedLogged (boot_raw None) boot_calls [] → ⊥ }
+    ensures migrated { HasDoneLogged each_file (words.migrate migrate_record) migrate_calls
+        (said (codes "record segments 1\n") ∷ []) }
+    ensures no_load { HasLaidLogged each_file (words.migrate migrate_record) migrate_calls
+        (said (codes "record segments 1\n") ∷ []) }
 {}
