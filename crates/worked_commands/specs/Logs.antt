@@ -25,4 +25,4 @@ boot_calls =
 -- the calls of migrate r o
 abbrev pub migrate_calls : List Call
 migrate_calls =
-    taken (codes "r") 301990993 three_bytes_file ∷ put (codes "o") three_bytes_file ∷ []
+    taken (codes "r") 268436449 three_bytes_file ∷ put (codes "o") three_bytes_file ∷ []
