@@ -41,7 +41,8 @@ pub fn devices_that_go_by_calls()
         (shelf ((codes "r", codes "12") ∷ (codes "o", codes "xyz") ∷ one_file) 6) }
     ensures no_call { ShelfGoes desk (shelf one_file 6) [] (shelf one_file 7) → ⊥ }
     ensures said_to_a_shelf { ShelfGoes desk (shelf one_file 6) copy_text (shelf one_file 6) → ⊥ }
-    ensures failed { ShelfGoes desk (shelf one_file 6) (untaken (codes "a") ∷ []) (shelf one_file 7) }
+    ensures failed { ShelfGoes desk (shelf one_file 6) (untaken (codes "a") ∷ [])
+        (shelf one_file 7) }
     ensures sink { SinkGoes slate (slate_with (codes "!") 8) copy_text
         (slate_with (codes "!ok\n") 8) }
     ensures put_to_a_sink { SinkGoes slate (slate_with [] 8) copy_calls (slate_with [] 8) → ⊥ }
