@@ -12,18 +12,22 @@ class Parser(argparse.ArgumentParser):
     def __init__(self, word, words, text, epilog=None):
         super().__init__(prog=f"{name_called()} {word}", usage=f"{name_called()} {word} {words}", description=text,
                          epilog=epilog, formatter_class=Formatter, add_help=False, allow_abbrev=False)
-        self.word = word
+        # what may be given, for the completion: the name of each option or argument, and that of an option's value
+        self.word, self.table = word, []
         self._positionals.title, self._optionals.title = "Arguments", "Options"
         self.add_argument("-h", "--help", action="help", help=argparse.SUPPRESS)
 
     def option(self, name, what, value=None, **how):
         """An option: a flag without the name of a value."""
         how = {"metavar": value, **how} if value else {"action": "store_true", **how}
+        # a value that may be left out is no place to wait for one
+        self.table.append((f"--{name}", None if how.get("nargs") == "?" else value))
         return self.add_argument(f"--{name}", help=what, **how)
 
     def word_of(self, name, what, **how):
-        """An argument that is no option, by its name in the help, as KERNEL."""
-        return self.add_argument(name.lower(), metavar=name, help=what, **how)
+        """An argument that is no option, by its name in the help, as KERNEL; it is found by the first word of the name."""
+        self.table.append((name, None))
+        return self.add_argument(name.split("=")[0].split("-")[0].lower(), metavar=name, help=what, **how)
 
     def format_usage(self):
         return f"Usage: {self.usage}\n"
@@ -69,3 +73,16 @@ def integer(text):
     if not (text.isascii() and text.isdigit()) or int(text) == 0:
         raise argparse.ArgumentTypeError(f"must be a whole number of at least 1, and {text!r} is given")
     return int(text)
+
+
+def choose(word, text, epilog, parsers, arguments):
+    """What is given behind a word that has words of its own, as `look pages`."""
+    own = Parser(word, "COMMAND ..", text, epilog)
+    if not arguments or arguments[0] in ("-h", "--help"):
+        if arguments:
+            own.print_help()
+            sys.exit(0)
+        own.error(f"a command is missing: choose one of {', '.join(parsers)}")
+    if arguments[0] not in parsers:
+        own.error(f"{arguments[0]!r} is not a command of {word}: choose one of {', '.join(parsers)}")
+    return parsers[arguments[0]].parse_args(arguments[1:])

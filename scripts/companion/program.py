@@ -55,6 +55,12 @@ def build():
         raise Wrong("".join(said).strip() or f"{KEXEC} ended with status {run_of_it.returncode}")
 
 
+def ready():
+    """Builds the program, where it is the one of the source tree and stands for other sources."""
+    if KEXEC == f"{TOP}/kexec":
+        build()
+
+
 def tool(words, folder):
     """Runs a tool, which must end well, and answers what it printed."""
     try:
