@@ -32,7 +32,6 @@ _kernelyet_value() {
         'drill:--map') said='files' ;;
         'plan:--map') said='files' ;;
         'plan:--ram') said='nothing' ;;
-        'plan:--crash') said='nothing' ;;
         'plan:--command') said='nothing' ;;
         'plan:--pool') said='files' ;;
         'plan:--notes') said='files' ;;
@@ -57,7 +56,6 @@ _kernelyet_value() {
         'look make-record:--rsi') said='nothing' ;;
         'picture plan:--map') said='files' ;;
         'picture plan:--ram') said='nothing' ;;
-        'picture plan:--crash') said='nothing' ;;
         'picture plan:--command') said='nothing' ;;
         'picture plan:--pool') said='files' ;;
         'picture plan:--notes') said='files' ;;

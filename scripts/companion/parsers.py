@@ -12,21 +12,22 @@ class Parser(argparse.ArgumentParser):
     def __init__(self, word, words, text, epilog=None):
         super().__init__(prog=f"{name_called()} {word}", usage=f"{name_called()} {word} {words}", description=text,
                          epilog=epilog, formatter_class=Formatter, add_help=False, allow_abbrev=False)
-        # what may be given, for the completion: the name of each option or argument, and that of an option's value
-        self.word, self.table = word, []
+        # what may be given, for completion and manual: each option with the name of its value, and the other arguments
+        self.word, self.values, self.names, self.optional = word, {}, [], set()
         self._positionals.title, self._optionals.title = "Arguments", "Options"
         self.add_argument("-h", "--help", action="help", help=argparse.SUPPRESS)
 
     def option(self, name, what, value=None, **how):
         """An option: a flag without the name of a value."""
         how = {"metavar": value, **how} if value else {"action": "store_true", **how}
-        # a value that may be left out is no place to wait for one
-        self.table.append((f"--{name}", None if how.get("nargs") == "?" else value))
+        self.values[f"--{name}"] = value
+        if how.get("nargs") == "?":
+            self.optional.add(f"--{name}")
         return self.add_argument(f"--{name}", help=what, **how)
 
     def word_of(self, name, what, **how):
         """An argument that is no option, by its name in the help, as KERNEL; it is found by the first word of the name."""
-        self.table.append((name, None))
+        self.names.append(name)
         return self.add_argument(name.split("=")[0].split("-")[0].lower(), metavar=name, help=what, **how)
 
     def format_usage(self):
