@@ -207,7 +207,7 @@ def test_compare(tests):
     tests.run("kexec", "load-panic", "--map", "iomem", "--command", "quiet a=2", "--initrd", "initrd", "guest/memory.kxmem", "c",
               "c2", "vmlinuz")
     status, out, _ = tests.run(KERNELYET, "compare", "c1", "c2")
-    tests.same("compare the command lines", (status, "words in one alone:\n  c1: a=1\n  c2: a=2" in out, "initrd:\n  c1: none"
+    tests.same("compare the command lines", (status, re.search("words in one alone:\n  c1: a=1 .*\n  c2: a=2 ", out) is not None, "initrd:\n  c1: none"
                                              in out), (1, True, True))
 
 
