@@ -13,6 +13,10 @@ LETTERS = {"free": ".", "taken": "x", "crash": "c", "hole": " ", "kernel": "K", 
            "stays": "t"}  # fmt: skip
 # Of what a load brings all is named; of the map, what is large enough to be seen.
 OF_MAP = {"free", "taken", "crash", "hole"}
+# Of these there are many runs, which have one label together.
+MANY = {"source", "link"}
+# In a terminal these are shown before all else: they are single pages, or few.
+FEW = ("control", "swap", "parameters", "headers", "purgatory")
 # a hole of more bytes than this is not drawn to scale
 BREAK = 64 << 20
 TOP, LEFT, WIDTH, HEIGHT = 70, 150, 130, 640
@@ -41,22 +45,28 @@ class Scale:
 
 
 def named_pieces(scale):
-    """The pieces that get a label, with the middle of each: of each kind that a load brings the largest ones, of the map
-    those that can be seen; and for each kind what is left out."""
+    """The labels, with the middle of what each is for: of each kind that a load brings the largest pieces, of the map those
+    that can be seen; what is left out of a kind has one label together."""
     found, kinds = [], {}
-    for piece, is_broken, top, height in scale.places:
-        if piece.kind in OF_MAP and height < 9 and piece.kind != "crash":
-            continue
-        kinds.setdefault(piece.kind, []).append((piece, top + height / 2, height))
+    for piece, _, top, height in scale.places:
+        if piece.kind not in OF_MAP or height >= 9 or piece.kind == "crash":
+            kinds.setdefault(piece.kind, []).append((piece, top + height / 2))
     for kind, some in kinds.items():
         some.sort(key=lambda it: -it[0].size())
-        for piece, middle, _ in some[:MOST_LABELS]:
-            found.append((middle, piece.name, f"{size_text(piece.size())} at {piece.start:#x}", kind))
-        if len(some) > MOST_LABELS:
-            rest = some[MOST_LABELS:]
-            size = size_text(sum(piece.size() for piece, _, _ in rest))
-            found.append((rest[0][1], f"{KINDS[kind]}: {len(rest)} more", f"{size} in runs of their own", kind))
+        single = 0 if kind in MANY and len(some) > 1 else MOST_LABELS
+        found += [(middle, piece.name, f"{size_text(piece.size())} at {piece.start:#x}", kind)
+                  for piece, middle in some[:single]]
+        if some[single:]:
+            found.append(label_of_many(kind, some[single:]))
     return sorted(found)
+
+
+def label_of_many(kind, some):
+    """One label for many pieces, beside the largest of them."""
+    pieces = sorted(piece for piece, _ in some)
+    size = size_text(sum(piece.size() for piece in pieces))
+    where = f"{size} from {pieces[0].start:#x} to {pieces[-1].end - 1:#x}"
+    return some[0][1], f"{KINDS[kind]}, {counted(len(some), 'run')}", where, kind
 
 
 def spread(labels, bottom):
@@ -91,8 +101,9 @@ def bar(scale):
             middle, step = top + height / 2, WIDTH / 10
             yield svg.path([(LEFT + i * step, middle + (-4 if i % 2 else 4)) for i in range(11)], "#888")
         else:
-            # what is too small to be seen is a thin line
-            yield svg.rectangle(LEFT, top, WIDTH, max(height, 1.5), COLOURS[piece.kind], "", title=title)
+            # what is too small to be seen is a thin line, unless there are many of it
+            seen = height if piece.kind in MANY else max(height, 1.5)
+            yield svg.rectangle(LEFT, top, WIDTH, seen, COLOURS[piece.kind], "", title=title)
     yield svg.rectangle(LEFT, TOP, WIDTH, scale.end - TOP, "none", "#555")
 
 
@@ -118,9 +129,10 @@ def cell_kind(pieces, start, end):
     """What a cell of a terminal shows: what a load brings before what the map has, and else what has the most of it."""
     met = [(min(piece.end, end) - max(piece.start, start), piece.kind) for piece in pieces
            if piece.start < end and start < piece.end]
+    kinds = {kind for _, kind in met}
+    few = [kind for kind in FEW if kind in kinds]
     brought = [it for it in met if it[1] not in OF_MAP]
-    # a single page is shown before the many that lie around it
-    return min(brought)[1] if brought else max(met, default=(0, "hole"))[1]
+    return few[0] if few else max(brought or met, default=(0, "hole"))[1]
 
 
 def cells(pieces, columns, rows):
