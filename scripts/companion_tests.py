@@ -132,7 +132,8 @@ def test_kernel_files(tests):
 def test_initrds(tests):
     plain = archive([("a", 0o100644, b"1" * 5000), ("b", 0o100644, b"")])
     packed = [gzip.compress(plain), lzma.compress(plain)]
-    for what, data, wanted in (("one archive", plain, 2 * PAGE), ("two, and zeros between", plain + bytes(512) + plain, 4 * PAGE),
+    for what, data, wanted in (("one archive", plain, 2 * PAGE),
+                               ("two, and zeros between", plain + bytes(512) + plain, 4 * PAGE),
                                ("early and gzip", plain + bytes(300) + packed[0], 2 * PAGE + len(plain)),
                                ("xz", packed[1], len(plain)), ("nothing", b"", 0)):
         tests.write("archive", data)
@@ -203,12 +204,12 @@ def test_compare(tests):
     tests.same("nothing differs", tests.run(KERNELYET, "compare", "r", "r")[:2], (0, "nothing differs\n"))
     status, out, _ = tests.run(KERNELYET, "compare", "r", "kr", "m", "km")
     tests.same("compare", (status, "kind:\n  r: normal kernel\n  kr: normal kernel, context preserved" in out), (1, True))
-    tests.run("kexec", "load-panic", "--map", "iomem", "--command", "quiet a=1", "guest/memory.kxmem", "c", "c1", "vmlinuz")
-    tests.run("kexec", "load-panic", "--map", "iomem", "--command", "quiet a=2", "--initrd", "initrd", "guest/memory.kxmem", "c",
-              "c2", "vmlinuz")
+    crash = ["kexec", "load-panic", "--map", "iomem"]
+    tests.run(*crash, "--command", "quiet a=1", "guest/memory.kxmem", "c", "c1", "vmlinuz")
+    tests.run(*crash, "--command", "quiet a=2", "--initrd", "initrd", "guest/memory.kxmem", "c", "c2", "vmlinuz")
     status, out, _ = tests.run(KERNELYET, "compare", "c1", "c2")
-    tests.same("compare the command lines", (status, re.search("words in one alone:\n  c1: a=1 .*\n  c2: a=2 ", out) is not None, "initrd:\n  c1: none"
-                                             in out), (1, True, True))
+    is_told = re.search("words in one alone:\n  c1: a=1 .*\n  c2: a=2 ", out) is not None
+    tests.same("compare the command lines", (status, is_told, "initrd:\n  c1: none" in out), (1, True, True))
 
 
 def test_plan(tests):

@@ -128,7 +128,8 @@ class Story:
         self.say("the crash kernel came up", "STORY crash kernel runs" in said)
         self.say("the crash kernel shows a vmcore of the guest", "STORY vmcore OSRELEASE" in said)
         record = Record(f"{self.folder}/crash.record")
-        return record.named("crash headers").mem, re.search("STORY vmcore ends in ([0-9a-f]*)", f"{said}STORY vmcore ends in")[1]
+        digest = re.search("STORY vmcore ends in ([0-9a-f]*)", f"{said}STORY vmcore ends in")[1]
+        return record.named("crash headers").mem, digest
 
     def rows(self):
         return maps.read_map(f"{self.folder}/guest-map")[1]
