@@ -26,12 +26,28 @@ class List:
                 self.words.append((parts["kind"], parts.get("address")))
             else:
                 raise Wrong(f"line {len(self.words) + 1} is not one that dump prints in this place: {line!r}")
-        self.runs = list(joined(merged(pairs(self.words)), self.segment_of))
+        self.runs = list(self.joined(merged(pairs(self.words))))
         self.links = [address for kind, address in self.words if kind == "link"]
 
     def segment_of(self, address):
         """The number of the segment that has an address; None where none has."""
         return next((i for i, (start, size, _) in enumerate(self.segments) if start <= address < start + size), None)
+
+    def joined(self, found):
+        """Runs (first number, destination, source, pages, last number): those that go on behind a link word, in the same
+        segment, are one."""
+        run = None
+        for number, to, source, count in found:
+            goes_on = run and (run[1] + PAGE * run[3], run[2] + PAGE * run[3], run[4] + 2) == (to, source, number)
+            is_link = goes_on and self.words[number - 1][0] == "link"
+            if is_link and self.segment_of(to) == self.segment_of(run[1]):
+                run[3], run[4] = run[3] + count, number + count - 1
+                continue
+            if run:
+                yield tuple(run)
+            run = [number, to, source, count, number + count - 1]
+        if run:
+            yield tuple(run)
 
     def place_of(self, address):
         """Which segment an address lies in, and where."""
@@ -53,22 +69,6 @@ class List:
                 yield name, kind, f"source {pages_text(source, count)} to {self.place_of(to)}"
             elif number not in inside or kind == "done":
                 yield name, kind, kind if address is None else f"{kind} {address:#x}"
-
-
-def joined(found, segment_of):
-    """Runs (first number, destination, source, pages, last number): those that go on behind a link page, in the same
-    segment, are one."""
-    run = None
-    for number, to, source, count in found:
-        goes_on = run and (run[1] + PAGE * run[3], run[2] + PAGE * run[3]) == (to, source) and number - run[4] == 2
-        if goes_on and segment_of(to) == segment_of(run[1]):
-            run[3], run[4] = run[3] + count, number + count - 1
-            continue
-        if run:
-            yield tuple(run)
-        run = [number, to, source, count, number + count - 1]
-    if run:
-        yield tuple(run)
 
 
 def cuts_of(runs, links):
