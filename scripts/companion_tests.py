@@ -295,9 +295,9 @@ def test_scale(tests):
     tests.same("each byte is in one piece", all(one.end == other.start for one, other in zip(pieces, pieces[1:])), True)
     tests.same("free RAM", sum(piece.size() for piece in pieces if piece.kind == "free") // PAGE,
                sum(end - first for first, end in FREE))
-    scale = picture_memory.Scale(pieces)
-    heights = {piece: height for piece, is_broken, _, height in scale.places if not is_broken}
-    tests.same("heights are sizes", {round(piece.size() / height / scale.bytes, 6) for piece, height in heights.items()}, {1.0})
+    bar = picture_memory.Bar(pieces, 0, 0, 640)
+    heights = {piece: height for piece, _, height in bar.places if not piece.is_broken()}
+    tests.same("heights are sizes", {round(piece.size() / height / bar.bytes, 6) for piece, height in heights.items()}, {1.0})
 
 
 def is_of(schema, value, whole):

@@ -3,7 +3,7 @@ import os
 import shutil
 import sys
 
-from companion import maps, picture_list, picture_memory, plan, planning, program
+from companion import maps, picture_list, picture_memory, picture_text, plan, planning, program
 from companion.memory_files import Memory
 from companion.parsers import Parser, choose
 from companion.records import Record
@@ -78,7 +78,7 @@ def draw(given, pieces, title):
         put(given, picture_memory.as_svg(pieces, title))
         return
     columns = min(64, max(16, shutil.get_terminal_size().columns - 18))
-    for line in picture_memory.as_text(pieces, title, columns - columns % 16):
+    for line in picture_text.as_text(pieces, title, columns - columns % 16):
         print(line)
 
 

@@ -10,8 +10,12 @@ KINDS = {
     "free": "free RAM", "taken": "taken by the firmware", "crash": "crash area, free", "hole": "no RAM",
     "kernel": "kernel", "initrd": "initrd", "parameters": "boot parameters", "purgatory": "purgatory",
     "headers": "crash headers", "segment": "segment", "link": "link pages", "control": "control page",
-    "swap": "swap page", "source": "sources of the list", "stays": "sources in their place already",
+    "swap": "swap page", "source": "sources of the list",
 }  # fmt: skip
+# the kinds that the map has, without a load
+OF_MAP = {"free", "taken", "crash", "hole"}
+# a hole of more bytes than this is not drawn to scale
+BREAK = 64 << 20
 OF_NAMES = {"kernel": "kernel", "initrd": "initrd", "boot parameters": "parameters", "purgatory": "purgatory",
             "crash headers": "headers", "": "segment"}
 
@@ -26,6 +30,10 @@ class Piece(NamedTuple):
 
     def size(self):
         return self.end - self.start
+
+    def is_broken(self):
+        """Whether it is a hole that is drawn short."""
+        return self.kind == "hole" and self.size() > BREAK
 
 
 def painted(pieces, over):
