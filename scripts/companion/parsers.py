@@ -55,8 +55,8 @@ def sentence_of(message, word):
         return f"{found[1]} {'are' if ',' in found[1] else 'is'} missing"
     found = re.fullmatch(r"unrecognized arguments: (\S+).*", message, re.S)
     if found:
-        kind = "an option" if found[1].startswith("-") else "an argument that is still wanted"
-        return f"{found[1]!r} is not {kind} of {word}"
+        is_option = found[1].startswith("-")
+        return f"{found[1]!r} is " + (f"not an option of {word}" if is_option else f"one argument too many for {word}")
     found = re.fullmatch(r"argument (\S+): invalid choice: (.*) \(choose from (.*)\)", message)
     if found:
         return f"{found[1]} cannot be {found[2]}: choose one of {found[3]}"

@@ -66,13 +66,16 @@ numbers without 0x."""
 def main(argv):
     """Does what the words say, and answers the status; a command of the program is not come back from."""
     words, name = argv[1:], name_called()
+    if words[:1] == ["help"]:
+        # help WORD is WORD --help
+        words = [*words[1:], "--help"]
     first = words[0] if words else ""
     if first in WORDS:
         from companion import refusals
 
         module = importlib.import_module(WORDS[first].module)
         return refusals.call(lambda: module.main(words[1:]), name)
-    if first in ("--help", "-h", "help") and len(words) == 1:
+    if first in ("--help", "-h") and len(words) == 1:
         print(help_text())
         return 0
     near = difflib.get_close_matches(first, WORDS, 1, 0.7) if first not in COMMANDS else []
