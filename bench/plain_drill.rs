@@ -4,7 +4,7 @@
 //!
 //! Applies the events of the file EVENTS over the memory file MEMORY and the pool file POOL, prints the reply to each, and
 //! writes the memory file OUT. It knows what is measured, and no more: stores, and loads in plain mode of one segment that
-//! one caller opens, writes and installs, where no page of the pool is one of the segment's. The pages are in an ordered map,
+//! one caller opens, writes, and installs or cancels, where no page of the pool is one of the segment's. The pages are in an ordered map,
 //! each in a box of its own. Nothing is tested that sound files meet.
 mod plain_memory;
 
@@ -104,6 +104,7 @@ impl Slots {
                 }
                 self.image = self.written.take();
             }
+            "cancel" => self.pool.extend(self.written.take().unwrap().pages),
             _ => (),
         }
         text.push_str("done");

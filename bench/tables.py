@@ -199,16 +199,17 @@ class Drills:
     def __init__(self, folder):
         self.folder = folder
         self.plain = build(folder, "plain_drill.rs", "RUSTC", "rustc", "--edition", "2021", "-O")
-        print("\n| Drill | Time, s | Plain, s | Time to plain | Each, µs | Plain each, µs |")
-        print("|---|---|---|---|---|---|", flush=True)
+        print("\n| Drill | Time, s | Plain, s | Time to plain | Each, µs | Plain each, µs | Peak, MiB |")
+        print("|---|---|---|---|---|---|---|", flush=True)
 
     def add(self, what, count):
         """Measures the events of a file, in which there are so many of what is told of."""
         files = ["memory", "pool", "out", "events"]
-        took = best([*PROGRAM, "drill", "--map", "map", *files], self.folder, ["out"])[0]
+        took, _, peak = best([*PROGRAM, "drill", "--map", "map", *files], self.folder, ["out"])
         plain_cells, plain_each = "|", ""
         if self.plain:
             plain = best([*HUGE_PAGES, self.plain, *files], self.folder, ["out"])[0]
             plain_cells, plain_each = f"{plain:.3f} | {took / plain:.2f}", f"{plain / count * 1e6:.2f}"
-        print(f"| {what} | {took:.3f} | {plain_cells} | {took / count * 1e6:.2f} | {plain_each} |", flush=True)
+        each_cells = f"{took / count * 1e6:.2f} | {plain_each}"
+        print(f"| {what} | {took:.3f} | {plain_cells} | {each_cells} | {peak // MIB} |", flush=True)
         remove(self.folder, "out")

@@ -1,9 +1,9 @@
 //! What a bzImage says of itself.
 
-ghost use Rattle.std.specs.Prelude.{◌≡◌, length, IfOk};
+ghost use Rattle.std.specs.Prelude.{length, IfOk};
 ghost use Rattle.kx_laws.specs.inner.Results.{Gives};
 ghost use Rattle.bzimage.specs.declared.fault.BzFault.TheVariants.{Memory};
-ghost use Rattle.bzimage.specs.Kernel.{kernel_reading, header_end};
+ghost use Rattle.bzimage.specs.Kernel.{kernel_reading};
 ghost use Rattle.bzimage.specs.inner.Kernel.{IsSound};
 
 use crate::fault::BzFault;

@@ -4,7 +4,7 @@ ghost use Rattle.std.specs.Prelude.{◌≡◌, length, IfOk};
 ghost use Rattle.kx_fields.specs.Formats.{read};
 ghost use Rattle.bzimage.specs.SetupHeader.{setup_header};
 ghost use Rattle.kx_laws.specs.Results.{unless};
-ghost use Rattle.bzimage.specs.Kernel.{is_header_end, is_alignment, is_cut, header_end, kernel_start, read_header, header_fault, tested_header, kernel_of};
+ghost use Rattle.bzimage.specs.Kernel.{header_end, kernel_start, read_header, header_fault, tested_header, kernel_of};
 ghost use Rattle.bzimage.specs.inner.Kernel.{HasSmallNumbers, IsTested};
 
 use crate::fault::BzFault;

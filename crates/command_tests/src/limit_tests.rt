@@ -1,4 +1,5 @@
-//! The limits of files, and of what a memory file can hold: with ample memory each is told as itself.
+//! The limits of the greatest files, and of what a memory file can hold: with ample memory each is told as itself. The limits
+//! of other files stand in crates/scenes/data/limits.scenes.
 
 use crate::first_example::{self, ABC, MAP, NO_PAGES};
 use crate::scene::Piece::{Bytes, List, Numbers, Repeated};
@@ -8,16 +9,12 @@ use std::test::Fail;
 
 /// The words, and the most bytes that the file "long" can have, which is one byte too long. The kernel, the initrd and
 /// the modules have 256 MiB together, half of which the files "half" and "rest" have each.
-const LIMITS: [(&str, usize); 10] = [
+const LIMITS: [(&str, usize); 6] = [
     ("boot --type raw --at 2000 long p o k", 537_919_504),
     ("check m long", 268_436_448),
-    ("load-panic --map f --notes long m o r k", 1_048_576),
-    ("boot-resident --at 2000 m p o k long", 1_048_576),
-    ("boot --map long --type raw --at 2000 m p o k", 1_048_576),
     ("boot --type raw --at 2000 m p o long", 268_435_456),
     ("boot --map f --initrd long m p o half", 134_217_728),
     ("boot --map f m p o half rest long", 0),
-    ("boot --map f --purgatory long m p o k", 16_777_216),
     ("core long o 0", 537_919_504),
 ];
 

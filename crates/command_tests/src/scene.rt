@@ -1,4 +1,4 @@
-//! Scenes, for tests: files in memory, commands that are run over them, and what must come of each.
+//! Files in memory, commands that are run over them, and what must come of each.
 
 use kexec_main::{Status, kexec};
 use kx_edge::{MemoryShelf, MemorySink, Shelf, ShelfFault};
@@ -11,12 +11,8 @@ use std::test::Fail;
 pub(crate) enum Piece {
     /// These bytes.
     Bytes(&'static [u8]),
-    /// Zeros up to this place of the file, and these bytes.
-    At(usize, &'static [u8]),
     /// A byte, so many times.
     Repeated(u8, usize),
-    /// These bytes, so many times.
-    Lines(&'static [u8], usize),
     /// These numbers, of eight bytes each.
     Numbers(&'static [u64]),
     /// A page of a memory: its number, and its bytes, which are these and then zeros.
@@ -58,8 +54,8 @@ pub(crate) struct Step {
     pub(crate) outputs: Outputs,
 }
 
-/// Adds numbers to a file.
-pub(crate) fn push_numbers(file: &mut Vec<u8>, numbers: &[u64]) -> Result<(), AllocError> {
+// Adds numbers to a file.
+fn push_numbers(file: &mut Vec<u8>, numbers: &[u64]) -> Result<(), AllocError> {
     for number in numbers {
         file.extend_from_slice(&number.to_le_bytes())?;
     }
@@ -73,14 +69,6 @@ fn push_repeated(file: &mut Vec<u8>, byte: u8, count: usize) -> Result<(), Alloc
         file.extend_from_slice(&page)?;
     }
     file.extend_from_slice(&page[..count % 4096])
-}
-
-// Adds a line so many times.
-fn push_lines(file: &mut Vec<u8>, line: &[u8], count: usize) -> Result<(), AllocError> {
-    for _ in 0..count {
-        file.extend_from_slice(line)?;
-    }
-    Ok(())
 }
 
 // Adds zeros up to this length.
@@ -109,12 +97,7 @@ fn push_list(file: &mut Vec<u8>, number: u64, words: &[u64]) -> Result<(), Alloc
 fn push_piece(file: &mut Vec<u8>, piece: Piece) -> Result<(), AllocError> {
     match piece {
         Piece::Bytes(bytes) => file.extend_from_slice(bytes),
-        Piece::At(place, bytes) => {
-            pad(file, place)?;
-            file.extend_from_slice(bytes)
-        }
         Piece::Repeated(byte, count) => push_repeated(file, byte, count),
-        Piece::Lines(line, count) => push_lines(file, line, count),
         Piece::Numbers(numbers) => push_numbers(file, numbers),
         Piece::Page(number, bytes) => push_page(file, number, bytes),
         Piece::List(number, words) => push_list(file, number, words),
@@ -189,19 +172,15 @@ pub(crate) fn run(
     Ok((status, sink))
 }
 
-/// The exit status and the status with which the command ended, and below them what was said.
-pub(crate) fn ending(
-    alloc: Global,
-    line: &str,
-    shelf: &mut MemoryShelf,
-) -> Result<String, AllocError> {
+// The exit status and the status with which the command ended, and below them what was said.
+fn ending(alloc: Global, line: &str, shelf: &mut MemoryShelf) -> Result<String, AllocError> {
     let (status, sink) = run(alloc, line, shelf, &[])?;
     let said = str::from_utf8(sink.said()).unwrap_or("other bytes than a text");
     format!(in alloc; "{} {status:?}\n{said}", status.code())
 }
 
-/// The file of this name, or None where there is none.
-pub(crate) fn file_of(
+// The file of this name, or None where there is none.
+fn file_of(
     alloc: Global,
     shelf: &mut MemoryShelf,
     name: &str,
@@ -210,30 +189,6 @@ pub(crate) fn file_of(
         Ok(bytes) => Ok(Some(bytes)),
         Err(ShelfFault::Failed) => Ok(None),
         Err(ShelfFault::Memory) => Err(AllocError),
-    }
-}
-
-fn stand(file: &[u8], at: usize, wanted: &[u8]) -> bool {
-    match file.get(at..) {
-        Some(behind) => behind.starts_with(wanted),
-        None => false,
-    }
-}
-
-/// The first of these places of a file where other bytes stand.
-pub(crate) fn first_other(file: &[u8], places: &[(usize, &[u8])]) -> Option<usize> {
-    for (at, wanted) in places {
-        if !stand(file, *at, wanted) {
-            return Some(*at);
-        }
-    }
-    None
-}
-
-/// Puts bytes into a file at this place, if it has room for all of them.
-pub(crate) fn patch(file: &mut [u8], at: usize, bytes: &[u8]) {
-    if at <= file.len() && bytes.len() <= file.len() - at {
-        file[at..at + bytes.len()].copy_from_slice(bytes);
     }
 }
 
@@ -294,33 +249,6 @@ pub(crate) fn expect(
     Ok(())
 }
 
-/// Runs the commands over one shelf, which has these files at first.
-pub(crate) fn play(
-    rt: &impl Abort,
-    alloc: Global,
-    files: Files,
-    steps: &[Step],
-) -> Result<(), Fail> {
-    let mut shelf = shelf(alloc, make_files(alloc, files)?, &[])?;
-    for step in steps {
-        let line = step.line;
-        expect(
-            rt,
-            alloc,
-            &mut shelf,
-            line,
-            step.code,
-            step.status,
-            step.said,
-        )?;
-        assert!(rt;
-            has_outputs(alloc, &mut shelf, step.outputs)?,
-            "{line}: other outputs"
-        );
-    }
-    Ok(())
-}
-
 /// Runs a command that is refused, and may say why: nothing is written.
 pub(crate) fn refuse(
     rt: &impl Abort,
@@ -333,19 +261,5 @@ pub(crate) fn refuse(
 ) -> Result<(), Fail> {
     expect(rt, alloc, shelf, line, code, status, said)?;
     assert!(rt; has_outputs(alloc, shelf, [None; 3])?, "{line}: outputs");
-    Ok(())
-}
-
-/// Runs each of these commands over these files: it is refused with this exit status and this status, and says nothing.
-pub(crate) fn refuse_all(
-    rt: &impl Abort,
-    alloc: Global,
-    files: Files,
-    rows: &[(&str, u8, &str)],
-) -> Result<(), Fail> {
-    for (line, code, status) in rows {
-        let mut shelf = shelf(alloc, make_files(alloc, files)?, &[])?;
-        refuse(rt, alloc, &mut shelf, line, *code, status, "")?;
-    }
     Ok(())
 }

@@ -3,7 +3,6 @@
 ghost use Rattle.std.specs.Prelude.{◌≡◌, IfOk};
 ghost use Rattle.std.specs.List.{list_any, position};
 ghost use Rattle.kx_laws.specs.inner.Results.{Gives};
-ghost use Rattle.text_lines.specs.Lines.{lines};
 ghost use Rattle.crash_headers.specs.declared.fault.NoteFault.TheVariants.{Memory};
 ghost use Rattle.crash_headers.specs.inner.Ranges.{AreRising};
 ghost use Rattle.crash_headers.specs.Notes.{lies_in, is_outside, note_from, note_of, line_onto, notes_reading};

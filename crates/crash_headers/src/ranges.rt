@@ -1,6 +1,6 @@
 //! Ranges in an order in which a note is found by halving.
 
-ghost use Rattle.std.specs.Prelude.{◌≡◌, ◌<◌, ◌≤◌, ◌-◌, ℕ, false, length, slice_index_or, IsTrue, IfOk};
+ghost use Rattle.std.specs.Prelude.{◌≡◌, ◌<◌, false, IsTrue, IfOk};
 ghost use Rattle.std.specs.List.Sorted.{IsPermutation};
 ghost use Rattle.memory_map.specs.declared.row.Row.{Row};
 ghost use Rattle.memory_map.specs.Rows.{row_end};

@@ -1,4 +1,4 @@
-//! Files that fail in mid-file, for tests.
+//! Files that fail in mid-file, or after it, for tests.
 
 ghost use Rattle.std.specs.Prelude.{◌≤◌, IfOk};
 
@@ -10,16 +10,18 @@ use std::rt::Files;
 /// An input or output error, as Linux numbers it (errno-base.h): what a broken disk answers.
 pub(crate) const EIO: i32 = 5;
 
-/// Files of which each gives or takes so many bytes, and then fails.
+/// Files of which each gives or takes so many bytes, and then fails; and whether what was written is kept.
 #[derive(Drop)]
 pub(crate) struct FaultyFiles {
     pub(crate) sound: usize,
+    pub(crate) settles: bool,
 }
 
 /// A file of which so many bytes are left before it fails.
 #[derive(Drop)]
 pub(crate) struct FaultyFile {
     left: usize,
+    settles: bool,
 }
 
 impl FaultyFile {
@@ -60,7 +62,7 @@ impl Seek for FaultyFile {
 
 impl OpenFile for FaultyFile {
     fn metadata(&self) -> io::Result<Metadata> {
-        Err(io::Error::from(ErrorKind::Unsupported))
+        Ok(Metadata::of_file(0))
     }
 
     fn set_len(&self, _size: u64) -> io::Result<()> {
@@ -68,7 +70,11 @@ impl OpenFile for FaultyFile {
     }
 
     fn sync_all(&self) -> io::Result<()> {
-        Err(io::Error::from(ErrorKind::Unsupported))
+        if self.settles {
+            Ok(())
+        } else {
+            Err(io::Error::from_raw_os_error(EIO))
+        }
     }
 
     fn sync_data(&self) -> io::Result<()> {
@@ -82,7 +88,10 @@ impl Files for FaultyFiles {
     type Dir = Empty;
 
     fn open_file(&self, _how: &OpenOptions, _path: &str) -> io::Result<FaultyFile> {
-        Ok(FaultyFile { left: self.sound })
+        Ok(FaultyFile {
+            left: self.sound,
+            settles: self.settles,
+        })
     }
 
     fn open_dir(&self, _path: &str) -> io::Result<Empty> {

@@ -15,7 +15,7 @@ use Rattle.file_commands.specs.Answers.{Answer, Command, Goods, FilesPut, FilesC
 use Rattle.file_commands.proofs.Puts.{puts_files, puts_calm, torn_files, torn_rose}
 use Rattle.file_commands.specs.inner.Calls.{Takes, TakesNot, Makes, goods_of, take_answer, make_answer}
 use Rattle.file_commands.specs.inner.Order.{Completes, InOrder, Stands}
-use Rattle.file_commands.proofs.Steps.{took_same, took_told, failed_rose, failed_files}
+use Rattle.file_commands.proofs.Steps.{took_same, took_told, took_wanted, wanted_same, failed_rose, failed_never, failed_files}
 
 module _ {S O X F R : Type 0} (D : Shelf S) (E : Sink O) (c : Command X F R) (s : S) (o : O) where
   -- the files could not be taken
@@ -32,7 +32,7 @@ module _ {S O X F R : Type 0} (D : Shelf S) (E : Sink O) (c : Command X F R) (s 
   -- nothing is made of them
   unmade_as : (x : X) (s' : S) (f : MakeFault R) → Took D c.takes s (Ok x) s' → Makes c.makes x (Err f) → Meets D E c s o (make_answer f) s' o
   unmade_as x s' (makes.Refused why) h m = (inr (x, h, m), refl)
-  unmade_as x s' makes.Memory h m = (took_same D c.takes s s' (Ok x) h, refl)
+  unmade_as x s' makes.Memory h m = (took_wanted D c.takes s s' (Ok x) h, refl)
 
   pub meets_unmade : (x : X) (s' : S) (a : Answer F R) (f : MakeFault R) → a ≡ make_answer f → Took D c.takes s (Ok x) s' → Makes c.makes x (Err f) → Meets D E c s o a s' o
   meets_unmade x s' a f e h m = subst (λ a. Meets D E c s o a s' o) (sym e) (unmade_as x s' f h m)
@@ -86,6 +86,9 @@ module _ {S O X F R : Type 0} (D : Shelf S) (E : Sink O) (c : Command X F R) (s 
   pub unread_rose : (s' : S) (o' : O) (n : List ℕ) → Meets D E c s o (unread n) s' o' → Rose (D.faults s) (D.faults s')
   unread_rose s' o' n h = failed_rose D c.takes s s' n h.0
 
+  pub unread_never : (s' : S) (o' : O) (n : List ℕ) → ((s : S) (name : List ℕ) (t : S) → D.fails s name t → ⊥) → Meets D E c s o (unread n) s' o' → ⊥
+  unread_never s' o' n never h = failed_never D c.takes s s' n never h.0
+
   pub unwritten_rose : (s' : S) (o' : O) (n : List ℕ) → Meets D E c s o (unwritten n) s' o' → Rose (D.faults s) (D.faults s')
   unwritten_rose s' o' n (x, goods, mid, h, m, d) = subst (λ k. Rose k (D.faults s')) (took_same D c.takes s mid (Ok x) h).faults (torn_rose D goods.outputs mid s' n d.0)
 
@@ -121,7 +124,7 @@ module _ {S O X F R : Type 0} (D : Shelf S) (E : Sink O) (c : Command X F R) (s 
   meets_told (unread n) s' o' h = plain (D.files s) (failed_rose D c.takes s s' n h.0, failed_files D c.takes s s' n h.0)
   meets_told (unwritten n) s' o' (x, goods, mid, h, m, d) = told (D.files s) (λ held r. (x, goods, r, m, cut_from mid (took_same D c.takes s mid (Ok x) h) goods s' o' n d.0 d.1)) (took_told D c.takes s mid (Ok x) h)
   meets_told unsaid s' o' (x, goods, mid, h, m, d) = told (D.files s) (λ held r. (x, goods, r, m, mute_from mid (took_same D c.takes s mid (Ok x) h) goods s' o' d.0 d.1)) (took_told D c.takes s mid (Ok x) h)
-  meets_told memory s' o' h = plain (D.files s) h.0
+  meets_told memory s' o' h = plain (D.files s) (wanted_same D c.takes s s' h.0)
   meets_told (refused a) s' o' (inl h, same) = told (D.files s) (λ held r. (inl r, took_same D c.takes s s' _ h)) (took_told D c.takes s s' _ h)
   meets_told (refused a) s' o' (inr h, same) = told (D.files s) (λ held r. (inr (h.0, r, h.2), took_same D c.takes s s' _ h.1)) (took_told D c.takes s s' _ h.1)
 

@@ -1,5 +1,5 @@
 -- Outputs that are put one after the other.
-use Rattle.std.proofs.Common.{◌≡◌, ℕ, List, [], ◌∷◌, Option, Some, None, take, sym, ap, ◌∙◌, refl, subst, inl, inr}
+use Rattle.std.proofs.Common.{◌≡◌, ℕ, List, [], ◌∷◌, Option, Some, None, option_map, take, sym, ap, ◌∙◌, refl, subst, inl, inr}
 use Rattle.std.specs.FinMap.{insert}
 use Rattle.kx_edge.specs.Edge.{Files, Rose, PutFile, PutPrefix}
 use Rattle.kx_edge.specs.declared.edge.Shelf.{Ghosts as Shelf}
@@ -10,28 +10,25 @@ same_some : (a b : Files) → ◌≡◌ {A = Option Files} (Some a) (Some b) →
 same_some a b e = cc
 
 put_none : (files : Option Files) → FilesPut files [] files
-put_none None = tt
-put_none (Some held) = (held, refl, refl)
+put_none None = refl
+put_none (Some held) = refl
 
 put_more : (a b c : Option Files) (o : File) (os : List File) → PutFile a o.0 o.1 b → FilesPut b os c → FilesPut a (o ∷ os) c
-put_more a b None o os p q = tt
-put_more a None (Some now) o os p q = absurd (let e = q.1 in cc)
-put_more a (Some mid) (Some now) o os p q =
-    let e : mid ≡ q.0 = same_some mid q.0 q.1 in
-    (p.0, p.1, q.2 ∙ ap (λ m. with_outputs m os) (sym e ∙ p.2))
+put_more None b c o os p q = q ∙ ap (option_map (λ held. with_outputs held os)) p
+put_more (Some held) b c o os p q = q ∙ ap (option_map (λ held. with_outputs held os)) p
 
 cut_more : (a b c : Option Files) (o : File) (os : List File) (name : List ℕ) → PutFile a o.0 o.1 b → FilesCut b os name c → FilesCut a (o ∷ os) name c
 cut_more a b c o os name p (before, bytes, after, order, upto) = (o ∷ before, bytes, after, ap (λ xs. o ∷ xs) order, up c upto)
   where
     up : (c : Option Files) → FilesUpTo b before name bytes c → FilesUpTo a (o ∷ before) name bytes c
     up None q = tt
-    up (Some now) q = far b p q.3 q
+    up (Some now) q = from a p
       where
-        far : (b : Option Files) → PutFile a o.0 o.1 b → b ≡ Some q.0 → FilesUpTo b before name bytes (Some now) → FilesUpTo a (o ∷ before) name bytes (Some now)
-        far None p e r = absurd cc
-        far (Some mid) p e r =
-            let same : mid ≡ r.0 = same_some mid r.0 r.3 in
-            (p.0, r.1, r.2, p.1, r.4 ∙ ap (λ m. insert (with_outputs m before) name (take r.1 bytes)) (sym same ∙ p.2))
+        from : (a : Option Files) → PutFile a o.0 o.1 b → FilesUpTo a (o ∷ before) name bytes (Some now)
+        from None p = absurd (let e = sym p ∙ q.3 in cc)
+        from (Some held) p =
+            let same : insert held o.0 o.1 ≡ q.0 = same_some (insert held o.0 o.1) q.0 (sym p ∙ q.3) in
+            (held, q.1, q.2, refl, q.4 ∙ ap (λ m. insert (with_outputs m before) name (take q.1 bytes)) (sym same))
 
 cut_here : (a c : Option Files) (o : File) (os : List File) → PutPrefix a o.0 o.1 c → FilesCut a (o ∷ os) o.0 c
 cut_here a None o os p = ([], o.1, os, refl, tt)

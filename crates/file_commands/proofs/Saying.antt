@@ -48,6 +48,10 @@ module _ {C W F R : Type 0} (entry_of : C → Entry F R) (reason : W → R) wher
     pub unread_rose : (n : List ℕ) → a ≡ unread n → Answers → Rose (D.faults s) (D.faults s')
     unread_rose n e h = holds_one _ w (holds_as (λ X c. Meets D E c s o a s' o') (λ X c. Rose (D.faults s) (D.faults s')) (λ X c m. meeting.unread_rose D E c s o s' o' n (subst (λ a. Meets D E c s o a s' o') e m)) w h)
 
+    -- and none tells of a file that could not be read over a shelf whose takes never fail
+    pub unread_never : (n : List ℕ) → ((s : S) (name : List ℕ) (t : S) → D.fails s name t → ⊥) → a ≡ unread n → Answers → ⊥
+    unread_never n never e h = holds_one ⊥ w (holds_as (λ X c. Meets D E c s o a s' o') (λ X c. ⊥) (λ X c m. meeting.unread_never D E c s o s' o' n never (subst (λ a. Meets D E c s o a s' o') e m)) w h)
+
     pub unwritten_rose : (n : List ℕ) → a ≡ unwritten n → Answers → Rose (D.faults s) (D.faults s')
     unwritten_rose n e h = holds_one _ w (holds_as (λ X c. Meets D E c s o a s' o') (λ X c. Rose (D.faults s) (D.faults s')) (λ X c m. meeting.unwritten_rose D E c s o s' o' n (subst (λ a. Meets D E c s o a s' o') e m)) w h)
 

@@ -7,7 +7,7 @@ use Rattle.kx_edge.specs.declared.edge.Shelf.{Ghosts as Shelf}
 use Rattle.file_commands.specs.declared.stop.TakeFault.{TakeFault}
 use Rattle.file_commands.specs.declared.stop.TakeFault.TheVariants as takes
 use Rattle.file_commands.specs.Files.{from_reader}
-use Rattle.file_commands.specs.Taking.{Refusal, Take, ok, refuse, by, file, and_then, ◌>>=◌, reads, Same, Took, FailedAt}
+use Rattle.file_commands.specs.Taking.{Refusal, Take, ok, refuse, by, file, and_then, ◌>>=◌, reads, Same, Took, FailedAt, WantedAt}
 use Rattle.file_commands.specs.inner.Calls.{Takes, TakesNot}
 
 same_err : {R X : Type 0} (a b : Refusal R) → ◌≡◌ {A = Result X (Refusal R)} (Err a) (Err b) → a ≡ b
@@ -76,20 +76,57 @@ module _ {S : Type 0} (D : Shelf S) where
   failed_stop (file name most next) f s new n (inl h) = inl h
   failed_stop (file name most next) f s new n (inr h) = inr (h.0, h.1, h.2, failed_stop (next h.0) f h.1 new n h.3)
 
+  -- memory may be wanted before a take, and after all of them
+  wanted_here : {R X : Type 0} (t : Take R X) (s : S) → WantedAt D t s s
+  unfolding WantedAt
+  wanted_here (ok x) s = refl
+  wanted_here (refuse a) s = refl
+  wanted_here (file name most next) s = inl refl
+
+  pub took_wanted : {R X : Type 0} (t : Take R X) (s new : S) (r : Result X (Refusal R)) → Took D t s r new → WantedAt D t s new
+  unfolding Took WantedAt
+  took_wanted (ok x) s new r h = h.1
+  took_wanted (refuse a) s new r h = h.1
+  took_wanted (file name most next) s new r (bytes, mid, gave, rest) = inr (inr (bytes, mid, gave, took_wanted (next bytes) mid new r rest))
+
+  pub wanted_same : {R X : Type 0} (t : Take R X) (s new : S) → WantedAt D t s new → Same D s new
+  unfolding WantedAt
+  wanted_same (ok x) s new h = same_self s new h
+  wanted_same (refuse a) s new h = same_self s new h
+  wanted_same (file name most next) s new (inl h) = same_self s new h
+  wanted_same (file name most next) s new (inr (inl h)) = h.same
+  wanted_same (file name most next) s new (inr (inr (bytes, mid, gave, rest))) = same_then s mid new gave.same (wanted_same (next bytes) mid new rest)
+
+  wanted_next : {R X Y : Type 0} (t : Take R X) (f : X → Take R Y) (s mid new : S) (x : X) → Took D t s (Ok x) mid → WantedAt D (f x) mid new → WantedAt D (t >>= f) s new
+  unfolding and_then Took WantedAt
+  wanted_next {R} (ok y) f s mid new x h k = subst (λ m. WantedAt D (f y) m new) h.1 (subst (λ z. WantedAt D (f z) mid new) (ok_same {F = Refusal R} x y h.0) k)
+  wanted_next (refuse a) f s mid new x h k = absurd (ok_err x a h.0)
+  wanted_next (file name most next) f s mid new x (bytes, m, gave, rest) k = inr (inr (bytes, m, gave, wanted_next (next bytes) f m mid new x rest k))
+
+  wanted_stop : {R X Y : Type 0} (t : Take R X) (f : X → Take R Y) (s new : S) → WantedAt D t s new → WantedAt D (t >>= f) s new
+  unfolding and_then WantedAt
+  wanted_stop (ok y) f s new h = subst (λ m. WantedAt D (f y) s m) (sym h) (wanted_here (f y) s)
+  wanted_stop (refuse b) f s new h = h
+  wanted_stop (file name most next) f s new (inl h) = inl h
+  wanted_stop (file name most next) f s new (inr (inl h)) = inr (inl h)
+  wanted_stop (file name most next) f s new (inr (inr (bytes, m, gave, rest))) = inr (inr (bytes, m, gave, wanted_stop (next bytes) f m new rest))
+
   -- After some of the takes of `t` the shelf is at `mid`, and these are left.
   pub record Left {R X : Type 0} (t : Take R X) (s : S) (rest : Take R X) (mid : S) : Type 0 where
     pub same : Same D s mid
+    pub wanted : (new : S) → WantedAt D rest mid new → WantedAt D t s new
     pub took : (r : Result X (Refusal R)) (new : S) → Took D rest mid r new → Took D t s r new
     pub failed : (n : List ℕ) (new : S) → FailedAt D rest mid n new → FailedAt D t s n new
 
   -- all are left
   pub start : {R X : Type 0} (t : Take R X) (s : S) → Left t s t s
-  start t s = record { same = same_self s s refl; took = λ r new h. h; failed = λ n new h. h }
+  start t s = record { same = same_self s s refl; wanted = λ new h. h; took = λ r new h. h; failed = λ n new h. h }
 
   -- the next was taken
   pub next : {R X Y : Type 0} {t : Take R Y} {s mid new : S} {x : X} (first : Take R X) (f : X → Take R Y) → Left t s (and_then first f) mid → Took D first mid (Ok x) new → Left t s (f x) new
   next {t = t} {s = s} {mid = mid} {new = new} {x = x} first f l h = record {
     same = same_then s mid new l.same (took_same first mid new (Ok x) h);
+    wanted = λ late k. l.wanted late (wanted_next first f mid new late x h k);
     took = λ r late k. l.took r late (took_next first f mid new late x r h k);
     failed = λ n late k. l.failed n late (failed_next first f mid new late x n h k);
   }
@@ -100,7 +137,7 @@ module _ {S : Type 0} (D : Shelf S) where
   stopped_by t s mid new first f (takes.Refused why) l h = l.took _ new (took_stop first f mid new _ h)
   stopped_by t s mid new first f (takes.TooLong name limit) l h = l.took _ new (took_stop first f mid new _ h)
   stopped_by t s mid new first f (takes.Unread name) l h = l.failed _ new (failed_stop first f mid new _ h)
-  stopped_by t s mid new first f takes.Memory l h = same_then s mid new l.same h
+  stopped_by t s mid new first f takes.Memory l h = l.wanted new (wanted_stop first f mid new h)
 
   pub stopped : {R X Y Z : Type 0} {t : Take R Y} {s mid : S} {e : TakeFault R} (new : S) (first : Take R X) (f : X → Take R Y) (look : Z → Y) (result : Result Z (TakeFault R))
       → result ≡ Err e → Left t s (and_then first f) mid → TakesNot D first mid e new → Takes D t look s result new
@@ -109,7 +146,7 @@ module _ {S : Type 0} (D : Shelf S) where
   -- there was no memory for more
   pub wanting : {R X Z : Type 0} {t : Take R X} {s new : S} {rest : Take R X} (look : Z → X) (result : Result Z (TakeFault R)) → result ≡ Err takes.Memory → Left t s rest new → Takes D t look s result new
   unfolding TakesNot
-  wanting {t = t} {s = s} {new = new} look result is l = subst (λ r. Takes D t look s r new) (sym is) l.same
+  wanting {t = t} {s = s} {new = new} {rest = rest} look result is l = subst (λ r. Takes D t look s r new) (sym is) (l.wanted new (wanted_here rest new))
 
   -- what is known needs no take: it passes, or refuses
   pub passed : {F R X Y : Type 0} {t : Take R Y} {s mid : S} (reason : F → R) (r : Result X F) (x : X) (f : X → Take R Y) → r ≡ Ok x → Left t s (and_then (from_reader reason r) f) mid → Left t s (f x) mid
@@ -161,6 +198,14 @@ module _ {S : Type 0} (D : Shelf S) where
   failed_rose (refuse a) s new n h = absurd h
   failed_rose (file name most next) s new n (inl h) = h.1.rose
   failed_rose (file name most next) s new n (inr h) = subst (λ k. Rose k (D.faults new)) h.2.same.faults (failed_rose (next h.0) h.1 new n h.3)
+
+  -- over a shelf whose takes never fail none does
+  pub failed_never : {R X : Type 0} (t : Take R X) (s new : S) (n : List ℕ) → ((s : S) (name : List ℕ) (t : S) → D.fails s name t → ⊥) → FailedAt D t s n new → ⊥
+  unfolding FailedAt
+  failed_never (ok x) s new n never h = h
+  failed_never (refuse a) s new n never h = h
+  failed_never (file name most next) s new n never (inl h) = never s name new h.1.took
+  failed_never (file name most next) s new n never (inr h) = failed_never (next h.0) h.1 new n never h.3
 
   pub failed_files : {R X : Type 0} (t : Take R X) (s new : S) (n : List ℕ) → FailedAt D t s n new → D.files new ≡ D.files s
   unfolding FailedAt

@@ -1,10 +1,10 @@
 -- What a command makes and delivers, and what each of its answers says. This project's own.
-use Rattle.std.specs.Prelude.{◌≡◌, ℕ, ◌≤◌, ◌⊎◌, List, [], ◌∷◌, ◌++◌, length, take, Option, Some, None, Result, Ok, Err}
+use Rattle.std.specs.Prelude.{◌≡◌, ℕ, ◌≤◌, ◌⊎◌, List, [], ◌∷◌, ◌++◌, length, take, Option, Some, None, option_map, Result, Ok, Err}
 use Rattle.std.specs.FinMap.{insert}
 use Rattle.kx_edge.specs.Edge.{Files, Rose, PutFile, PutPrefix, Said, SaidPrefix}
 use Rattle.kx_edge.specs.declared.edge.Shelf.{Ghosts as Shelf}
 use Rattle.kx_edge.specs.declared.edge.Sink.{Ghosts as Sink}
-use Rattle.file_commands.specs.Taking.{File, Refusal, Take, Took, FailedAt, Same, reads}
+use Rattle.file_commands.specs.Taking.{File, Refusal, Take, Took, FailedAt, WantedAt, Same, reads}
 
 -- how a command ended
 pub data Answer (F R : Type 0) : Type 0 where
@@ -36,13 +36,12 @@ abbrev pub with_outputs : Files → List File → Files
 with_outputs held [] = held
 with_outputs held (o ∷ os) = with_outputs (insert held o.0 o.1) os
 
--- all outputs were put. Files that are told afterwards were told before.
+-- All outputs were put. Where files were told before, exactly these are told afterwards; where none were, none are.
 abbrev pub FilesPut : Option Files → List File → Option Files → Type 0
-FilesPut old outputs None = Unit {0}
-FilesPut old outputs (Some now) =
-    (held : Files) × (old ≡ Some held) × (now ≡ with_outputs held outputs)
+FilesPut old outputs new = new ≡ option_map (λ held. with_outputs held outputs) old
 
--- the outputs before one of this name are whole, and it has a prefix of its bytes
+-- The outputs before one of this name are whole, and it has a prefix of its bytes. Files that are told afterwards were told
+-- before.
 abbrev pub FilesUpTo : Option Files → List File → List ℕ → List ℕ → Option Files → Type 0
 FilesUpTo old before name bytes None = Unit {0}
 FilesUpTo old before name bytes (Some now) =
@@ -102,10 +101,10 @@ module _ {S O : Type 0} (D : Shelf S) (E : Sink O) where
   Delivers goods s o other s' o' = ⊥
 
   -- What an answer says of a command, from one state of shelf and sink to another: the takes, the goods and what was
-  -- delivered of them.
+  -- delivered of them. Where memory was wanted, some of the takes were made, and nothing was put or said.
   abbrev pub Meets : {X F R : Type 0} → Command X F R → S → O → Answer F R → S → O → Type 0
   Meets c s o (unread name) s' o' = FailedAt D c.takes s name s' × (o' ≡ o)
-  Meets c s o memory s' o' = Same D s s' × (o' ≡ o)
+  Meets c s o memory s' o' = WantedAt D c.takes s s' × (o' ≡ o)
   Meets {X} c s o (refused a) s' o' =
       (Took D c.takes s (Err a) s' ⊎ ((x : X) × Took D c.takes s (Ok x) s' × c.makes x (Err a)))
       × (o' ≡ o)

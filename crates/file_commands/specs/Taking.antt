@@ -54,6 +54,11 @@ pub record FailsFile {S : Type 0} (D : Shelf S) (old : S) (name : List ℕ) (new
   pub files : D.files new ≡ D.files old
   pub rose : Rose (D.faults old) (D.faults new)
 
+-- a take of this name wanted memory
+pub record WantsFile {S : Type 0} (D : Shelf S) (old : S) (name : List ℕ) (new : S) : Type 0 where
+  pub took : D.wants old name new
+  pub same : Same D old new
+
 -- the takes were made in their order, from one state of the shelf to another, and this is made of what they gave
 unfoldable pub Took : {S R X : Type 0} → Shelf S → Take R X → S → Result X (Refusal R) → S → Type 0
 Took D (ok x) old r new = (r ≡ Ok x) × (new ≡ old)
@@ -70,3 +75,12 @@ FailedAt {S} D (file name most next) old which new =
     ((which ≡ name) × FailsFile D old name new)
     ⊎ ((bytes : List ℕ) × (mid : S) × GivesFile D old name most bytes mid
     × FailedAt D (next bytes) mid which new)
+
+-- Memory was wanted: after some of the takes were made in their order, for a next one, or for what is made of them.
+unfoldable pub WantedAt : {S R X : Type 0} → Shelf S → Take R X → S → S → Type 0
+WantedAt D (ok x) old new = new ≡ old
+WantedAt D (refuse a) old new = new ≡ old
+WantedAt {S} D (file name most next) old new =
+    (new ≡ old) ⊎ WantsFile D old name new
+    ⊎ ((bytes : List ℕ) × (mid : S) × GivesFile D old name most bytes mid
+    × WantedAt D (next bytes) mid new)

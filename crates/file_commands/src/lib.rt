@@ -16,7 +16,7 @@
 //! | unwritten | the put of exactly this output failed, after those before it; nothing was said |
 //! | unsaid | all outputs were put, and the say of the text failed |
 //! | too long, refused | the takes, or the goods, refuse for exactly this; nothing was put or said |
-//! | memory | nothing was put or said |
+//! | memory | some of the takes were made, in their order; nothing was put or said |
 //!
 //! The crate knows no command and no file format: `kexec_main` has them. All of this is this project's own.
 #![tactic(auto)]

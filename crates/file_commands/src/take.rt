@@ -21,7 +21,7 @@ pub struct FileParts {
 
 /// Takes a file of at most `limit` bytes, its first `at` bytes apart from the others: where a head of so many bytes is
 /// followed by bytes that are kept, these need not be moved.
-#[tactic(auto, unfolding(crate::specs::Taking::and_then, crate::specs::Taking::Took, crate::specs::Taking::FailedAt, crate::specs::inner::Calls::TakesNot))]
+#[tactic(auto, unfolding(crate::specs::Taking::and_then, crate::specs::Taking::Took, crate::specs::Taking::FailedAt, crate::specs::Taking::WantedAt, crate::specs::inner::Calls::TakesNot))]
 pub fn take_apart<S: Shelf, R>(
     alloc: Global,
     name: String,
@@ -86,7 +86,7 @@ pub fn take_file<S: Shelf, R>(
 }
 
 /// Takes a file of at most `limit` bytes, where one is named.
-#[tactic(auto, unfolding(crate::specs::Taking::and_then, crate::specs::Taking::Took, crate::specs::Taking::FailedAt, crate::specs::inner::Calls::TakesNot))]
+#[tactic(auto, unfolding(crate::specs::Taking::and_then, crate::specs::Taking::Took, crate::specs::Taking::FailedAt, crate::specs::Taking::WantedAt, crate::specs::inner::Calls::TakesNot))]
 pub fn take_optional<S: Shelf, R>(
     alloc: Global,
     name: Option<String>,

@@ -4,10 +4,10 @@ use Rattle.kx_pages.specs.Bytes.{Mem}
 use Rattle.kx_pages.specs.Lists.{count}
 use Rattle.kx_pages.specs.Spans.{Run}
 use Rattle.image_slots.specs.declared.reply.Reply.{Reply}
-use Rattle.image_slots.specs.declared.reply.Reply.TheVariants.{Busy}
+use Rattle.image_slots.specs.declared.reply.Reply.TheVariants.{Busy, NoPages}
 use Rattle.image_slots.specs.Events.{EventValue}
 use Rattle.image_slots.specs.Pages.{all_pages}
-use Rattle.image_slots.specs.Soundness.{AreAccepted, IsBusy}
+use Rattle.image_slots.specs.Soundness.{AreAccepted, IsBusy, IsShort}
 use Rattle.image_slots.specs.States.{State}
 use Rattle.image_slots.specs.Steps.{step}
 
@@ -46,8 +46,13 @@ pub record IsKept (pages : List ℕ) (s : State) : Type 0 where
 abbrev pub IsBusyExactly : State → EventValue → Type 0
 IsBusyExactly s e = (caller : ℕ) → ((step s e).0 ≡ Busy caller) ↔ IsBusy s e caller
 
+-- NoPages is answered to the event exactly where a load is written that takes more pages than are left, and names both
+abbrev pub IsShortExactly : State → EventValue → Type 0
+IsShortExactly s e = (pool need : ℕ) → ((step s e).0 ≡ NoPages pool need) ↔ IsShort s e pool need
+
 -- so it is before the first of these events and after each one, until an image was run
 abbrev pub AreKept : List ℕ → State → List EventValue → Type 0
 AreKept pages s [] = s.gone ≡ false → IsKept pages s
 AreKept pages s (e ∷ es) =
-    (s.gone ≡ false → IsKept pages s) × IsBusyExactly s e × AreKept pages (step s e).1 es
+    (s.gone ≡ false → IsKept pages s) × IsBusyExactly s e × IsShortExactly s e
+    × AreKept pages (step s e).1 es

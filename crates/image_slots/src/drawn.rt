@@ -1,14 +1,11 @@
 //! The pages that are drawn for a load.
 
-ghost use Rattle.std.specs.Prelude.{◌≡◌, ℕ, take, IfOk};
+ghost use Rattle.std.specs.Prelude.{◌≡◌, ℕ, length, IfOk};
 ghost use Rattle.std.specs.Ordering.{nat_cmp};
 ghost use Rattle.std.specs.BTreeSet.{contains};
 ghost use Rattle.kx_pages.specs.Lists.{has};
-ghost use Rattle.page_pool.specs.Pages.{usable_of};
 
-use crate::taking::first_pages;
 use kx_pages::Page;
-use page_pool::Pool;
 use std::alloc::{AllocError, Global};
 use std::collections::BTreeSet;
 use std::marker::Model;
@@ -49,11 +46,10 @@ fn set_of(alloc: Global, list: &[Page]) -> Result<BTreeSet<Page>, AllocError>
 }
 
 impl DrawnPages {
-    /// The first pages that the pool will give: so many, or all that are left.
-    pub(crate) fn first_of(alloc: Global, pool: &Pool, count: u64) -> Result<DrawnPages, AllocError>
-        ensures { IfOk result (λ pages. pages ≡ take count (usable_of pool.now)) }
+    /// These pages, in this order.
+    pub(crate) fn of(alloc: Global, list: Vec<Page>) -> Result<DrawnPages, AllocError>
+        ensures { IfOk result (λ pages. pages ≡ list.items) }
     {
-        let list = first_pages(alloc, pool, count)?;
         let set = set_of(alloc, &list)?;
         Ok(DrawnPages { list, set })
     }
@@ -63,6 +59,13 @@ impl DrawnPages {
         ensures { result ≡ has page self.now }
     {
         self.set.contains(&page)
+    }
+
+    /// How many they are.
+    pub(crate) fn count(&self) -> u64
+        ensures { result ≡ length self.now }
+    {
+        self.list.len() as u64
     }
 
     /// These pages in their order.

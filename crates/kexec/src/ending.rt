@@ -3,6 +3,7 @@
 ghost use Rattle.std.specs.Prelude.{◌≡◌, IsSome, IsNone};
 ghost use Rattle.kexec_main.specs.ExitStatuses.{code_of};
 
+use crate::causes::Cause;
 use crate::report::Report;
 use crate::words::WordsError;
 use kexec_main::Status;
@@ -10,7 +11,6 @@ use kexec_usage::{asks_for_help, asks_for_version, meant_of, read_answer};
 use kexec_words::{Help, Usage, help_of, usage_of};
 use std::alloc::Global;
 use std::fmt::{self, Display, Formatter, Write};
-use std::io;
 
 /// The exit status where the system does not give the words; no status of a command has it.
 const NO_WORDS: u8 = 65;
@@ -50,9 +50,9 @@ impl Display for Notice<'_> {
 
 /// What is known of a refusal beside its status.
 #[derive(Clone, Copy)]
-pub(crate) struct Details {
-    /// What the system said of the file or the output that failed.
-    pub(crate) cause: Option<io::Error>,
+pub(crate) struct Details<'a> {
+    /// Why the file or the output failed.
+    pub(crate) cause: Option<Cause<'a>>,
     /// What the front of the refused file tells.
     pub(crate) hint: Option<&'static str>,
 }
@@ -62,7 +62,7 @@ fn notice_of<'a>(
     alloc: Global,
     words: &'a [String],
     status: &'a Status,
-    details: Details,
+    details: Details<'a>,
 ) -> Notice<'a> {
     let is_usage = matches!(status, Status::Usage { .. });
     if is_usage && asks_for_help(words) {
@@ -113,7 +113,7 @@ impl<'a> Ending<'a> {
         alloc: Global,
         words: &'a [String],
         status: &'a Status,
-        details: Details,
+        details: Details<'a>,
     ) -> Ending<'a>
         // The exit status is the one of the answer.
         ensures code { result.code ≡ code_of status.now }

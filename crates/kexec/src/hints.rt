@@ -14,6 +14,9 @@ use std::rt::Files;
 /// How many bytes of a file are looked at.
 const FRONT: usize = 4096;
 
+/// What a memory file begins with.
+const MAGIC: &[u8] = b"KXMEM001";
+
 // The program that decompresses a file, by the magic number in front: RFC 1952, section 2.3.1; the .xz file format, section
 // 2.1.1.1; RFC 8878, section 3.1.1.
 fn compression_hint(front: &[u8]) -> Option<&'static str> {
@@ -29,7 +32,7 @@ fn compression_hint(front: &[u8]) -> Option<&'static str> {
     None
 }
 
-// The kernel's file has not the mark of its type, or of any.
+// The kernel's or the purgatory's file has not the mark of its type, or of any.
 fn is_unmarked(fault: &PlanFault) -> bool {
     matches!(
         fault,
@@ -44,40 +47,50 @@ fn is_unmarked(fault: &PlanFault) -> bool {
             | PlanFault::Multiboot {
                 fault: MbFault::NoHeader,
             }
+            | PlanFault::Object {
+                fault: ElfFault::NotElf,
+            }
     )
 }
 
-// A line ends with a carriage return, which no text file here may have.
+// A line ends with a carriage return, which no text file here may have. What has a 0 is no text.
 fn line_hint(front: &[u8]) -> Option<&'static str> {
-    if front.contains(&b'\r') {
+    let has_such_a_line = front.windows(2).any(|pair| pair == b"\r\n".as_slice());
+    if has_such_a_line && !front.contains(&0) {
         Some("its lines end with carriage returns: remove these with tr -d '\\r'")
     } else {
         None
     }
 }
 
+// Fewer bytes than the magic number has may be the front of a memory file, as none are, which is what a pipe shows.
 fn memory_hint(front: &[u8]) -> Option<&'static str> {
-    if front.starts_with(b"KXMEM001") {
+    if front.starts_with(MAGIC) || MAGIC.starts_with(front) {
         None
     } else {
         Some("a raw dump of memory is not a memory file")
     }
 }
 
-/// What these first bytes of the refused file tell.
+// What the front of a file tells that a reader of its own kind refused.
+fn input_hint(fault: &InputFault, front: &[u8]) -> Option<&'static str> {
+    match fault {
+        InputFault::Mem { .. } => memory_hint(front),
+        InputFault::Rec { .. } => None,
+        InputFault::Pool { .. }
+        | InputFault::Map { .. }
+        | InputFault::Notes { .. }
+        | InputFault::Pairs { .. }
+        | InputFault::Events { .. } => line_hint(front),
+    }
+}
+
+/// What these first bytes of the refused file tell. That it is compressed is asked first: its bytes may look like anything.
 pub(crate) fn hint_in(status: &Status, is_memory: bool, front: &[u8]) -> Option<&'static str> {
     match status {
         Status::Plan { fault } if is_unmarked(fault) => compression_hint(front),
-        Status::Input { fault } => match fault {
-            InputFault::Mem { .. } => memory_hint(front),
-            InputFault::Rec { .. } => None,
-            InputFault::Pool { .. }
-            | InputFault::Map { .. }
-            | InputFault::Notes { .. }
-            | InputFault::Pairs { .. }
-            | InputFault::Events { .. } => line_hint(front),
-        },
-        Status::TooLong { .. } if is_memory => memory_hint(front),
+        Status::Input { fault } => compression_hint(front).or(input_hint(fault, front)),
+        Status::TooLong { .. } if is_memory => compression_hint(front).or(memory_hint(front)),
         _ => None,
     }
 }

@@ -4,6 +4,7 @@
 ghost use Rattle.std.specs.Prelude.{◌≡◌};
 ghost use Rattle.std.specs.Process.{exit_status};
 
+mod causes;
 mod ending;
 mod files;
 mod hints;
@@ -16,10 +17,12 @@ mod words;
 #[cfg(test)]
 mod words_tests;
 
+use call_log::Logging;
+use causes::{Cause, cause_of};
 use ending::{Details, Ending};
 use hints::hint_of;
-use kexec_main::kexec;
 use kx_edge::{HostShelf, StdSink};
+use recorded_kexec::kexec_recorded;
 use std::process::ExitCode;
 use words::read_words;
 
@@ -39,11 +42,20 @@ fn main(rt: HostRuntime) -> ExitCode {
         Ok(words) => words,
         Err(error) => return finish(&rt, &Ending::without_words(error)),
     };
-    let mut shelf = HostShelf::new(&rt);
-    let mut sink = StdSink::new(&rt);
-    let status = kexec(rt.alloc(), &words, &mut shelf, &mut sink);
+    let (status, shelf, sink) = kexec_recorded(
+        rt.alloc(),
+        &words,
+        HostShelf::new(&rt),
+        StdSink::new(&rt),
+        Logging::Off,
+    );
+    let cause = match (shelf.inner.cause(), sink.inner.cause()) {
+        (Some(cause), _) => Some(cause_of(&rt, &words, &status, cause)),
+        (None, Some(error)) => Some(Cause::System { error }),
+        (None, None) => None,
+    };
     let details = Details {
-        cause: shelf.cause().or(sink.cause()),
+        cause,
         hint: hint_of(&rt, &words, &status),
     };
     finish(&rt, &Ending::of(rt.alloc(), &words, &status, details))

@@ -1,5 +1,6 @@
 //! The sentence about a command that was refused.
 
+use crate::causes::Cause;
 use crate::files::file_of;
 use crate::plans::write_plan;
 use crate::remedies::{budget_remedy, remedy_of};
@@ -15,8 +16,8 @@ pub(crate) struct Report<'a> {
     pub(crate) words: &'a [String],
     /// The words as the command takes them.
     pub(crate) answer: Answer<'a>,
-    /// What the system said of the file or the output that failed.
-    pub(crate) cause: Option<io::Error>,
+    /// Why the file or the output failed.
+    pub(crate) cause: Option<Cause<'a>>,
     /// What the front of the refused file tells.
     pub(crate) hint: Option<&'static str>,
 }
@@ -78,7 +79,7 @@ impl Report<'_> {
             (Status::Unwritten { name }, Some(cause)) => {
                 write!(f, "{name:?} cannot be written: {cause}")
             }
-            (Status::Unsaid, Some(cause)) => write_unsaid(cause, f),
+            (Status::Unsaid, Some(Cause::System { error })) => write_unsaid(error, f),
             (Status::Plan { fault }, _) => write_plan(fault, self.is_crash(), given, f),
             (Status::NoPages { pool, need }, _) => match text_of(given, "--below") {
                 Some(limit) => write_below(*pool, *need, limit, f),

@@ -1,9 +1,10 @@
+use crate::causes::{Cause, cause_of};
 use crate::ending::{Details, Ending};
 use crate::hints::hint_in;
 use boot_params::ParamsFault;
 use kexec_main::{InputFault, Status, kexec};
 use kexec_plan::{Part, PlanFault};
-use kx_edge::{HostShelf, MemorySink};
+use kx_edge::{HostCause, HostShelf, MemorySink};
 use list_checker::{ListFault, Why};
 use memory_map::MapFault;
 use page_memory::MemFault;
@@ -14,7 +15,7 @@ use std::fs;
 use std::io::{self, ErrorKind};
 use std::test::Fail;
 
-const NOTHING: Details = Details {
+const NOTHING: Details<'static> = Details {
     cause: None,
     hint: None,
 };
@@ -33,7 +34,7 @@ fn is_told(
     rt: &HostRuntime,
     line: &str,
     status: &Status,
-    details: Details,
+    details: Details<'_>,
     (code, wanted): (u8, &str),
 ) -> Result<bool, Fail> {
     let words = words_of(rt.alloc(), line)?;
@@ -143,7 +144,9 @@ fn what_the_system_said_is_told(rt: HostRuntime) -> Result<(), Fail> {
     ];
     for (status, number, wanted) in &rows {
         let details = Details {
-            cause: Some(io::Error::from_raw_os_error(*number)),
+            cause: Some(Cause::System {
+                error: io::Error::from_raw_os_error(*number),
+            }),
             hint: None,
         };
         // A command of the new kernel is not a file, whatever it is called.
@@ -267,7 +270,7 @@ fn the_front_of_a_file_tells_its_kind(rt: HostRuntime) {
     let gzip = Some("it is compressed: decompress it first, with gzip -dc");
     let xz = Some("it is compressed: decompress it first, with xz -dc");
     let zstd = Some("it is compressed: decompress it first, with zstd -dc");
-    let rows: [(&Status, &[u8], Option<&str>); 11] = [
+    let rows: [(&Status, &[u8], Option<&str>); 16] = [
         (&unknown, &[0x1f, 0x8b, 8], gzip),
         (&unknown, &[0xfd, 0x37, 0x7a, 0x58, 0x5a, 0], xz),
         (&unknown, &[0x28, 0xb5, 0x2f, 0xfd], zstd),
@@ -285,12 +288,19 @@ fn the_front_of_a_file_tells_its_kind(rt: HostRuntime) {
             Some("a raw dump of memory is not a memory file"),
         ),
         (&memory, b"KXMEM001", None),
+        // A memory file that is cut, and what cannot be looked at, as a pipe.
+        (&memory, b"KXMEM", None),
+        (&memory, b"", None),
+        (&memory, &[0x1f, 0x8b, 8], gzip),
         (
             &pool,
             b"10-13\r\n",
             Some("its lines end with carriage returns: remove these with tr -d '\\r'"),
         ),
         (&pool, b"10 13\n", None),
+        // Bytes that are no text may have any of its marks.
+        (&pool, &[0x1f, 0x8b, 13, 10], gzip),
+        (&pool, &[0x7f, 0, 13, 10], None),
     ];
     for (status, front, wanted) in rows {
         assert!(rt; hint_in(status, false, front) == wanted);
@@ -304,7 +314,11 @@ fn end_of_trace(rt: &HostRuntime, line: &str) -> Result<(u8, Option<ErrorKind>),
     let mut sink = MemorySink::new(rt.alloc(), Vec::new(rt.alloc()));
     sink.reserve(4096)?;
     let status = kexec(rt.alloc(), &words, &mut shelf, &mut sink);
-    Ok((status.code(), shelf.cause().map(|cause| cause.kind())))
+    let kind = match shelf.cause() {
+        Some(HostCause::System { error }) => Some(error.kind()),
+        _ => None,
+    };
+    Ok((status.code(), kind))
 }
 
 // A memory without pages, and a list of the done word alone.
@@ -333,5 +347,30 @@ fn files_that_cannot_be_read_or_written_are_told(rt: HostRuntime) -> Result<(), 
         let full = (4, Some(ErrorKind::StorageFull));
         assert!(rt; end_of_trace(&rt, "trace memory /dev/full 4 9")? == full);
     }
+    Ok(())
+}
+
+// One file under two names is an input that would be lost.
+#[test]
+fn an_output_that_is_an_input_by_another_name_is_told_with_both(
+    rt: HostRuntime,
+) -> Result<(), Fail> {
+    let memory = b"KXMEM001\0\0\0\0\0\0\0\0";
+    fs::write(&rt, "once", memory)?;
+    let line = "trace once ./once 4 9";
+    let words = words_of(rt.alloc(), line)?;
+    let mut shelf = HostShelf::new(&rt);
+    let mut sink = MemorySink::new(rt.alloc(), Vec::new(rt.alloc()));
+    sink.reserve(4096)?;
+    let status = kexec(rt.alloc(), &words, &mut shelf, &mut sink);
+    let cause = shelf.cause().ok_or("a cause")?;
+    let details = Details {
+        cause: Some(cause_of(&rt, &words, &status, cause)),
+        hint: None,
+    };
+    let wanted =
+        "kexec: OUT \"./once\" cannot be written: it is the same file as MEMORY \"once\"; give it a file of its own";
+    assert!(rt; is_told(&rt, line, &status, details, (4, wanted))?);
+    assert!(rt; fs::read(&rt, "once")?.as_slice() == memory.as_slice());
     Ok(())
 }

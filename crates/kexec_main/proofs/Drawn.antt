@@ -22,7 +22,7 @@ use Rattle.list_checker.proofs.Unique.{walk_same}
 use Rattle.load_states.specs.Fillings.{IsSealed}
 use Rattle.load_states.specs.Loads.{entries_of}
 use Rattle.load_states.specs.Ready.{Told}
-use Rattle.load_states.specs.States.{Checked, Load}
+use Rattle.load_states.specs.States.{Checked}
 use Rattle.load_states.proofs.LaidAccepted.{served_well}
 use Rattle.load_states.proofs.Outside.{no_source, no_swap, walk_in}
 use Rattle.kexec_plan.specs.Requests.{Plan}
@@ -31,7 +31,7 @@ use Rattle.kexec_main.specs.Loading.{IsLoaded}
 use Rattle.kexec_main.specs.Loads.{drawn_pages}
 
 -- the link pages of a list are those over which it was chained
-abbrev OnLink : (ℕ → Type 0) → Item → Type 0
+abbrev pub OnLink : (ℕ → Type 0) → Item → Type 0
 OnLink P (Link p) = P p
 OnLink P (Destination p) = Unit {0}
 OnLink P (Source p) = Unit {0}
@@ -44,7 +44,7 @@ each_link P (Destination p ∷ is) h = each_link P is h.1
 each_link P (Source p ∷ is) h = each_link P is h.1
 each_link P (Done p ∷ is) h = each_link P is h.1
 
-on_items : (P : ℕ → Type 0) (es : List Entry) (qs : List (ℕ × ℕ)) → AllByRecursion (OnLink P) (items es qs)
+pub on_items : (P : ℕ → Type 0) (es : List Entry) (qs : List (ℕ × ℕ)) → AllByRecursion (OnLink P) (items es qs)
 on_items P [] qs = tt
 on_items P (Start p ∷ es) qs = (tt, on_items P es qs)
 on_items P (Move p ∷ es) [] = on_items P es []

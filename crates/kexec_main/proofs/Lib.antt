@@ -8,6 +8,7 @@ pub mod Loads
 pub mod Commands
 pub mod Laid
 pub mod TooFew
+pub mod OwnPages
 pub mod Mapped
 pub mod EventFile
 pub mod Pages

@@ -21,13 +21,13 @@ use Rattle.kexec_main.specs.Runs.{Arrives, IsOnce, Leaves, after_runs, wish_of}
 use Rattle.kexec_main.proofs.Leaving.{leaves_of}
 
 -- one run leaves each page of the segments what it is to have
-arrives : (runs : Option Runs) (c : Checked) (N : Mem) → IsOnce runs → Leaves runs c N → Arrives c N
+pub arrives : (runs : Option Runs) (c : Checked) (N : Mem) → IsOnce runs → Leaves runs c N → Arrives c N
 arrives None c N once h = h.0
 arrives (Some Once) c N once h = h
 arrives (Some Twice) c N once h = absurd once
 
 -- which is that each has what is wanted
-has_wanted_of : (ss : List SegmentValue) (N : Mem) → IsBare ss → ((q : ℕ) (bytes : List ℕ) → want ss q ≡ Some bytes → N q ≡ bytes) → HasWanted N ss
+pub has_wanted_of : (ss : List SegmentValue) (N : Mem) → IsBare ss → ((q : ℕ) (bytes : List ℕ) → want ss q ≡ Some bytes → N q ≡ bytes) → HasWanted N ss
 has_wanted_of ss N bare h = λ q has.
     let w = want-from_Has ss q (AreSegments-from_IsBare ss bare).placed has in
     w.1 ∙ ap Some (sym (h q w.0 w.1))

@@ -1,6 +1,5 @@
 -- `boot` and `load` are refused for pages exactly where the pool has too few: their files are refused for what they hold.
 use Rattle.std.proofs.Common.{ℕ, ◌-◌, List, length, Option, inl, inr}
-use Rattle.std.specs.Prelude.{◌⊎◌}
 use Rattle.kx_edge.specs.Edge.{Files}
 use Rattle.kx_pages.specs.Limits.{kernel_limit}
 use Rattle.kx_pages.specs.declared.image.ImageType.{ImageType}
@@ -8,7 +7,7 @@ use Rattle.page_memory.specs.File.{reading}
 use Rattle.page_pool.specs.File.{pool_reading}
 use Rattle.memory_map.specs.Text.{map_reading}
 use Rattle.file_commands.specs.Files.{all_files, from_reader, optional_file, whole_file}
-use Rattle.file_commands.specs.Taking.{by, ok, ◌>>=◌}
+use Rattle.file_commands.specs.Taking.{by, ok}
 use Rattle.file_commands.proofs.Reasons.{Only, only_all, only_ok, only_optional, only_reader, only_then, only_whole}
 use Rattle.kexec_words.specs.Values.{BootValue, InputsValue, LoadValue}
 use Rattle.kexec_words.specs.Values as words

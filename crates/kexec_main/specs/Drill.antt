@@ -1,5 +1,5 @@
 -- What `drill` takes and makes (this project's own).
-use Rattle.std.specs.Prelude.{◌≡◌, ◌⊎◌, ℕ, List, [], ◌∷◌, Option, None, map, Result, Ok, Err}
+use Rattle.std.specs.Prelude.{◌≡◌, ◌⊎◌, ℕ, List, [], ◌∷◌, Option, None, Result, Ok, Err}
 use Rattle.std.specs.List.{find}
 use Rattle.kx_edge.specs.Edge.{Said}
 use Rattle.kx_edge.specs.declared.edge.Shelf.{Ghosts as Shelf}
@@ -91,7 +91,7 @@ module _ {S O : Type 0} (D : Shelf S) (E : Sink O) (s : S) (o : O) (s' : S) (o' 
     pub apart : first_meeting i ≡ None
     -- Until an image was run, after each event: what is installed or written is accepted in the memory as it is, and each
     -- page of the pool is left, or the load's, or the normal image's. Busy is answered exactly where another caller's load is
-    -- under way.
+    -- under way, and NoPages exactly where fewer pages are left than a load takes that is to be written.
     pub kept : AreKept i.pool (start i ram) i.events
     pub output : List ℕ
     pub is_memory : IsFileOf (memory_after i ram) output

@@ -3,7 +3,7 @@ use Rattle.std.specs.Prelude.{◌≡◌, ℕ, ◌+◌, ◌*◌, ◌/◌, List, [
 use Rattle.std.specs.List.{flat_map}
 use Rattle.kx_pages.specs.declared.item.Item.{Item}
 use Rattle.kx_pages.specs.declared.item.Item.TheVariants.{Link, Destination, Source, Done}
-use Rattle.kx_pages.specs.Items.{decode}
+use Rattle.kx_pages.specs.Items.{decode, item_of}
 use Rattle.page_memory.specs.Contents.{at}
 use Rattle.segments.specs.Values.{SegmentValue}
 use Rattle.list_checker.specs.declared.fault.ListFault.{ListFault}
@@ -36,10 +36,10 @@ item_text (Destination p) address = codes " destination " ++ (hexadecimal addres
 item_text (Source p) address = codes " source " ++ (hexadecimal address ++ codes "\n")
 item_text (Done p) address = codes " done\n"
 
--- the line of a word of a walk: its number, what it is, and its address
+-- the line of a word of a walk: its number, what it is, and its address; a word that is no item has none
 unfoldable pub word_line : ℕ → ℕ → List ℕ
 word_line n w =
-    elim (decode w) [ None ↦ [] | Some item ↦ decimal n ++ item_text item (4096 * (w / 4096)) ]
+    elim (item_of w) [ Err fault ↦ [] | Ok item ↦ decimal n ++ item_text item (4096 * (w / 4096)) ]
 
 -- the lines of words, the first of which has this number
 abbrev pub word_lines : ℕ → List ℕ → List ℕ

@@ -49,7 +49,7 @@ pub(crate) struct ResidentInputs {
 }
 
 // Takes a file of pairs and reads it.
-#[tactic(auto, unfolding(file_commands::specs::Taking::and_then, file_commands::specs::Taking::Took, file_commands::specs::Taking::FailedAt, file_commands::specs::inner::Calls::TakesNot))]
+#[tactic(auto, unfolding(file_commands::specs::Taking::and_then, file_commands::specs::Taking::Took, file_commands::specs::Taking::FailedAt, file_commands::specs::Taking::WantedAt, file_commands::specs::inner::Calls::TakesNot))]
 fn take_pairs<S: Shelf>(
     alloc: Global,
     name: String,

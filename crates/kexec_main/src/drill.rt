@@ -1,10 +1,10 @@
 //! `drill`: applies the events of several callers one after another.
 
-ghost use Rattle.std.specs.Prelude.{◌≡◌, ◌^◌, ℕ, List, map, None, Ok, false, string_bytes, IfOk};
+ghost use Rattle.std.specs.Prelude.{◌≡◌, List, map, None, Ok, string_bytes, IfOk};
 ghost use Rattle.std.specs.List.{find, AllByRecursion};
 ghost use Rattle.kx_pages.specs.Spans.{Run};
 ghost use Rattle.page_memory.specs.Contents.{at};
-ghost use Rattle.page_pool.specs.Pages.{is_filed, usable_of};
+ghost use Rattle.page_pool.specs.Pages.{usable_of};
 ghost use Rattle.memory_map.specs.Maps.{reserved_area};
 ghost use Rattle.image_slots.specs.inner.Events.{HasFewBytes, event_of};
 ghost use Rattle.image_slots.specs.Pages.{in_area};
@@ -38,7 +38,7 @@ pub(crate) struct DrillWords {
 }
 
 // Takes a file of events and reads it.
-#[tactic(auto, unfolding(file_commands::specs::Taking::and_then, file_commands::specs::Taking::Took, file_commands::specs::Taking::FailedAt, file_commands::specs::inner::Calls::TakesNot))]
+#[tactic(auto, unfolding(file_commands::specs::Taking::and_then, file_commands::specs::Taking::Took, file_commands::specs::Taking::FailedAt, file_commands::specs::Taking::WantedAt, file_commands::specs::inner::Calls::TakesNot))]
 fn take_events<S: Shelf>(
     alloc: Global,
     name: String,
@@ -93,8 +93,6 @@ fn slots_over(
     pool: Pool,
     map: &Map,
 ) -> Result<Slots, MakeFault<Reason>>
-    requires unfiled { (q : ℕ) → is_filed pool q ≡ false }
-    requires limit { pool.limit ≡ 2 ^ 46 }
     ensures { MakesOr
         (λ s. (ram : List Run) × AreRam map.now ram
         × (find (in_area (reserved_area map.now)) (usable_of pool) ≡ None)

@@ -1,7 +1,6 @@
 //! What `drill` takes.
 
-ghost use Rattle.std.specs.Prelude.{◌≡◌, ◌^◌, ℕ, false, true};
-ghost use Rattle.page_pool.specs.Pages.{is_filed};
+ghost use Rattle.std.specs.Prelude.{◌≡◌, true};
 ghost use Rattle.kexec_main.specs.inner.ShortStores.{are_short};
 
 use image_slots::Event;
@@ -17,10 +16,6 @@ pub(crate) struct DrillInputs {
     pub(crate) map: Map,
     pub(crate) events: Vec<Event>,
     pub(crate) out: String,
-    /// No page of a pool that was read is filed.
-    pub(crate) ghost unfiled: { (q : ℕ) → is_filed pool q ≡ false },
-    /// The pool has the limit of all addresses.
-    pub(crate) ghost limit: { pool.limit ≡ 2 ^ 46 },
     /// Each store has at most a page.
     pub(crate) ghost short: { are_short events.items ≡ true },
 }

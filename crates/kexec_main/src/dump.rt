@@ -5,7 +5,7 @@ ghost use Rattle.std.specs.List.{flat_map};
 ghost use Rattle.sha2.specs.Sha256.{sha256};
 ghost use Rattle.file_commands.specs.inner.Calls.{Makes, Takes, goods_of};
 ghost use Rattle.kexec_words.specs.inner.Values.{load_names_value};
-ghost use Rattle.kexec_main.specs.Dump.{dumps, head_fault, head_text, lines_of, segment_line, walk_text, word_line, word_lines};
+ghost use Rattle.kexec_main.specs.Dump.{dumps, head_text, lines_of, segment_line, walk_text, word_line, word_lines};
 ghost use Rattle.kexec_main.specs.inner.Views.{dump_inputs};
 ghost use Rattle.kexec_main.specs.Files.{load_files_of};
 
@@ -14,8 +14,8 @@ use crate::status::Reason;
 use file_commands::{Command, Goods, MakeFault, TakeFault};
 use kexec_words::LoadNames;
 use kx_edge::Shelf;
-use kx_pages::{Item, Page};
-use list_checker::{ListFault, Walk, Why, walk};
+use kx_pages::Item;
+use list_checker::{ListFault, Walk, head_reason, walk};
 use load_record::DigestedRecord;
 use page_memory::Memory;
 use segments::Segment;
@@ -41,11 +41,11 @@ fn word_line(alloc: Global, number: usize, word: u64) -> Result<String, AllocErr
 {
     let address = 4096 * (word / 4096);
     match Item::of_word(word) {
-        Some(Item::Link(_)) => format!(in alloc; "{number} link {address:x}\n"),
-        Some(Item::Destination(_)) => format!(in alloc; "{number} destination {address:x}\n"),
-        Some(Item::Source(_)) => format!(in alloc; "{number} source {address:x}\n"),
-        Some(Item::Done(_)) => format!(in alloc; "{number} done\n"),
-        None => Ok(String::new(alloc)),
+        Ok(Item::Link(_)) => format!(in alloc; "{number} link {address:x}\n"),
+        Ok(Item::Destination(_)) => format!(in alloc; "{number} destination {address:x}\n"),
+        Ok(Item::Source(_)) => format!(in alloc; "{number} source {address:x}\n"),
+        Ok(Item::Done(_)) => format!(in alloc; "{number} done\n"),
+        Err(_) => Ok(String::new(alloc)),
     }
 }
 
@@ -108,30 +108,16 @@ fn push_segments(
     Ok(())
 }
 
-// Why the head of a crash load is no done word, if it is none.
-fn head_fault(head: u64) -> Option<ListFault>
-    ensures { result ≡ head_fault head }
-{
-    let why = match Item::of_word(head) {
-        Some(Item::Done(_)) => return None,
-        Some(Item::Link(number) | Item::Destination(number) | Item::Source(number)) => {
-            match Page::new(number) {
-                Some(_) => Why::HeadKind,
-                None => Why::PastLimit,
-            }
-        }
-        None => Why::Flags,
-    };
-    Some(ListFault { word: 0, why })
-}
-
 // The line of the head of a crash load.
 fn head_text(alloc: Global, head: u64) -> Result<String, AllocError>
     ensures { IfOk result (λ s. string_bytes s ≡ head_text head) }
 {
-    match head_fault(head) {
+    match head_reason(head) {
         None => word_line(alloc, 0, head),
-        Some(fault) => format!(in alloc; "{fault}\n"),
+        Some(why) => {
+            let fault = ListFault { word: 0, why };
+            format!(in alloc; "{fault}\n")
+        }
     }
 }
 

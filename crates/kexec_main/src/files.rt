@@ -21,7 +21,7 @@ use segments::Segments;
 use std::alloc::Global;
 
 /// The most bytes of a memory file: 16 and 4,104 for each of 131,072 pages.
-const MEMORY_LIMIT: usize = 537_919_504;
+const MEMORY_FILE_LIMIT: usize = 537_919_504;
 
 /// The most bytes of a pool file, of a memory map, of a file of notes, of a file of pairs and of a file of events.
 pub(crate) const TEXT_LIMIT: usize = 1_048_576;
@@ -39,7 +39,7 @@ pub(crate) fn refusal_by(fault: InputFault) -> TakeFault<Reason>
 }
 
 /// Takes a memory file and reads it.
-#[tactic(auto, unfolding(file_commands::specs::Taking::and_then, file_commands::specs::Taking::Took, file_commands::specs::Taking::FailedAt, file_commands::specs::inner::Calls::TakesNot))]
+#[tactic(auto, unfolding(file_commands::specs::Taking::and_then, file_commands::specs::Taking::Took, file_commands::specs::Taking::FailedAt, file_commands::specs::Taking::WantedAt, file_commands::specs::inner::Calls::TakesNot))]
 pub(crate) fn take_memory<S: Shelf>(
     alloc: Global,
     name: String,
@@ -47,7 +47,7 @@ pub(crate) fn take_memory<S: Shelf>(
 ) -> Result<Memory, TakeFault<Reason>>
     ensures { Takes S.Shelf (memory_file (string_bytes name)) (λ m. m) shelf.old result shelf.new }
 {
-    let bytes = take_file(alloc, name, MEMORY_LIMIT, shelf)?;
+    let bytes = take_file(alloc, name, MEMORY_FILE_LIMIT, shelf)?;
     match Memory::from_file(alloc, bytes) {
         Ok(memory) => Ok(memory),
         Err(MemFault::Memory) => Err(TakeFault::Memory),
@@ -56,7 +56,7 @@ pub(crate) fn take_memory<S: Shelf>(
 }
 
 // Takes a pool file and reads it. No page of the pool is drawn, and each is usable.
-#[tactic(auto, unfolding(file_commands::specs::Taking::and_then, file_commands::specs::Taking::Took, file_commands::specs::Taking::FailedAt, file_commands::specs::inner::Calls::TakesNot))]
+#[tactic(auto, unfolding(file_commands::specs::Taking::and_then, file_commands::specs::Taking::Took, file_commands::specs::Taking::FailedAt, file_commands::specs::Taking::WantedAt, file_commands::specs::inner::Calls::TakesNot))]
 fn take_pages<S: Shelf>(
     alloc: Global,
     name: String,
@@ -108,7 +108,7 @@ pub(crate) fn take_pool<S: Shelf>(
 }
 
 /// Takes a memory map and reads it.
-#[tactic(auto, unfolding(file_commands::specs::Taking::and_then, file_commands::specs::Taking::Took, file_commands::specs::Taking::FailedAt, file_commands::specs::inner::Calls::TakesNot))]
+#[tactic(auto, unfolding(file_commands::specs::Taking::and_then, file_commands::specs::Taking::Took, file_commands::specs::Taking::FailedAt, file_commands::specs::Taking::WantedAt, file_commands::specs::inner::Calls::TakesNot))]
 pub(crate) fn take_map_file<S: Shelf>(
     alloc: Global,
     name: String,
@@ -125,7 +125,7 @@ pub(crate) fn take_map_file<S: Shelf>(
 }
 
 /// Takes the memory map, where one is named, and reads it.
-#[tactic(auto, unfolding(file_commands::specs::Taking::and_then, file_commands::specs::Taking::Took, file_commands::specs::Taking::FailedAt, file_commands::specs::inner::Calls::TakesNot))]
+#[tactic(auto, unfolding(file_commands::specs::Taking::and_then, file_commands::specs::Taking::Took, file_commands::specs::Taking::FailedAt, file_commands::specs::Taking::WantedAt, file_commands::specs::inner::Calls::TakesNot))]
 pub(crate) fn take_map<S: Shelf>(
     alloc: Global,
     name: Option<String>,
@@ -142,7 +142,7 @@ pub(crate) fn take_map<S: Shelf>(
 }
 
 // Takes a file of notes and reads it.
-#[tactic(auto, unfolding(file_commands::specs::Taking::and_then, file_commands::specs::Taking::Took, file_commands::specs::Taking::FailedAt, file_commands::specs::inner::Calls::TakesNot))]
+#[tactic(auto, unfolding(file_commands::specs::Taking::and_then, file_commands::specs::Taking::Took, file_commands::specs::Taking::FailedAt, file_commands::specs::Taking::WantedAt, file_commands::specs::inner::Calls::TakesNot))]
 fn take_notes_file<S: Shelf>(
     alloc: Global,
     name: String,
@@ -160,7 +160,7 @@ fn take_notes_file<S: Shelf>(
 }
 
 /// Takes the file of notes, where one is named, and reads it. Without one there are none.
-#[tactic(auto, unfolding(file_commands::specs::Taking::and_then, file_commands::specs::Taking::Took, file_commands::specs::Taking::FailedAt, file_commands::specs::inner::Calls::TakesNot))]
+#[tactic(auto, unfolding(file_commands::specs::Taking::and_then, file_commands::specs::Taking::Took, file_commands::specs::Taking::FailedAt, file_commands::specs::Taking::WantedAt, file_commands::specs::inner::Calls::TakesNot))]
 pub(crate) fn take_notes<S: Shelf>(
     alloc: Global,
     name: Option<String>,
@@ -177,7 +177,7 @@ pub(crate) fn take_notes<S: Shelf>(
 
 /// Takes the file of a load record and reads it: what follows its front is taken into the buffer that becomes its first
 /// segment's.
-#[tactic(auto, unfolding(file_commands::specs::Taking::and_then, file_commands::specs::Taking::Took, file_commands::specs::Taking::FailedAt, file_commands::specs::inner::Calls::TakesNot))]
+#[tactic(auto, unfolding(file_commands::specs::Taking::and_then, file_commands::specs::Taking::Took, file_commands::specs::Taking::FailedAt, file_commands::specs::Taking::WantedAt, file_commands::specs::inner::Calls::TakesNot))]
 pub(crate) fn take_record<S: Shelf>(
     alloc: Global,
     name: String,
@@ -195,7 +195,7 @@ pub(crate) fn take_record<S: Shelf>(
 }
 
 /// As `take_record`, with the digests of the record's segments.
-#[tactic(auto, unfolding(file_commands::specs::Taking::and_then, file_commands::specs::Taking::Took, file_commands::specs::Taking::FailedAt, file_commands::specs::inner::Calls::TakesNot))]
+#[tactic(auto, unfolding(file_commands::specs::Taking::and_then, file_commands::specs::Taking::Took, file_commands::specs::Taking::FailedAt, file_commands::specs::Taking::WantedAt, file_commands::specs::inner::Calls::TakesNot))]
 pub(crate) fn take_digested_record<S: Shelf>(
     alloc: Global,
     name: String,

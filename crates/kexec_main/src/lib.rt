@@ -10,7 +10,7 @@
 //! | `crash_loading`, `crash_exec` | the same of a crash kernel, which is put in its place and never moves |
 //! | `boot`, `boot_resident`, `load`, `load_panic`, `check`, `dump`, `exec`, `trace`, `migrate`, `sample`, `drill`, `core_file` | a command each, with its words |
 //! | `migrate_inputs`, `drill_inputs`, `core_inputs` | what these three take, which holds a fact of it |
-//! | `laws` | what commands do together, and where they are refused for pages |
+//! | `laws` | what commands do together, where they are refused for pages, and how many pages a load uses |
 //! | `status` | how a command ended, and why it may be refused |
 //! | `run`, `calm` | the top call, and the same over files in memory |
 #![tactic(auto)]

@@ -91,6 +91,7 @@ fn run_words<S: Shelf, O: Sink>(
 /// Three kinds of clauses: over every shelf and sink; over files that are told; and what a device's count of faults says.
 /// The host's shelf tells no files, since other programs may change them at any time. What is said over told files is said
 /// of it too, by the one body: it serves all shelves, and sees of each what it took, and never whether its files are told.
+/// `kexec_recorded` of recorded_kexec, which the program calls, says it of the bytes that a log of the calls has.
 pub fn kexec<S: Shelf, O: Sink>(
     alloc: Global,
     words: &[String],
@@ -109,9 +110,8 @@ pub fn kexec<S: Shelf, O: Sink>(
         (λ X c. MeetsTold S.Shelf O.Sink c held shelf.old out.old (answer_of result) shelf.new
         out.new) (command_of (map string_bytes words.now))) }
 
-    // What stands after each command that answered Done, over a shelf that tells its files at the call. What it says of the
-    // files after the command it says where the shelf tells them at the return too (FilesPut): a shelf may tell files at the
-    // call and none at the return, and of that one it says what was loaded and what was said, and nothing of OUT. `meets`
+    // What stands after each command that answered Done, over a shelf that tells its files at the call: it tells them at the
+    // return too, with each output put (FilesPut), and a sink that told its bytes tells these and the text (Said). `meets`
     // says of every shelf that each output was put, once, with its bytes.
     ensures done { (c : CommandValue) → command_of (map string_bytes words.now) ≡ Ok c
         → answer_of result ≡ done

@@ -13,7 +13,7 @@ use Rattle.kx_pages.specs.declared.image.Mode.{Mode}
 use Rattle.kx_pages.specs.declared.image.Mode.TheVariants as mode
 use Rattle.kx_pages.specs.declared.image.Image.{Image}
 use Rattle.kimage_list.specs.Load.{Loading, Entry, Start, Move}
-use Rattle.kx_pages.specs.Needs.{first_count}
+use Rattle.kx_pages.specs.Needs.{first_count, link_page_entries}
 
 -- the control page, the swap page, the link pages: the pages taken for no destination, in order
 abbrev pub control_of : Loading → ℕ
@@ -32,10 +32,10 @@ items (Start p ∷ es) qs = Destination p ∷ items es qs
 items (Move p ∷ es) [] = items es []
 items (Move p ∷ es) (q ∷ qs) = Source q.1 ∷ items es qs
 
--- the items over these link pages, 511 to a page, and the done word
+-- the items over these link pages, as many to a page as it has entries, and the done word
 abbrev pub chain : List ℕ → List Item → List Item
 chain [] is = Done 0 ∷ []
-chain (l ∷ ls) is = Link l ∷ take 511 is ++ chain ls (drop 511 is)
+chain (l ∷ ls) is = Link l ∷ take link_page_entries is ++ chain ls (drop link_page_entries is)
 
 -- words as bytes, eight each, the lowest first
 abbrev pub in_bytes : List ℕ → List ℕ
@@ -46,8 +46,8 @@ in_bytes (w ∷ ws) = little_bytes 8 w ++ in_bytes ws
 abbrev pub link_pages : List ℕ → List Item → List (ℕ × List ℕ)
 link_pages [] is = []
 link_pages (l ∷ ls) is =
-    (l, page_of (in_bytes (map code (take 511 is ++ take 1 (chain ls (drop 511 is))))))
-    ∷ link_pages ls (drop 511 is)
+    (l, page_of (in_bytes (map code (take link_page_entries is ++ take 1 (chain ls (drop link_page_entries is))))))
+    ∷ link_pages ls (drop link_page_entries is)
 
 -- each source page with the bytes of its destination
 abbrev pub source_pages : Wants → List (ℕ × ℕ) → List (ℕ × List ℕ)

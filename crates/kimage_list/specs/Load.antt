@@ -3,7 +3,7 @@
 -- its own request (kimage_alloc_page).
 use Rattle.std.specs.Prelude.{ℕ, zero, suc, ◌%◌, Bool, true, false, not, ◌||◌, List, [], ◌∷◌, ◌++◌, replicate, Option, Some, None, if◌then◌else◌, ◌==◌}
 use Rattle.kx_pages.specs.Lists.{has}
-use Rattle.kx_pages.specs.Needs.{first_count}
+use Rattle.kx_pages.specs.Needs.{first_count, link_page_entries}
 use Rattle.kx_pages.specs.declared.image.Wish.{Wish}
 
 -- the entries of a list: the destination entry of a segment that starts at this page, and the source entry of this
@@ -29,11 +29,11 @@ abbrev pub own_request : Entry → List Request
 own_request (Start p) = []
 own_request (Move p) = Some p ∷ []
 
--- the requests of these entries, of which the first is number n: a link page for each 511 entries, and the pages
+-- the requests of these entries, of which the first is number n: a link page before the first of each page of entries, and the pages
 abbrev pub requests_from : ℕ → List Entry → List Request
 requests_from n [] = []
 requests_from n (e ∷ es) =
-    (if n % 511 == 0 then None ∷ [] else []) ++ (own_request e ++ requests_from (suc n) es)
+    (if n % link_page_entries == 0 then None ∷ [] else []) ++ (own_request e ++ requests_from (suc n) es)
 
 -- the requests of a load, in order
 abbrev pub requests : Wish → List Entry → List Request

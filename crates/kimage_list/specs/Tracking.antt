@@ -1,5 +1,5 @@
 -- Where a pool and a table stand while a list is written (this project's own).
-use Rattle.std.specs.Prelude.{ℕ, ◌+◌, List, ◌++◌}
+use Rattle.std.specs.Prelude.{ℕ, List, ◌++◌}
 use Rattle.page_pool.specs.Pages.{Pages, usable_of}
 
 -- what of a pool no draw changes: the pages drawn and then those usable, the pages that it was made of, and its limit

@@ -1,6 +1,6 @@
 //! A list while it is written: the steps of the writer.
 
-ghost use Rattle.std.specs.Prelude.{◌≡◌, ℕ, ◌<◌, ◌≤◌, ◌+◌, ◌*◌, ◌∷◌, List, [], length, None, Some};
+ghost use Rattle.std.specs.Prelude.{◌≡◌, ℕ, ◌<◌, ◌≤◌, ◌+◌, ◌∷◌, List, [], length, None, Some};
 ghost use Rattle.page_memory.specs.Contents.{at};
 ghost use Rattle.page_memory.specs.inner.Contents.{IsHeld};
 ghost use Rattle.page_memory.specs.inner.Memory.{set_word};
@@ -13,16 +13,13 @@ ghost use Rattle.kimage_list.specs.inner.Drafts.{Draft, CanTake, IsFull, with_li
 use crate::pages::{destination_word, fill, link_word, settle, source_word, write_word};
 use crate::table::{PageSource, Table};
 use crate::taking::take_page;
-use kx_pages::{Item, Page};
+use kx_pages::{DONE_WORD, LINK_PAGE_ENTRIES, Page};
 use page_memory::Memory;
 use page_pool::Pool;
 
-/// Entries on a link page: its last slot leads on.
-const ENTRIES: u64 = 511;
-
 /// Memory, pool and table of a list that is written.
 #[derive(Drop)]
-pub struct OpenList {
+pub(crate) struct OpenList {
     pub(crate) memory: Memory,
     pub(crate) pool: Pool,
     pub(crate) table: Table,
@@ -99,7 +96,7 @@ impl OpenList {
 
     // Takes a link page more, clears it, and writes the word that leads to it. A page of a pool may hold anything, also
     // words: cleared, the list has none that was not written. The word that leads on stands in the place behind the last
-    // entry, slot 511 of the page before, or is the head.
+    // entry, in the last slot of the page before, or is the head.
     fn take_link(&mut self)
         requires { (d : Draft) × (t : ℕ × Loading) × IsRendered self.old d × CanTake d None t ×
             IsFull d }
@@ -132,7 +129,7 @@ impl OpenList {
         ensures pages { whole_pool self.new.pool ≡ whole_pool self.old.pool }
         ensures held { HoldSame self.new.memory self.old.memory }
     {
-        if self.entries % ENTRIES == 0 {
+        if self.entries % LINK_PAGE_ENTRIES as u64 == 0 {
             self.take_link();
         }
     }
@@ -208,8 +205,7 @@ impl OpenList {
             head,
             ..
         } = self;
-        let done = Item::Done(0).word();
-        write_word(&mut memory, next, done);
+        write_word(&mut memory, next, DONE_WORD);
         EndedList { memory, pool, head }
     }
 }

@@ -1,6 +1,6 @@
 //! What is written into memory, page by page and word by word.
 
-ghost use Rattle.std.specs.Prelude.{◌≡◌, ℕ, ◌/◌, ◌%◌, ◌<◌, ◌≤◌, ◌^◌, [], length};
+ghost use Rattle.std.specs.Prelude.{◌≡◌, ℕ, ◌/◌, ◌%◌, ◌<◌, ◌≤◌, ◌^◌, length};
 ghost use Rattle.kx_pages.specs.Bytes.{page_of};
 ghost use Rattle.page_memory.specs.Contents.{at};
 ghost use Rattle.page_memory.specs.inner.Contents.{IsHeld};
@@ -56,21 +56,21 @@ pub(crate) fn move_source(memory: &mut Memory, page: Page, from: Page, place: u6
 pub(crate) fn source_word(p: Page) -> u64
     ensures { result ≡ code (Source p) }
 {
-    Item::Source(p.number()).word()
+    Item::Source(p).word()
 }
 
 /// The word that leads on to a link page.
 pub(crate) fn link_word(p: Page) -> u64
     ensures { result ≡ code (Link p) }
 {
-    Item::Link(p.number()).word()
+    Item::Link(p).word()
 }
 
 /// The word of a segment's start.
 pub(crate) fn destination_word(p: Page) -> u64
     ensures { result ≡ code (Destination p) }
 {
-    Item::Destination(p.number()).word()
+    Item::Destination(p).word()
 }
 
 /// Makes the exchange that freed the page: the loaded page gets its bytes from its old source, and its word in the list

@@ -15,9 +15,9 @@ use std::marker::Model;
 
 /// Where a loaded page's bytes are, and the address of its word in the list.
 #[derive(Clone, Copy, Debug, PartialEq, Eq)]
-pub struct PageSource {
-    pub source: Page,
-    pub place: u64,
+pub(crate) struct PageSource {
+    pub(crate) source: Page,
+    pub(crate) place: u64,
 }
 
 // The slots of a run of wanted pages, of which the first has number `first`: of each page where it is loaded from, once it
@@ -91,7 +91,7 @@ fn row_of(rows: &[Row], p: Page) -> usize
 ///
 /// The rows rise and no two have a page in common: so at most the first that ends behind a page has it.
 #[derive(Drop)]
-pub struct Table {
+pub(crate) struct Table {
     rows: Vec<Row>,
 }
 

@@ -8,7 +8,7 @@
 //!
 //! The link pages, the control page and the swap page are no destinations either, so the list stands while it runs.
 
-ghost use Rattle.std.specs.Prelude.{◌≡◌, ◌≢◌, ℕ, Bool, Some, IsSome, ◌==◌};
+ghost use Rattle.std.specs.Prelude.{◌≡◌, ◌≢◌, ℕ, Bool, Some, ◌==◌};
 ghost use Rattle.kimage_list.specs.Load.{Loading, is_for, draw, take_page};
 ghost use Rattle.kimage_list.specs.inner.Tables.{slot};
 ghost use Rattle.kimage_list.specs.Tracking.{whole_pool};
@@ -20,16 +20,16 @@ use page_pool::Pool;
 
 /// A pair that was exchanged: its page became its own source, at this word.
 #[derive(Clone, Copy, Debug, PartialEq, Eq)]
-pub struct MovedPage {
-    pub page: Page,
-    pub place: u64,
+pub(crate) struct MovedPage {
+    pub(crate) page: Page,
+    pub(crate) place: u64,
 }
 
 /// A page to use, and the pair whose bytes it has until they are moved.
 #[derive(Clone, Copy, Debug, PartialEq, Eq)]
-pub struct TakenPage {
-    pub page: Page,
-    pub moved: Option<MovedPage>,
+pub(crate) struct TakenPage {
+    pub(crate) page: Page,
+    pub(crate) moved: Option<MovedPage>,
 }
 
 /// What becomes of a drawn page.

@@ -1,16 +1,15 @@
 //! The writer of a list.
 
-ghost use Rattle.std.specs.Prelude.{◌≡◌, ◌≢◌, ℕ, ◌<◌, ◌≤◌, ◌+◌, ◌^◌, ◌⊎◌, ◌↔◌, ◌∷◌, [], length, take, drop, None, Some, IfOk, IfErr, false};
+ghost use Rattle.std.specs.Prelude.{◌≡◌, ℕ, ◌<◌, ◌≤◌, ◌+◌, ◌⊎◌, ◌↔◌, length, None, Some, IfOk, IfErr, false};
 ghost use Rattle.kx_pages.specs.Bytes.{page_of};
 ghost use Rattle.page_memory.specs.Contents.{at};
 ghost use Rattle.page_memory.specs.inner.Contents.{IsHeld};
 ghost use Rattle.page_pool.specs.Pages.{Pages, is_filed, usable_of};
-ghost use Rattle.kx_pages.specs.Lists.{Has, count, sources};
+ghost use Rattle.kx_pages.specs.Limits.{segment_page_limit};
+ghost use Rattle.kx_pages.specs.Lists.{Has};
 ghost use Rattle.kx_pages.specs.Spans.{pages};
 ghost use Rattle.kx_pages.specs.Needs.{need_of};
 ghost use Rattle.kimage_list.specs.inner.Held.{HoldSame, load_pages};
-ghost use Rattle.kimage_list.specs.Laying.{image_of, lay};
-ghost use Rattle.kimage_list.specs.inner.Tables.{slot};
 ghost use Rattle.kimage_list.specs.Tracking.{whole_pool};
 ghost use Rattle.kimage_list.specs.inner.Writers.{History, StandsAt, IsAwaited, with_destination, with_source, need};
 ghost use Rattle.kimage_list.specs.Calls.{HasDrawn};
@@ -67,7 +66,7 @@ impl ListWriter {
     ) -> Result<ListWriter, BeginRefused>
         requires some { 1 ≤ segments }
         requires segments { segments ≤ 16 }
-        requires pages { pages wanted.now ≤ 65536 }
+        requires pages { pages wanted.now ≤ segment_page_limit }
         requires unfiled { (p : ℕ) → is_filed pool p ≡ false }
         ensures begun { IfOk result (λ w.
             StandsAt (load_begun (at memory) (usable_of pool) wanted.now segments wish) w) }

@@ -1,48 +1,75 @@
 //! The words of a list of page copies.
 
-ghost use Rattle.std.specs.Prelude.{◌≡◌, ◌<◌, ◌^◌};
-ghost use Rattle.kx_pages.specs.Items.{code, decode};
-ghost use Rattle.kx_pages.specs.inner.Items.{number};
+ghost use Rattle.std.specs.Prelude.{◌≡◌, Err, Ok, leb, ◌^◌, ◌/◌, if◌then◌else◌};
+ghost use Rattle.kx_pages.specs.Items.{code, item_of};
+ghost use Rattle.kx_pages.specs.inner.Items.{HasWord};
 
-/// A word that has exactly one flag in its low twelve bits, and the number of the page that it names: a word of the
-/// kernel's kexec core with `IND_INDIRECTION`, `IND_DESTINATION`, `IND_SOURCE` or `IND_DONE`.
+use crate::page::{PAGE_SIZE, Page};
+
+/// The entries of a link page: its last word leads on to the next link page, or ends the list.
+pub const LINK_PAGE_ENTRIES: usize = 511;
+
+/// The done word of the lists that are written here: the flag alone.
+pub const DONE_WORD: u64 = 4;
+
+/// A word that has exactly one flag in its low twelve bits, and the page that it names: a word of the kernel's kexec
+/// core with `IND_INDIRECTION`, `IND_DESTINATION`, `IND_SOURCE` or `IND_DONE`.
 #[derive(Clone, Copy, Debug, PartialEq, Eq)]
 pub enum Item {
     /// The list goes on in this page.
-    Link(u64),
+    Link(Page),
     /// The next source goes to this page.
-    Destination(u64),
+    Destination(Page),
     /// The bytes of this page go to the present destination.
-    Source(u64),
+    Source(Page),
     /// The list ends. The number is that of the word's high bits, and means nothing.
     Done(u64),
 }
 
+/// Why a word is no item: this project's own reasons.
+#[derive(Clone, Copy, Debug, PartialEq, Eq)]
+pub enum WordFault {
+    /// Its low twelve bits are not exactly one of the four flags.
+    Flags,
+    /// It is a link, destination or source word whose address is 2^46 or more.
+    PastLimit,
+}
+
+// The page that a word names.
+fn page_of(w: u64) -> Result<Page, WordFault>
+    ensures { result ≡ (if leb (2 ^ 34) (w / 4096) then Err WordFault.PastLimit else Ok
+        (w / 4096)) }
+{
+    match Page::new(w / PAGE_SIZE) {
+        Some(page) => Ok(page),
+        None => Err(WordFault::PastLimit),
+    }
+}
+
 impl Item {
-    /// The item that a word is. None where its low twelve bits are not exactly one flag.
-    pub fn of_word(w: u64) -> Option<Item>
-        ensures { result ≡ decode w }
+    /// The item that a word is, or why it is none.
+    pub fn of_word(w: u64) -> Result<Item, WordFault>
+        ensures { result ≡ item_of w }
     {
-        let page = w / 4096;
-        match w % 4096 {
-            1 => Some(Item::Destination(page)),
-            2 => Some(Item::Link(page)),
-            4 => Some(Item::Done(page)),
-            8 => Some(Item::Source(page)),
-            _ => None,
+        match w % PAGE_SIZE {
+            1 => Ok(Item::Destination(page_of(w)?)),
+            2 => Ok(Item::Link(page_of(w)?)),
+            4 => Ok(Item::Done(w / PAGE_SIZE)),
+            8 => Ok(Item::Source(page_of(w)?)),
+            _ => Err(WordFault::Flags),
         }
     }
 
     /// The word of an item: the page's address and the flag.
     pub fn word(self) -> u64
-        requires { number self < 2 ^ 52 }
+        requires { HasWord self }
         ensures { result ≡ code self }
     {
         match self {
-            Item::Destination(page) => 4096 * page + 1,
-            Item::Link(page) => 4096 * page + 2,
-            Item::Done(page) => 4096 * page + 4,
-            Item::Source(page) => 4096 * page + 8,
+            Item::Destination(page) => page.address() + 1,
+            Item::Link(page) => page.address() + 2,
+            Item::Done(number) => number * PAGE_SIZE + 4,
+            Item::Source(page) => page.address() + 8,
         }
     }
 }
@@ -54,9 +81,24 @@ mod tests {
 
     #[test]
     fn words_are_read_and_made(rt: HostRuntime) -> Result<(), Fail> {
-        assert_eq!(rt; Item::of_word(0x2001), Some(Item::Destination(2)));
-        assert_eq!(rt; Item::of_word(0x2009), None);
-        assert_eq!(rt; Item::Link(0x11).word(), 0x11002);
+        let page = Page::from_number(2);
+        assert_eq!(rt; Item::of_word(0x2001), Ok(Item::Destination(page)));
+        assert_eq!(rt; Item::of_word(0x2009), Err(WordFault::Flags));
+        assert_eq!(rt; Item::Link(page).word(), 0x2002);
+        Ok(())
+    }
+
+    #[test]
+    fn a_page_lies_below_the_limit_and_a_done_word_names_none(rt: HostRuntime) -> Result<(), Fail> {
+        assert_eq!(rt;
+            Item::of_word(0x3fff_ffff_f008),
+            Ok(Item::Source(Page::from_number(0x3_ffff_ffff)))
+        );
+        assert_eq!(rt; Item::of_word(0x4000_0000_0008), Err(WordFault::PastLimit));
+        assert_eq!(rt;
+            Item::of_word(0x4000_0000_0004),
+            Ok(Item::Done(0x4_0000_0000))
+        );
         Ok(())
     }
 }

@@ -19,9 +19,9 @@ mod span;
 
 pub use copy::copy_of;
 pub use image::{Image, ImageType, Mode, Start, Wish};
-pub use item::Item;
+pub use item::{DONE_WORD, Item, LINK_PAGE_ENTRIES, WordFault};
 pub use limits::{KERNEL_LIMIT, SEGMENT_LIMIT, SEGMENT_PAGE_LIMIT};
-pub use needs::{first_pages, pages_needed};
+pub use needs::{first_pages, link_pages_for, pages_needed};
 pub use page::{ADDRESS_LIMIT, PAGE_LIMIT, PAGE_SIZE, Page, ZERO_PAGE, is_page_address};
 pub use page_set::{PageSet, have_one_form};
 pub use room::room_for;

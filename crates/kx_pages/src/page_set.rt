@@ -4,7 +4,7 @@ ghost use Rattle.std.specs.Prelude.{◌≡◌, ℕ, ◌-◌, ◌<◌, ◌≤◌,
 ghost use Rattle.std.specs.List.{slice_get, All};
 ghost use Rattle.kx_pages.specs.Spans.{Run, end, in_span, in_spans, pages, AreApart, passing};
 ghost use Rattle.kx_pages.specs.inner.Spans.{IsMaximal};
-ghost use Rattle.kx_pages.specs.inner.Edits.{join, if_some, without, spans_meet, with_rest};
+ghost use Rattle.kx_pages.specs.inner.Edits.{join, if_some, without, with_rest};
 
 use crate::page::{PAGE_LIMIT, Page};
 use crate::search::{any_has, any_meets};

@@ -2,7 +2,7 @@
 
 ghost use Rattle.std.specs.Prelude.{◌≡◌};
 ghost use Rattle.std.specs.List.{list_any, slice_get};
-ghost use Rattle.kx_pages.specs.Spans.{in_span, in_spans, AreApart};
+ghost use Rattle.kx_pages.specs.Spans.{in_spans, AreApart};
 ghost use Rattle.kx_pages.specs.inner.Edits.{spans_meet, reaching};
 
 use crate::span::Span;

@@ -38,6 +38,22 @@ module _ (M : Mem) (W : Wants) where
       go true t = none-some PastLimit (sym e ∙ ap (λ b. cond b (Some PastLimit) (Some HeadKind)) t)
       go false t = none-some HeadKind (sym e ∙ ap (λ b. cond b (Some PastLimit) (Some HeadKind)) t)
 
+  -- what a crash list without segments tells of its head, each crash list tells
+  pub head_tells : (all : List ℕ) (o : Option Item) (why : Why) → crash_reason (λ p. []) (λ p. None) [] o ≡ Some why → crash_reason M W all o ≡ Some why
+  head_tells all None why h = h
+  head_tells all (Some (Link p)) why h = h
+  head_tells all (Some (Destination p)) why h = h
+  head_tells all (Some (Source p)) why h = h
+  head_tells all (Some (Done p)) why h = absurd (none-some why h)
+
+  -- and where it tells nothing, the head is a done word
+  pub head_is_done : (o : Option Item) → crash_reason (λ p. []) (λ p. None) [] o ≡ None → (p : ℕ) × (o ≡ Some (Done p))
+  head_is_done None h = absurd (none-some Flags (sym h))
+  head_is_done (Some (Link p)) h = absurd (not_head p h)
+  head_is_done (Some (Destination p)) h = absurd (not_head p h)
+  head_is_done (Some (Source p)) h = absurd (not_head p h)
+  head_is_done (Some (Done p)) h = (p, refl)
+
   done_word : (p w : ℕ) → w ≡ code (Done p) → w % 4096 ≡ 4
   done_word p w e = grind arith
 

@@ -53,8 +53,8 @@ module _ (M : Mem) where
       let t = none_holds (walk_reasons place s (Link p)) r in
       let more = linked_more s.links p l (Each-from_has_not p s.links t.1.0) (limit p t.0) in
       record {
-        fits = (limit p t.0, t.1.0);
-        leads = record { link = λ q z. let y : p ≡ q = grind (arith, z) in subst (λ x. x < 2 ^ 34) y (limit p t.0); other = λ n. absurd (n p refl) };
+        fits = t.1.0;
+        leads = λ n. absurd (n p refl);
         linked = more;
         nearer = reach_link s.links p place more;
         goes = from_link place e v (limit p t.0);
@@ -71,7 +71,7 @@ module _ (M : Mem) where
       let z = not_last a t.1.1.0 in
       record {
         fits = tt;
-        leads = record { link = λ q z. cc; other = λ n b y. let x : a ≡ b = grind (arith, y) in subst (λ x. IsPlace x × (x % 4096 < 4088)) x (h a refl, z) };
+        leads = λ n b y. let x : a ≡ b = grind (arith, y) in subst (λ x. IsPlace x × (x % 4096 < 4088)) x (h a refl, z);
         linked = l;
         nearer = reach_next (2 ^ 34) (length s.links) a z;
         goes = λ js k. (v a refl ∙ e, limit p t.0, z, k);
@@ -83,7 +83,7 @@ module _ (M : Mem) where
       let more = sym (paired_links s.next s p) in
       record {
         fits = tt;
-        leads = record { link = λ q z. cc; other = λ n b y. let x : a ≡ b = grind (arith, y) in subst (λ x. IsPlace x × (x % 4096 < 4088)) x (h a refl, z) };
+        leads = λ n b y. let x : a ≡ b = grind (arith, y) in subst (λ x. IsPlace x × (x % 4096 < 4088)) x (h a refl, z);
         linked = subst Linked more l;
         nearer = subst (λ ls. reach (2 ^ 34) (Some (a + 8)) (length ls) < reach (2 ^ 34) (Some a) (length s.links)) more (reach_next (2 ^ 34) (length s.links) a z);
         goes = λ js k. (v a refl ∙ e, limit p t.0, z, k);

@@ -92,8 +92,8 @@ module _ (m : Contents) (S : List SegmentValue) (im : Image) where
       let t = none_holds (reasons (at m) (want S) (pages S) im.control (swap_page im.mode) place s (Link p)) r in
       let more = linked_more s.links p l (Each-from_has_not p s.links t.1.0) (limit p t.0) in
       record {
-        fits = (limit p t.0, t.1.0);
-        leads = record { link = λ q e. let z : p ≡ q = grind (arith, e) in subst (λ x. x < 2 ^ 34) z (limit p t.0); other = λ n. absurd (n p refl) };
+        fits = t.1.0;
+        leads = λ n. absurd (n p refl);
         linked = more;
         nearer = reach_link s.links p place more;
       }
@@ -103,7 +103,7 @@ module _ (m : Contents) (S : List SegmentValue) (im : Image) where
       let t = none_holds (reasons (at m) (want S) (pages S) im.control (swap_page im.mode) (Some a) s (Destination p)) r in
       record {
         fits = tt;
-        leads = record { link = λ q e. cc; other = λ n b e. let z : a ≡ b = grind (arith, e) in subst (λ x. IsPlace x × (x % 4096 < 4088)) z (h a refl, not_last a t.1.1.0) };
+        leads = λ n b e. let z : a ≡ b = grind (arith, e) in subst (λ x. IsPlace x × (x % 4096 < 4088)) z (h a refl, not_last a t.1.1.0);
         linked = l;
         nearer = reach_next (2 ^ 34) (length s.links) a (not_last a t.1.1.0);
       }
@@ -112,8 +112,8 @@ module _ (m : Contents) (S : List SegmentValue) (im : Image) where
       let z = not_last a t.1.1.0 in
       let more = sym (paired_links s.next s p) in
       record {
-        fits = (limit p t.0, paired_fits k s p s.next t.1.1.1);
-        leads = record { link = λ q e. cc; other = λ n b e. let z1 : a ≡ b = grind (arith, e) in subst (λ x. IsPlace x × (x % 4096 < 4088)) z1 (h a refl, z) };
+        fits = paired_fits k s p s.next t.1.1.1;
+        leads = λ n b e. let z1 : a ≡ b = grind (arith, e) in subst (λ x. IsPlace x × (x % 4096 < 4088)) z1 (h a refl, z);
         linked = subst Linked more l;
         nearer = subst (λ ls. reach (2 ^ 34) (Some (a + 8)) (length ls) < reach (2 ^ 34) (Some a) (length s.links)) more (reach_next (2 ^ 34) (length s.links) a z);
       }

@@ -4,3 +4,4 @@ pub mod Checked
 pub mod Reading
 pub mod Texts
 pub mod Faults
+pub mod Items

@@ -1,26 +1,26 @@
 //! Checking a crash list.
 
-ghost use Rattle.std.specs.Prelude.{◌≡◌, ℕ, ◌+◌, ◌≤◌, ◌^◌, IfOk, IfErr, Some, not, leb, true, [], ◌∷◌};
+ghost use Rattle.std.specs.Prelude.{◌≡◌, IfOk, IfErr, None, Some, []};
 ghost use Rattle.page_memory.specs.Contents.{at};
 ghost use Rattle.segments.specs.Values.{want, pages};
 ghost use Rattle.segments.specs.inner.Rules.{IsBare};
 ghost use Rattle.kx_pages.specs.Items.{decode};
-ghost use Rattle.list_checker.specs.Faults.{first_of};
 ghost use Rattle.list_checker.specs.Crash.{AcceptedCrash, crash_reason};
 
 use crate::fault::{ListFault, Why};
 use crate::missing::first_lacking;
-use kx_pages::{Item, Page};
+use kx_pages::Item;
 use page_memory::Memory;
 use segments::Segments;
 
-// Why a head that is no done word is refused.
-fn head_reason(n: u64) -> Why
-    ensures { Some result ≡ first_of ((leb (2 ^ 34) n, Why.PastLimit) ∷ (true, Why.HeadKind) ∷ []) }
+/// Why the head of a crash list is no done word, if it is none: the fault of a crash list without segments.
+pub fn head_reason(head: u64) -> Option<Why>
+    ensures { result ≡ crash_reason (λ p. []) (λ p. None) [] (decode head) }
 {
-    match Page::new(n) {
-        None => Why::PastLimit,
-        Some(_) => Why::HeadKind,
+    match Item::of_word(head) {
+        Ok(Item::Done(_)) => None,
+        Ok(_) => Some(Why::HeadKind),
+        Err(fault) => Some(Why::from(fault)),
     }
 }
 
@@ -32,15 +32,12 @@ fn crash_refusal(memory: &Memory, head: u64, segments: &Segments) -> Option<Why>
 {
     // for its clause: what every value of the type keeps
     let _known = segments.count();
-    match Item::of_word(head) {
-        None => Some(Why::Flags),
-        Some(Item::Done(_)) => match first_lacking(memory, segments) {
+    match head_reason(head) {
+        Some(why) => Some(why),
+        None => match first_lacking(memory, segments) {
             Some(page) => Some(Why::Missing { page }),
             None => None,
         },
-        Some(Item::Link(n)) => Some(head_reason(n)),
-        Some(Item::Destination(n)) => Some(head_reason(n)),
-        Some(Item::Source(n)) => Some(head_reason(n)),
     }
 }
 

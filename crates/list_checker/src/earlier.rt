@@ -126,11 +126,11 @@ impl Earlier {
         Ok(())
     }
 
-    fn add_destination(&mut self, n: u64)
+    fn add_destination(&mut self, d: Page)
         ensures { (swap : Option ℕ) (s : spec.Earlier) → Shows swap self.old s →
-            Shows swap self.new (spec.with_item s (Item.Destination n)) }
+            Shows swap self.new (spec.with_item s (Item.Destination d)) }
     {
-        self.next = Some(n);
+        self.next = Some(d.number());
     }
 
     fn add_pair(&mut self, d: Page, p: Page) -> Result<(), AllocError>
@@ -147,37 +147,31 @@ impl Earlier {
         Ok(())
     }
 
-    fn add_source(&mut self, n: u64) -> Result<(), AllocError>
+    fn add_source(&mut self, p: Page) -> Result<(), AllocError>
         ensures { OnOk result ((swap : Option ℕ) (s : spec.Earlier) → Shows swap self.old s →
-            Fits s (Item.Source n) → Shows swap self.new (spec.with_item s (Item.Source n))) }
+            Fits s (Item.Source p) → Shows swap self.new (spec.with_item s (Item.Source p))) }
     {
         match self.next {
             None => Ok(()),
             Some(t) => match Page::new(t) {
                 None => Ok(()),
-                Some(d) => match Page::new(n) {
-                    None => Ok(()),
-                    Some(p) => self.add_pair(d, p),
-                },
+                Some(d) => self.add_pair(d, p),
             },
         }
     }
 
     // Adds a word that fits what came before it.
-    pub(crate) fn add(&mut self, item: Item) -> Result<(), AllocError>
+    pub(crate) fn add(&mut self, item: &Item) -> Result<(), AllocError>
         ensures { OnOk result ((swap : Option ℕ) (s : spec.Earlier) → Shows swap self.old s →
-            Fits s item → Shows swap self.new (spec.with_item s item)) }
+            Fits s item.now → Shows swap self.new (spec.with_item s item.now)) }
     {
         match item {
-            Item::Link(n) => match Page::new(n) {
-                Some(p) => self.add_link(p),
-                None => Ok(()),
-            },
-            Item::Destination(n) => {
-                self.add_destination(n);
+            Item::Link(p) => self.add_link(*p),
+            Item::Destination(d) => {
+                self.add_destination(*d);
                 Ok(())
             }
-            Item::Source(n) => self.add_source(n),
+            Item::Source(p) => self.add_source(*p),
             Item::Done(_) => Ok(()),
         }
     }

@@ -3,7 +3,7 @@
 ghost use Rattle.std.specs.Prelude.{◌≡◌};
 ghost use Rattle.list_checker.specs.inner.Texts.{cause_text};
 
-use kx_pages::Page;
+use kx_pages::{Page, WordFault};
 use std::alloc::{AllocError, AllocFailed};
 use std::fmt::{self, Display, Formatter, Write};
 use thiserror::Error;
@@ -45,6 +45,19 @@ pub enum Why {
     Missing { page: Page },
     /// It is a link, destination or source word whose address is 2^46 or more.
     PastLimit,
+}
+
+impl From<WordFault> for Why {
+    ghost use Rattle.list_checker.specs.inner.Items.{why_of};
+
+    ghost from_gives = { λ fault why. why ≡ why_of fault };
+
+    fn from(fault: WordFault) -> Why {
+        match fault {
+            WordFault::Flags => Why::Flags,
+            WordFault::PastLimit => Why::PastLimit,
+        }
+    }
 }
 
 impl Display for Why {

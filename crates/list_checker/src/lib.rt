@@ -16,7 +16,7 @@ mod reading;
 mod reasons;
 mod walked;
 
-pub use crash::check_crash;
+pub use crash::{check_crash, head_reason};
 pub use earlier::{Accept, Pair};
 pub use fault::{CheckFault, ListFault, Why};
 pub use list::check;

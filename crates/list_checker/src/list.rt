@@ -1,6 +1,6 @@
 //! Checking a list in a memory.
 
-ghost use Rattle.std.specs.Prelude.{◌≡◌, ℕ, ◌+◌, ◌<◌, ◌^◌, IfOk, IfErr};
+ghost use Rattle.std.specs.Prelude.{◌+◌, ◌<◌, IfOk, IfErr};
 ghost use Rattle.segments.specs.inner.Rules.{IsBare};
 ghost use Rattle.list_checker.specs.inner.Checked.{IsAccept, IsCheckFault};
 
@@ -56,8 +56,8 @@ pub fn check(
         if let Item::Done(_) = item {
             return Ok(earlier.accept(words));
         }
-        earlier.add(item)?;
-        let next = following(place, item);
+        earlier.add(&item)?;
+        let next = following(place, &item);
         place = Some(next);
         w = memory.word(next);
     }

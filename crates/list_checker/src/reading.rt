@@ -1,12 +1,12 @@
 //! Reading a list to its end, whatever it is for.
 
-ghost use Rattle.std.specs.Prelude.{◌≡◌, ℕ, ◌+◌, ◌<◌, ◌^◌, IfOk, OnOk, Some, [], ◌∷◌};
-ghost use Rattle.std.specs.Ordering.{nat_cmp};
+ghost use Rattle.std.specs.Prelude.{◌≡◌, ◌+◌, ◌<◌, IfOk, OnOk, Some, [], ◌∷◌};
 ghost use Rattle.page_memory.specs.Contents.{at};
 ghost use Rattle.list_checker.specs.Faults as spec;
 ghost use Rattle.kx_pages.specs.Lists.{has};
 ghost use Rattle.list_checker.specs.Faults.{why_by, walk_reasons, first_of};
 ghost use Rattle.list_checker.specs.Reading.{IsWalk};
+ghost use Rattle.list_checker.specs.inner.Items.{IsBelow};
 ghost use Rattle.list_checker.specs.inner.Reading.{ShowsLinks, IsFollowed, FitsLinks};
 
 use crate::fault::{ListFault, Why};
@@ -30,36 +30,25 @@ fn met_again(links: &BTreeSet<Page>, p: Page) -> Option<Why>
 }
 
 // Why a word cannot be followed.
-fn obstacle(links: &BTreeSet<Page>, place: Option<u64>, item: Item) -> Option<Why>
-    ensures { (s : spec.Earlier) → ShowsLinks links.now s →
-        result ≡ why_by walk_reasons place s (Some item) }
+fn obstacle(links: &BTreeSet<Page>, place: Option<u64>, item: &Item) -> Option<Why>
+    ensures { (s : spec.Earlier) → ShowsLinks links.now s → IsBelow item.now →
+        result ≡ why_by walk_reasons place s (Some item.now) }
 {
     match item {
         Item::Done(_) => None,
-        Item::Link(n) => match Page::new(n) {
-            None => Some(Why::PastLimit),
-            Some(p) => met_again(links, p),
-        },
-        Item::Destination(n) => match Page::new(n) {
-            None => Some(Why::PastLimit),
-            Some(_) => place_reason(place),
-        },
-        Item::Source(n) => match Page::new(n) {
-            None => Some(Why::PastLimit),
-            Some(_) => place_reason(place),
-        },
+        Item::Link(p) => met_again(links, *p),
+        Item::Destination(_) => place_reason(place),
+        Item::Source(_) => place_reason(place),
     }
 }
 
 fn follow(links: &BTreeSet<Page>, place: Option<u64>, w: u64) -> Result<Item, Why>
     ensures { (s : spec.Earlier) → ShowsLinks links.now s → IsFollowed place s w result }
 {
-    match Item::of_word(w) {
-        None => Err(Why::Flags),
-        Some(item) => match obstacle(links, place, item) {
-            None => Ok(item),
-            Some(why) => Err(why),
-        },
+    let item = Item::of_word(w)?;
+    match obstacle(links, place, &item) {
+        None => Ok(item),
+        Some(why) => Err(why),
     }
 }
 
@@ -72,15 +61,12 @@ fn insert_link(links: &mut BTreeSet<Page>, p: Page) -> Result<(), AllocError>
 }
 
 // Adds the page of a link.
-fn add_link(links: &mut BTreeSet<Page>, item: Item) -> Result<(), AllocError>
-    ensures { OnOk result ((s : spec.Earlier) → ShowsLinks links.old s → FitsLinks s item →
-        ShowsLinks links.new (spec.with_item s item)) }
+fn add_link(links: &mut BTreeSet<Page>, item: &Item) -> Result<(), AllocError>
+    ensures { OnOk result ((s : spec.Earlier) → ShowsLinks links.old s → FitsLinks s item.now →
+        ShowsLinks links.new (spec.with_item s item.now)) }
 {
     match item {
-        Item::Link(n) => match Page::new(n) {
-            Some(p) => insert_link(links, p),
-            None => Ok(()),
-        },
+        Item::Link(p) => insert_link(links, *p),
         _ => Ok(()),
     }
 }
@@ -108,8 +94,8 @@ pub fn walk(alloc: Global, memory: &Memory, head: u64) -> Result<Walk, AllocErro
         if let Item::Done(_) = item {
             return Ok(Walk { words, fault: None });
         }
-        add_link(&mut links, item)?;
-        let next = following(place, item);
+        add_link(&mut links, &item)?;
+        let next = following(place, &item);
         place = Some(next);
         w = memory.word(next);
         word += 1;

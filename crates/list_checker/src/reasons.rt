@@ -1,14 +1,14 @@
 //! Why a word is refused.
 
-ghost use Rattle.std.specs.Prelude.{◌≡◌, ◌≢◌, ℕ, ◌+◌, ◌*◌, ◌/◌, ◌%◌, ◌<◌, ◌^◌, IsTrue, IfSome, MatchResult, Option, Some, None, true, false, not, ◌||◌, ◌&&◌, ◌==◌};
+ghost use Rattle.std.specs.Prelude.{◌≡◌, ℕ, ◌+◌, ◌*◌, ◌%◌, ◌<◌, Option, Some, None, true, false, ◌||◌, ◌&&◌, ◌==◌};
 ghost use Rattle.page_memory.specs.Contents.{at};
-ghost use Rattle.segments.specs.Values.{want, pages};
+ghost use Rattle.segments.specs.Values.{want};
 ghost use Rattle.segments.specs.inner.Rules.{IsBare};
-ghost use Rattle.kx_pages.specs.Items.{decode};
 ghost use Rattle.kx_pages.specs.Lists.{has, destinations, sources};
 ghost use Rattle.list_checker.specs.Faults as spec;
 ghost use Rattle.kx_pages.specs.Modes.{swap_page};
 ghost use Rattle.list_checker.specs.Faults.{first_of, is_swap, is_wanted, are_wanted};
+ghost use Rattle.list_checker.specs.inner.Items.{IsBelow};
 ghost use Rattle.list_checker.specs.inner.Checked.{Shows, why_refused, reasons_of_pair, reasons_of_link, reasons_of_place, reasons_of_done, reasons_of_source, IsJudged, Leads, IsPlace};
 
 use crate::earlier::Earlier;
@@ -223,34 +223,25 @@ fn source_reason(
     }
 }
 
-/// Why a word is refused, if it is.
+/// Why an item is refused, if it is.
 pub(crate) fn refusal(
     memory: &Memory,
     image: &Image,
     segments: &Segments,
     earlier: &Earlier,
     place: Option<u64>,
-    item: Item,
+    item: &Item,
 ) -> Option<Why>
-    ensures { (s : spec.Earlier) → Shows (swap_page image.now.mode) earlier.now s →
-        result ≡ why_refused memory.now segments.now image.now place s (Some item) }
+    ensures { (s : spec.Earlier) → Shows (swap_page image.now.mode) earlier.now s → IsBelow item.now →
+        result ≡ why_refused memory.now segments.now image.now place s (Some item.now) }
 {
     match item {
         Item::Done(_) => done_reason(image, segments, earlier, place),
-        Item::Link(n) => match Page::new(n) {
-            None => Some(Why::PastLimit),
-            Some(p) => link_reason(image, earlier, place, p),
-        },
-        Item::Destination(n) => match Page::new(n) {
-            None => Some(Why::PastLimit),
-            Some(_) => place_reason(place),
-        },
-        Item::Source(n) => match Page::new(n) {
-            None => Some(Why::PastLimit),
-            Some(p) => match place_reason(place) {
-                Some(why) => Some(why),
-                None => source_reason(memory, image, segments, earlier, p),
-            },
+        Item::Link(p) => link_reason(image, earlier, place, *p),
+        Item::Destination(_) => place_reason(place),
+        Item::Source(p) => match place_reason(place) {
+            Some(why) => Some(why),
+            None => source_reason(memory, image, segments, earlier, *p),
         },
     }
 }
@@ -270,23 +261,21 @@ pub(crate) fn judge(
 {
     // for its clause: what every value of the type keeps
     let _known = segments.count();
-    match Item::of_word(w) {
-        None => Err(Why::Flags),
-        Some(item) => match refusal(memory, image, segments, earlier, place, item) {
-            None => Ok(item),
-            Some(why) => Err(why),
-        },
+    let item = Item::of_word(w)?;
+    match refusal(memory, image, segments, earlier, place, &item) {
+        None => Ok(item),
+        Some(why) => Err(why),
     }
 }
 
 /// Where the word after an item stands.
-pub(crate) fn following(place: Option<u64>, item: Item) -> u64
-    requires { Leads place item }
-    ensures next { result ≡ spec.following place item }
+pub(crate) fn following(place: Option<u64>, item: &Item) -> u64
+    requires { Leads place item.now }
+    ensures next { result ≡ spec.following place item.now }
     ensures place { IsPlace result }
 {
     match item {
-        Item::Link(n) => n * 4096,
+        Item::Link(p) => p.address(),
         _ => match place {
             None => 0,
             Some(a) => a + 8,

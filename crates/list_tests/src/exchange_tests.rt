@@ -1,10 +1,14 @@
 //! The load that has most exchanges: each page of the segment is drawn when the page before it was loaded.
 
-use crate::fill_tests::load;
-use crate::memories::{one_segment, pool_of};
-use kx_pages::Wish;
+ghost use Rattle.std.specs.Prelude.{◌≡◌, ℕ, false, IfOk};
+ghost use Rattle.page_pool.specs.Pages.{is_filed};
+
+use kx_pages::{Page, Wish};
 use list_checker::Pair;
-use load_states::Accepted;
+use load_states::{Accepted, Filling, Loaded};
+use page_memory::Memory;
+use page_pool::Pool;
+use segments::{Segment, Segments};
 use std::alloc::Global;
 use std::test::*;
 
@@ -32,6 +36,42 @@ fn free_pages(alloc: Global) -> Result<Vec<u64>, Fail> {
     Ok(free)
 }
 
+// A pool of these pages.
+fn pool_of(alloc: Global, numbers: &[u64]) -> Result<Pool, Fail>
+    ensures { IfOk result (λ p. (q : ℕ) → is_filed p q ≡ false) }
+{
+    let mut pages = Vec::new(alloc);
+    for number in numbers {
+        pages.push(Page::new(*number).ok_or("a page")?)?;
+    }
+    if pages.len() > 262144 {
+        return Err("at most 262,144 pages".into());
+    }
+    match Pool::new(alloc, pages) {
+        Ok(pool) => Ok(pool),
+        Err(_) => Err("a pool".into()),
+    }
+}
+
+// A load of the zeros of all pages, over this pool.
+fn load(alloc: Global, pool: Pool, segments: Segments) -> Result<Loaded, Fail>
+    requires { (q : ℕ) → is_filed pool q ≡ false }
+{
+    match Filling::begin(alloc, Memory::empty(alloc), pool, segments, Wish::Plain) {
+        Ok(filling) => Ok(filling.finish()),
+        Err(_) => Err("a load".into()),
+    }
+}
+
+// One segment of zeros, of so many bytes from this address on.
+fn zeros(alloc: Global, mem: u64, memsz: u64) -> Result<Segments, Fail> {
+    let bytes = Vec::new(alloc);
+    match Segments::bare(alloc, vec![in alloc; Segment { bytes, mem, memsz }]?) {
+        Ok(segments) => Ok(segments),
+        Err(_) => Err("segments".into()),
+    }
+}
+
 // The pages of a pair.
 fn numbers(pair: Option<&Pair>) -> Option<(u64, u64)> {
     let pair = pair?;
@@ -42,8 +82,8 @@ fn numbers(pair: Option<&Pair>) -> Option<(u64, u64)> {
 #[test]
 fn each_page_is_exchanged_with_the_one_before(rt: HostRuntime) -> Result<(), Fail> {
     let pool = pool_of(rt.alloc(), &free_pages(rt.alloc())?)?;
-    let zeros = one_segment(rt.alloc(), Vec::new(rt.alloc()), FIRST * 4096, PAGES * 4096)?;
-    let loaded = load(rt.alloc(), pool, zeros, Wish::Plain)?;
+    let segments = zeros(rt.alloc(), FIRST * 4096, PAGES * 4096)?;
+    let loaded = load(rt.alloc(), pool, segments)?;
     let image = loaded.image();
     assert_eq!(rt; (image.head, image.control.number()), (0x11002, 0x10));
     let Ok(Accepted::Plain(accepted)) = loaded.accept(rt.alloc()) else {

@@ -1,10 +1,11 @@
+//! Each prefix of a record, and the buffer of its first segment. What a record says, and why it is refused, is shown by
+//! crates/scenes/data/records.scenes.
+
 ghost use Rattle.std.specs.Prelude.{IfOk};
 ghost use Rattle.kx_laws.specs.inner.Cuts.{IsCutAt};
 
-use crate::memories::{image, kept_by};
-use kx_pages::{Mode, Start};
-use load_record::{DigestedRecord, FIRST_BYTES, LoadRecord, RecFault};
-use segments::{SegFault, Segment, Segments};
+use load_record::{FIRST_BYTES, LoadRecord, RecFault};
+use segments::{Segment, Segments};
 use std::test::Fail;
 
 // The versions of a record's file: the second has a digest before the bytes of each segment.
@@ -14,11 +15,12 @@ enum Version {
     Second,
 }
 
-// The numbers behind the magic: kind and mode, head, control, swap, entry, rax, rbx, rsi, regions, digest, the number of
-// segments, and of the one segment its address, its bytes of memory and the number of its bytes.
-const NUMBERS: [u64; 14] = [
-    0, 0x11002, 0x10000, 0, 0x2000, 0, 0, 0, 0, 0, 1, 0x2000, 0x1000, 3,
-];
+// The numbers behind the magic: kind and mode, head, control, swap, entry, rax, rbx, rsi, regions and digest; the number of
+// segments follows.
+const NUMBERS: [u64; 10] = [0, 0x11002, 0x10000, 0, 0x2000, 0, 0, 0, 0, 0];
+
+// Of the first segment its address, its bytes of memory and the number of its bytes.
+const FIRST_SEGMENT: [u64; 3] = [0x2000, 0x1000, 3];
 
 // The SHA-256 of `abc`, from FIPS 180-4's examples.
 const DIGEST_OF_ABC: [u8; 32] = [
@@ -34,9 +36,11 @@ const DIGEST_OF_LONGER: [u8; 32] = [
     0xa3, 0x3c, 0xe4, 0x59, 0x64, 0xff, 0x21, 0x67, 0xf6, 0xec, 0xed, 0xd4, 0x19, 0xdb, 0x06, 0xc1,
 ];
 
-// A rule of segments that a record breaks.
-fn rule(fault: SegFault) -> RecFault {
-    RecFault::Segments { fault }
+fn push_numbers(file: &mut Vec<u8>, numbers: &[u64]) -> Result<(), Fail> {
+    for number in numbers {
+        file.extend_from_slice(&number.to_le_bytes())?;
+    }
+    Ok(())
 }
 
 // Puts the bytes of a segment, and in the second version their digest before them.
@@ -53,32 +57,24 @@ fn push_bytes(
     Ok(())
 }
 
-// The file of the record of a raw image `abc` at 2000 (hexadecimal), with number `place` changed.
-fn file_with(
-    rt: &HostRuntime,
-    version: Version,
-    place: usize,
-    number: u64,
-) -> Result<Vec<u8>, Fail> {
+// The file of a record of so many segments, as far as its first one, `abc` at 2000 (hexadecimal).
+fn file_of(rt: &HostRuntime, version: Version, segments: u64) -> Result<Vec<u8>, Fail> {
     let mut file = Vec::new(rt.alloc());
     match version {
         Version::First => file.extend_from_slice(b"KXREC001")?,
         Version::Second => file.extend_from_slice(b"KXREC002")?,
     }
-    for (i, plain) in NUMBERS.iter().enumerate() {
-        let value = if i == place { number } else { *plain };
-        file.extend_from_slice(&value.to_le_bytes())?;
-    }
+    push_numbers(&mut file, &NUMBERS)?;
+    push_numbers(&mut file, &[segments])?;
+    push_numbers(&mut file, &FIRST_SEGMENT)?;
     push_bytes(&mut file, version, &DIGEST_OF_ABC, b"abc")?;
     Ok(file)
 }
 
 // The file of a record with this segment, and a second one at 3000 (hexadecimal) behind it.
 fn file_of_two(rt: &HostRuntime, version: Version) -> Result<Vec<u8>, Fail> {
-    let mut file = file_with(rt, version, 10, 2)?;
-    for number in [0x3000u64, 0x1000, 56] {
-        file.extend_from_slice(&number.to_le_bytes())?;
-    }
+    let mut file = file_of(rt, version, 2)?;
+    push_numbers(&mut file, &[0x3000, 0x1000, 56])?;
     push_bytes(&mut file, version, &DIGEST_OF_LONGER, LONGER)?;
     Ok(file)
 }
@@ -100,23 +96,6 @@ fn faults(rt: &HostRuntime, file: &[u8]) -> Result<[Option<RecFault>; 2], Fail> 
     let (front, rest) = in_two(rt, file)?;
     let handed_in = LoadRecord::from_file(rt.alloc(), front, rest).err();
     Ok([whole, handed_in])
-}
-
-#[test]
-fn both_versions_are_read_and_the_second_is_written(rt: HostRuntime) -> Result<(), Fail> {
-    let file = file_with(&rt, Version::Second, 4, 0x2000)?;
-    let first = file_with(&rt, Version::First, 4, 0x2000)?;
-    let image = image(0x11002, Mode::Plain, 0x10)?;
-    for spelled in [&file, &first] {
-        let record = LoadRecord::read(rt.alloc(), spelled)
-            .ok()
-            .ok_or("a record")?;
-        let found = (record.image, record.start.entry, record.segments.count());
-        assert_eq!(rt; (found, record.crash), ((image, 0x2000, 1), false));
-        assert!(rt; record.write(rt.alloc())? == file);
-        assert!(rt; record.into_file(rt.alloc())? == file);
-    }
-    Ok(())
 }
 
 // What is told of a file that has so many bytes and goes on: in its head or in either segment, the number of its bytes.
@@ -146,88 +125,12 @@ fn ends_where_it_must(rt: &HostRuntime, mut file: Vec<u8>) -> Result<bool, Fail>
 #[test]
 fn each_prefix_of_a_file_is_refused(rt: HostRuntime) -> Result<(), Fail> {
     for (version, lengths) in [(Version::First, (123, 203)), (Version::Second, (155, 267))] {
-        let one = file_with(&rt, version, 4, 0x2000)?;
+        let one = file_of(&rt, version, 1)?;
         let two = file_of_two(&rt, version)?;
         assert_eq!(rt; (one.len(), two.len()), lengths);
         assert!(rt; ends_where_it_must(&rt, one)?);
         assert!(rt; ends_where_it_must(&rt, two)?);
     }
-    Ok(())
-}
-
-#[test]
-fn the_numbers_of_the_head_are_tested(rt: HostRuntime) -> Result<(), Fail> {
-    let kinds = [
-        (0, 2, RecFault::BadKind { found: 2 }),
-        (0, 0x1_0000_0001, RecFault::BadMode { found: 1 }),
-        (0, 1, RecFault::BadPage),
-        (3, 0x12000, RecFault::BadPage),
-        (2, 0x10800, RecFault::BadPage),
-        (10, 0, rule(SegFault::NoSegments)),
-        (10, 17, rule(SegFault::TooMany)),
-        (11, 0x2800, rule(SegFault::BadAddress { i: 0 })),
-    ];
-    for (place, number, wanted) in kinds {
-        for version in [Version::First, Version::Second] {
-            let file = file_with(&rt, version, place, number)?;
-            assert_eq!(rt; faults(&rt, &file)?, [Some(wanted); 2]);
-        }
-    }
-    Ok(())
-}
-
-// In the file of two segments byte 7 ends the magic, 120 begins the first digest, 152 the first bytes, 156 is of the
-// second segment's address, 179 begins the second digest and 211 the second bytes. A row has two bytes that are put, and
-// how many bytes follow.
-#[test]
-fn a_wrong_digest_is_told_before_the_rules_and_after_the_file_s_end(
-    rt: HostRuntime,
-) -> Result<(), Fail> {
-    let overlap = rule(SegFault::Overlap { i: 1, j: 0 });
-    let first = RecFault::WrongDigest { segment: 0 };
-    let second = RecFault::WrongDigest { segment: 1 };
-    let rows = [
-        ((0, b'K'), (7, b'3'), 0, Some(RecFault::BadMagic)),
-        ((8, 2), (7, b'3'), 0, Some(RecFault::BadMagic)),
-        ((0, b'K'), (7, b'2'), 0, None),
-        ((0, b'K'), (154, b'C'), 0, Some(first)),
-        ((0, b'K'), (120, 0xbb), 0, Some(first)),
-        ((0, b'K'), (151, 0xae), 0, Some(first)),
-        ((0, b'K'), (211, b'A'), 0, Some(second)),
-        ((0, b'K'), (179, 0x25), 0, Some(second)),
-        ((154, b'C'), (211, b'A'), 0, Some(first)),
-        ((0, b'K'), (156, 0x20), 0, Some(overlap)),
-        ((154, b'C'), (156, 0x20), 0, Some(first)),
-        ((211, b'A'), (156, 0x20), 0, Some(second)),
-        (
-            (154, b'C'),
-            (211, b'A'),
-            1,
-            Some(RecFault::Trailing { at: 267 }),
-        ),
-    ];
-    for (one, other, more, wanted) in rows {
-        let mut file = file_of_two(&rt, Version::Second)?;
-        for (place, value) in [one, other] {
-            if let Some(byte) = file.get_mut(place) {
-                *byte = value;
-            }
-        }
-        for _ in 0..more {
-            file.push(0)?;
-        }
-        assert_eq!(rt; faults(&rt, &file)?, [wanted; 2]);
-    }
-    Ok(())
-}
-
-// Bytes of a file without digests may be any.
-#[test]
-fn bytes_of_the_first_version_have_no_digest(rt: HostRuntime) -> Result<(), Fail> {
-    let mut file = file_with(&rt, Version::First, 4, 0x2000)?;
-    file.truncate(122);
-    file.push(b'C')?;
-    assert_eq!(rt; faults(&rt, &file)?, [None; 2]);
     Ok(())
 }
 
@@ -263,140 +166,5 @@ fn the_first_segment_keeps_the_buffer_of_its_file(rt: HostRuntime) -> Result<(),
         assert!(rt; version == Version::First || found == room);
         assert!(rt; record.write(rt.alloc())? == written);
     }
-    Ok(())
-}
-
-#[test]
-fn two_segments_are_written_as_they_were_read(rt: HostRuntime) -> Result<(), Fail> {
-    let written = file_of_two(&rt, Version::Second)?;
-    for version in [Version::First, Version::Second] {
-        let file = file_of_two(&rt, version)?;
-        let record = LoadRecord::read(rt.alloc(), &file).ok().ok_or("a record")?;
-        assert!(rt; record.into_file(rt.alloc())? == written);
-    }
-    Ok(())
-}
-
-// The digests of a record are those of FIPS 180-4's examples, whether its file has them or not, and they are written again.
-#[test]
-fn the_digests_of_either_version_are_kept(rt: HostRuntime) -> Result<(), Fail> {
-    let written = file_of_two(&rt, Version::Second)?;
-    for version in [Version::First, Version::Second] {
-        let file = file_of_two(&rt, version)?;
-        let (front, rest) = in_two(&rt, &file)?;
-        let digested = DigestedRecord::from_file(rt.alloc(), front, rest)
-            .ok()
-            .ok_or("a record")?;
-        assert_eq!(rt; digested.record().segments.count(), 2);
-        let digests = (*digested.digest(0), *digested.digest(1));
-        assert_eq!(rt; digests, (DIGEST_OF_ABC, DIGEST_OF_LONGER));
-        assert!(rt; digested.into_file()? == written);
-    }
-    Ok(())
-}
-
-// The head of a record with context preserved in which no two numbers are the same, byte by byte: kind and mode, head,
-// control page, swap page, entry, rax, rbx, rsi, region table, digest, and one segment.
-const DISTINCT: [u8; 112] = [
-    0, 0, 0, 0, 1, 0, 0, 0, 0x02, 0x20, 0x01, 0, 0, 0, 0, 0, 0, 0x10, 0x11, 0, 0, 0, 0, 0, 0, 0x20,
-    0x12, 0, 0, 0, 0, 0, 0x28, 0x27, 0x26, 0x25, 0x24, 0x23, 0x22, 0x21, 0x38, 0x37, 0x36, 0x35,
-    0x34, 0x33, 0x32, 0x31, 0x48, 0x47, 0x46, 0x45, 0x44, 0x43, 0x42, 0x41, 0x58, 0x57, 0x56, 0x55,
-    0x54, 0x53, 0x52, 0x51, 0x68, 0x67, 0x66, 0x65, 0x64, 0x63, 0x62, 0x61, 0x78, 0x77, 0x76, 0x75,
-    0x74, 0x73, 0x72, 0x71, 1, 0, 0, 0, 0, 0, 0, 0, 0, 0x20, 0, 0, 0, 0, 0, 0, 0, 0x10, 0, 0, 0, 0,
-    0, 0, 3, 0, 0, 0, 0, 0, 0, 0,
-];
-
-// A record whose numbers all differ, in this version.
-fn distinct_file(rt: &HostRuntime, version: Version) -> Result<Vec<u8>, Fail> {
-    let mut file = Vec::new(rt.alloc());
-    match version {
-        Version::First => file.extend_from_slice(b"KXREC001")?,
-        Version::Second => file.extend_from_slice(b"KXREC002")?,
-    }
-    file.extend_from_slice(&DISTINCT)?;
-    push_bytes(&mut file, version, &DIGEST_OF_ABC, b"abc")?;
-    Ok(file)
-}
-
-// Numbers that change places between two fields change this record and no other of the tests.
-#[test]
-fn each_number_has_its_place(rt: HostRuntime) -> Result<(), Fail> {
-    let start = Start {
-        entry: 0x2122_2324_2526_2728,
-        rax: 0x3132_3334_3536_3738,
-        rbx: 0x4142_4344_4546_4748,
-        rsi: 0x5152_5354_5556_5758,
-    };
-    let image = image(0x1_2002, kept_by(0x122)?, 0x111)?;
-    let written = distinct_file(&rt, Version::Second)?;
-    for version in [Version::First, Version::Second] {
-        let file = distinct_file(&rt, version)?;
-        let record = LoadRecord::read(rt.alloc(), &file).ok().ok_or("a record")?;
-        assert_eq!(rt; (record.image, record.start), (image, start));
-        let purgatory = (record.regions, record.digest);
-        assert_eq!(rt; purgatory, (0x6162_6364_6566_6768, 0x7172_7374_7576_7778));
-        assert!(rt; record.write(rt.alloc())? == written);
-    }
-    Ok(())
-}
-
-// The file with a second number changed too.
-fn file_with_both(
-    rt: &HostRuntime,
-    version: Version,
-    one: (usize, u64),
-    other: (usize, u64),
-) -> Result<Vec<u8>, Fail> {
-    let mut file = file_with(rt, version, one.0, one.1)?;
-    let at = other.0.saturating_mul(8).saturating_add(8);
-    if at <= file.len() && file.len() - at >= 8 {
-        file[at..at + 8].copy_from_slice(&other.1.to_le_bytes());
-    }
-    Ok(file)
-}
-
-// Two numbers at fault, for each neighbour in the order in which they are tested, and what is told.
-#[test]
-fn of_two_wrong_numbers_the_first_is_told(rt: HostRuntime) -> Result<(), Fail> {
-    let none = rule(SegFault::NoSegments);
-    let many = rule(SegFault::TooMany);
-    let rows = [
-        (
-            (0, 0x2_0000_0002),
-            (1, 0x11002),
-            RecFault::BadKind { found: 2 },
-        ),
-        ((0, 0x2_0000_0000), (3, 1), RecFault::BadMode { found: 2 }),
-        ((0, 0x1_0000_0001), (2, 1), RecFault::BadMode { found: 1 }),
-        ((2, 0x10800), (10, 0), RecFault::BadPage),
-        ((3, 0x12000), (10, 17), RecFault::BadPage),
-        ((10, 0), (13, 4), none),
-        ((10, 17), (13, 4), many),
-        ((10, 17), (11, 0x2800), many),
-        ((11, 0x2800), (10, 2), RecFault::Truncated { at: 0 }),
-    ];
-    for (one, other, wanted) in rows {
-        for version in [Version::First, Version::Second] {
-            let file = file_with_both(&rt, version, one, other)?;
-            let wanted = match wanted {
-                RecFault::Truncated { .. } => RecFault::Truncated {
-                    at: file.len() as u64,
-                },
-                other => other,
-            };
-            assert_eq!(rt; faults(&rt, &file)?, [Some(wanted); 2]);
-        }
-    }
-    Ok(())
-}
-
-// What stands behind the last segment is told before the rules.
-#[test]
-fn the_end_comes_before_the_rules(rt: HostRuntime) -> Result<(), Fail> {
-    let mut file = file_with(&rt, Version::Second, 11, 0x2800)?;
-    file.push(0)?;
-    let trailing = RecFault::Trailing { at: 155 };
-    assert_eq!(rt; faults(&rt, &file)?, [Some(trailing); 2]);
-    assert_eq!(rt; FIRST_BYTES, 96 + 24 + 32);
     Ok(())
 }

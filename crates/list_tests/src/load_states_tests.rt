@@ -1,40 +1,78 @@
-use crate::memories::{b_and_c, image, kept_by, memory_of, page};
-use kx_pages::{Image, Mode};
-use list_checker::{CheckFault, ListFault, Why};
-use load_states::{
-    Accepted, AcceptedKept, AcceptedPlain, CrashLoaded, Loaded, NotAccepted, load_crash,
-};
+//! What a caller of the states does and has back: a write between two runs, and what a refusal gives back. What loads and
+//! runs leave is shown by crates/scenes/data.
+
+use kx_pages::{Image, Mode, Page};
+use list_checker::Why;
+use load_states::{Accepted, AcceptedKept, CrashLoaded, Loaded, NotAccepted, load_crash};
 use page_memory::Memory;
 use page_pool::Pool;
+use segments::{Segment, Segments};
 use std::alloc::Global;
 use std::test::*;
+
+// The page of this number.
+fn page(number: u64) -> Result<Page, &'static str> {
+    Page::new(number).ok_or("a page")
+}
+
+// The mode in which context is preserved, with this swap page.
+fn kept_by(swap: u64) -> Result<Mode, &'static str> {
+    Ok(Mode::Kept { swap: page(swap)? })
+}
+
+// A list with this head, this mode and this control page.
+fn image(head: u64, mode: Mode, control: u64) -> Result<Image, &'static str> {
+    let control = page(control)?;
+    Ok(Image {
+        head,
+        mode,
+        control,
+    })
+}
+
+// The page becomes these bytes, then zeros.
+fn put(memory: &mut Memory, number: u64, bytes: &[u8]) -> Result<(), Fail> {
+    let page = page(number)?;
+    if bytes.len() > 4096 {
+        return Err("too many bytes".into());
+    }
+    memory.hold(page)?;
+    memory.set(page, bytes);
+    Ok(())
+}
+
+// A memory whose pages of these numbers are these bytes, then zeros.
+fn memory_of(alloc: Global, pages: &[(u64, &[u8])]) -> Result<Memory, Fail> {
+    let mut memory = Memory::empty(alloc);
+    for (number, bytes) in pages {
+        put(&mut memory, *number, bytes)?;
+    }
+    Ok(memory)
+}
+
+// One segment: these bytes, then zeros, in so much memory at this address.
+fn one_segment(alloc: Global, bytes: Vec<u8>, mem: u64, memsz: u64) -> Result<Segments, Fail> {
+    match Segments::bare(alloc, vec![in alloc; Segment { bytes, mem, memsz }]?) {
+        Ok(segments) => Ok(segments),
+        Err(_) => Err("segments".into()),
+    }
+}
+
+// Two pages from this address on are to be b and c.
+fn b_and_c(alloc: Global, mem: u64) -> Result<Segments, Fail> {
+    let mut bytes = vec![in alloc; 0; 4097]?;
+    bytes[0] = b'b';
+    bytes[4096] = b'c';
+    one_segment(alloc, bytes, mem, 0x2000)
+}
 
 fn load(alloc: Global, memory: Memory, image: Image, mem: u64) -> Result<Loaded, Fail> {
     let pool = Pool::new(alloc, Vec::new(alloc)).ok().ok_or("a pool")?;
     Ok(Loaded::from_parts(memory, pool, image, b_and_c(alloc, mem)?))
 }
 
-// The list 0x4001, 0x3008, 0x3001, 0x2008, 4: page 3 is a source before it is a destination.
-const PLAIN: [(u64, &[u8]); 3] = [
-    (2, b"b"),
-    (3, b"c"),
-    (
-        0x20,
-        b"\x01\x40\0\0\0\0\0\0\x08\x30\0\0\0\0\0\0\x01\x30\0\0\0\0\0\0\x08\x20\0\0\0\0\0\0\x04",
-    ),
-];
-
-fn plain(alloc: Global) -> Result<AcceptedPlain, Fail> {
-    let memory = memory_of(alloc, &PLAIN)?;
-    match load(alloc, memory, image(0x20002, Mode::Plain, 0x21)?, 0x3000)?.accept(alloc) {
-        Ok(Accepted::Plain(accepted)) => Ok(accepted),
-        _ => Err("accepted".into()),
-    }
-}
-
 // The list 0x2001, 0x2008, 0x13008, 4: page 2 is its own source, page 0x13 is the source of page 3.
-pub(crate) const KEPT_LIST: &[u8] =
-    b"\x01\x20\0\0\0\0\0\0\x08\x20\0\0\0\0\0\0\x08\x30\x01\0\0\0\0\0\x04";
+const KEPT_LIST: &[u8] = b"\x01\x20\0\0\0\0\0\0\x08\x20\0\0\0\0\0\0\x08\x30\x01\0\0\0\0\0\x04";
 
 const KEPT: [(u64, &[u8]); 4] = [(2, b"b"), (3, b"old"), (0x13, b"c"), (0x12, KEPT_LIST)];
 
@@ -47,18 +85,6 @@ fn kept(alloc: Global) -> Result<AcceptedKept, Fail> {
     }
 }
 
-#[test]
-fn a_plain_run_leaves_what_is_wanted(rt: HostRuntime) -> Result<(), Fail> {
-    let accepted = plain(rt.alloc())?;
-    assert_eq!(rt; accepted.accept_data().words, 6);
-    let ran = accepted.exec();
-    let steps = ran.steps();
-    let found = (ran.memory().byte(0x2000), ran.memory().byte(0x3000));
-    let last = ran.into_memory().byte(0x4000);
-    assert_eq!(rt; (steps, found, last), (6, (b'b', b'b'), b'c'));
-    Ok(())
-}
-
 // The first bytes of pages 2, 3 and 13 (hexadecimal).
 fn first_bytes(memory: &Memory) -> [u8; 3] {
     [
@@ -66,23 +92,6 @@ fn first_bytes(memory: &Memory) -> [u8; 3] {
         memory.byte(0x3000),
         memory.byte(0x13000),
     ]
-}
-
-#[test]
-fn a_run_exchanges_a_page_and_its_source(rt: HostRuntime) -> Result<(), Fail> {
-    let ran = kept(rt.alloc())?.exec();
-    let bytes = first_bytes(ran.memory());
-    assert_eq!(rt; (ran.steps(), bytes), (5, [b'b', b'c', b'o']));
-    Ok(())
-}
-
-#[test]
-fn a_second_run_restores(rt: HostRuntime) -> Result<(), Fail> {
-    let back = kept(rt.alloc())?.exec().back();
-    let bytes = first_bytes(back.memory());
-    assert_eq!(rt; (back.steps(), bytes), (5, [b'b', b'o', b'c']));
-    assert!(rt; back.loaded().accept(rt.alloc()).is_ok());
-    Ok(())
 }
 
 #[test]
@@ -114,17 +123,6 @@ fn refused(alloc: Global) -> Result<NotAccepted, Fail> {
 }
 
 #[test]
-fn a_word_without_a_flag_is_refused(rt: HostRuntime) -> Result<(), Fail> {
-    let NotAccepted { why, .. } = refused(rt.alloc())?;
-    let fault = ListFault {
-        word: 1,
-        why: Why::Flags,
-    };
-    assert_eq!(rt; why, CheckFault::List { fault });
-    Ok(())
-}
-
-#[test]
 fn a_refused_list_comes_back(rt: HostRuntime) -> Result<(), Fail> {
     let NotAccepted { loaded, .. } = refused(rt.alloc())?;
     let (_, pool, image, segments) = loaded.parts();
@@ -143,16 +141,6 @@ fn crash(alloc: Global) -> Result<CrashLoaded, Fail> {
             .ok()
             .ok_or("memory")?,
     )
-}
-
-#[test]
-fn a_crash_kernel_lies_in_its_place(rt: HostRuntime) -> Result<(), Fail> {
-    let loaded = crash(rt.alloc())?;
-    assert_eq!(rt; loaded.memory().byte(0x3000), b'c');
-    let accepted = loaded.accept().ok().ok_or("accepted")?;
-    assert_eq!(rt; accepted.memory().byte(0x2000), b'b');
-    assert_eq!(rt; accepted.exec().steps(), 1);
-    Ok(())
 }
 
 #[test]

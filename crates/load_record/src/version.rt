@@ -9,7 +9,7 @@ use sha2::{Digest, Sha256};
 
 /// The version of a record's file. Both tell the same of a record.
 #[derive(Clone, Copy, Debug, PartialEq, Eq)]
-pub enum Version {
+pub(crate) enum Version {
     /// No digests.
     First,
     /// Before the bytes of each segment stands their SHA-256. This one is written.
@@ -18,11 +18,11 @@ pub enum Version {
 
 /// What the test of the digest before a segment's bytes tells.
 #[derive(Clone, Copy)]
-pub struct Tested {
+pub(crate) struct Tested {
     /// The digest of the bytes. None in the first version: there is nothing to test.
-    pub made: Option<[u8; 32]>,
+    pub(crate) made: Option<[u8; 32]>,
     /// Another one stands before the bytes.
-    pub is_wrong: bool,
+    pub(crate) is_wrong: bool,
 }
 
 /// What a file of the first version begins with.
@@ -33,7 +33,7 @@ pub(crate) const SECOND_MAGIC: &[u8; 8] = b"KXREC002";
 
 impl Version {
     /// The version of a file that begins with the magic of either.
-    pub fn of(bytes: &[u8]) -> Version
+    pub(crate) fn of(bytes: &[u8]) -> Version
         ensures { result ≡ version_of bytes.now }
     {
         if bytes.starts_with(FIRST_MAGIC) {
@@ -44,7 +44,7 @@ impl Version {
     }
 
     /// How many bytes stand before those of a segment: the three numbers of its head, and its digest.
-    pub fn front_size(self) -> usize
+    pub(crate) fn front_size(self) -> usize
         ensures { result ≡ 24 + digest_size self }
     {
         match self {
@@ -54,7 +54,7 @@ impl Version {
     }
 
     /// Tests the digest that stands before a segment's bytes.
-    pub fn test(self, digest: &[u8], bytes: &[u8]) -> Tested
+    pub(crate) fn test(self, digest: &[u8], bytes: &[u8]) -> Tested
         requires { length digest.now ≡ digest_size self }
         ensures made { result.made ≡ made_digest self bytes.now }
         ensures wrong { result.is_wrong ≡ is_wrong self digest.now bytes.now }

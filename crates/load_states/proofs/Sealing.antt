@@ -13,7 +13,7 @@ use Rattle.segments.proofs.Laws.{Has-from_is_destination, Has-from_want}
 use Rattle.kimage_list.specs.Load.{loading_after}
 use Rattle.kimage_list.specs.inner.Load.{pages_of, starts}
 use Rattle.kimage_list.specs.Laying.{list_of}
-use Rattle.kimage_list.specs.inner.Writers.{History, StandsAt, IsAwaited}
+use Rattle.kimage_list.specs.inner.Writers.{History, IsAwaited}
 use Rattle.kimage_list.specs.inner.Writers as writers
 use Rattle.kimage_list.specs.inner.Calls.{IsWritten}
 use Rattle.kimage_list.specs.declared.written.Written.{Written}

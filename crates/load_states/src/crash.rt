@@ -11,15 +11,12 @@ ghost use Rattle.load_states.specs.inner.Runs.{CrashRunsTo};
 use crate::lay::{hold_set, lay_set};
 use crate::ran::RanPlain;
 use crate::run::run_to_end;
-use kx_pages::Mode;
+use kx_pages::{DONE_WORD, Mode};
 use list_checker::{ListFault, check_crash};
 use page_memory::Memory;
 use segments::Segments;
 use std::alloc::Global;
 use std::marker::Model;
-
-/// The word of a list with nothing in it.
-const DONE: u64 = 4;
 
 /// A memory with the head of a crash list, and the segments that it is for.
 #[derive(Drop)]
@@ -168,7 +165,7 @@ pub fn load_crash(
     match hold_set(alloc, &mut memory, segments.spans()) {
         Ok(()) => {
             lay_set(&mut memory, &segments, segments.spans());
-            Ok(CrashLoaded::from_parts(memory, DONE, segments))
+            Ok(CrashLoaded::from_parts(memory, DONE_WORD, segments))
         }
         Err(_) => Err((memory, segments)),
     }

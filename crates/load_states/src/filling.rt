@@ -1,6 +1,6 @@
 //! A load while its segments are written.
 
-ghost use Rattle.std.specs.Prelude.{◌≡◌, ℕ, ◌<◌, ◌≤◌, ◌+◌, ◌∷◌, ◌++◌, ◌⊎◌, ◌↔◌, [], List, length, take, IfOk, IfErr, None, Some, true, false, ◌^◌};
+ghost use Rattle.std.specs.Prelude.{◌≡◌, ℕ, ◌<◌, ◌≤◌, ◌+◌, ◌∷◌, ◌++◌, ◌⊎◌, ◌↔◌, [], List, length, take, IfOk, IfErr, None, Some, true, false};
 ghost use Rattle.kx_pages.specs.Lists.{Has};
 ghost use Rattle.kx_pages.specs.Spans.{AreApart, in_spans};
 ghost use Rattle.kx_pages.specs.declared.image.Wish.{Wish as WishOf};

@@ -1,6 +1,6 @@
 //! What runs leave.
 
-ghost use Rattle.std.specs.Prelude.{◌≡◌, ◌≢◌, ℕ, ◌≤◌, None, IsSome, length};
+ghost use Rattle.std.specs.Prelude.{◌≡◌, ◌≢◌, ℕ, ◌≤◌, IsSome, length};
 ghost use Rattle.std.specs.List.{AllByRecursion};
 ghost use Rattle.kx_pages.specs.Lists.{Has, sources};
 ghost use Rattle.kx_pages.specs.Bytes.{page_of, Mem};

@@ -6,3 +6,4 @@ pub mod Sets
 pub mod Parts
 pub mod Forms
 pub mod Apart
+pub mod Listed

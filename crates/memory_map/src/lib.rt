@@ -6,13 +6,13 @@
 //! protocol. Bytes at 2^46 and above are passed over (this project's own limit).
 #![tactic(auto)]
 
-ghost use Rattle.std.specs.Prelude.{◌≡◌, ◌↔◌, ℕ, ◌/◌, ◌&&◌, not, filter, IsTrue, List, Some};
+ghost use Rattle.std.specs.Prelude.{◌≡◌, ◌↔◌, ℕ, ◌/◌, ◌&&◌, not, filter, IsTrue, List, Some, Ok};
 ghost use Rattle.kx_laws.specs.inner.Results.{Gives};
 ghost use Rattle.kx_pages.specs.Spans.{in_spans};
 ghost use Rattle.memory_map.specs.declared.row.Row.{Row};
 ghost use Rattle.memory_map.specs.Rows.{is_inside, rows_meet, holds_page, meets_page, is_ram_row};
-ghost use Rattle.memory_map.specs.inner.Rows.{covers, AreBelow};
-ghost use Rattle.memory_map.specs.Maps.{is_ram, reserved_area, crash_rows, core_ranges};
+ghost use Rattle.memory_map.specs.inner.Rows.{covers, AreBelow, AreListed};
+ghost use Rattle.memory_map.specs.Maps.{MapValue, is_ram, reserved_area, crash_rows, core_ranges};
 ghost use Rattle.memory_map.specs.Text.{map_reading, entry_of};
 ghost use Rattle.memory_map.specs.inner.Grammar.{IsEntry};
 ghost use Rattle.memory_map.specs.declared.row.Class.{Class};
@@ -144,4 +144,10 @@ pub fn tests_speak_of_bytes()
 pub fn entries_are_map_lines()
     ensures { (line : List ℕ) (first last : ℕ) (class : Class)
         → (entry_of line ≡ Some (first, last, class)) ↔ IsEntry line first last class }
+{}
+
+/// Each row of a map that was read ends at 2^46 or before, and is of a kind that a name gives: so its numbers fit a struct
+/// boot_e820_entry of the Linux/x86 boot protocol.
+pub fn rows_are_listed()
+    ensures { (text : List ℕ) (m : MapValue) → map_reading text ≡ Ok m → AreListed m.rows }
 {}

@@ -1,6 +1,6 @@
 //! The rows and crash areas of a text, line by line.
 
-ghost use Rattle.std.specs.Prelude.{◌≡◌, ℕ, List, ◌+◌, ◌++◌, ◌∷◌, ◌<◌, ◌≤◌, ◌^◌, [], true, false, OnOk, IfOk};
+ghost use Rattle.std.specs.Prelude.{◌≡◌, List, ◌+◌, ◌++◌, ◌∷◌, ◌<◌, [], true, false, OnOk, IfOk};
 ghost use Rattle.kx_laws.specs.inner.Results.{Gives};
 ghost use Rattle.text_lines.specs.Lines.{lines};
 ghost use Rattle.range_index.specs.inner.Ranges.{meets_any};

@@ -1,6 +1,6 @@
 //! Ranges of bytes, and what a name says of one.
 
-ghost use Rattle.std.specs.Prelude.{◌≡◌, ◌<◌, ◌≤◌, ◌^◌};
+ghost use Rattle.std.specs.Prelude.{◌≡◌, ◌<◌, ◌≤◌};
 ghost use Rattle.memory_map.specs.Text.{class_of, below_limit};
 
 use kx_pages::ADDRESS_LIMIT;

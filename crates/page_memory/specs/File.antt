@@ -10,6 +10,10 @@ use Rattle.page_memory.specs.declared.fault.MemFault.{MemFault}
 use Rattle.page_memory.specs.declared.fault.MemFault.TheVariants as faults
 use Rattle.page_memory.specs.Contents.{Contents}
 
+-- how many pages a file may have
+abbrev pub file_page_limit : ℕ
+file_page_limit = 131072
+
 abbrev pub magic : List ℕ
 magic = codes "KXMEM001"
 
@@ -62,7 +66,7 @@ unfoldable pub read_pages : List ℕ → Result (finite.FinMap nat_cmp (List ℕ
 read_pages bytes =
     if not (starts_with nat_eq bytes magic) then Err faults.BadMagic
     else if nat_lt (length bytes) 16 then Err (faults.Truncated (length bytes))
-    else if nat_lt 131072 (field 8 8 bytes) then Err (faults.TooMany (field 8 8 bytes))
+    else if nat_lt file_page_limit (field 8 8 bytes) then Err (faults.TooMany (field 8 8 bytes))
     else pages_from (field 8 8 bytes) bytes
 
 -- what a file reads as

@@ -1,13 +1,12 @@
 //! The buffer in which the frames lie, at the places that the table says.
 
-ghost use Rattle.std.specs.Prelude.{◌≡◌, ℕ, ◌+◌, ◌<◌, ◌≤◌, ◌≢◌, ◌++◌, length, IsSome, IfOk, OnOk, OnErr, List, None, Some};
+ghost use Rattle.std.specs.Prelude.{◌≡◌, ℕ, ◌+◌, ◌<◌, ◌≤◌, ◌≢◌, ◌++◌, length, IsSome, OnOk, OnErr, List, None, Some};
 ghost use Rattle.std.specs.FinMap as finite;
 ghost use Rattle.std.specs.Ordering.{nat_cmp};
 ghost use Rattle.std.specs.BTreeMap as tree;
 ghost use Rattle.std.specs.Vec.{vec_capacity};
 ghost use Rattle.kx_fields.specs.Fields.{IsBlock};
 ghost use Rattle.kx_pages.specs.Bytes.{page_of};
-ghost use Rattle.page_memory.specs.Contents.{frame_at};
 ghost use Rattle.page_memory.specs.inner.Contents.{page_with_word};
 ghost use Rattle.page_memory.specs.inner.Frames.{frame_in, put_frame, put_word_in, pages_in, AreExchanged, HaveSamePages, IsAdded, IsCopied, IsSet, IsTable, IsWordSet};
 

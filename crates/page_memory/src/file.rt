@@ -1,6 +1,6 @@
 //! The memory file.
 
-ghost use Rattle.std.specs.Prelude.{[], ◌≡◌, ◌≤◌, ◌<◌, ◌+◌, ◌*◌, ◌^◌, ℕ, length, ◌++◌, ◌≢◌, ◌↔◌, drop, IfOk, IfErr, IfSome, IsSome, OnOk, nat_le, take, if◌then◌else◌};
+ghost use Rattle.std.specs.Prelude.{◌≡◌, ◌≤◌, ◌<◌, ◌+◌, ◌*◌, ◌^◌, length, ◌++◌, ◌↔◌, drop, IfOk, IfErr, IfSome, IsSome, OnOk, nat_le, take, if◌then◌else◌};
 ghost use Rattle.page_memory.specs.declared.fault.MemFault.TheVariants.{PastLimit};
 ghost use Rattle.std.specs.BTreeMap.{IsOrdered};
 ghost use Rattle.std.specs.List.{AllByRecursion};
@@ -9,7 +9,7 @@ ghost use Rattle.byteorder.specs.Endian.{little_bytes};
 ghost use Rattle.kx_fields.specs.Fields.{field};
 ghost use Rattle.kx_laws.specs.inner.Results.{Gives};
 ghost use Rattle.page_memory.specs.Contents.{Contents, IsMemory, at};
-ghost use Rattle.page_memory.specs.File.{magic, text_of, page_text, file, pages_from, read_pages, entry_at, is_all_zeros, stored_pages};
+ghost use Rattle.page_memory.specs.File.{file_page_limit, magic, text_of, page_text, file, pages_from, read_pages, entry_at, is_all_zeros, stored_pages};
 ghost use Rattle.page_memory.specs.inner.File.{HasNoFile, IsFileOf, IsReadAgain};
 ghost use Rattle.page_memory.specs.Memory.{Agree};
 ghost use Rattle.page_memory.specs.inner.Frames.{pages_in, AreStored, IsTable, stored_in, frame_entries};
@@ -17,7 +17,7 @@ ghost use Rattle.page_memory.specs.inner.InPlace.{AreInSlots};
 
 use crate::buffer::frame;
 use crate::fault::{HeavyFault, MemFault};
-use crate::layout::{FIRST_FRAME, FRAME_SIZE, HEAD, MOST_PAGES, SLOT};
+use crate::layout::{FILE_PAGE_LIMIT, FIRST_FRAME, FRAME_SIZE, HEAD, SLOT};
 use crate::table::Table;
 use kx_fields::Block;
 use kx_pages::Page;
@@ -130,7 +130,7 @@ fn next_page(
 
 // The table of so many pages that stand after a file's head, and that nothing follows. Each frame stays where it lies.
 fn table_of(alloc: Global, count: u64, bytes: &[u8]) -> Result<Table, MemFault>
-    requires few { count ≤ 131072 }
+    requires few { count ≤ file_page_limit }
     requires headed { 16 ≤ length bytes.now }
     ensures exact { Gives MemFault.Memory (λ t. pages_in bytes.now t.places) result
         (pages_from count bytes.now) }
@@ -175,7 +175,7 @@ pub(crate) fn file_table(alloc: Global, bytes: &[u8]) -> Result<Table, MemFault>
             });
         }
     };
-    if count > MOST_PAGES {
+    if count > FILE_PAGE_LIMIT {
         return Err(MemFault::TooMany { count });
     }
     table_of(alloc, count, bytes)
@@ -219,7 +219,7 @@ fn text_of_pages(
     pages: &[(Page, usize)],
 ) -> Result<Vec<u8>, AllocError>
     requires inside { AllByRecursion (λ e. e.1 + 4096 ≤ length frames.now) pages.now }
-    requires few { length pages.now ≤ 131072 }
+    requires few { length pages.now ≤ file_page_limit }
     ensures { IfOk result (λ v. v.items ≡ text_of (frame_entries frames.now pages.now)) }
 {
     let mut out = Vec::new(alloc);
@@ -239,14 +239,14 @@ pub(crate) fn file_pages(
 ) -> Result<Vec<(Page, usize)>, HeavyFault>
     requires { IsTable frames.now table.now.places }
     ensures stored { IfOk result (λ v. AreStored frames.now table.now.places v.items) }
-    ensures limit { IfOk result (λ v. length v.items ≤ 131072) }
+    ensures limit { IfOk result (λ v. length v.items ≤ file_page_limit) }
     ensures slots { IfOk result (λ v. AreInSlots frames.now v.items) }
     ensures few { IfOk result (λ v. length v.items ≤ length table.now.places.entries) }
     ensures ordered { IsOrdered nat_cmp table.now.places }
     ensures heavy { IfErr result (λ e. HasNoFile (stored_in frames.now table.now.places) e) }
 {
     let pages = stored_frames(alloc, frames, table)?;
-    if pages.len() as u64 > MOST_PAGES {
+    if pages.len() as u64 > FILE_PAGE_LIMIT {
         return Err(HeavyFault::TooMany {
             count: pages.len() as u64,
         });
@@ -268,7 +268,7 @@ pub(crate) fn file_of(alloc: Global, frames: &[u8], table: &Table) -> Result<Vec
 /// What `write` gives is read back: the file of a memory within the limit reads as a memory that agrees with it at
 /// every page.
 pub fn reads_back()
-    ensures { (m : Contents) → IsMemory m → length (stored_pages m) ≤ 131072 → IsReadAgain m }
+    ensures { (m : Contents) → IsMemory m → length (stored_pages m) ≤ file_page_limit → IsReadAgain m }
 {}
 
 /// Each memory has one file: memories that agree at every page store the same pages, and have the same file.

@@ -7,11 +7,11 @@
 //! While frames are exchanged, `slots` says in which slot the frame of each page lies, and `owners` says of each slot
 //! whose frame it has: both are kept, so that an exchange is never preceded by a search.
 
-ghost use Rattle.std.specs.Prelude.{◌≡◌, ◌≢◌, ◌≤◌, ◌<◌, ◌+◌, ◌-◌, ◌*◌, ◌++◌, ℕ, List, length, take, drop, set, slice_index, IfOk, IfErr, OnOk, ◌==◌};
+ghost use Rattle.std.specs.Prelude.{◌≡◌, ◌≤◌, ◌<◌, ◌+◌, ◌-◌, ◌*◌, ◌++◌, ℕ, length, take, set, slice_index, IfOk, IfErr, OnOk, ◌==◌};
 ghost use Rattle.std.specs.BTreeMap.{IsOrdered};
-ghost use Rattle.std.specs.List.{flat_map, IsDistinct};
+ghost use Rattle.std.specs.List.{IsDistinct};
 ghost use Rattle.std.specs.Ordering.{nat_cmp};
-ghost use Rattle.page_memory.specs.File.{text_of};
+ghost use Rattle.page_memory.specs.File.{file_page_limit, text_of};
 ghost use Rattle.page_memory.specs.inner.File.{HasNoFile, IsFileOf};
 ghost use Rattle.page_memory.specs.inner.Frames.{IsTable, frame_in, put_frame, stored_in, trade_frames};
 ghost use Rattle.page_memory.specs.inner.InPlace.{AreArranged, AreGathered, AreInSlots, AreOwned, AreSlotsOf, StillHold, slot_entries, slot_texts, slots_of};
@@ -147,7 +147,7 @@ fn write_numbers(frames: &mut [u8], pages: &[(Page, usize)])
 // Makes a file of slots that have the frames of these pages.
 fn write_heads(frames: &mut [u8], pages: &[(Page, usize)])
     requires long { length frames.old ≡ 16 + 4104 * length pages.now }
-    requires few { length pages.now ≤ 131072 }
+    requires few { length pages.now ≤ file_page_limit }
     ensures { frames.new ≡ text_of (slot_entries frames.old 0 pages.now) }
 {
     write_numbers(frames, pages);

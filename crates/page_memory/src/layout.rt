@@ -12,5 +12,5 @@ pub(crate) const SLOT: usize = 4104;
 /// Where the first page's frame begins: behind the head and the page's number.
 pub(crate) const FIRST_FRAME: usize = 24;
 
-/// The most pages of a memory file (this project's own limit).
-pub(crate) const MOST_PAGES: u64 = 131072;
+/// How many pages a memory file may have (this project's own limit).
+pub(crate) const FILE_PAGE_LIMIT: u64 = 131_072;

@@ -1,6 +1,6 @@
 //! A memory: its pages, and how they change.
 
-ghost use Rattle.std.specs.Prelude.{◌≡◌, ℕ, ◌+◌, ◌*◌, ◌/◌, ◌%◌, ◌<◌, ◌≤◌, ◌^◌, ◌≢◌, ◌⊎◌, ◌↔◌, length, slice_index, IsTrue, IfSome, IsSome, All, OnOk, OnErr, IfOk, IfErr};
+ghost use Rattle.std.specs.Prelude.{◌≡◌, ℕ, ◌+◌, ◌*◌, ◌/◌, ◌%◌, ◌<◌, ◌≤◌, ◌^◌, ◌≢◌, ◌⊎◌, ◌↔◌, length, slice_index, IsTrue, IfSome, IsSome, All, OnOk, IfOk, IfErr};
 ghost use Rattle.std.specs.FinMap as finite;
 ghost use Rattle.std.specs.Option.{option_map};
 ghost use Rattle.kx_fields.specs.Fields.{IsBlock};
@@ -12,7 +12,7 @@ ghost use Rattle.kx_pages.specs.Bytes.{page_of};
 ghost use Rattle.page_memory.specs.Contents.{IsMemory, Contents, at, with_page, swap_pages};
 ghost use Rattle.page_memory.specs.inner.Contents.{IsHeld, with_word, after_set};
 ghost use Rattle.page_memory.specs.Memory.{word};
-ghost use Rattle.page_memory.specs.inner.Frames.{frame_in, put_frame, pages_in, IsTable};
+ghost use Rattle.page_memory.specs.inner.Frames.{pages_in, IsTable};
 
 use crate::buffer::{add_frame, copy_frame, exchange, frame, write_frame, write_word};
 use crate::fault::{HeavyFault, MemFault};

@@ -20,7 +20,7 @@ type Shortcut = Option<(Page, usize)>;
 
 /// Where in the buffer the frame of each page begins.
 #[derive(Drop)]
-pub struct Table {
+pub(crate) struct Table {
     places: BTreeMap<Page, usize>,
     shortcuts: Vec<Shortcut>,
     alloc: Global,
@@ -74,7 +74,7 @@ fn change_entry(places: &mut BTreeMap<Page, usize>, p: Page, place: usize)
 
 impl Table {
     /// The table of an ordered map.
-    pub fn new(alloc: Global, places: BTreeMap<Page, usize>) -> Table
+    pub(crate) fn new(alloc: Global, places: BTreeMap<Page, usize>) -> Table
         ensures { result.places ≡ places }
     {
         let shortcuts = match row_of(alloc, &places) {
@@ -89,21 +89,21 @@ impl Table {
     }
 
     /// The table as an ordered map.
-    pub fn places(&self) -> &BTreeMap<Page, usize>
+    pub(crate) fn places(&self) -> &BTreeMap<Page, usize>
         ensures { result.now ≡ self.now.places }
     {
         &self.places
     }
 
     /// How many pages have frames.
-    pub fn len(&self) -> usize
+    pub(crate) fn len(&self) -> usize
         ensures len { result ≡ length self.now.places.entries }
     {
         self.places.len()
     }
 
     /// Where the frame of a page begins.
-    pub fn get(&self, p: Page) -> Option<usize>
+    pub(crate) fn get(&self, p: Page) -> Option<usize>
         ensures value { result ≡ tree.get nat_cmp self.now.places p }
     {
         match self.shortcut(p) {
@@ -123,7 +123,7 @@ impl Table {
     }
 
     /// A page that has no frame gets one, which begins at this place. For want of memory the table stays as it was.
-    pub fn insert(&mut self, p: Page, place: usize) -> Result<(), AllocError>
+    pub(crate) fn insert(&mut self, p: Page, place: usize) -> Result<(), AllocError>
         requires { tree.get nat_cmp self.old.places p ≡ None }
         ensures differs { OnOk result (Differs self.old.places self.new.places p place) }
         ensures length { OnOk result
@@ -137,7 +137,7 @@ impl Table {
     }
 
     /// The frame of a page that has one begins at this place from now on.
-    pub fn change(&mut self, p: Page, place: usize)
+    pub(crate) fn change(&mut self, p: Page, place: usize)
         requires { IsSome (tree.get nat_cmp self.old.places p) }
         ensures differs { Differs self.old.places self.new.places p place }
         ensures length { length self.new.places.entries ≡ length self.old.places.entries }

@@ -4,6 +4,7 @@ use Rattle.std.specs.Prelude.{ℕ, ◌+◌, ◌-◌, ◌^◌, ◌++◌, List, []
 use Rattle.std.specs.List.{range_with_len}
 use Rattle.kx_laws.specs.Results.{◌>>=◌}
 use Rattle.text_lines.specs.Lines.{lines, cut, number}
+use Rattle.page_pool.specs.Pages.{pool_page_limit}
 use Rattle.page_pool.specs.Repeats.{first_repeat}
 use Rattle.page_pool.specs.declared.fault.PoolFault.{PoolFault}
 use Rattle.page_pool.specs.declared.fault.PoolFault.TheVariants as faults
@@ -43,7 +44,7 @@ count_of r = r.1 + 1 - r.0
 unfoldable pub line_onto : ℕ → List ℕ → List ℕ → Result (List ℕ) PoolFault
 line_onto n pages line = do
   r ← checked_range n line
-  if nat_lt 262144 (length pages + count_of r) then Err (faults.TooMany n)
+  if nat_lt pool_page_limit (length pages + count_of r) then Err (faults.TooMany n)
       else Ok (pages ++ range_with_len r.0 (count_of r))
 
 -- these pages and those of all lines, the first of which has the number n

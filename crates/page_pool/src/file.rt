@@ -5,9 +5,10 @@ ghost use Rattle.std.specs.List.{range_with_len};
 ghost use Rattle.kx_laws.specs.inner.Results.{Gives};
 ghost use Rattle.text_lines.specs.Lines.{lines};
 ghost use Rattle.page_pool.specs.declared.fault.PoolFault.TheVariants as faults;
+ghost use Rattle.page_pool.specs.Pages.{pool_page_limit};
 ghost use Rattle.page_pool.specs.File.{range_of, both, checked_range, line_onto, pages_onto};
 
-use crate::MOST_PAGES;
+use crate::POOL_PAGE_LIMIT;
 use crate::fault::PoolFault;
 use kx_pages::{PAGE_LIMIT, Page};
 use std::alloc::{AllocError, Global};
@@ -73,17 +74,17 @@ fn add_range(pages: &mut Vec<Page>, first: u64, count: u64) -> Result<(), AllocE
 /// Adds the pages of the line of this number.
 #[tactic(auto, unfolding(crate::specs::File::line_onto))]
 fn add_line(pages: &mut Vec<Page>, line: u64, text: &[u8]) -> Result<(), PoolFault>
-    requires { length pages.old.items ≤ 262144 }
+    requires { length pages.old.items ≤ pool_page_limit }
     ensures exact { Gives faults.Memory (λ _. pages.new.items) result
         (line_onto line pages.old.items text.now) }
-    ensures few { OnOk result (length pages.new.items ≤ 262144) }
+    ensures few { OnOk result (length pages.new.items ≤ pool_page_limit) }
 {
     let (first, last) = match checked_range(line, text) {
         Ok(range) => range,
         Err(e) => return Err(e),
     };
     let count = last + 1 - first;
-    if pages.len() as u64 + count > MOST_PAGES {
+    if pages.len() as u64 + count > POOL_PAGE_LIMIT {
         return Err(PoolFault::TooMany { line });
     }
     add_range(pages, first, count)?;
@@ -93,7 +94,7 @@ fn add_line(pages: &mut Vec<Page>, line: u64, text: &[u8]) -> Result<(), PoolFau
 /// The pages of all lines in their order, or the fault of the first line that has one.
 pub(crate) fn pages_of(alloc: Global, text: &[u8]) -> Result<Vec<Page>, PoolFault>
     ensures exact { Gives faults.Memory (λ v. v.items) result (pages_onto 1 [] (lines text.now)) }
-    ensures few { IfOk result (λ v. length v.items ≤ 262144) }
+    ensures few { IfOk result (λ v. length v.items ≤ pool_page_limit) }
 {
     let mut pages = Vec::new(alloc);
     let mut rest = text;

@@ -14,7 +14,7 @@ ghost use Rattle.std.specs.FinMap as finite;
 ghost use Rattle.std.specs.BTreeMap as tree;
 ghost use Rattle.kx_laws.specs.inner.Results.{Gives};
 ghost use Rattle.kx_pages.specs.Lists.{Distinct, count};
-ghost use Rattle.page_pool.specs.Pages.{is_filed, left_of, usable_of};
+ghost use Rattle.page_pool.specs.Pages.{is_filed, left_of, pool_page_limit, usable_of};
 ghost use Rattle.page_pool.specs.inner.Pages.{mark};
 ghost use Rattle.page_pool.specs.inner.Queue.{is_waiting};
 ghost use Rattle.page_pool.specs.inner.Marks.{marks_of};
@@ -33,8 +33,8 @@ use std::alloc::Global;
 use std::collections::BTreeMap;
 use std::marker::Model;
 
-/// The most pages of a pool, 1 GiB in all (this project's own limit).
-pub const MOST_PAGES: u64 = 262144;
+/// How many pages a pool may have, 1 GiB in all (this project's own limit).
+pub const POOL_PAGE_LIMIT: u64 = 262_144;
 
 /// Pages to draw, in order, and which of the drawn pages are filed. Contracts see the pages that the pool was made of
 /// and those drawn since, both in order, the limit, and a mark for each page. The pages left are those not drawn, and
@@ -107,7 +107,7 @@ impl Pool {
     /// A pool of these pages, at most 262,144, to be drawn in this order, with the limit 2^46. Repeats with the first
     /// page of the list that stands earlier too, exactly where one does; Memory only where memory ran out.
     pub fn new(alloc: Global, pages: Vec<Page>) -> Result<Pool, PoolFault>
-        requires { length pages.items ≤ 262144 }
+        requires { length pages.items ≤ pool_page_limit }
         ensures exact { Gives faults.Memory (λ p. p.made) result (each_once pages.items) }
         ensures first { IfErr result (λ e. RepeatIsFirst pages.items e) }
         ensures made { IfOk result (λ p. p.made ≡ pages.items) }
@@ -175,8 +175,8 @@ impl Pool {
         ensures value { result ≡ length (usable_of self.now) }
         ensures once { Distinct (self.now.drawn ++ usable_of self.now) }
         ensures each_once { Distinct self.now.made }
-        ensures most { length self.now.made ≤ 262144 }
-        ensures few { length self.now.drawn + length (usable_of self.now) ≤ 262144 }
+        ensures most { length self.now.made ≤ pool_page_limit }
+        ensures few { length self.now.drawn + length (usable_of self.now) ≤ pool_page_limit }
         ensures filed_were_drawn { (q : ℕ) → is_filed self.now q ≡ true
             → 1 ≤ count q self.now.drawn }
     {

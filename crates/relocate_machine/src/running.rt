@@ -1,6 +1,6 @@
 //! Runs of a list.
 
-ghost use Rattle.std.specs.Prelude.{◌≡◌, ℕ, ◌<◌, Some, IfSome, IfOk, OnOk, OnErr};
+ghost use Rattle.std.specs.Prelude.{◌≡◌, ◌<◌, Some, IfSome, IfOk, OnOk, OnErr};
 ghost use Rattle.page_memory.specs.inner.Contents.{IsHeld};
 ghost use Rattle.relocate_machine.specs.Machine.{start_at};
 ghost use Rattle.relocate_machine.specs.inner.Writes.{AreHeld, IsHeldFor, IsWritten, Stays};

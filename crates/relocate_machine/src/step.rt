@@ -1,6 +1,6 @@
 //! The machine, step by step.
 
-ghost use Rattle.std.specs.Prelude.{◌≡◌, ℕ, ◌+◌, ◌-◌, ◌*◌, ◌/◌, ◌%◌, ◌<◌, ◌≤◌, ◌^◌, false, Some, IsNone, IfSome};
+ghost use Rattle.std.specs.Prelude.{◌≡◌, ◌+◌, ◌-◌, ◌/◌, ◌%◌, ◌<◌, ◌≤◌, ◌^◌, false, Some, IsNone, IfSome};
 ghost use Rattle.relocate_machine.specs.Machine.{State, start_of, next_word, past_word, after_word, after_move, step_of};
 ghost use Rattle.relocate_machine.specs.inner.Writes.{AreHeld, HoldsWrites, IsSameBut, move_writes, word_writes, writes_by, writes_of};
 ghost use Rattle.relocate_machine.specs.inner.Reading.{GoesOn, IsPageAt};

@@ -4,6 +4,7 @@ ghost use Rattle.std.specs.Prelude.{◌≡◌, ℕ, ◌<◌, ◌≤◌, List, le
 ghost use Rattle.std.specs.Option.{option_map};
 ghost use Rattle.kx_pages.specs.Bytes.{page_of};
 ghost use Rattle.kx_pages.specs.Spans.{in_spans};
+ghost use Rattle.kx_pages.specs.Limits.{segment_page_limit};
 ghost use Rattle.segments.specs.Values.{is_destination, want, pages, need};
 ghost use Rattle.segments.specs.inner.Values.{IsAsLong, IsReplaced, span_of, wanted};
 ghost use Rattle.segments.specs.Rules.{bare_refusal, refusal};
@@ -103,7 +104,7 @@ impl Segments {
     /// How many pages there are, at most 65,536.
     pub fn pages(&self) -> u64
         ensures value { result ≡ length (pages self.now) }
-        ensures small { result ≤ 65536 }
+        ensures small { result ≤ segment_page_limit }
     {
         total(&self.list)
     }

@@ -1,8 +1,7 @@
 //! The rules that segments have to meet.
 
-ghost use Rattle.std.specs.Prelude.{◌≡◌, ℕ, ◌+◌, ◌/◌, ◌^◌, ◌<◌, ◌≤◌, ◌||◌, ◌&&◌, not, nat_le, nat_lt, [], ◌∷◌, None, Some, false, length, IfOk, OnOk};
+ghost use Rattle.std.specs.Prelude.{◌≡◌, ℕ, ◌+◌, ◌/◌, ◌^◌, ◌<◌, ◌≤◌, ◌||◌, ◌&&◌, nat_le, nat_lt, None, Some, false, length, IfOk, OnOk};
 ghost use Rattle.std.specs.List.{list_any, list_all, range_with_len, AllByRecursion};
-ghost use Rattle.std.specs.Option.{option_map};
 ghost use Rattle.std.specs.List as lists;
 ghost use Rattle.kx_pages.specs.Spans as spans;
 ghost use Rattle.segments.specs.Values.{page_count, pages, is_destination};

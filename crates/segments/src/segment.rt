@@ -1,7 +1,7 @@
 //! One segment.
 
 ghost use Rattle.std.specs.Prelude.{◌≡◌, ℕ, ◌+◌, ◌-◌, ◌*◌, ◌/◌, ◌^◌, ◌<◌, ◌≤◌, IsTrue, false, length, take};
-ghost use Rattle.kx_pages.specs.Spans.{Run, in_span};
+ghost use Rattle.kx_pages.specs.Spans.{in_span};
 ghost use Rattle.segments.specs.Values.{SegmentValue, stop, is_page_of_segment, page_count, bytes_from};
 ghost use Rattle.segments.specs.inner.Values.{span_of};
 ghost use Rattle.segments.specs.Rules.{is_bad_address, overlap_each_other, is_too_full, leaves};

@@ -31,10 +31,10 @@ pub put : (fault : Option ℕ) (fs : List (List ℕ × List ℕ)) (goods : Goods
     → holding fs ≡ holding ((codes "r", codes "12") ∷ (codes "o", codes "xyz") ∷ one_file)
 put fault fs goods e p =
     let k = subst (λ (g : Goods ℕ). FilesPut (Some (holding one_file)) g.outputs (Some (holding fs))) e p in
-    k.2 ∙ ap (λ (held : Files). with_outputs held ((codes "o", codes "xyz") ∷ (codes "r", codes "12") ∷ [])) (sym (some_same (holding one_file) k.0 k.1))
+    some_same (holding fs) (holding ((codes "r", codes "12") ∷ (codes "o", codes "xyz") ∷ one_file)) k
 
 -- the text was said
 pub told : (fault : Option ℕ) (after : List ℕ) (goods : Goods ℕ) → goods ≡ copy_goods fault (codes "xyz") → Said (Some (codes "!")) goods.text (Some after) → after ≡ codes "!ok\n"
 told fault after goods e p =
     let k = subst (λ (g : Goods ℕ). Said (Some (codes "!")) g.text (Some after)) e p in
-    k.2 ∙ ap (λ before. before ++ codes "ok\n") (sym (some_same (codes "!") k.0 k.1))
+    some_same after (codes "!ok\n") k

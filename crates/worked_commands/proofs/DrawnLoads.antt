@@ -1,11 +1,11 @@
 -- Loads of the kernel `abc` of which all is so but one field.
-use Rattle.std.proofs.Common.{◌≡◌, ◌∙◌, ℕ, ◌≤◌, List, [], ◌∷◌, length, take, true, false, Option, Some, None, Result, Ok, Err, refl, sym, ap, subst, arith, inl, inr}
+use Rattle.std.proofs.Common.{◌≡◌, ◌∙◌, ℕ, List, [], ◌∷◌, length, false, Option, Some, None, Result, Ok, Err, refl, sym, ap, subst, arith, inl, inr}
 use Rattle.std.specs.Prelude.{get_or}
 use Rattle.std.specs.List.{AllByRecursion}
 use Rattle.kx_laws.proofs.Booleans.{true_false}
 use Rattle.kx_laws.proofs.Options.{none_some, some_same}
 use Rattle.kx_pages.specs.Bytes.{page_of}
-use Rattle.kx_pages.specs.Lists.{Has, count, has}
+use Rattle.kx_pages.specs.Lists.{Has, has}
 use Rattle.kx_pages.specs.Modes.{swap_page}
 use Rattle.kx_pages.specs.declared.image.Mode.{Mode}
 use Rattle.kx_pages.specs.declared.image.Mode.TheVariants as modes
@@ -24,13 +24,12 @@ use Rattle.load_states.specs.Ready.{Told}
 use Rattle.load_states.specs.Runs.{EndsAfter}
 use Rattle.load_states.specs.States.{Checked}
 use Rattle.load_states.proofs.Ready.{list_ends}
-use Rattle.kexec_plan.specs.Plan.{plan}
 use Rattle.kexec_plan.specs.Requests.{Plan}
 use Rattle.kexec_plan.specs.declared.fault.PlanFault.{PlanFault}
 use Rattle.kexec_plan.specs.declared.fault.PlanFault.TheVariants as plans
 use Rattle.kexec_main.specs.Inputs.{LoadInputs}
-use Rattle.kexec_main.specs.Loads.{NormalLoad, drawn_pages}
-use Rattle.worked_commands.specs.Drawn.{Each, EachBut, IsNeeded, fields_of, found, found_kept, found_with, found_without_plan, kept_with, told_wrongly, with_a_page}
+use Rattle.kexec_main.specs.Loads.{NormalLoad}
+use Rattle.worked_commands.specs.Drawn.{Each, IsNeeded, fields_of, found, found_kept, found_with, found_without_plan, kept_with, told_wrongly, with_a_page}
 use Rattle.worked_commands.specs.Inputs.{few_read, three_bytes}
 use Rattle.worked_commands.specs.Kept.{one_exchange}
 use Rattle.worked_commands.specs.Lists.{one_move}
@@ -136,7 +135,7 @@ no_such_plan = (
 nothing_wanted : (p : ℕ) (bytes : List ℕ) → want [] p ≡ Some bytes → ⊥
 nothing_wanted p bytes e = let f : ◌≡◌ {A = Option (List ℕ)} None (Some bytes) = e in cc
 
-nothing_told : Told nothing_loaded.load 1 0 []
+pub nothing_told : Told nothing_loaded.load 1 0 []
 nothing_told = record {
   items = Done 0 ∷ [];
   accepted = record {

@@ -1,11 +1,8 @@
 -- A load of two equal pages, which takes fewer pages than it counts.
-use Rattle.std.proofs.Common.{◌≡◌, ◌∙◌, ℕ, ◌≤◌, List, [], ◌∷◌, length, Option, Some, None, Ok, refl, sym, ap, arith, drop, inl, inr}
-use Rattle.std.specs.Prelude.{replicate}
+use Rattle.std.proofs.Common.{◌≡◌, ◌∙◌, ◌≤◌, [], ◌∷◌, Some, None, Ok, refl, sym, ap, arith, drop, inl, inr}
 use Rattle.byteorder.specs.Endian.{little_number}
 use Rattle.kx_laws.proofs.Options.{none_some}
 use Rattle.kx_pages.specs.Bytes.{page_of}
-use Rattle.kx_pages.specs.Modes.{swap_page}
-use Rattle.kx_pages.specs.declared.image.Mode.TheVariants as modes
 use Rattle.kx_pages.specs.declared.image.Wish.TheVariants.{Plain}
 use Rattle.page_memory.specs.Contents.{at, zero_page}
 use Rattle.page_memory.specs.Memory.{word}

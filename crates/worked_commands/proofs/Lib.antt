@@ -14,3 +14,9 @@ pub mod LoadWitness
 pub mod Exchange
 pub mod DrawnLoads
 pub mod DrawnZeros
+pub mod OneOutput
+pub mod FoundLoad
+pub mod WrongBoots
+pub mod WrongExecs
+pub mod WrongPanics
+pub mod WrongResidents

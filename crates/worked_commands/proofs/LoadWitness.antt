@@ -50,7 +50,7 @@ laid_is q = refl
 abbrev IsAsLaid : ℕ → Type 0
 IsAsLaid q = at loaded q ≡ cond (eqb q 0x11) list_page (cond (eqb q 0x12) abc_page (at no_memory q))
 
-as_laid : (q : ℕ) → IsAsLaid q
+pub as_laid : (q : ℕ) → IsAsLaid q
 as_laid q = elim (eqb_tells q 0x11) [
   | inl t ↦ subst IsAsLaid (sym t.1) loaded_list
   | inr t ↦ elim (eqb_tells q 0x12) [
@@ -59,7 +59,7 @@ as_laid q = elim (eqb_tells q 0x11) [
   ]
 ]
 
-other : (q : ℕ) → count q (take (need Plain three_bytes) pool) ≡ 0 → at loaded q ≡ at no_memory q
+pub other : (q : ℕ) → count q (take (need Plain three_bytes) pool) ≡ 0 → at loaded q ≡ at no_memory q
 other q none = elim (eqb_tells q 0x11) [
   | inl t ↦ let e : 1 ≡ 0 = subst (λ q. count q pool ≡ 0) t.1 none in absurd (omega (arith, e))
   | inr t ↦ elim (eqb_tells q 0x12) [

@@ -66,7 +66,7 @@ pub abc_block : IsBlock 4096 abc_page
 unfolding page_of
 abc_block = record { long = refl; each = AreBytes-from_test abc_page refl }
 
-list_block : IsBlock 4096 list_page
+pub list_block : IsBlock 4096 list_page
 unfolding page_of
 list_block = record { long = refl; each = AreBytes-from_test list_page refl }
 

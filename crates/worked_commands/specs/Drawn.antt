@@ -1,6 +1,6 @@
 -- What is promised of a load, field by field, and loads of the kernel `abc` of which all is so but one (this project's own).
 -- Their lists and sources stood in memory before, so that nothing was written.
-use Rattle.std.specs.Prelude.{◌≡◌, ℕ, zero, suc, ◌≤◌, List, [], ◌∷◌, length, None, Ok, Some, replicate}
+use Rattle.std.specs.Prelude.{◌≡◌, ℕ, zero, suc, ◌≤◌, List, [], ◌∷◌, length, Ok, Some, replicate}
 use Rattle.std.specs.List.{AllByRecursion}
 use Rattle.kx_pages.specs.Lists.{Has, count}
 use Rattle.kx_pages.specs.Modes.{swap_page}

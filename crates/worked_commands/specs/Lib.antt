@@ -17,3 +17,5 @@ pub mod Residents
 pub mod Firsts
 pub mod Kept
 pub mod Drawn
+pub mod Fields
+pub mod Wrong

@@ -1,11 +1,14 @@
 -- The load of a crash kernel of `abc` to page 2: what it is made of is any input that has this plan (this project's own).
-use Rattle.std.specs.Prelude.{ℕ, ◌++◌, List, [], ◌∷◌, None, codes, replicate}
+use Rattle.std.specs.Prelude.{◌≡◌, ℕ, ◌++◌, List, [], ◌∷◌, Some, None, Ok, codes, replicate}
+use Rattle.memory_map.specs.Maps.{reserved_area}
+use Rattle.kexec_plan.specs.Plan.{plan}
 use Rattle.load_states.specs.States.{CrashLoad}
 use Rattle.kexec_main.specs.CrashInputs.{CrashInputs}
 use Rattle.kexec_main.specs.LoadPanic.{LoadPanicCommand}
 use Rattle.kexec_main.specs.Outputs.{Made}
 use Rattle.worked_commands.specs.Inputs.{three_bytes, three_bytes_digest}
-use Rattle.worked_commands.specs.Memories.{memory_with, run_file, run_pages}
+use Rattle.worked_commands.specs.Loads.{few_plan}
+use Rattle.worked_commands.specs.Memories.{loaded, memory_with, run_file, run_pages}
 
 -- what `load-panic` took
 abbrev pub panic_of : CrashInputs → LoadPanicCommand
@@ -36,3 +39,9 @@ panic_goods = record {
   text = panic_text;
   fault = None;
 }
+
+-- these inputs have this memory, this plan, and this reserved area
+pub record IsAsked (i : CrashInputs) : Type 0 where
+  pub memory : i.memory ≡ loaded
+  pub planned : plan i.request (Some i.map) ≡ Ok few_plan
+  pub reserved : reserved_area i.map ≡ Some (record { first = 2; count = 3 })

@@ -24,7 +24,7 @@ pub record Desk : Type 0 where
   pub files : Option Files
   pub faults : ℕ
 
--- A take gives what is asked of it and leaves the shelf as it is, or counts a fault. A put puts the bytes, or counts a
+-- A take gives what is asked of it and leaves the shelf as it is, as one that wants memory does, or counts a fault. A put puts the bytes, or counts a
 -- fault and puts the first one alone.
 abbrev pub desk : Shelf Desk
 desk = record {
@@ -32,6 +32,7 @@ desk = record {
   faults = λ s. s.faults;
   gives = λ s name most bytes t. t ≡ s;
   fails = λ s name t. t ≡ record s { faults = s.faults + 1 };
+  wants = λ s name t. t ≡ s;
   puts = λ s name bytes t.
       t ≡ record s { files = option_map (λ held. insert held name bytes) s.files };
   cuts = λ s name bytes t.

@@ -17,7 +17,8 @@ pub fn outputs_in_their_order()
     ensures put_nothing { FilesPut (Some two_files) [] (Some two_files) }
     ensures not_put { FilesPut (Some two_files) ((codes "c", codes "2") ∷ []) (Some two_files)
         → ⊥ }
-    ensures untold { FilesPut (Some two_files) ((codes "c", codes "2") ∷ []) None }
+    ensures untold { FilesPut None ((codes "c", codes "2") ∷ []) None }
+    ensures no_more_told { FilesPut (Some two_files) ((codes "c", codes "2") ∷ []) None → ⊥ }
 {}
 
 /// An output that could not be put whole: those before it are whole, and those behind it are not put.

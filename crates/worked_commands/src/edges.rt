@@ -25,12 +25,13 @@ pub fn counts_of_faults()
     ensures before_the_last { Rose (2 ^ 64 - 2) (2 ^ 64 - 2) → ⊥ }
 {}
 
-/// A put makes one file these bytes, and leaves the others.
+/// A put makes one file these bytes, and leaves the others. Files that were told go on being told, and no others.
 pub fn file_that_is_put()
     ensures new { PutFile (Some two_files) (codes "c") (codes "uv") (Some (with_c (codes "uv"))) }
     ensures replaced { PutFile (Some two_files) (codes "a") (codes "uv")
         (Some (holding ((codes "b", codes "vw") ∷ (codes "a", codes "uv") ∷ []))) }
-    ensures untold { PutFile (Some two_files) (codes "c") (codes "uv") None }
+    ensures untold { PutFile None (codes "c") (codes "uv") None }
+    ensures no_more_told { PutFile (Some two_files) (codes "c") (codes "uv") None → ⊥ }
     ensures other_bytes { PutFile (Some two_files) (codes "c") (codes "uv")
         (Some (with_c (codes "vu"))) → ⊥ }
     ensures other_file_lost { PutFile (Some two_files) (codes "c") (codes "uv")
@@ -51,10 +52,11 @@ pub fn file_that_is_cut()
     ensures never_told { (now : Files) → PutPrefix None (codes "c") (codes "uv") (Some now) → ⊥ }
 {}
 
-/// A say appends.
+/// A say appends. What was told goes on being told, and nothing else.
 pub fn bytes_that_are_said()
     ensures appended { Said (Some (codes "ab")) (codes "cd") (Some (codes "abcd")) }
-    ensures untold { Said (Some (codes "ab")) (codes "cd") None }
+    ensures untold { Said None (codes "cd") None }
+    ensures no_more_told { Said (Some (codes "ab")) (codes "cd") None → ⊥ }
     ensures in_front { Said (Some (codes "ab")) (codes "cd") (Some (codes "cdab")) → ⊥ }
     ensures never_told { (now : List ℕ) → Said None (codes "cd") (Some now) → ⊥ }
     ensures prefix { SaidPrefix (Some (codes "ab")) (codes "cd") (Some (codes "abc")) }

@@ -2,7 +2,7 @@
 
 ghost use Rattle.std.specs.Prelude.{◌≡◌, ◌+◌, ◌∷◌, [], List, ℕ, Ok, Err, Some, None, codes};
 ghost use Rattle.file_commands.specs.Files.{all_files, check_length, from_reader, more_files, optional_file, whole_file};
-ghost use Rattle.file_commands.specs.Taking.{FailedAt, FailsFile, GivesFile, Refusal, Same, Take, Took, by, ok, reads, refuse, too_long};
+ghost use Rattle.file_commands.specs.Taking.{FailedAt, FailsFile, GivesFile, Refusal, Same, Take, Took, WantedAt, WantsFile, by, ok, reads, refuse, too_long};
 ghost use Rattle.worked_commands.specs.Shelves.{Desk, desk, two_files};
 ghost use Rattle.worked_commands.specs.Takes.{a_then_b, a_then_rest, calm, failed_once, no_take, read_as, refused_as, untold};
 
@@ -77,4 +77,13 @@ pub fn takes_that_failed()
     ensures at_another { FailedAt desk (a_then_b 3 2) calm (codes "c") failed_once → ⊥ }
     ensures past_a_refusal { FailedAt desk (a_then_b 2 2) calm (codes "b") failed_once → ⊥ }
     ensures of_no_take { FailedAt desk no_take calm (codes "a") failed_once → ⊥ }
+{}
+
+/// Memory may be wanting before the first take, at a take, or behind the last one, and the shelf counts no fault.
+pub fn takes_that_wanted_memory()
+    ensures wanted { WantsFile desk calm (codes "a") calm }
+    ensures counted { WantsFile desk calm (codes "a") failed_once → ⊥ }
+    ensures of_two_takes { WantedAt desk (a_then_b 3 2) calm calm }
+    ensures of_no_take { WantedAt desk no_take calm calm }
+    ensures never_counted { WantedAt desk (a_then_b 3 2) calm failed_once → ⊥ }
 {}

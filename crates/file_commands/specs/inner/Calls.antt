@@ -11,7 +11,7 @@ use Rattle.file_commands.specs.declared.stop.Stop.{Stop}
 use Rattle.file_commands.specs.declared.stop.Stop.TheVariants as stop
 use Rattle.file_commands.specs.declared.goods.File.{File as MadeFile}
 use Rattle.file_commands.specs.declared.goods.Goods.{Goods as MadeGoods}
-use Rattle.file_commands.specs.Taking.{File, Refusal, Take, Took, FailedAt, Same, too_long, by}
+use Rattle.file_commands.specs.Taking.{File, Refusal, Take, Took, FailedAt, WantedAt, too_long, by}
 use Rattle.file_commands.specs.Answers.{Answer, Goods, done, not_accepted, unread, unwritten, unsaid, memory, refused}
 
 -- how a call ended
@@ -45,7 +45,7 @@ TakesNot D t old (takes.Refused why) new = Took D t old (Err (by why)) new
 TakesNot D t old (takes.TooLong name limit) new =
     Took D t old (Err (too_long (string_bytes name) limit)) new
 TakesNot D t old (takes.Unread name) new = FailedAt D t old (string_bytes name) new
-TakesNot D t old takes.Memory new = Same D old new
+TakesNot D t old takes.Memory new = WantedAt D t old new
 
 -- a call that takes files, and makes a value of them that is seen so
 abbrev pub Takes : {S R X T : Type 0} → Shelf S → Take R X → (T → X) → S → Result T (TakeFault R)

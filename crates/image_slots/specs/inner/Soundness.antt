@@ -1,33 +1,26 @@
 -- What holds of the slots until an image was run (this project's own).
 -- No clause of `kexec` reaches what stands here: it serves laws, and contracts inside the crates.
-use Rattle.std.specs.Prelude.{◌+◌, ◌≡◌, ◌⊎◌, ℕ, ◌≤◌, ◌<◌, ◌^◌, ◌++◌, List, length, true, false, Option, Some, None}
+use Rattle.std.specs.Prelude.{◌+◌, ◌≡◌, ℕ, ◌≤◌, ◌<◌, ◌^◌, ◌++◌, List, length, true, false, Option, Some}
 use Rattle.kx_pages.specs.Lists.{count, sources}
 use Rattle.kx_pages.specs.Spans.{Run}
 use Rattle.kx_pages.specs.Bytes.{Mem}
 use Rattle.kx_pages.specs.Modes.{swap_page}
 use Rattle.kx_pages.specs.declared.item.Item.{Item}
 use Rattle.kx_pages.specs.declared.image.Wish.{Wish}
-use Rattle.segments.specs.Values.{SegmentValue, is_destination, need, want}
+use Rattle.segments.specs.Values.{SegmentValue, is_destination, want}
 use Rattle.segments.specs.inner.Rules.{IsBare}
 use Rattle.kimage_list.specs.Load.{Loading}
 use Rattle.kimage_list.specs.Laying.{image_of, items, link_pages, links_of, source_pages}
 use Rattle.kimage_list.specs.inner.Laying.{Holds}
 use Rattle.list_checker.specs.Walk.{IsAccepted, pairs}
-use Rattle.kimage_list.specs.declared.written.BeginFault.{BeginFault}
-use Rattle.kimage_list.specs.declared.written.BeginFault.TheVariants as begins
-use Rattle.image_slots.specs.declared.reply.Reply.{Reply}
-use Rattle.image_slots.specs.declared.reply.Reply.TheVariants as replies
 use Rattle.list_checker.specs.Crash.{AcceptedCrash}
-use Rattle.load_states.specs.Loads.{entries_of, loading_of}
+use Rattle.load_states.specs.Loads.{entries_of, loading_of, memory_of}
 use Rattle.load_states.specs.inner.Runs.{after_once, after_plain}
 use Rattle.load_states.specs.declared.accepted.Accepted.{Accepted}
 use Rattle.load_states.specs.declared.accepted.Accepted.TheVariants as accepted
 use Rattle.image_slots.specs.States.{Crash, Normal, Stage, Draft, Written, Placed, State, Underway}
 use Rattle.image_slots.specs.Pages.{all_pages, in_area}
 use Rattle.image_slots.specs.Steps.{image_pairs, wish_of}
-use Rattle.page_pool.specs.Pages.{is_filed}
-use Rattle.image_slots.specs.declared.parts.Parts.{Parts}
-use Rattle.image_slots.specs.inner.Views.{state_in}
 use Rattle.image_slots.specs.Soundness.{WhereSome}
 
 -- the link pages and the source pages that a load lays, with their bytes
@@ -71,14 +64,6 @@ pub record IsSound (s : State) : Type 0 where
   pub pages : ArePages s.area (all_pages s)
   pub images : ImagesHold s
 
--- no page of the pool is filed
-abbrev pub IsUnfiled : Parts → Type 0
-IsUnfiled p = (q : ℕ) → is_filed p.pool q ≡ false
-
-pub record IsReady (p : Parts) : Type 0 where
-  pub sound : IsSound (state_in p)
-  pub unfiled : IsUnfiled p
-
 -- the normal image is accepted by the list that its load laid
 pub record IsRunnable (M : Mem) (n : Normal) : Type 0 where
   pub list : List Item
@@ -86,16 +71,13 @@ pub record IsRunnable (M : Mem) (n : Normal) : Type 0 where
       IsAccepted M (want n.segments) n.image.head n.image.control (swap_page n.image.mode) list
   pub same_pairs : image_pairs n ≡ pairs list
 
--- why a load is not written: memory was wanted, or the pool has too few pages
-abbrev pub IsShort : Wish → List SegmentValue → List ℕ → Reply → Type 0
-IsShort wish ss left why =
-    (why ≡ replies.Memory)
-    ⊎ ((loading_of wish ss left ≡ None) × (why ≡ replies.NoPages (length left) (need wish ss)))
-
--- what is answered where a load is not begun
-abbrev pub reply_of : BeginFault → Reply
-reply_of (begins.NoPages pool need) = replies.NoPages pool need
-reply_of begins.Memory = replies.Memory
+-- a load of segments over these pages is written, from memory M to memory N, and this is its image
+pub record IsWritten (M : Mem) (wish : Wish) (ss : List SegmentValue) (pages : List ℕ) (N : Mem)
+    (n : Normal) : Type 0 where
+  pub loading : Loading
+  pub requests : loading_of wish ss pages ≡ Some loading
+  pub memory : (p : ℕ) → N p ≡ memory_of M wish ss loading p
+  pub image : n ≡ record { image = image_of wish loading; segments = ss; pages = pages }
 
 -- the memory that the run of an accepted list leaves
 abbrev pub after_accepted : Accepted → Mem

@@ -1,7 +1,6 @@
 -- The parts of the slots as states (this project's own).
 -- No clause of `kexec` reaches what stands here: it serves laws, and contracts inside the crates.
 use Rattle.std.specs.Prelude.{option_map}
-use Rattle.page_pool.specs.Pages.{usable_of}
 use Rattle.image_slots.specs.declared.stage.NormalImage.{NormalImage}
 use Rattle.image_slots.specs.declared.stage.CrashImage.{CrashImage}
 use Rattle.image_slots.specs.declared.stage.Stage.{Stage as StageOf}
@@ -29,7 +28,7 @@ abbrev pub value_of : Parts → SlotsValue
 value_of p =
     record {
       memory = p.memory;
-      left = usable_of p.pool;
+      left = p.left;
       ram = p.ram;
       area = p.area;
       load = option_map load_of p.load;

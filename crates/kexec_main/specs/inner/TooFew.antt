@@ -1,8 +1,18 @@
--- Loads for which the pool has too few pages (this project's own).
+-- Loads for which the pool has too few pages, and how many they use (this project's own).
 -- No clause of `kexec` reaches what stands here: it serves laws, and contracts inside the crates.
-use Rattle.std.specs.Prelude.{◌≡◌, ℕ, ◌<◌, length, Ok, ◌↔◌}
+use Rattle.std.specs.Prelude.{◌≡◌, ℕ, ◌<◌, List, [], ◌∷◌, ◌++◌, length, Option, Some, None, Ok, ◌↔◌}
+use Rattle.std.specs.List.{AllByRecursion}
+use Rattle.kx_pages.specs.Lists.{Distinct, Has, sources}
+use Rattle.kx_pages.specs.Modes.{swap_page}
+use Rattle.kx_pages.specs.declared.image.Image.{Image}
 use Rattle.kx_pages.specs.declared.image.Wish.{Wish}
+use Rattle.kx_pages.specs.declared.item.Item.{Item}
+use Rattle.page_memory.specs.Contents.{at}
 use Rattle.segments.specs.Values.{need}
+use Rattle.list_checker.specs.Walk.{links}
+use Rattle.load_states.specs.Fillings.{IsSealed}
+use Rattle.load_states.specs.Ready.{Told}
+use Rattle.load_states.specs.States.{Checked, Load}
 use Rattle.kexec_plan.specs.Requests.{Plan}
 use Rattle.kexec_plan.specs.Plan.{plan}
 use Rattle.kexec_main.specs.Inputs.{LoadInputs}
@@ -13,6 +23,7 @@ use Rattle.kexec_main.specs.declared.status.Reason.TheVariants.{NoPages}
 use Rattle.kexec_main.specs.Boot.{BootInputs, boot_files}
 use Rattle.kexec_main.specs.Call.{HasRefusal}
 use Rattle.kexec_main.specs.Load.{LoadCommand, load_command_files}
+use Rattle.kexec_main.specs.Loading.{IsLoaded}
 use Rattle.kexec_main.specs.Runs.{wish_of}
 use Rattle.kexec_words.specs.Values as words
 
@@ -46,3 +57,29 @@ abbrev pub LoadRefusesForPages : Type 0
 LoadRefusesForPages =
     (l : LoadValue) (held : Files) (pool need : ℕ)
     → IsRefusedForPages (words.load l) held pool need ↔ LoadLacksPages l held pool need
+
+-- the pages that a load uses: its control page, with context preserved its swap page, the pages of its list, and those from
+-- which the segments' bytes are copied
+abbrev pub swap_pages : Option ℕ → List ℕ
+swap_pages None = []
+swap_pages (Some swap) = swap ∷ []
+
+abbrev pub pages_used : Image → List Item → List (ℕ × ℕ) → List ℕ
+pages_used image items qs =
+    image.control ∷ (swap_pages (swap_page image.mode) ++ (links items ++ sources qs))
+
+-- By the rules of taking pages each of these is a usable page of its own, and they are as many as the load takes.
+abbrev pub UsesEachPageOnce : Type 0
+UsesEachPageOnce =
+    (wish : Wish) (i : LoadInputs) (p : Plan) (c : Checked) → IsLoaded wish i p c.load
+    → (t : Told c.load c.words c.links c.pairs)
+    → Distinct (pages_used c.load.image t.items c.pairs)
+    × (length (pages_used c.load.image t.items c.pairs) ≡ need wish p.segments)
+    × AllByRecursion (λ q. Has q i.usable) (pages_used c.load.image t.items c.pairs)
+
+-- So no load by these rules comes to its end over fewer.
+abbrev pub NoLoadOverFewer : Type 0
+NoLoadOverFewer =
+    (wish : Wish) (i : LoadInputs) (p : Plan) (load : Load) → plan i.request i.map ≡ Ok p
+    → length i.usable < need wish p.segments
+    → IsSealed (at i.memory) i.usable wish p.segments load → ⊥

@@ -3,6 +3,7 @@
 use Rattle.std.specs.Prelude.{◌≡◌, ℕ, ◌+◌, ◌≤◌, ◌*◌, List, ◌++◌, length, take, true, false, Some, None}
 use Rattle.std.specs.List.{AllByRecursion}
 use Rattle.kx_pages.specs.Lists.{Has, count, destinations}
+use Rattle.kx_pages.specs.Needs.{link_page_entries}
 use Rattle.kimage_list.specs.Load.{Request}
 use Rattle.kimage_list.specs.inner.Load.{pages_of}
 use Rattle.kimage_list.specs.inner.Drafts.{amount, IsHome, Draft}
@@ -35,4 +36,4 @@ pub record UnderWay (pool all : List ℕ) (need : ℕ) (d : Draft) : Type 0 wher
   pub enough : need ≤ length pool
   pub room : d.room ≡ take need pool
   pub spare : d.loading.spare ≡ d.first ++ d.links
-  pub within : length d.entries ≤ 511 * length d.links
+  pub within : length d.entries ≤ link_page_entries * length d.links

@@ -10,6 +10,7 @@ use Rattle.page_memory.specs.inner.Memory.{set_word}
 use Rattle.page_pool.specs.Pages.{Pages}
 use Rattle.kx_pages.specs.Items.{code}
 use Rattle.kx_pages.specs.Lists.{count, destinations, sources}
+use Rattle.kx_pages.specs.Needs.{link_page_entries}
 use Rattle.kx_pages.specs.declared.item.Item.TheVariants.{Source, Link}
 use Rattle.kimage_list.specs.declared.taking.MovedPage.{MovedPage}
 use Rattle.kimage_list.specs.Load.{Loading, Request, Entry, Start, Move, begun, take_page, give_page}
@@ -89,15 +90,15 @@ with_link d t = record d { loading = give_page None t; links = d.links ++ t.0 �
 
 -- a link page is wanted before the next entry
 abbrev pub IsFull : Draft → Type 0
-IsFull d = length d.entries ≡ 511 * length d.links
+IsFull d = length d.entries ≡ link_page_entries * length d.links
 
 -- no link page is taken ahead of its entries
 abbrev pub IsSteady : Draft → Type 0
-IsSteady d = 511 * length d.links < length d.entries + 511
+IsSteady d = link_page_entries * length d.links < length d.entries + link_page_entries
 
 -- the last link page has room
 abbrev pub HasRoom : Draft → Type 0
-HasRoom d = length d.entries < 511 * length d.links
+HasRoom d = length d.entries < link_page_entries * length d.links
 
 -- e is d with room for one more entry
 abbrev pub RoomBy : Bool → Draft → Draft → Type 0
@@ -105,7 +106,7 @@ RoomBy true d e = (t : ℕ × Loading) × CanTake d None t × (e ≡ with_link d
 RoomBy false d e = e ≡ d
 
 abbrev pub Room : Draft → Draft → Type 0
-Room d e = IsSteady d × RoomBy (length d.entries % 511 == 0) d e
+Room d e = IsSteady d × RoomBy (length d.entries % link_page_entries == 0) d e
 
 -- with the entry of a segment's start
 abbrev pub with_start : Draft → ℕ → Draft

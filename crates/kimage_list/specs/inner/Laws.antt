@@ -1,7 +1,7 @@
 -- What is claimed of loads, in the clauses of laws.rt (this project's own): taking never fails, each call can be made,
 -- and all is drawn in the end.
 -- No clause of `kexec` reaches what stands here: it serves laws, and contracts inside the crates.
-use Rattle.std.specs.Prelude.{◌≡◌, ℕ, ◌+◌, ◌<◌, ◌≤◌, ◌/◌, List, [], ◌∷◌, ◌++◌, length, take, drop, Bool, true, Some, None, not, filter}
+use Rattle.std.specs.Prelude.{◌≡◌, ℕ, ◌+◌, ◌<◌, ◌≤◌, List, [], ◌∷◌, ◌++◌, length, take, drop, Bool, true, Some, None, not, filter}
 use Rattle.kx_pages.specs.Bytes.{Mem, Wants}
 use Rattle.kx_pages.specs.Lists.{Has, count}
 use Rattle.kimage_list.specs.Load.{Loading, Request, begun, take_page, give_page, serve, Entry, loading_after}
@@ -9,7 +9,7 @@ use Rattle.kimage_list.specs.inner.Load.{pages_of}
 use Rattle.kimage_list.specs.inner.Drafts.{Draft, CanTake, IsSteady, HasRoom, Room, initial, with_first, with_start, with_move}
 use Rattle.kx_pages.specs.declared.image.Wish.{Wish}
 use Rattle.kimage_list.specs.inner.Counted.{UnderWay, Counts, Allowed}
-use Rattle.kx_pages.specs.Needs.{first_count}
+use Rattle.kx_pages.specs.Needs.{first_count, link_pages_for}
 
 -- Taking never fails below the need, and draws no page past it.
 abbrev pub AlwaysTakes : Type 0
@@ -30,10 +30,10 @@ OneMore =
 abbrev pub RoomIsThere : Type 0
 RoomIsThere =
     (pool all : List ℕ) (segments : ℕ) (d : Draft) →
-    UnderWay pool all (length all + (segments + length all + 510) / 511 + length d.first) d
+    UnderWay pool all (length all + link_pages_for (segments + length all) + length d.first) d
     → IsSteady d → length d.entries < segments + length all
     → (e : Draft) × Room d e
-    × UnderWay pool all (length all + (segments + length all + 510) / 511 + length d.first) e
+    × UnderWay pool all (length all + link_pages_for (segments + length all) + length d.first) e
     × HasRoom e × (e.entries ≡ d.entries) × (e.first ≡ d.first)
 
 -- With room, each wanted page that is not loaded can be.

@@ -3,6 +3,7 @@
 use Rattle.std.specs.Prelude.{ℕ, suc, ◌≤◌, ◌-◌, ◌+◌, ◌*◌, ◌/◌, ◌%◌, List, [], ◌∷◌, ◌++◌, map, length, take, drop, slice_index, if◌then◌else◌, ◌==◌}
 use Rattle.kx_pages.specs.Bytes.{Mem, Wants, page_of}
 use Rattle.kx_pages.specs.Items.{code}
+use Rattle.kx_pages.specs.Needs.{link_page_entries}
 use Rattle.kx_pages.specs.declared.item.Item.{Item}
 use Rattle.kx_pages.specs.declared.item.Item.TheVariants.{Link}
 use Rattle.kimage_list.specs.Load.{Entry, Start, Move}
@@ -17,7 +18,8 @@ onward (l ∷ ls) = code (Link l) ∷ []
 abbrev pub open_pages : List ℕ → List Item → List (ℕ × List ℕ)
 open_pages [] is = []
 open_pages (l ∷ ls) is =
-    (l, page_of (in_bytes (map code (take 511 is) ++ onward ls))) ∷ open_pages ls (drop 511 is)
+    (l, page_of (in_bytes (map code (take link_page_entries is) ++ onward ls)))
+    ∷ open_pages ls (drop link_page_entries is)
 
 -- the memory of a load so far: M, but for these link pages and the sources
 abbrev pub laid_so_far : Mem → Wants → List ℕ → List Entry → List (ℕ × ℕ) → Mem
@@ -26,17 +28,17 @@ laid_so_far M W links es pairs =
 
 -- where entry number n stands
 abbrev pub entry_place : List ℕ → ℕ → ℕ
-entry_place ls n = 4096 * slice_index ls (n / 511) + 8 * (n % 511)
+entry_place ls n = 4096 * slice_index ls (n / link_page_entries) + 8 * (n % link_page_entries)
 
 -- the place of the next word, where n entries are written over these link pages
 abbrev pub next_place : List ℕ → ℕ → ℕ
 next_place [] n = 0
 next_place (l ∷ []) n = 4096 * l + 8 * n
-next_place (l ∷ (k ∷ ks)) n = next_place (k ∷ ks) (n - 511)
+next_place (l ∷ (k ∷ ks)) n = next_place (k ∷ ks) (n - link_page_entries)
 
 -- the link pages are just enough, or have room for the next entry
 abbrev pub Tight : List ℕ → ℕ → Type 0
-Tight ls n = (511 * length ls ≤ n + 511) × (n ≤ 511 * length ls)
+Tight ls n = (link_page_entries * length ls ≤ n + link_page_entries) × (n ≤ link_page_entries * length ls)
 
 -- the number of page p's entry
 abbrev pub number : ℕ → List Entry → ℕ

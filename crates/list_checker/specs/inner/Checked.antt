@@ -78,15 +78,15 @@ IsJudged m S im place s w (Err why) = why_refused m S im place s (decode w) ≡ 
 
 -- what a word without a reason is to what came before
 abbrev pub Fits : Earlier → Item → Type 0
-Fits s (Link p) = (p < 2 ^ 34) × (has p s.links ≡ false)
+Fits s (Link p) = has p s.links ≡ false
 Fits s (Destination p) = Unit {0}
-Fits s (Source p) = (p < 2 ^ 34) × ((d : ℕ) × (s.next ≡ Some d) × (d < 2 ^ 34))
+Fits s (Source p) = (d : ℕ) × (s.next ≡ Some d) × (d < 2 ^ 34)
 Fits s (Done p) = Unit {0}
 
--- the item at this place leads to another place
-pub record Leads (place : Option ℕ) (i : Item) : Type 0 where
-  pub link : (p : ℕ) → i ≡ Link p → p < 2 ^ 34
-  pub other : ((p : ℕ) → i ≡ Link p → ⊥) → (a : ℕ) → place ≡ Some a → IsPlace a × (a % 4096 < 4088)
+-- the word after the item at this place has a place: the next one of the page, where the item is no link
+abbrev pub Leads : Option ℕ → Item → Type 0
+Leads place i =
+    ((p : ℕ) → i ≡ Link p → ⊥) → (a : ℕ) → place ≡ Some a → IsPlace a × (a % 4096 < 4088)
 
 -- the walk is accepted, and this is told of it
 abbrev pub IsAccept : Contents → List SegmentValue → Image → Accept → Type 0

@@ -34,3 +34,11 @@ AreParts k b (r ∷ rs) =
 abbrev pub StartUpTo : ℕ → List Row → Type 0
 StartUpTo n [] = Unit {0}
 StartUpTo n (r ∷ rs) = (r.start ≤ n) × StartUpTo n rs
+
+-- the row ends at 2^46 or before, and its kind is one that a name can give
+pub record IsListed (r : Row) : Type 0 where
+  pub end : row_end r ≤ 2 ^ 46
+  pub kind : r.kind ≤ 4
+
+abbrev pub AreListed : List Row → Type 0
+AreListed rows = AllByRecursion IsListed rows

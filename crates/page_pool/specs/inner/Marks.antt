@@ -7,6 +7,7 @@ use Rattle.std.specs.FinMap as finite
 use Rattle.std.specs.BTreeMap as tree
 use Rattle.kx_pages.specs.Lists.{Distinct, count}
 use Rattle.kx_pages.specs.inner.Numbers.{IsPage}
+use Rattle.page_pool.specs.Pages.{pool_page_limit}
 use Rattle.page_pool.specs.inner.Queue.{IsQueue, pages_at}
 
 abbrev pub marks_of : tree.BTreeMap ℕ Bool → finite.FinMap nat_cmp Bool
@@ -25,7 +26,7 @@ pub record IsPool (xs queue : List ℕ) (flags : List Bool) (next stop limit : �
     (m : tree.BTreeMap ℕ Bool) : Type 0 where
   pub once : Distinct xs
   pub low : AllByRecursion IsPage xs
-  pub few : length xs ≤ 262144
+  pub few : length xs ≤ pool_page_limit
   pub queued : IsQueue xs queue flags next stop limit xs
   pub have : HaveMarks xs m
   pub filed : FiledAreAmong (pages_at xs (take next queue)) m

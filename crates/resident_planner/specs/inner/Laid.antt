@@ -3,6 +3,7 @@
 use Rattle.std.specs.Prelude.{◌≡◌, ◌≢◌, ℕ, ◌*◌, ◌^◌, ◌<◌, ◌≤◌, List, ◌∷◌, ◌++◌, length, Option, Some, true, false}
 use Rattle.std.specs.List.{AllByRecursion}
 use Rattle.kx_pages.specs.Lists.{has, Distinct}
+use Rattle.kx_pages.specs.Needs.{link_page_entries}
 use Rattle.kx_pages.specs.Bytes.{Mem, Wants}
 
 -- each resident page holds what its page is to have
@@ -18,4 +19,4 @@ pub record AreUsable (r : ℕ → Option ℕ) (D : List ℕ) (control : ℕ) (ls
   pub below : AllByRecursion (λ p. p < 2 ^ 34) (control ∷ ls ++ fresh)
   pub unwanted : AllByRecursion (λ p. has p D ≡ false) (control ∷ ls ++ fresh)
   pub not_resident : AllByRecursion (λ p. (d : ℕ) → r d ≢ Some p) (control ∷ ls ++ fresh)
-  pub room : 2 * length D ≤ 511 * length ls
+  pub room : 2 * length D ≤ link_page_entries * length ls

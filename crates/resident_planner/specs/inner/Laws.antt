@@ -7,8 +7,13 @@ use Rattle.kx_pages.specs.Lists.{Distinct, has, destinations}
 use Rattle.kx_pages.specs.Bytes.{Mem, Wants}
 use Rattle.list_checker.specs.Walk.{Accepted, IsAccepted, InOrder, pairs}
 use Rattle.list_checker.specs.inner.Laws.{ListsWanted}
+use Rattle.page_memory.specs.Contents.{Contents, at}
 use Rattle.segments.specs.Values.{SegmentValue}
-use Rattle.resident_planner.specs.Refusals.{AreWantedPages}
+use Rattle.segments.specs.inner.Rules.{IsBare}
+use Rattle.resident_planner.specs.declared.fault.ResidentFault.{ResidentFault}
+use Rattle.resident_planner.specs.declared.plan.Made.{Made}
+use Rattle.resident_planner.specs.Made.{IsMade}
+use Rattle.resident_planner.specs.Refusals.{AreWantedPages, IsFault}
 use Rattle.resident_planner.specs.Laid.{plan_items, plan_head, plan_memory}
 use Rattle.resident_planner.specs.inner.Laid.{AreResident, AreUsable}
 use Rattle.resident_planner.specs.Cycles.{is_at, resident_step, is_on_cycle, is_least, cycles, deviating}
@@ -121,3 +126,12 @@ OneLeast =
 abbrev pub OneWantedList : Type 0
 OneWantedList =
     (S : List SegmentValue) (D E : List ℕ) → AreWantedPages S D → AreWantedPages S E → D ≡ E
+
+-- where no fault holds of a memory, segments, a pool and pairs, there is a list: so a list is made exactly where none is
+-- refused, want of memory aside
+abbrev pub ListExists : Type 0
+ListExists =
+    (m : Contents) (S : List SegmentValue) (pool : List ℕ) (rs : List (ℕ × ℕ)) → IsBare S
+    → Distinct pool → AllByRecursion (λ p. p < 2 ^ 34) pool → AllByRecursion (λ q. q.1 < 2 ^ 34) rs
+    → ((e : ResidentFault) → IsFault (at m) S pool rs e → ⊥)
+    → (made : Made) × IsMade (at m) S pool rs made

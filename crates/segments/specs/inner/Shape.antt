@@ -2,6 +2,7 @@
 -- No clause of `kexec` reaches what stands here: it serves laws, and contracts inside the crates.
 use Rattle.std.specs.Prelude.{◌≡◌, ◌+◌, ◌%◌, ◌^◌, ◌<◌, ◌≤◌, List, [], ◌∷◌, length, false}
 use Rattle.std.specs.List.{AllByRecursion}
+use Rattle.kx_pages.specs.Limits.{segment_limit, segment_page_limit}
 use Rattle.segments.specs.Values.{SegmentValue, pages}
 use Rattle.segments.specs.Rules.{overlap_each_other}
 
@@ -19,8 +20,8 @@ Apart (s ∷ ss) = AllByRecursion (λ r. overlap_each_other r s ≡ false) ss ×
 -- what the rules leave
 pub record AreSegments (ss : List SegmentValue) : Type 0 where
   pub some : 0 < length ss
-  pub few : length ss ≤ 16
+  pub few : length ss ≤ segment_limit
   pub placed : AllByRecursion IsPlaced ss
   pub apart : Apart ss
   pub fit : AllByRecursion (λ s. length s.bytes ≤ s.memsz) ss
-  pub small : length (pages ss) ≤ 65536
+  pub small : length (pages ss) ≤ segment_page_limit

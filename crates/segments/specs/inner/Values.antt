@@ -5,14 +5,14 @@ use Rattle.kx_pages.specs.Spans.{Run}
 use Rattle.kx_pages.specs.Bytes.{Wants}
 use Rattle.segments.specs.Values.{SegmentValue, is_page_of_segment, bytes_from, page_count}
 
--- the bytes of that page before the zeros
+-- the bytes that page p is to have, before the zeros
 abbrev pub wanted : List SegmentValue → Wants
 wanted [] p = None
 wanted (s ∷ ss) p =
     if is_page_of_segment s p then Some (take 4096 (bytes_from s p))
     else wanted ss p
 
--- these pages as one run
+-- the pages of a segment, as one span
 abbrev pub span_of : SegmentValue → Run
 span_of s = record { first = s.mem / 4096; count = page_count s }
 

@@ -4,7 +4,7 @@ use Rattle.std.specs.Prelude.{codes}
 use Rattle.std.specs.Prelude.{◌⊎◌, nat_lt, unwrap_or}
 use Rattle.file_commands.specs.Answers.{BreaksText, CutsFile, PutAll, PutsFile, SaysText}
 use Rattle.file_commands.specs.Files.{whole_file}
-use Rattle.file_commands.specs.Taking.{FailedAt, GivesFile, Refusal, Took, by, ok, reads, refuse, too_long}
+use Rattle.file_commands.specs.Taking.{FailedAt, GivesFile, Refusal, Took, WantedAt, by, ok, reads, refuse, too_long}
 use Rattle.file_commands.proofs.Steps.{took_told}
 use Rattle.worked_commands.specs.Shelves.{Desk, desk, holding, slate}
 use Rattle.worked_commands.specs.Answers.{copy_goods, copies, one_file, slate_with, shelf}
@@ -27,7 +27,7 @@ unfolding Took
 took = (codes "xyz", shelf one_file 6, gave, (refl, refl))
 
 puts_o : PutsFile desk (shelf one_file 6) (codes "o", codes "xyz") (shelf with_o 6)
-puts_o = record { did = refl; file = (holding one_file, refl, refl); calm = refl }
+puts_o = record { did = refl; file = refl; calm = refl }
 
 abbrev whole : List (List ℕ × List ℕ)
 whole = (codes "a", codes "xyz") ∷ (codes "o", codes "xyz") ∷ (codes "r", codes "12") ∷ []
@@ -38,7 +38,7 @@ cut = (codes "a", codes "xyz") ∷ (codes "o", codes "xyz") ∷ (codes "r", code
 puts_r : PutsFile desk (shelf with_o 6) (codes "r", codes "12") (shelf whole 6)
 puts_r = record {
   did = ap (λ held. record { files = Some held; faults = 6 }) (one_shelf whole ((codes "r", codes "12") ∷ with_o) refl);
-  file = (holding with_o, refl, one_shelf whole ((codes "r", codes "12") ∷ with_o) refl);
+  file = ap Some (one_shelf whole ((codes "r", codes "12") ∷ with_o) refl);
   calm = refl;
 }
 
@@ -56,7 +56,7 @@ put_all : PutAll desk outputs (shelf one_file 6) (shelf whole 6)
 put_all = (shelf with_o 6, puts_o, (shelf whole 6, puts_r, refl))
 
 says : SaysText slate (slate_with (codes "!") 8) (codes "ok\n") (slate_with (codes "!ok\n") 8)
-says = record { did = refl; said = (codes "!", refl, refl); calm = refl }
+says = record { did = refl; said = refl; calm = refl }
 
 breaks : BreaksText slate (slate_with (codes "!") 8) (codes "ok\n") (slate_with (codes "!o") 9)
 breaks = record { did = refl; said = (codes "!", 1, omega arith, refl, refl); rose = omega arith }
@@ -99,7 +99,8 @@ pub returns-clause-unread_of_another_name : goal.returns-clause-unread_of_anothe
 returns-clause-unread_of_another_name c = λ h. no_other h.0
 
 pub returns-clause-memory : goal.returns-clause-memory
-returns-clause-memory c = (record { files = refl; faults = refl }, refl)
+unfolding WantedAt
+returns-clause-memory c = (inl refl, refl)
 
 refused : (Took {R = ℕ} desk (whole_file 3 (codes "a")) (shelf one_file 6) (Err (by 7)) (shelf one_file 6) ⊎ ((x : List ℕ) × Took {R = ℕ} desk (whole_file 3 (codes "a")) (shelf one_file 6) (Ok x) (shelf one_file 6) × copies None x (Err (by 7)))) → ⊥
 refused (inl h) =

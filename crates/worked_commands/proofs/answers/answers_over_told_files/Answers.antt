@@ -20,8 +20,8 @@ out : (fault : Option ℕ) → GoesOut desk slate (copy_goods fault (codes "xyz"
 out fault = record {
   shelf = refl;
   sink = refl;
-  put = (holding one_file, refl, one_shelf whole both refl);
-  said = (codes "!", refl, refl);
+  put = ap Some (one_shelf whole both refl);
+  said = refl;
 }
 
 pub returns-clause-done : goal.returns-clause-done
@@ -73,7 +73,7 @@ returns-clause-unsaid c = (
   record {
     shelf = refl;
     sink = omega arith;
-    put = (holding one_file, refl, one_shelf whole both refl);
+    put = ap Some (one_shelf whole both refl);
     said = (codes "!", 1, omega arith, refl, refl);
   },
 )

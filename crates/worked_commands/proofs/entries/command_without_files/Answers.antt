@@ -20,10 +20,10 @@ abbrev put_o : List (List ℕ × List ℕ)
 put_o = (codes "o", codes "A") ∷ one_file
 
 put : FilesPut (Some (holding one_file)) ((codes "o", codes "A") ∷ []) (Some (holding with_o))
-put = (holding one_file, refl, one_shelf with_o put_o refl)
+put = ap Some (one_shelf with_o put_o refl)
 
 not_put : FilesPut (Some (holding one_file)) ((codes "o", codes "A") ∷ []) (Some (holding one_file)) → ⊥
-not_put (held, same, now) = lost one_file put_o (codes "o") (codes "A") refl refl (now ∙ ap (λ (held : Files). insert held (codes "o") (codes "A")) (sym (some_same (holding one_file) held same)))
+not_put h = lost one_file put_o (codes "o") (codes "A") refl refl (some_same (holding one_file) (holding put_o) h)
 
 cuts : CutsFile desk (shelf one_file 6) (codes "o", codes "A") (shelf with_o 7)
 cuts = record {

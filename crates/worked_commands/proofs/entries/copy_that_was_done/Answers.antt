@@ -21,19 +21,15 @@ differs : (x : List ℕ) → x ≡ codes "xyz" → FilesPut (Some (holding one_f
 differs x e p =
     let k = subst (λ x. FilesPut (Some (holding one_file)) ((codes "o", x) ∷ (codes "r", codes "12") ∷ []) (Some (holding wrong))) e p in
     apart wrong both (codes "o") (codes "xyy") (codes "xyz") refl refl refl
-    (k.2 ∙ ap (λ (held : Files). with_outputs held ((codes "o", codes "xyz") ∷ (codes "r", codes "12") ∷ [])) (sym (some_same (holding one_file) k.0 k.1)))
+    (some_same (holding wrong) (holding both) k)
 
 pub returns-clause-done : goal.returns-clause-done
 returns-clause-done c = (
   codes "xyz",
   read_here,
   (
-    (
-      holding one_file,
-      refl,
-      one_shelf ((codes "a", codes "xyz") ∷ (codes "o", codes "xyz") ∷ (codes "r", codes "12") ∷ []) both refl,
-    ),
-    (codes "!", refl, refl),
+    ap Some (one_shelf ((codes "a", codes "xyz") ∷ (codes "o", codes "xyz") ∷ (codes "r", codes "12") ∷ []) both refl),
+    refl,
   ),
 )
 

@@ -1,6 +1,4 @@
-use Rattle.std.proofs.Common.{arith, ap, ◌∙◌}
-use Rattle.page_memory.specs.Contents.{at}
-use Rattle.page_memory.specs.inner.Memory.{set_word}
+use Rattle.std.proofs.Common.{arith}
 use Rattle.kimage_list.proofs.open_list.OpenList.end.Goals as goal
 use Rattle.kimage_list.proofs.Finishing.{end_held, end_low, end_aligned, finished}
 
@@ -23,4 +21,4 @@ write_word-requires-clause-held c =
 pub returns-clause-memory : goal.returns-clause-memory
 returns-clause-memory c = λ d w h.
     let s = c.args.self in
-    finished d s.memory s.pool s.table s.next s.entries w h c.write_word.new.memory (c.write_word.ensures.value ∙ ap (set_word (at s.memory) s.next) c.word-done.ensures)
+    finished d s.memory s.pool s.table s.next s.entries w h c.write_word.new.memory c.write_word.ensures.value

@@ -1,0 +1,4 @@
+pub mod Calls
+pub mod Replays
+pub mod Told
+pub mod inner

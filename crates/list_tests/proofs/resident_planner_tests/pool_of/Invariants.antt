@@ -1,6 +1,0 @@
-use Rattle.std.proofs.Common.{◌≡◌, ◌++◌, []}
-use Rattle.std.specs.List.{range_with_len}
-use Rattle.list_tests.proofs.resident_planner_tests.pool_of.Given as goal
-
-abbrev pub invariant-loop-i : goal.invariant-loop-i
-invariant-loop-i l = l.pool.items ≡ [] ++ range_with_len l.first l.i

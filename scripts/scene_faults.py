@@ -1,0 +1,100 @@
+"""The faults that can be told, by the enumerations of the sources, and the scenes that meet them."""
+import os
+import re
+
+import kexec_files as files
+from scene_files import Text, lines_of, scene_files
+
+CRATES = f"{files.TOP}/crates"
+# Want of memory is no fault of a scene's: memory is ample.
+LEFT_OUT = {"Memory", "Done"}
+# Endings that no scene meets, by the reason.
+UNMET = {
+    "a memory of 512 MB, which is a test of crates/command_tests": ["Heavy"],
+    "nothing is known of RAM where a record is read": [
+        "Input Rec Segments HalfOfMemory", "Input Rec Segments OutsideReserved", "Input Rec Segments NotRam"],
+    "the sections of an executable are not read": [
+        "Plan Elf Truncated SectionTable", "Plan Elf Truncated Section", "Plan Elf BadString",
+        "Plan Multiboot Elf Truncated SectionTable", "Plan Multiboot Elf Truncated Section", "Plan Multiboot Elf BadString"],
+    "the program headers of an object are not read": [
+        "Plan Object Truncated ProgramTable", "Plan Object Truncated Load", "Plan Object LoadsOverlap", "Plan Object BadLoad",
+        "Plan Object TooLarge"],
+    "each part has room for its bytes, and a crash kernel's parts are placed in the area": [
+        "Plan Segments TooFull", "Plan Segments OutsideReserved"],
+    "a command lies in the boot parameters or in the information, and not by itself": ["Plan NoHole Command"],
+    "these parts are made, and given by no option": [
+        "Plan Unused Kernel", "Plan Unused Headers", "Plan Unused Parameters", "Plan Unused Information"],
+    "each type takes a purgatory": ["Plan Unused Purgatory"],
+}
+
+
+def enumerations():
+    """The variants of each enumeration, and the fields of each structure, of the crates: their names with the types in them."""
+    found = {}
+    for crate in sorted(os.listdir(CRATES)):
+        folder = f"{CRATES}/{crate}/src"
+        for name in sorted(os.listdir(folder)) if os.path.isdir(folder) else []:
+            if name.endswith(".rt"):
+                with open(f"{folder}/{name}", encoding="utf-8") as file:
+                    text = re.sub(r"^ *(//|#\[).*$", "", file.read(), flags=re.MULTILINE)
+                for kind, title, body in re.findall(r"^pub (enum|struct) (\w+) \{\n(.*?)^\}", text, re.MULTILINE | re.DOTALL):
+                    found.setdefault(title, variants_in(kind, title, body))
+    return found
+
+
+def variants_in(kind, title, body):
+    if kind == "struct":
+        return {title: re.findall(r"\w+: (\w+)", body)}
+    return {name: re.findall(r"\w+: (\w+)", fields or "") for name, fields in re.findall(r"^ {4}(\w+)(?: \{([^}]*)\})?,$", body, re.MULTILINE)}
+
+
+def endings(known, title):
+    """The names of each ending, from the status on: `Input Mem Truncated`."""
+    for name, types in known[title].items():
+        inner = [one for one in types if one in known and one not in ("Page",)]
+        if name in LEFT_OUT:
+            continue
+        if not inner:
+            yield (name,)
+        for rest in endings(known, inner[0]) if inner else ():
+            yield (name, *rest)
+
+
+def met():
+    """The endings of the commands of all scenes, and which of them have a sentence."""
+    ended, told, names = set(), set(), None
+    for path in scene_files():
+        for words, _ in lines_of(path):
+            first = words[0] if words else None
+            if first == "kexec":
+                names = None
+            elif first == "ends":
+                names = tuple(word for word in words[2:] if not isinstance(word, Text) and word[:1].isupper())
+                ended.add(names)
+            elif first == "tells":
+                told.add(names)
+    return ended, told
+
+
+def why_missing(names, ended, told):
+    """What is wrong with an ending: None where a scene meets it and tells its sentence, or none can."""
+    if any(" ".join(names) in unmet for unmet in UNMET.values()):
+        return "a scene ends so, though none can" if names in ended else None
+    if names not in ended:
+        return "no scene ends so"
+    return None if names in told else "no scene tells its sentence"
+
+
+def list_missing():
+    """Lists what is not met, and gives the exit status: 0 where nothing is."""
+    wanted = list(endings(enumerations(), "Status"))
+    ended, told = met()
+    wrong = {names: why_missing(names, ended, told) for names in wanted}
+    strange = ended - set(wanted) - {("Done",)} | {tuple(name.split()) for unmet in UNMET.values() for name in unmet} - set(wanted)
+    wrong.update((names, "there is no such ending") for names in strange)
+    for names, why in sorted(wrong.items()):
+        if why:
+            print(f"{' '.join(names)}: {why}")
+    count = sum(why is not None for why in wrong.values())
+    print(f"{len(wanted)} endings, {sum(map(len, UNMET.values()))} that no scene meets, {count} not as they are to be")
+    return 1 if count else 0
