@@ -1,7 +1,12 @@
 """The inputs of the measurements: memory files, raw kernels, pools and memory maps."""
+import itertools
+import os
 import struct
+import sys
 
-PAGE = 4096
+sys.path.append(f"{os.path.dirname(os.path.dirname(os.path.realpath(__file__)))}/scripts")
+from companion import memory_files
+from companion.numbers import PAGE
 
 
 def page_bytes(number):
@@ -11,10 +16,7 @@ def page_bytes(number):
 
 def write_memory(file, pages):
     """A memory file of these pages, given in rising order."""
-    with open(file, "wb") as out:
-        out.write(b"KXMEM001" + struct.pack("<Q", len(pages)))
-        for number in pages:
-            out.write(struct.pack("<Q", number) + page_bytes(number))
+    memory_files.write_memory(file, ((number, page_bytes(number)) for number in pages))
 
 
 def write_dumped(file, headers, first, pages):
@@ -24,11 +26,8 @@ def write_dumped(file, headers, first, pages):
     ident = b"\x7fELF\x02\x01\x01" + bytes(9)
     head = struct.pack("<16sHHIQQQIHHHHHH", ident, 4, 62, 1, 0, 64, 0, 0, 64, 56, 1, 0, 0, 0)
     load = struct.pack("<IIQQQQQQ", 1, 7, start, 0xFFFF888000000000 + start, start, size, size, 0)
-    with open(file, "wb") as out:
-        out.write(b"KXMEM001" + struct.pack("<Q", pages + 1))
-        out.write(struct.pack("<Q", headers) + (head + load).ljust(PAGE, b"\0"))
-        for number in range(first, first + pages):
-            out.write(struct.pack("<Q", number) + page_bytes(number))
+    memory_files.write_memory(file, itertools.chain([(headers, head + load)], (
+        (number, page_bytes(number)) for number in range(first, first + pages))))
 
 
 def write_kernel(file, pages):
@@ -43,10 +42,7 @@ def write_resident(folder, first, sources):
     first + sources[k]. Where that is None no page of memory has it; of such pages each 256th is zeros, as a memory file has
     no room for all sources and destinations of the largest kernel and for its list."""
     places = sorted(place for place in sources if place is not None)
-    with open(f"{folder}/memory", "wb") as memory:
-        memory.write(b"KXMEM001" + struct.pack("<Q", len(places)))
-        for place in places:
-            memory.write(struct.pack("<Q", first + place) + page_bytes(first + place))
+    write_memory(f"{folder}/memory", [first + place for place in places])
     with open(f"{folder}/kernel", "wb") as kernel, open(f"{folder}/pairs", "w", encoding="ascii") as pairs:
         for number, place in enumerate(sources):
             if place is None:
@@ -75,8 +71,3 @@ def exchange_pool(pages, first):
             links += 1
         pool.append(first + k - 1)
     return pool
-
-
-def write_map(file, last):
-    with open(file, "w", encoding="ascii") as out:
-        out.write(f"00001000-{last:08x} : System RAM\n")

@@ -75,7 +75,7 @@ fn plan_remedy(fault: &PlanFault, is_crash: bool) -> Option<&'static str> {
         | PlanFault::Segments {
             fault: SegFault::HalfOfMemory,
         } => Some(
-            "for a Linux kernel, scripts/will-it-load prints the sizes and the largest holes",
+            "for a Linux kernel, kernelyet plan prints the sizes and the largest holes",
         ),
         _ => None,
     }

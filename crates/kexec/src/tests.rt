@@ -244,7 +244,7 @@ fn a_request_without_a_plan_says_what_is_in_the_way(rt: HostRuntime) -> Result<(
         ),
         (
             plan(PlanFault::NoHole { part: Part::Kernel }),
-            "kexec: there is no place for the kernel: the memory map has no free run of pages where it may lie; for a Linux kernel, scripts/will-it-load prints the sizes and the largest holes",
+            "kexec: there is no place for the kernel: the memory map has no free run of pages where it may lie; for a Linux kernel, kernelyet plan prints the sizes and the largest holes",
         ),
     ];
     for (status, wanted) in &rows {

@@ -1,5 +1,5 @@
-"""Words of a list of page copies, for the scripts beside this one: docs/FORMATS.md, The list."""
-from kexec_files import END, PAGE
+"""Words of a list of page copies: docs/FORMATS.md, The list."""
+from companion.numbers import END, PAGE
 
 KINDS = {1: "destination", 2: "link", 4: "done", 8: "source"}
 
@@ -43,6 +43,11 @@ def pairs(words):
         elif kind == "source" and destination is not None:
             yield number, destination, address
             destination += PAGE
+
+
+def pairs_of(words):
+    """The pairs of words as `walk` gives them."""
+    return pairs((kind_of(word), address_of(word)) for _, _, word in words)
 
 
 def merged(found):

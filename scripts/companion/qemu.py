@@ -1,4 +1,4 @@
-"""A virtual machine of QEMU, for the scripts beside this one: its console, its monitor, its memory as a file."""
+"""A virtual machine of QEMU: its console, its monitor, its memory as a file."""
 import json
 import os
 import socket
@@ -7,8 +7,8 @@ import sys
 import threading
 import time
 
-import kexec_files as files
-from kexec_files import PAGE, Wrong
+from companion.numbers import PAGE, runs, span
+from companion.refusals import Wrong
 
 QEMU = "qemu-system-x86_64"
 # This machine has no RAM between 3 and 4 GiB, and none that can be laid between 640 KiB and 1 MiB.
@@ -156,5 +156,5 @@ def pages_with_data(file, ram):
 
 def spans_text(pages):
     """Runs of pages, the first few of them."""
-    found = [files.span(first, last) for first, last in files.runs(pages)]
+    found = [span(first, last) for first, last in runs(pages)]
     return ", ".join(found[:6]) + f" and {len(found) - 6} more runs" * (len(found) > 6)

@@ -1,4 +1,4 @@
-"""What other programs read in a core file, for the scripts beside this one.
+"""What other programs read in a core file.
 
 Each check gives what was looked at and what is wrong with it, None where nothing is. What a missing tool would have read is
 left out, with a word.
@@ -8,9 +8,9 @@ import shutil
 import struct
 import subprocess
 
-import kexec_files as files
-import memory_maps as maps
-from kexec_files import PAGE
+from companion.maps import ranges_outside_crash_areas
+from companion.numbers import PAGE
+from companion.refusals import Wrong
 
 # where a Linux without KASLR maps physical memory (4-level paging), and its own text
 DIRECT_MAP, KERNEL_MAP = 0xFFFF888000000000, 0xFFFFFFFF80000000
@@ -26,28 +26,14 @@ def said_by(words, folder, given=""):
         return None
     ended = subprocess.run(words, cwd=folder, input=given, capture_output=True, text=True, errors="replace")
     if ended.returncode:
-        raise files.Wrong(f"'{' '.join(words)}' ended with status {ended.returncode}: {ended.stderr.strip()[-500:]}")
+        raise Wrong(f"'{' '.join(words)}' ended with status {ended.returncode}: {ended.stderr.strip()[-500:]}")
     return ended.stdout
-
-
-def core_ranges(lines):
-    """The System RAM outside the crash areas, in the order of the lines: start and end of each range."""
-    areas = [(first, last + 1) for first, last, name in lines if name == maps.CRASH]
-    found = []
-    for first, last, name in lines:
-        if name != maps.RAM:
-            continue
-        parts = [(first, last + 1)]
-        for start, end in areas:
-            parts = [piece for a, b in parts for piece in ((a, min(b, start)), (max(a, end), b)) if piece[0] < piece[1]]
-        found += parts
-    return found
 
 
 def wanted_rows(lines, notes):
     """The rows of the core file of a machine with this memory map, whose notes have so many bytes: kind, place, virtual and
     physical address, and twice the size."""
-    ranges = core_ranges(lines)
+    ranges = ranges_outside_crash_areas(lines)
     end = -(-(64 + 56 * (1 + len(ranges))) // PAGE) * PAGE
     rows = [("NOTE", end, 0, 0, notes, notes)]
     end += notes

@@ -1,0 +1,136 @@
+"""Load records: docs/FORMATS.md has their format."""
+import hashlib
+import struct
+
+from companion.numbers import PAGE
+from companion.refusals import Wrong
+
+# The bytes of a segment's numbers in a load record, and of its digest, by the record's first eight bytes.
+NUMBERS = 24
+DIGESTS = {b"KXREC001": 0, b"KXREC002": 32}
+MOST_SEGMENTS, MOST_SEGMENT_PAGES = 16, 65536
+
+
+class Segment:
+    """A segment of a load record."""
+
+    def __init__(self, mem, memsz, data):
+        self.mem, self.memsz, self.data = mem, memsz, data
+
+    def __contains__(self, address):
+        return self.mem <= address < self.mem + self.memsz
+
+    def bytes_at(self, address, size):
+        """So many bytes of memory from an address on, which are the segment's."""
+        place = address - self.mem
+        return self.data[place : place + size].ljust(min(size, self.memsz - place), b"\0")
+
+    def is_parameters(self):
+        """Whether it has the boot parameters of Linux, as the program writes them (type_of_loader 0xd0 of hdr)."""
+        return len(self.data) > PAGE and self.data[0x202:0x206] == b"HdrS" and self.data[0x210] == 0xD0
+
+
+def segments_of(record):
+    """The segments of a load record, each as the bytes of its numbers and its own."""
+    if record[:8] not in DIGESTS or len(record) < 96:
+        raise Wrong("this is not a load record: it does not begin with KXREC002 or KXREC001 and its numbers")
+    (count,) = struct.unpack_from("<Q", record, 88)
+    if count > MOST_SEGMENTS:
+        raise Wrong(f"the load record has {count} segments, and at most {MOST_SEGMENTS} are allowed")
+    at = 96
+    for i in range(count):
+        numbers = record[at : at + NUMBERS]
+        if len(numbers) < NUMBERS:
+            raise Wrong(f"the load record is cut off in segment {i}")
+        (size,) = struct.unpack_from("<Q", numbers, 16)
+        at += NUMBERS
+        digest = record[at : at + DIGESTS[record[:8]]]
+        at += len(digest)
+        found = record[at : at + size]
+        if len(found) < size:
+            raise Wrong(f"the load record is cut off in segment {i}")
+        if digest and hashlib.sha256(found).digest() != digest:
+            raise Wrong(f"the digest of segment {i} of the load record is not that of its bytes")
+        yield numbers, found
+        at += size
+
+
+class Record:
+    """A load record."""
+
+    def __init__(self, path):
+        with open(path, "rb") as file:
+            data = file.read()
+        self.path, self.segments = path, []
+        try:
+            for numbers, own in segments_of(data):
+                mem, memsz, _ = struct.unpack("<QQQ", numbers)
+                self.segments.append(Segment(mem, memsz, own))
+        except Wrong as wrong:
+            raise Wrong(f"{path}: {wrong}") from None
+        self.version = data[7] - ord("0")
+        self.kind, self.mode = struct.unpack_from("<II", data, 8)
+        self.head, self.control, self.swap = struct.unpack_from("<QQQ", data, 16)
+        self.entry, self.rax, self.rbx, self.rsi, self.regions, self.digest = struct.unpack_from("<6Q", data, 40)
+
+    def pages(self):
+        return sum(segment.memsz for segment in self.segments) // PAGE
+
+    def part(self, page):
+        """The number of the segment that has a page, and the page's place in it; two Nones where none has it."""
+        for i, segment in enumerate(self.segments):
+            if page * PAGE in segment:
+                return i, page * PAGE - segment.mem
+        return None, None
+
+    def wanted(self, page):
+        """What a page is to have; None where nothing is wanted of it."""
+        i, _ = self.part(page)
+        return None if i is None else self.segments[i].bytes_at(page * PAGE, PAGE)
+
+    def names(self):
+        """What each segment is, as far as its bytes and the other numbers show."""
+        names = [""] * len(self.segments)
+        for i, segment in enumerate(self.segments):
+            if self.regions and self.regions in segment:
+                names[i] = "purgatory"
+            elif segment.data[:4] == b"\x7fELF" and segment.data[16:18] == b"\4\0" and self.kind == 1:
+                names[i] = "crash headers"
+            elif segment.is_parameters():
+                names[i] = "boot parameters"
+                initrd = initrd_of(segment.data)[0]
+                for k, other in enumerate(self.segments):
+                    if initrd and other.mem == initrd:
+                        names[k] = "initrd"
+        for i, segment in enumerate(self.segments):
+            if not names[i] and (self.entry in segment or (i == 0 and self.regions)):
+                names[i] = "kernel"
+        return names
+
+    def named(self, name):
+        """The first segment of this name; None without one."""
+        return next((segment for segment, own in zip(self.segments, self.names()) if own == name), None)
+
+
+def initrd_of(page):
+    """The address and the length of the initrd in boot parameters (ramdisk_image, ext_ramdisk_image and their sizes)."""
+    return tuple(int.from_bytes(page[low : low + 4], "little") | int.from_bytes(page[high : high + 4], "little") << 32
+                 for low, high in ((0x218, 0xC0), (0x21C, 0xC4)))
+
+
+def record_bytes(head, control, segments, **numbers):
+    """The bytes of a load record, version 2: the segments are (address, bytes), zero-filled to whole pages; `swap`, `entry`
+    and the registers are numbers. With a swap page its context is preserved."""
+    value = lambda name: numbers.get(name, 0)
+    entry = numbers.get("entry", segments[0][0])
+    record = b"KXREC002" + struct.pack("<II", value("kind"), 1 if "swap" in numbers else 0)
+    record += struct.pack("<10Q", head, control, value("swap"), entry, value("rax"), value("rbx"), value("rsi"),
+                          value("regions"), value("digest"), len(segments))
+    for at, data in segments:
+        record += struct.pack("<QQQ", at, -(-len(data) // PAGE) * PAGE, len(data)) + hashlib.sha256(data).digest() + data
+    return record
+
+
+def without_digests(record):
+    """The load record in the older version, in which no segment has a digest."""
+    return b"KXREC001" + record[8:96] + b"".join(numbers + data for numbers, data in segments_of(record))

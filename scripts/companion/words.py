@@ -1,0 +1,87 @@
+"""The words of `kernelyet`: the program's own commands are passed to it, the others are the companion's."""
+import difflib
+import importlib
+import os
+import sys
+from typing import NamedTuple
+
+
+class Word(NamedTuple):
+    """A word of the companion: the module that has `parser()` and `main(arguments)`, which answers the status; and what it
+    does, in a few words."""
+
+    module: str
+    what: str
+
+
+WORDS = {
+    "plan": Word("companion.plan", "say where each part of a kernel would lie, or what is missing"),
+    "machine": Word("companion.machine", "make map, pool and memory file of a machine"),
+    "look": Word("companion.look", "show what stands in memory files, load records and lists"),
+    "compare": Word("companion.compare", "say what differs between two load records"),
+    "picture": Word("companion.picture", "draw a machine's memory, or a list of page copies"),
+    "parameters": Word("companion.parameters", "read the boot parameters out of a load record"),
+    "try": Word("companion.trial", "boot a memory file in a virtual machine"),
+    "guest": Word("companion.guest", "follow a guest from its panic to its vmcore, in QEMU"),
+}
+
+# The program's own commands.
+COMMANDS = ("boot", "load", "load-panic", "check", "dump", "exec", "trace", "migrate", "sample", "boot-resident", "drill",
+            "core")
+
+
+def name_called():
+    """The name by which this was called."""
+    return os.path.basename(sys.argv[0])
+
+
+def commands_text():
+    """The program's own list of its commands."""
+    from companion import program
+
+    told = program.run(["--help"])[2]
+    return told.partition("\nCommands:\n")[2].partition("\n\n")[0]
+
+
+def help_text():
+    """The help of all words."""
+    name = name_called()
+    own = "\n".join(f"  {word:13}  {row.what}" for word, row in WORDS.items())
+    return f"""Usage: {name} COMMAND [OPTIONS] ARGUMENTS..
+
+Shows what kexec would do before a machine does it, over files. Nothing on this
+machine changes, and nothing but `try` and `guest` boots anything, in QEMU.
+
+Commands of the proved program:
+{commands_text()}
+
+Further words, in Python, over files and the program:
+{own}
+
+{name} COMMAND --help describes a command. In the further words hexadecimal
+numbers may begin with 0x, and sizes are as 256M; the program takes hexadecimal
+numbers without 0x."""
+
+
+def main(argv):
+    """Does what the words say, and answers the status; a command of the program is not come back from."""
+    words, name = argv[1:], name_called()
+    if words[:1] == ["help"]:
+        # help WORD is WORD --help
+        words = [*words[1:], "--help"]
+    first = words[0] if words else ""
+    if first in WORDS:
+        from companion import refusals
+
+        module = importlib.import_module(WORDS[first].module)
+        return refusals.call(lambda: module.main(words[1:]), name)
+    if first in ("--help", "-h") and len(words) == 1:
+        print(help_text())
+        return 0
+    near = difflib.get_close_matches(first, WORDS, 1, 0.7) if first not in COMMANDS else []
+    if near and not first.startswith("-"):
+        print(f"{name}: {first!r} is not a command: is {near[0]} meant? {name} --help lists the commands", file=sys.stderr)
+        return 2
+    from companion import program
+
+    return program.become(words, name)
