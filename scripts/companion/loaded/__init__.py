@@ -1,8 +1,8 @@
 """kernelyet loaded: the image that a running Linux has loaded, read from its memory as the program takes it."""
 import os
 
-from companion.loaded import copying, findings, output, sources
-from companion.numbers import PAGE, address, counted, size_text
+from companion.loaded import findings, output, sources, tell
+from companion.numbers import PAGE, address, counted
 from companion.parsers import Parser
 from companion.progress import Progress
 
@@ -51,45 +51,6 @@ def loader_of(given):
     return next((path for path in ("/sbin/kexec", "/usr/sbin/kexec") if os.path.isfile(path)), None)
 
 
-def tell_kernel(kernel):
-    print(f"Linux {kernel.release}, {kernel.levels} levels of page tables, its code from {address(kernel.place_of_image(kernel.symbol('_text')))} on"
-          + ("" if kernel.is_tried() else "; this version was not tried"))
-
-
-def tell_image(found):
-    """Says what was found of the image."""
-    image = found.image
-    way = "kexec_file_load (kexec -s)" if image.is_by_file else "kexec_load (kexec -c)"
-    kind = "crash kernel" if image.is_crash else "next kernel"
-    print(f"{kind}, loaded by {way}: entry {address(image.start)}, {counted(len(image.segments), 'segment')}")
-    for row in image.segments:
-        print(f"  segment {address(row.mem)} memsz {size_text(row.memsz)} bufsz {counted(row.bufsz, 'byte')}"
-              + (", loaded in its place, which no list has: left out" if row.is_in_place else ""))
-    if not image.is_crash:
-        print(f"list: {counted(len(found.words), 'word')}, {counted(len(found.links()), 'link page')}, "
-              f"{counted(len(found.pairs), 'pair')}")
-    if found.lacking:
-        print(f"{counted(found.lacking, 'page')} of the segments is brought by no pair: check will say which is the first")
-    print(f"pages of the image's own: {findings.own_text(image.own)}")
-    print(f"purgatory: table of regions at {address(found.purgatory.table)}, digest at {address(found.purgatory.digest)}, found "
-          f"{found.purgatory.how}" if found.purgatory else
-          "purgatory: its table of regions was not found, and the record has none; exec says nothing of regions")
-
-
-def tell_mode(found, is_copies):
-    """Says in which mode the record is, and why."""
-    image = found.image
-    if image.is_crash:
-        return
-    how = {True: "this kernel runs each list by exchanges through the swap page", None: copying.UNKNOWN,
-           False: "this kernel copies each page"}[found.is_exchange]
-    if found.is_mode_kept(is_copies):
-        why = "the context is to be preserved" if image.is_kept else how
-        print(f"record: with context preserved, swap page {address(image.swap * PAGE)}: {why}")
-    else:
-        print(f"record: plain: {'--copies is given' if is_copies and found.is_exchange is not False else how}")
-
-
 def main(arguments):
     words = parser()
     given = words.parse_args(arguments)
@@ -104,9 +65,7 @@ def main(arguments):
             kernel, rows = sources.of_machine(given.proc, given.sysfs, given.btf)
         found = findings.find(kernel, given.crash, loader_of(given))
         kept, lacking = output.write(given.folder, kernel, found, rows, given.all, given.copies)
-    tell_kernel(kernel)
-    tell_image(found)
-    tell_mode(found, given.copies)
+    tell.findings(kernel, found, given.copies)
     print(f"{given.folder}/memory.kxmem: {counted(kept, 'page')} that are not all zeros"
           + (f"; {counted(lacking, 'page')} of the list are not in the dump, and are zeros" if lacking else ""))
     for number, page, what in found.touched:

@@ -9,9 +9,14 @@ MOST_CODE, BEFORE = 4096, 64
 UNKNOWN = "the code that runs lists in this kernel has no form that is known, and exchanges ask more of a list than copies"
 
 
+def start_of(kernel):
+    """Where the code that runs a list begins, which a load copies into the control page."""
+    return kernel.symbols.get("__relocate_kernel_start") or kernel.symbol("relocate_kernel")
+
+
 def code_of(kernel):
     """The code that runs a list, as it stands in the kernel."""
-    first = kernel.symbols.get("__relocate_kernel_start") or kernel.symbol("relocate_kernel")
+    first = start_of(kernel)
     end = kernel.symbols.get("__relocate_kernel_end", first + MOST_CODE)
     return kernel.virtual.read(first, min(end - first, MOST_CODE))
 

@@ -81,6 +81,10 @@ class Kernel:
             at = self.virtual.word(at)
         return found
 
+    def over(self, physical):
+        """The same kernel in a later state of its memory."""
+        return Kernel(physical, self.note, self.symbols, self.btf)
+
     def is_tried(self):
         return ".".join(self.release.split(".")[:2]) in TRIED
 

@@ -1,6 +1,7 @@
 """Where the loaded image is read: the running machine, or a dump of another."""
 import errno
 import os
+from typing import NamedTuple, Optional
 
 from companion import maps
 from companion.loaded import kernel as kernels, physical, resources, symbols, vmcoreinfo
@@ -43,6 +44,16 @@ def with_blanks(text):
     """The rows of a map's text, with the blanks before each."""
     blanks = [len(line) - len(line.lstrip(" ")) for _, line in maps.lines_of(text)]
     return [(*row, deep) for row, deep in zip(maps.rows_of(text, "the map"), blanks)]
+
+
+class Dump(NamedTuple):
+    """The files of a dump, as the command line gives them."""
+
+    core: Optional[str] = None
+    raw: Optional[str] = None
+    map: Optional[str] = None
+    symbols: Optional[str] = None
+    btf: Optional[str] = None
 
 
 def of_dump(given):

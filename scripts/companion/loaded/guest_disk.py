@@ -1,0 +1,161 @@
+"""The initrd of a guest that loads a next kernel: busybox, the program kexec, what it loads, and what the guest does."""
+import json
+import os
+import re
+import stat
+import subprocess
+import sys
+
+from companion.program import PLACE
+from companion.refusals import Wrong
+
+FOLDER, PROGRAM, FILE = stat.S_IFDIR | 0o755, stat.S_IFREG | 0o755, stat.S_IFREG | 0o644
+NEXT = "console=ttyS0 way=next quiet panic=-1"
+LOADS = {
+    "load": "-c -l /next/kernel --initrd=/next/initrd --command-line=\"$next\"",
+    "file": "-s -l /next/kernel --initrd=/next/initrd --command-line=\"$next\"",
+    "crash": "-c -p /next/kernel --initrd=/next/initrd --command-line=\"$next\"",
+    "crash-file": "-s -p /next/kernel --initrd=/next/initrd --command-line=\"$next\"",
+    "multiboot": "-c -l --type=multiboot-x86 /next/kernel --command-line=\"console=com1 com1=115200,8n1\" "
+                 "--module=\"/next/module console=hvc0 way=next quiet panic=-1\" --module=/next/initrd",
+}  # fmt: skip
+INIT = """#!/bin/busybox sh
+/bin/busybox --install -s /bin
+mount -t proc proc /proc
+mount -t sysfs sysfs /sys
+mount -t devtmpfs dev /dev
+echo 0 >/proc/sys/kernel/printk
+export LD_LIBRARY_PATH=/lib
+way= inside=
+for word in $(cat /proc/cmdline); do
+    case $word in
+        way=*) way=${word#way=} ;;
+        inside=*) inside=${word#inside=} ;;
+    esac
+done
+next='@NEXT@'
+case $way in
+@LOADS@
+    *)
+        echo "STORY next kernel runs: $(uname -r)"
+        poweroff -f ;;
+esac
+echo "STORY kexec status $? next $(cat /sys/kernel/kexec_loaded) crash $(cat /sys/kernel/kexec_crash_loaded)"
+echo 'BEGIN map'
+cat /proc/iomem
+echo 'END map'
+if [ "$inside" ]; then
+    case $way in crash*) crash=--crash ;; *) crash= ;; esac
+    PYTHONHOME=/python PYTHONDONTWRITEBYTECODE=1 PYTHONPATH=/lib/companion /bin/python3 -S -m companion.loaded $crash /out
+    echo "STORY inside status $?"
+    echo "STORY digests $(cd /out && sha256sum memory.kxmem record map | cut -d ' ' -f 1 | tr '\\n' ' ')"
+fi
+echo 'STORY ready'
+read line
+case $way in
+    crash*) echo c >/proc/sysrq-trigger ;;
+    *) kexec -e ;;
+esac
+echo "STORY kexec came back with status $?"
+poweroff -f
+"""
+
+
+def init():
+    """The text of /init: the command line says what the guest does."""
+    loads = "\n".join(f"    {way}) kexec {words} ;;" for way, words in LOADS.items())
+    return INIT.replace("@NEXT@", NEXT).replace("@LOADS@", loads)
+
+
+def archive(entries):
+    """A newc archive of (name, mode, bytes), with the folders that the names need."""
+    out, number, folders = bytearray(), 0, set()
+
+    def add(name, mode, data):
+        nonlocal number
+        number += 1
+        fields = [number, mode, 0, 0, 1, 0, len(data), 0, 0, 0, 0, len(name) + 1, 0]
+        for part in (b"070701" + b"".join(b"%08x" % field for field in fields) + name.encode() + b"\0", data):
+            out.extend(part + bytes(-(len(out) + len(part)) % 4))
+
+    for name, mode, data in entries:
+        parts = name.split("/")
+        for i in range(1, len(parts)):
+            folder = "/".join(parts[:i])
+            if folder not in folders:
+                folders.add(folder)
+                add(folder, FOLDER, b"")
+        if mode == FOLDER:
+            folders.add(name)
+        add(name, mode, data)
+    add("TRAILER!!!", 0, b"")
+    return bytes(out)
+
+
+def content(path):
+    with open(path, "rb") as file:
+        return file.read()
+
+
+def libraries(program):
+    """The libraries that a program is linked to, as ldd finds them."""
+    ended = subprocess.run(["ldd", program], capture_output=True, text=True)
+    if "not found" in ended.stdout:
+        lacking = re.findall(r"(\S+) => not found", ended.stdout)
+        raise Wrong(f"{program} needs {', '.join(lacking)}, which ldd does not find: install its package, or set LD_LIBRARY_PATH")
+    return sorted(set(re.findall(r"(/\S+) \(0x", ended.stdout)))
+
+
+def with_libraries(program, name):
+    """The entries of a program and its libraries; the linker lies where the program says."""
+    rows = [(name, PROGRAM, content(program))]
+    for path in libraries(program):
+        is_linker = os.path.basename(path).startswith("ld-linux")
+        rows.append((path.lstrip("/") if is_linker else f"lib/{os.path.basename(path)}", PROGRAM, content(path)))
+    return rows
+
+
+def python():
+    """The entries of Python, and of the modules that the companion's reader needs."""
+    ask = ("import sys, json, encodings.ascii, encodings.utf_8, encodings.latin_1, companion.loaded.__main__; print(json.dumps("
+           "[[m.__name__, m.__file__] for m in list(sys.modules.values()) if getattr(m, '__file__', None)]))")
+    told = subprocess.run([sys.executable, "-S", "-c", ask], env={**os.environ, "PYTHONPATH": PLACE}, capture_output=True, text=True)
+    if told.returncode:
+        raise Wrong(f"Python does not list its modules: {told.stderr.strip()}")
+    version = f"python{sys.version_info.major}.{sys.version_info.minor}"
+    top, rows = os.path.dirname(os.__file__), with_libraries(os.path.realpath(sys.executable), "bin/python3")
+    for name, path in json.loads(told.stdout):
+        if path.startswith(PLACE + os.sep):
+            rows.append((f"lib/companion/{os.path.relpath(path, PLACE)}", FILE, content(path)))
+        elif path.startswith(top + os.sep):
+            rows.append((f"python/lib/{version}/{os.path.relpath(path, top)}", FILE, content(path)))
+            if path.endswith(".so"):
+                rows += with_libraries(path, f"python/lib/{version}/{os.path.relpath(path, top)}")[1:]
+    return rows
+
+
+def base(busybox):
+    """The entries that every guest has."""
+    rows = [(name, FOLDER, b"") for name in ("bin", "proc", "sys", "dev", "tmp", "var/run")]
+    return rows + [("bin/busybox", PROGRAM, content(busybox)), ("init", PROGRAM, init().encode())]
+
+
+def next_initrd(busybox, noise):
+    """The initrd of the next kernel: with so many MiB of noise, which no compression makes smaller."""
+    return archive(base(busybox) + [("noise", FILE, os.urandom(noise << 20))] * bool(noise))
+
+
+def initrd(given, inner):
+    """The initrd of the guest, which has the next kernel and its initrd in it."""
+    rows = base(given.busybox) + with_libraries(given.loader, "bin/kexec")
+    rows += [("next/kernel", FILE, content(given.next)), ("next/initrd", FILE, inner)]
+    if given.module:
+        rows.append(("next/module", FILE, content(given.module)))
+    if given.inside:
+        rows += python()
+    return archive(unique(rows))
+
+
+def unique(rows):
+    """The entries, each name once."""
+    return list({name: (name, mode, data) for name, mode, data in rows}.values())
