@@ -30,7 +30,8 @@ def parser():
     words.option("next", "the kernel that the guest loads (its own)", "FILE")
     words.option("module", "with --way multiboot: the kernel that Xen starts (the guest's own)", "FILE")
     words.option("way", "load: kexec -c -l; file: kexec -s -l; crash: kexec -c -p; crash-file: kexec -s -p; multiboot: kexec -c -l "
-                 "of a Multiboot kernel", "WAY", default="load", choices=list(guest_disk.LOADS))
+                 "of a Multiboot kernel; vmcore: kexec -c -l and -c -p, and the crash kernel reads from /proc/vmcore what the guest "
+                 "had loaded", "WAY", default="load", choices=list(guest_disk.LOADS))
     words.option("nokaslr", "start the guest's kernel with nokaslr")
     words.option("append", "more words for the guest's kernel", "TEXT", default="")
     for name, what, usual in (("ram", "MiB of RAM", 512), ("area", "MiB of the area for a crash kernel", 160),
@@ -53,7 +54,7 @@ class Story:
 
     def __init__(self, given, folder, guest):
         self.given, self.folder, self.guest = given, folder, guest
-        self.is_crash = given.way.startswith("crash")
+        self.is_crash = given.way in ("crash", "crash-file")
 
     def load(self):
         """Waits until the guest has loaded the image; its memory stands still from then on."""
@@ -64,40 +65,47 @@ class Story:
         tell.step(f"the guest has loaded by kexec {guest_disk.LOADS[self.given.way].partition(' /')[0]}: status {told}")
         if not told.startswith("0 "):
             raise Wrong(f"kexec failed in the guest: {self.guest.text()[-400:]}")
-        self.guest.ask("dump-guest-memory", paging=False, protocol=f"file:{self.folder}/guest.core")
 
     def read(self):
-        """Reads the image from the dump as `loaded` does, and compares the map with what the guest said."""
+        """Dumps the guest's memory, and reads the image from the dump as `loaded` does."""
+        self.guest.ask("dump-guest-memory", paging=False, protocol=f"file:{self.folder}/guest.core")
         self.kernel, rows = sources.of_dump(sources.Dump(core=f"{self.folder}/guest.core"))
         self.found = findings.find(self.kernel, self.is_crash, self.given.loader)
         output.write(f"{self.folder}/loaded", self.kernel, self.found, rows)
         tell.findings(self.kernel, self.found, False)
+        for number, page, what in self.found.touched:
+            tell.step(f"word {number} touches page {address(page * PAGE)}, {what}")
+
+    def compare_maps(self):
         said = self.guest.text().partition("BEGIN map\n")[2].partition("END map\n")[0]
         with open(f"{self.folder}/loaded/map") as file:
             tell.step(f"the map from its memory is {'the text' if file.read() == said else 'NOT the text'} of its /proc/iomem")
-        if self.given.inside:
-            self.compare_inside()
 
-    def compare_inside(self):
-        """Compares the files with those that the guest made of itself."""
-        told = re.search("STORY digests (.*)", self.guest.text())
-        own = []
+    def compare_files(self, where, what):
+        """Compares the files with those that were made in the guest; whether they are the same."""
+        told, own = re.search(f"STORY {where} digests (.*)", self.guest.text()), []
         for name in ("memory.kxmem", "record", "map"):
             with open(f"{self.folder}/loaded/{name}", "rb") as file:
                 own.append(hashlib.sha256(file.read()).hexdigest())
-        is_same = told and told[1].split() == own
-        tell.step("read inside the guest by /proc/kcore: " + ("the same three files byte for byte" if is_same else
-                  f"OTHER FILES: {self.guest.text().partition('END map')[2][:600]}"))
+        is_same = bool(told) and told[1].split() == own
+        tell.step(f"{what}: " + ("the same three files, byte for byte" if is_same else f"OTHER FILES: {self.guest.text()[-800:]}"))
+        return is_same
 
     def spoil(self):
-        """Spoils the list in the guest's memory, and reads it again from there."""
+        """Spoils the list in the guest's memory, and dumps and reads it again."""
         place, value, what = spoils.SPOILS[self.given.spoil](self.found, self.guest.physical())
         spoils.write(self.guest.memory, place, value)
         tell.step(f"spoiled in the guest's memory: {what}")
-        physical = self.guest.physical()
-        self.kernel = self.kernel.over(physical)
-        self.found = findings.find(self.kernel, self.is_crash, self.given.loader)
-        output.write(f"{self.folder}/loaded", self.kernel, self.found, ())
+        os.remove(f"{self.folder}/guest.core")
+        self.read()
+
+    def panic(self):
+        """Lets the guest panic, and its crash kernel read what the guest had loaded; whether it reads the same."""
+        self.guest.answer()
+        self.stub.go()
+        if not self.guest.wait_for("STORY next kernel ends", self.given.seconds):
+            raise Wrong(f"the crash kernel did not come up: {self.guest.text()[-400:]}")
+        return self.compare_files("vmcore", "read in the crash kernel from /proc/vmcore")
 
     def judge(self):
         """Lets the program check the list and run it; whether it is accepted, and with the regions that it must have."""
@@ -146,18 +154,23 @@ class Story:
 
 
 def tell_story(given, folder):
-    inner = guest_disk.next_initrd(given.busybox, given.noise)
+    """Follows one guest; whether all was as it must be."""
+    inner = guest_disk.next_initrd(given)
     with open(f"{folder}/initrd", "wb") as out:
         out.write(guest_disk.initrd(given, inner))
     with Guest(folder, given, f"{folder}/initrd") as guest:
         story = Story(given, folder, guest)
         story.load()
         story.read()
+        story.compare_maps()
+        is_good = not given.inside or story.compare_files("kcore", "read inside the guest from /proc/kcore")
         if given.spoil:
             story.spoil()
-            return 1 if story.judge() else 0
-        is_good = story.judge() and story.run() == 0
-        return 0 if is_good and (not given.on or story.go_on()) else 1
+            return not story.judge() or bool(story.found.touched)
+        is_good = story.judge() and is_good
+        if given.way == "vmcore":
+            return story.panic() and is_good
+        return is_good and story.run() == 0 and (not given.on or story.go_on())
 
 
 def main(arguments):
@@ -171,9 +184,9 @@ def main(arguments):
     if lacks:
         raise Wrong(f"there is no {', no '.join(lacks)}")
     with tempfile.TemporaryDirectory(prefix="kernelyet-loaded-") as folder:
-        status = tell_story(given, folder)
+        is_good = tell_story(given, folder)
         if given.keep:
             for name in ("qmp", "gdb", "ram"):
                 os.remove(f"{folder}/{name}")
             shutil.copytree(folder, given.keep, dirs_exist_ok=True)
-    return status
+    return 0 if is_good else 1

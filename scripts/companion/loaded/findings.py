@@ -65,8 +65,8 @@ def find(kernel, is_crash, loader=None):
     words = list(lists.walk(Memory(kernel.physical), image.head))
     pairs = list(lists.pairs_of(words))
     data, lacking = bytes_of(kernel.physical, segments, pairs, is_crash)
-    if images.is_loaded(kernel, is_crash) and kernel.virtual.word(kernel.symbol(images.SYMBOLS[is_crash])) != image.at:
-        raise Wrong("the image was replaced while it was read: try again")
+    if images.read(kernel, is_crash) != image:
+        raise Wrong("another image was loaded while this one was read: try again")
     places = purgatory.find(kernel, image, [one[: row.bufsz] for row, one in zip(segments, data)], loader)
     is_exchange = None if is_crash else copying.is_by_exchanges(copying.code_of(kernel))
     return Findings(image, words, pairs, segments, data, lacking, touched_by(image, segments, words, pairs), places, is_exchange)

@@ -14,6 +14,8 @@ NEXT = "console=ttyS0 way=next quiet panic=-1"
 LOADS = {
     "load": "-c -l /next/kernel --initrd=/next/initrd --command-line=\"$next\"",
     "file": "-s -l /next/kernel --initrd=/next/initrd --command-line=\"$next\"",
+    "vmcore": "-c -l /next/kernel --initrd=/next/initrd --command-line=\"$next\" && "
+              "kexec -c -p /next/kernel --initrd=/next/initrd --command-line=\"$next\"",
     "crash": "-c -p /next/kernel --initrd=/next/initrd --command-line=\"$next\"",
     "crash-file": "-s -p /next/kernel --initrd=/next/initrd --command-line=\"$next\"",
     "multiboot": "-c -l --type=multiboot-x86 /next/kernel --command-line=\"console=com1 com1=115200,8n1\" "
@@ -33,11 +35,22 @@ for word in $(cat /proc/cmdline); do
         inside=*) inside=${word#inside=} ;;
     esac
 done
+# reads an image here, with these words for it, and says the digests of the files
+read_here() {
+    PYTHONHOME=/python PYTHONDONTWRITEBYTECODE=1 PYTHONPATH=/lib/companion /bin/python3 -S -m companion.loaded "$@" /out
+    echo "STORY $where status $?"
+    echo "STORY $where digests $(cd /out && sha256sum memory.kxmem record map | cut -d ' ' -f 1 | tr '\\n' ' ')"
+}
 next='@NEXT@'
 case $way in
 @LOADS@
     *)
         echo "STORY next kernel runs: $(uname -r)"
+        if [ -e /proc/vmcore ] && [ -e /bin/python3 ]; then
+            where=vmcore
+            read_here --core /proc/vmcore
+        fi
+        echo 'STORY next kernel ends'
         poweroff -f ;;
 esac
 echo "STORY kexec status $? next $(cat /sys/kernel/kexec_loaded) crash $(cat /sys/kernel/kexec_crash_loaded)"
@@ -45,15 +58,16 @@ echo 'BEGIN map'
 cat /proc/iomem
 echo 'END map'
 if [ "$inside" ]; then
-    case $way in crash*) crash=--crash ;; *) crash= ;; esac
-    PYTHONHOME=/python PYTHONDONTWRITEBYTECODE=1 PYTHONPATH=/lib/companion /bin/python3 -S -m companion.loaded $crash /out
-    echo "STORY inside status $?"
-    echo "STORY digests $(cd /out && sha256sum memory.kxmem record map | cut -d ' ' -f 1 | tr '\\n' ' ')"
+    where=kcore
+    case $way in
+        crash*) read_here --crash ;;
+        *) read_here ;;
+    esac
 fi
 echo 'STORY ready'
 read line
 case $way in
-    crash*) echo c >/proc/sysrq-trigger ;;
+    crash* | vmcore) echo c >/proc/sysrq-trigger ;;
     *) kexec -e ;;
 esac
 echo "STORY kexec came back with status $?"
@@ -140,9 +154,11 @@ def base(busybox):
     return rows + [("bin/busybox", PROGRAM, content(busybox)), ("init", PROGRAM, init().encode())]
 
 
-def next_initrd(busybox, noise):
-    """The initrd of the next kernel: with so many MiB of noise, which no compression makes smaller."""
-    return archive(base(busybox) + [("noise", FILE, os.urandom(noise << 20))] * bool(noise))
+def next_initrd(given):
+    """The initrd of the next kernel: with so many MiB of noise, which no compression makes smaller; that of a crash kernel has
+    Python too, if it is to read its /proc/vmcore."""
+    rows = base(given.busybox) + [("noise", FILE, os.urandom(given.noise << 20))] * bool(given.noise)
+    return archive(unique(rows + (python() if given.way == "vmcore" else [])))
 
 
 def initrd(given, inner):

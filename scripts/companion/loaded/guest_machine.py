@@ -15,6 +15,8 @@ from companion.refusals import Wrong
 QEMU = "qemu-system-x86_64"
 # This machine has no RAM between 3 and 4 GiB.
 LOW_END, HIGH, MIB = 3 << 30, 1 << 32, 1 << 20
+# the ways of loading that need an area for a crash kernel
+CRASHES = ("crash", "crash-file", "vmcore")
 
 
 class Cpu(NamedTuple):
@@ -130,5 +132,5 @@ def physical(path):
 def command_line(given):
     """The command line of the guest's kernel."""
     words = ["console=ttyS0", "quiet", f"way={given.way}", "panic=0"]
-    words += ["inside=yes"] * given.inside + [f"crashkernel={given.area}M"] * given.way.startswith("crash")
+    words += ["inside=yes"] * given.inside + [f"crashkernel={given.area}M"] * (given.way in CRASHES)
     return " ".join(words + ["nokaslr"] * given.nokaslr + given.append.split())

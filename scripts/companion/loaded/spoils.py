@@ -3,6 +3,7 @@ import os
 import struct
 
 from companion import lists
+from companion.loaded.guest_machine import HIGH, LOW_END
 from companion.numbers import PAGE, address
 
 
@@ -62,8 +63,6 @@ SPOILS = {"byte": spoil_byte, "twice": spoil_twice, "flag": spoil_flag, "destina
 
 def write(path, place, value):
     """Writes a word into the file of a guest's memory."""
-    from companion.loaded.guest_machine import HIGH, LOW_END
-
     file = os.open(path, os.O_RDWR)
     try:
         os.pwrite(file, struct.pack("<Q", value), place if place < LOW_END else place - HIGH + LOW_END)
