@@ -7,8 +7,9 @@ import re
 import shutil
 import tempfile
 
+from companion import program, qemu
 from companion.loaded import comparison, findings, guest_disk, output, sources, spoils, tell
-from companion.loaded.guest_machine import QEMU, Guest
+from companion.loaded.guest_machine import Guest
 from companion.numbers import PAGE, address, counted
 from companion.parsers import Parser, integer
 from companion.refusals import Wrong
@@ -60,11 +61,11 @@ class Story:
         """Waits until the guest has loaded the image; its memory stands still from then on."""
         if not self.guest.wait_for("STORY ready", self.given.seconds):
             raise Wrong(f"the guest is not ready: {self.guest.text()[-400:]}")
-        self.stub = self.guest.stop()
+        self.stub = self.guest.hold()
         told = re.search("STORY kexec status (.*)", self.guest.text())[1]
         tell.step(f"the guest has loaded by kexec {guest_disk.LOADS[self.given.way].partition(' /')[0]}: status {told}")
         if not told.startswith("0 "):
-            raise Wrong(f"kexec failed in the guest: {self.guest.text()[-400:]}")
+            raise Wrong(f"kexec failed in the guest: {self.guest.text().partition('STORY kexec')[0][-400:].strip()}")
 
     def read(self):
         """Dumps the guest's memory, and reads the image from the dump as `loaded` does."""
@@ -101,7 +102,7 @@ class Story:
 
     def panic(self):
         """Lets the guest panic, and its crash kernel read what the guest had loaded; whether it reads the same."""
-        self.guest.answer()
+        self.guest.leave()
         self.stub.go()
         if not self.guest.wait_for("STORY next kernel ends", self.given.seconds):
             raise Wrong(f"the crash kernel did not come up: {self.guest.text()[-400:]}")
@@ -125,7 +126,7 @@ class Story:
         """Lets the guest run the list up to the first instruction of the image, and compares; how many pages differ."""
         wanted = self.found.wanted()
         before = comparison.differing(self.guest.physical(), wanted, f"{self.folder}/out.kxmem")
-        self.guest.answer()
+        self.guest.leave()
         moment = comparison.Moment(self) if self.given.whole else None
         self.stub.go_to(self.found.image.start, self.is_entered, self.given.seconds)
         tell.step(f"the guest is at the first instruction of the image, {address(self.found.image.start)}")
@@ -159,18 +160,26 @@ def tell_story(given, folder):
     with open(f"{folder}/initrd", "wb") as out:
         out.write(guest_disk.initrd(given, inner))
     with Guest(folder, given, f"{folder}/initrd") as guest:
-        story = Story(given, folder, guest)
-        story.load()
-        story.read()
-        story.compare_maps()
-        is_good = not given.inside or story.compare_files("kcore", "read inside the guest from /proc/kcore")
-        if given.spoil:
-            story.spoil()
-            return not story.judge() or bool(story.found.touched)
-        is_good = story.judge() and is_good
-        if given.way == "vmcore":
-            return story.panic() and is_good
-        return is_good and story.run() == 0 and (not given.on or story.go_on())
+        try:
+            return follow(Story(given, folder, guest), given)
+        finally:
+            with open(f"{folder}/console", "w", encoding="utf-8") as out:
+                out.write(guest.text())
+
+
+def follow(story, given):
+    """The steps of a story."""
+    story.load()
+    story.read()
+    story.compare_maps()
+    is_good = not given.inside or story.compare_files("kcore", "read inside the guest from /proc/kcore")
+    if given.spoil:
+        story.spoil()
+        return not story.judge() or bool(story.found.touched)
+    is_good = story.judge() and is_good
+    if given.way == "vmcore":
+        return story.panic() and is_good
+    return is_good and story.run() == 0 and (not given.on or story.go_on())
 
 
 def main(arguments):
@@ -180,13 +189,14 @@ def main(arguments):
     given.module = (given.module or given.kernel) if given.way == "multiboot" else None
     files = [("a kernel (--kernel)", given.kernel), ("a next kernel (--next)", given.next), ("kexec (--loader)", given.loader),
              ("a static busybox (--busybox)", given.busybox)]
-    lacks = [QEMU] * (not shutil.which(QEMU)) + [what for what, path in files if not os.path.isfile(path)]
+    lacks = [qemu.QEMU] * (not shutil.which(qemu.QEMU)) + [what for what, path in files if not os.path.isfile(path)]
     if lacks:
         raise Wrong(f"there is no {', no '.join(lacks)}")
+    program.ready()
     with tempfile.TemporaryDirectory(prefix="kernelyet-loaded-") as folder:
-        is_good = tell_story(given, folder)
-        if given.keep:
-            for name in ("qmp", "gdb", "ram"):
-                os.remove(f"{folder}/{name}")
-            shutil.copytree(folder, given.keep, dirs_exist_ok=True)
+        try:
+            is_good = tell_story(given, folder)
+        finally:
+            if given.keep:
+                shutil.copytree(folder, given.keep, dirs_exist_ok=True, ignore=shutil.ignore_patterns("qmp", "gdb", "go", "ram"))
     return 0 if is_good else 1

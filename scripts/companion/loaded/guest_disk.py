@@ -6,6 +6,7 @@ import stat
 import subprocess
 import sys
 
+from companion.guest_initrd import archive
 from companion.program import PLACE
 from companion.refusals import Wrong
 
@@ -65,7 +66,7 @@ if [ "$inside" ]; then
     esac
 fi
 echo 'STORY ready'
-read line
+read line </dev/ttyS1
 case $way in
     crash* | vmcore) echo c >/proc/sysrq-trigger ;;
     *) kexec -e ;;
@@ -81,29 +82,16 @@ def init():
     return INIT.replace("@NEXT@", NEXT).replace("@LOADS@", loads)
 
 
-def archive(entries):
-    """A newc archive of (name, mode, bytes), with the folders that the names need."""
-    out, number, folders = bytearray(), 0, set()
-
-    def add(name, mode, data):
-        nonlocal number
-        number += 1
-        fields = [number, mode, 0, 0, 1, 0, len(data), 0, 0, 0, 0, len(name) + 1, 0]
-        for part in (b"070701" + b"".join(b"%08x" % field for field in fields) + name.encode() + b"\0", data):
-            out.extend(part + bytes(-(len(out) + len(part)) % 4))
-
-    for name, mode, data in entries:
+def with_folders(rows):
+    """Entries (name, mode, bytes), each name once, and before them the folders that the names need."""
+    entries = {}
+    for name, mode, data in rows:
         parts = name.split("/")
         for i in range(1, len(parts)):
             folder = "/".join(parts[:i])
-            if folder not in folders:
-                folders.add(folder)
-                add(folder, FOLDER, b"")
-        if mode == FOLDER:
-            folders.add(name)
-        add(name, mode, data)
-    add("TRAILER!!!", 0, b"")
-    return bytes(out)
+            entries.setdefault(folder, (folder, FOLDER, b""))
+        entries.setdefault(name, (name, mode, data))
+    return list(entries.values())
 
 
 def content(path):
@@ -158,7 +146,7 @@ def next_initrd(given):
     """The initrd of the next kernel: with so many MiB of noise, which no compression makes smaller; that of a crash kernel has
     Python too, if it is to read its /proc/vmcore."""
     rows = base(given.busybox) + [("noise", FILE, os.urandom(given.noise << 20))] * bool(given.noise)
-    return archive(unique(rows + (python() if given.way == "vmcore" else [])))
+    return archive(with_folders(rows + (python() if given.way == "vmcore" else [])))
 
 
 def initrd(given, inner):
@@ -169,9 +157,4 @@ def initrd(given, inner):
         rows.append(("next/module", FILE, content(given.module)))
     if given.inside:
         rows += python()
-    return archive(unique(rows))
-
-
-def unique(rows):
-    """The entries, each name once."""
-    return list({name: (name, mode, data) for name, mode, data in rows}.values())
+    return archive(with_folders(rows))

@@ -3,8 +3,8 @@ import os
 import struct
 
 from companion import lists
-from companion.loaded.guest_machine import HIGH, LOW_END
 from companion.numbers import PAGE, address
+from companion.qemu import HIGH, LOW_END
 
 
 def moved(found, number):

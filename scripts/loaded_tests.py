@@ -3,8 +3,9 @@ import errno
 import os
 import struct
 
-from companion.loaded import copying, made_up, sources
-from companion.loaded.made_up import COPIES, DESTINATION, EXCHANGES, PAGE, SOURCE, Machine, filled
+import made_up_machine
+from companion.loaded import copying, sources
+from made_up_machine import COPIES, DESTINATION, EXCHANGES, PAGE, SOURCE, Machine, filled
 
 # of the list of a made-up machine: its words with the head and the done word, its list pages, its pairs
 LIST = "accepted words 20 links 2 pairs 14\n"
@@ -150,7 +151,7 @@ def test_options(tests):
     tests.write("core", machine.core())
     loaded(tests, "--core", "core", "--all", "here")
     tests.same("--all has the destinations as they are", memory_of(tests, "here/memory.kxmem").get(0x400), before)
-    moved = "".join(f"{at - made_up.SHIFT:016x} D {name}\n" for name, at in machine.listed.items())
+    moved = "".join(f"{at - made_up_machine.SHIFT:016x} D {name}\n" for name, at in machine.listed.items())
     tests.write("System.map", moved)
     tests.write("map", machine.map)
     raw = bytearray(max(machine.pages) * PAGE + PAGE)

@@ -2,7 +2,7 @@
 import hashlib
 import struct
 
-from companion.loaded.made_up_types import btf_bytes, relocatable
+from made_up_types import btf_bytes, relocatable
 
 PAGE = 4096
 MIB = 1 << 20
