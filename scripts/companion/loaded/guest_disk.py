@@ -119,14 +119,16 @@ def with_libraries(program, name):
 
 def python():
     """The entries of Python, and of the modules that the companion's reader needs."""
-    ask = ("import sys, json, encodings.ascii, encodings.utf_8, encodings.latin_1, companion.loaded.__main__; print(json.dumps("
-           "[[m.__name__, m.__file__] for m in list(sys.modules.values()) if getattr(m, '__file__', None)]))")
-    told = subprocess.run([sys.executable, "-S", "-c", ask], env={**os.environ, "PYTHONPATH": PLACE}, capture_output=True, text=True)
+    ask = ("import sys, json, runpy, encodings.ascii, encodings.utf_8, encodings.latin_1, companion.loaded.__main__\n"
+           "companion.loaded.parser().parse_args(['.'])\n"
+           "print(json.dumps([m.__file__ for m in list(sys.modules.values()) if getattr(m, '__file__', None)]))")
+    told = subprocess.run([sys.executable, "-S", "-c", ask], env={**os.environ, "PYTHONPATH": PLACE}, capture_output=True,
+                          text=True)
     if told.returncode:
         raise Wrong(f"Python does not list its modules: {told.stderr.strip()}")
     version = f"python{sys.version_info.major}.{sys.version_info.minor}"
     top, rows = os.path.dirname(os.__file__), with_libraries(os.path.realpath(sys.executable), "bin/python3")
-    for name, path in json.loads(told.stdout):
+    for path in json.loads(told.stdout):
         if path.startswith(PLACE + os.sep):
             rows.append((f"lib/companion/{os.path.relpath(path, PLACE)}", FILE, content(path)))
         elif path.startswith(top + os.sep):
