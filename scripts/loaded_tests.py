@@ -196,7 +196,19 @@ def test_copying(tests):
         tests.same("the way of copying", copying.is_by_exchanges(code), wanted)
 
 
-def run(tests):
-    """All of them."""
-    for test in (test_machines, test_spoiled, test_loader, test_touched, test_options, test_refusals, test_copying):
-        test(tests)
+def in_folder(test):
+    """A test in a folder of its own, so that its files are no others'."""
+
+    def run(tests):
+        folder, tests.folder = tests.folder, f"{tests.folder}/loaded"
+        os.makedirs(tests.folder, exist_ok=True)
+        try:
+            test(tests)
+        finally:
+            tests.folder = folder
+
+    return run
+
+
+ALL = [in_folder(test) for test in (test_machines, test_spoiled, test_loader, test_touched, test_options, test_refusals,
+                                    test_copying)]  # fmt: skip
