@@ -49,9 +49,12 @@ def record_of(tests, path):
 
 
 def test_machines(tests):
-    """Each kind of image, by both layouts and both depths of page tables: from a running machine and from a dump the same files."""
-    for way, is_apart, levels, code in (("load", False, 4, EXCHANGES), ("file", False, 5, EXCHANGES), ("load", True, 5, COPIES),
-                                        ("file", True, 4, EXCHANGES), ("crash", False, 4, EXCHANGES)):
+    """Each kind of image, by both layouts and both depths of page tables: from a running machine and from a dump the same
+    files."""
+    for way, is_apart, levels, code in (
+        ("load", False, 4, EXCHANGES), ("file", False, 5, EXCHANGES), ("load", True, 5, COPIES),
+        ("file", True, 4, EXCHANGES), ("crash", False, 4, EXCHANGES),
+    ):  # fmt: skip
         machine = Machine(way, is_apart, code, levels)
         laid_out(tests, "one", machine)
         words = ["--crash"] * (way == "crash")
@@ -59,7 +62,8 @@ def test_machines(tests):
         tests.same(f"loaded of a running machine, {way}", (status, "not in the dump" in told), (0, False))
         tests.same(f"loaded of a dump, {way}", loaded(tests, "--core", "one/core", *words, "there")[0], 0)
         for name in ("memory.kxmem", "record", "map"):
-            tests.same(f"{name}, {way}: of a running machine and of its dump", tests.read(f"here/{name}"), tests.read(f"there/{name}"))
+            tests.same(f"{name}, {way}: of a running machine and of its dump", tests.read(f"here/{name}"),
+                       tests.read(f"there/{name}"))
         tests.same(f"the map, {way}", tests.read("there/map").decode(), machine.map)
         look_at(tests, machine, way, code is EXCHANGES and way != "crash")
 
@@ -171,7 +175,8 @@ def test_refusals(tests):
         ({"nothing": 1}, "no next kernel is loaded (kexec_image is 0): kexec -l loads one"),
         ({"no_btf": 1}, "has no BTF, which says how its structs lie (CONFIG_DEBUG_INFO_BTF): give --btf FILE"),
         ({"no_note": 1}, "has no VMCOREINFO, neither as a note nor in memory"),
-        ({"without": "control_pages"}, "the layout of this kernel is not known: its struct kimage has no member control_pages"),
+        ({"without": "control_pages"},
+         "the layout of this kernel is not known: its struct kimage has no member control_pages"),
         ({"count": 17}, "the layout of this kernel is not known: its struct kimage has 17 segments"),
         ({"memsz": 128 << 20}, "and a load record has at most 65536 (256 MiB)"),
     ):

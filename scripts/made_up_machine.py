@@ -1,4 +1,5 @@
-"""A made-up machine whose kernel has loaded an image, for the tests: its memory, made by the public layouts of Linux alone."""
+"""A made-up machine whose kernel has loaded an image, for the tests: its memory, made by the public layouts of Linux
+alone."""
 import hashlib
 import struct
 
@@ -26,8 +27,8 @@ def filled(number):
 
 
 class Machine:
-    """The machine. `is_apart` is the newer layout, in which the control page has no page tables before it; `way` is load, file or
-    crash. `words` of the list may be spoiled before `core` or `files` are asked for."""
+    """The machine. `is_apart` is the newer layout, in which the control page has no page tables before it; `way` is load,
+    file or crash. `words` of the list may be spoiled before `core` or `files` are asked for."""
 
     def __init__(self, way="load", is_apart=False, code=EXCHANGES, levels=4, spoil=None, **changes):
         self.way, self.is_apart, self.levels, self.changes = way, is_apart, levels, changes
@@ -89,7 +90,8 @@ class Machine:
         self.head = first * PAGE | LINK
         half = len(words) // 2
         # numbers of words: 0 is the head, and the link to the second page takes one of its own
-        self.places = [first * PAGE + 8 * i for i in range(half + 1)] + [second * PAGE + 8 * i for i in range(len(words) - half + 1)]
+        self.places = [first * PAGE + 8 * i for i in range(half + 1)]
+        self.places += [second * PAGE + 8 * i for i in range(len(words) - half + 1)]
         values = words[:half] + [second * PAGE | LINK] + words[half:] + [DONE]
         for place, value in zip(self.places, values):
             self.write(place, struct.pack("<Q", value))

@@ -32,7 +32,8 @@ class Writer:
 
     def struct(self, name, size, members, flag=0, kind=STRUCT):
         """Members are (name, type, bit), or with kind_flag (name, type, bit, bits)."""
-        parts = b"".join(struct.pack("<III", self.name(row[0]), row[1], row[2] | (row[3] << 24 if flag else 0)) for row in members)
+        parts = b"".join(struct.pack("<III", self.name(row[0]), row[1], row[2] | (row[3] << 24 if flag else 0))
+                         for row in members)
         return self.add(name, kind, size, parts, len(members), flag)
 
     def bytes(self):
@@ -41,8 +42,8 @@ class Writer:
 
 
 def btf_bytes(is_apart, without=None):
-    """The types of the made-up kernel: struct kimage with a bit-field, struct page with unnamed parts; `without` names a member of
-    struct kimage that is left out."""
+    """The types of the made-up kernel: struct kimage with a bit-field, struct page with unnamed parts; `without` names a
+    member of struct kimage that is left out."""
     out = Writer()
     word = out.add("unsigned long", INT, 8, struct.pack("<I", 64))
     half = out.add("unsigned int", INT, 4, struct.pack("<I", 32))
@@ -53,7 +54,7 @@ def btf_bytes(is_apart, without=None):
     inner = out.struct("", 40, [("lru", ring, 0), ("mapping", pointer, 128), ("index", word, 192), ("private", word, 256)])
     union = out.struct("", 40, [("", inner, 0)], kind=UNION)
     out.struct("page", 64, [("flags", word, 0), ("", union, 64), ("_refcount", half, 448)])
-    row = out.struct("kexec_segment", 32, [("buf", pointer, 0), ("bufsz", word, 64), ("mem", word, 128), ("memsz", word, 192)])
+    row = out.struct("kexec_segment", 32, [(name, word, 64 * i) for i, name in enumerate(("buf", "bufsz", "mem", "memsz"))])
     rows = out.add("", ARRAY, 0, struct.pack("<III", row, half, 16))
     arch_names = ("pgd", "p4d", "pud", "pmd", "pte") if is_apart else ("p4d", "pud", "pmd", "pte")
     arch = out.struct("kimage_arch", 8 * len(arch_names), [(name, pointer, 64 * i) for i, name in enumerate(arch_names)])
@@ -78,7 +79,8 @@ class Purgatory(NamedTuple):
 def relocatable():
     """A purgatory: code of 40 bytes, then data at a multiple of 64 with digest and table, then memory without bytes."""
     text, data = bytes(range(40)), bytes(32 + 256)
-    strings, names = b"\0purgatory_start\0purgatory_sha_regions\0purgatory_sha256_digest\0", b"\0.text\0.data\0.bss\0.symtab\0.strtab\0.shstrtab\0"
+    strings = b"\0purgatory_start\0purgatory_sha_regions\0purgatory_sha256_digest\0"
+    names = b"\0.text\0.data\0.bss\0.symtab\0.strtab\0.shstrtab\0"
     symbol = lambda name, section, value: struct.pack("<IBBHQQ", strings.index(name), 0x10, 0, section, value, 0)
     symbols = bytes(24) + symbol(b"purgatory_start", 1, 0x10) + symbol(b"purgatory_sha256_digest", 2, 0)
     symbols += symbol(b"purgatory_sha_regions", 2, 32)
@@ -92,5 +94,6 @@ def relocatable():
         rows.append(struct.pack("<IIQQQQIIQQ", names.index(name), kind, flags, 0, at + len(body), size, link, 0, align, each))
         body += part
     place = at + len(body)
-    head = b"\x7fELF\2\1\1" + bytes(9) + struct.pack("<HHIQQQIHHHHHH", 1, 62, 1, 0x10, 0, place, 0, 64, 0, 0, 64, len(rows), 6)
+    head = b"\x7fELF\2\1\1" + bytes(9)
+    head += struct.pack("<HHIQQQIHHHHHH", 1, 62, 1, 0x10, 0, place, 0, 64, 0, 0, 64, len(rows), 6)
     return Purgatory(head + body + b"".join(rows), text.ljust(64, b"\0") + data, 64 + 32, 64)

@@ -35,8 +35,8 @@ def parser():
     words.option("core", "read this dump, an ELF core file, in place of this machine", "FILE")
     words.option("raw", "read this dump, the bytes of memory from address 0 on", "FILE")
     words.option("map", "the map of the dump's machine, in place of the one in its memory", "FILE")
-    words.option("symbols", "the symbols of the dump's kernel, in place of those in its memory: its System.map, vmlinux, or the "
-                 "text of /proc/kallsyms", "FILE")
+    words.option("symbols", "the symbols of the dump's kernel, in place of those in its memory: its System.map, vmlinux, or "
+                 "the text of /proc/kallsyms", "FILE")
     words.option("btf", "the types of the kernel: a vmlinux with a section .BTF, or the bytes of this section", "FILE")
     words.option("loader", "the program kexec that loaded the image, in which its purgatory is looked for", "FILE")
     words.option("proc", "read in place of /proc", "FOLDER", default="/proc")

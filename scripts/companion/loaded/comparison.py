@@ -23,8 +23,8 @@ def differing(physical, pages, path):
 
 
 class Moment:
-    """The moment at which the code in the control page begins: no other code of the old kernel runs any more. All of RAM is run
-    from there by the program, with context preserved where the guest's kernel runs the list by exchanges."""
+    """The moment at which the code in the control page begins: no other code of the old kernel runs any more. All of RAM is
+    run from there by the program, with context preserved where the guest's kernel runs the list by exchanges."""
 
     def __init__(self, story):
         self.story, self.guest, self.found = story, story.guest, story.found

@@ -1,8 +1,8 @@
-"""Whether a kernel runs a list without preserved context by exchanges of pages, as Linux did before 6.14, or by copies. Its code
-says it: the version does not, since distributions take changes over."""
+"""Whether a kernel runs a list without preserved context by exchanges of pages, as Linux did before 6.14, or by copies. Its
+code says it: the version does not, since distributions take changes over."""
 
-# The code has three copies of a page: source to swap page, destination to source, swap page to destination. Where plain lists are
-# copied, the first two are skipped by a short jump.
+# The code has three copies of a page: source to swap page, destination to source, swap page to destination. Where plain
+# lists are copied, the first two are skipped by a short jump.
 COPY = bytes.fromhex("f348a5")  # rep movsq
 SHORT_JUMP_IF_ZERO = 0x74
 MOST_CODE, BEFORE = 4096, 64

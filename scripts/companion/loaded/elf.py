@@ -1,4 +1,5 @@
-"""Sections and symbols of ELF64 files (Tool Interface Standard, ELF): a vmlinux, and the purgatories of Linux and kexec-tools."""
+"""Sections and symbols of ELF64 files (Tool Interface Standard, ELF): a vmlinux, and the purgatories of Linux and
+kexec-tools."""
 import struct
 from typing import NamedTuple
 
@@ -34,9 +35,7 @@ class Elf:
             raise Wrong(f"{where} has no table of sections, or is cut off in it")
         rows = [struct.unpack_from("<IIQQQQIIQQ", data, table + size * i) for i in range(count)]
         text = data[rows[names][4] :][: rows[names][5]]
-        self.sections = [
-            Section(name_at(text, row[0]), row[1], row[2], row[3], row[4], row[5], row[6], row[8] or 1, row[9]) for row in rows
-        ]
+        self.sections = [Section(name_at(text, row[0]), *row[1:7], row[8] or 1, row[9]) for row in rows]
 
     def section(self, name):
         """The bytes of the section of this name; None without one."""

@@ -1,5 +1,5 @@
-"""kernelyet guest --loaded: a guest loads a next kernel; its list is read, judged and run here, the guest runs it too, and each
-destination page is compared at the first instruction of the new image."""
+"""kernelyet guest --loaded: a guest loads a next kernel; its list is read, judged and run here, the guest runs it too, and
+each destination page is compared at the first instruction of the new image."""
 import glob
 import hashlib
 import os
@@ -26,13 +26,13 @@ where `check` or `exec` told the spoiled word."""
 
 def parser():
     words = Parser("guest --loaded", "[OPTIONS]", TEXT, EPILOG)
-    words.option("kernel", "the guest's kernel, a bzImage with a serial console built in (the newest /boot/vmlinuz-*)", "FILE",
-                 default=max(glob.glob("/boot/vmlinuz-*"), default=""))
+    words.option("kernel", "the guest's kernel, a bzImage with a serial console built in (the newest /boot/vmlinuz-*)",
+                 "FILE", default=max(glob.glob("/boot/vmlinuz-*"), default=""))
     words.option("next", "the kernel that the guest loads (its own)", "FILE")
     words.option("module", "with --way multiboot: the kernel that Xen starts (the guest's own)", "FILE")
-    words.option("way", "load: kexec -c -l; file: kexec -s -l; crash: kexec -c -p; crash-file: kexec -s -p; multiboot: kexec -c -l "
-                 "of a Multiboot kernel; vmcore: kexec -c -l and -c -p, and the crash kernel reads from /proc/vmcore what the guest "
-                 "had loaded", "WAY", default="load", choices=list(guest_disk.LOADS))
+    words.option("way", "load: kexec -c -l; file: kexec -s -l; crash: kexec -c -p; crash-file: kexec -s -p; multiboot: kexec "
+                 "-c -l of a Multiboot kernel; vmcore: kexec -c -l and -c -p, and the crash kernel reads from /proc/vmcore "
+                 "what the guest had loaded", "WAY", default="load", choices=list(guest_disk.LOADS))
     words.option("nokaslr", "start the guest's kernel with nokaslr")
     words.option("append", "more words for the guest's kernel", "TEXT", default="")
     for name, what, usual in (("ram", "MiB of RAM", 512), ("area", "MiB of the area for a crash kernel", 160),
@@ -44,7 +44,8 @@ def parser():
     words.option("busybox", "a static busybox (/bin/busybox)", "FILE", default="/bin/busybox")
     words.option("inside", "let the guest read its own memory too, by /proc/kcore, and compare the files")
     words.option("whole", "compare all of RAM too, from the moment at which no other code of the old kernel runs")
-    words.option("spoil", f"spoil the list in the guest's memory first: {', '.join(spoils.SPOILS)}", "WHAT", choices=list(spoils.SPOILS))
+    words.option("spoil", f"spoil the list in the guest's memory first: {', '.join(spoils.SPOILS)}", "WHAT",
+                 choices=list(spoils.SPOILS))
     words.option("on", "let the next kernel come up")
     words.option("keep", "keep the files, but for the guest's RAM", "FOLDER")
     return words
@@ -80,7 +81,8 @@ class Story:
     def compare_maps(self):
         said = self.guest.text().partition("BEGIN map\n")[2].partition("END map\n")[0]
         with open(f"{self.folder}/loaded/map") as file:
-            tell.step(f"the map from its memory is {'the text' if file.read() == said else 'NOT the text'} of its /proc/iomem")
+            is_same = file.read() == said
+        tell.step(f"the map from its memory is {'the text' if is_same else 'NOT the text'} of its /proc/iomem")
 
     def compare_files(self, where, what):
         """Compares the files with those that were made in the guest; whether they are the same."""
@@ -89,7 +91,7 @@ class Story:
             with open(f"{self.folder}/loaded/{name}", "rb") as file:
                 own.append(hashlib.sha256(file.read()).hexdigest())
         is_same = bool(told) and told[1].split() == own
-        tell.step(f"{what}: " + ("the same three files, byte for byte" if is_same else f"OTHER FILES: {self.guest.text()[-800:]}"))
+        tell.step(f"{what}: {'the same three files, byte for byte' if is_same else 'OTHER FILES'}")
         return is_same
 
     def spoil(self):
@@ -131,8 +133,8 @@ class Story:
         self.stub.go_to(self.found.image.start, self.is_entered, self.given.seconds)
         tell.step(f"the guest is at the first instruction of the image, {address(self.found.image.start)}")
         differ = comparison.differing(self.guest.physical(), wanted, f"{self.folder}/out.kxmem")
-        tell.step(f"{counted(len(wanted), 'destination page')} compared with OUT of exec: {len(differ)} differ (before the run "
-                  f"{len(before)} did)" + "".join(f"; {address(page * PAGE)}" for page in differ[:8]))
+        tell.step(f"{counted(len(wanted), 'destination page')} compared with OUT of exec: {len(differ)} differ (before the "
+                  f"run {len(before)} did)" + "".join(f"; {address(page * PAGE)}" for page in differ[:8]))
         whole = moment.compare() if moment else None
         self.row(len(before), len(differ), len(wanted), whole)
         return len(differ)
@@ -141,10 +143,11 @@ class Story:
         """Prints the row of a table of runs."""
         given, found = self.given, self.found
         size = sum(row.bufsz for row in found.segments) >> 20
-        words = [self.kernel.release, given.way, f"{given.ram} MiB", "no" if given.nokaslr else "yes", str(self.kernel.levels),
-                 f"{len(found.segments)}, {size} MiB", {True: "exchanges", False: "copies", None: "-"}[found.is_exchange],
-                 str(len(found.words)), str(before), str(wanted), str(differ), "-" if whole is None else f"{whole[0]}, {whole[1]}"]
-        print(f"| {' | '.join(words)} |", flush=True)
+        how = {True: "exchanges", False: "copies", None: "-"}[found.is_exchange]
+        words = [self.kernel.release, given.way, f"{given.ram} MiB", "no" if given.nokaslr else "yes", self.kernel.levels,
+                 f"{len(found.segments)}, {size} MiB", how, len(found.words), before, wanted, differ,
+                 "-" if whole is None else f"{whole[0]}, {whole[1]}"]
+        print(f"| {' | '.join(map(str, words))} |", flush=True)
 
     def go_on(self):
         """Lets the next kernel come up."""
@@ -187,8 +190,8 @@ def main(arguments):
     given = words.parse_args(arguments)
     given.next = given.next or given.kernel
     given.module = (given.module or given.kernel) if given.way == "multiboot" else None
-    files = [("a kernel (--kernel)", given.kernel), ("a next kernel (--next)", given.next), ("kexec (--loader)", given.loader),
-             ("a static busybox (--busybox)", given.busybox)]
+    files = [("a kernel (--kernel)", given.kernel), ("a next kernel (--next)", given.next),
+             ("kexec (--loader)", given.loader), ("a static busybox (--busybox)", given.busybox)]
     lacks = [qemu.QEMU] * (not shutil.which(qemu.QEMU)) + [what for what, path in files if not os.path.isfile(path)]
     if lacks:
         raise Wrong(f"there is no {', no '.join(lacks)}")
@@ -198,5 +201,6 @@ def main(arguments):
             is_good = tell_story(given, folder)
         finally:
             if given.keep:
-                shutil.copytree(folder, given.keep, dirs_exist_ok=True, ignore=shutil.ignore_patterns("qmp", "gdb", "go", "ram"))
+                left_out = shutil.ignore_patterns("qmp", "gdb", "go", "ram")
+                shutil.copytree(folder, given.keep, dirs_exist_ok=True, ignore=left_out)
     return 0 if is_good else 1

@@ -10,10 +10,10 @@ from companion.refusals import Wrong
 
 
 class Findings(NamedTuple):
-    """What was read of an image. `words` are the number, place and value of each word of the list; `pairs` the number of a source
-    word with destination and source; `data` the bytes of each segment. `lacking` are the pages of segments that no pair brings;
-    `touched` the word of the list that meets a page of the image's own, and what page it is; `is_exchange` whether this kernel runs
-    the list by exchanges, None where its code does not say."""
+    """What was read of an image. `words` are the number, place and value of each word of the list; `pairs` the number of a
+    source word with destination and source; `data` the bytes of each segment. `lacking` are the pages of segments that no
+    pair brings; `touched` the word of the list that meets a page of the image's own, and what page it is; `is_exchange`
+    whether this kernel runs the list by exchanges, None where its code does not say."""
 
     image: Image
     words: List[Tuple[int, Optional[int], int]]
@@ -33,7 +33,8 @@ class Findings(NamedTuple):
         return sorted({page for row in self.segments for page in range(row.mem // PAGE, (row.mem + row.memsz) // PAGE)})
 
     def kept(self):
-        """The numbers of the pages that the list needs: the control page, list pages and sources; of a crash image its segments."""
+        """The numbers of the pages that the list needs: the control page, list pages and sources; of a crash image its
+        segments."""
         if self.image.is_crash:
             return set(self.wanted())
         pages = {self.image.control} | {link // PAGE for link in self.links()}
@@ -69,7 +70,8 @@ def find(kernel, is_crash, loader=None):
         raise Wrong("another image was loaded while this one was read: try again")
     places = purgatory.find(kernel, image, [one[: row.bufsz] for row, one in zip(segments, data)], loader)
     is_exchange = None if is_crash else copying.is_by_exchanges(copying.code_of(kernel))
-    return Findings(image, words, pairs, segments, data, lacking, touched_by(image, segments, words, pairs), places, is_exchange)
+    touched = touched_by_segments(image, segments) if is_crash else touched_by_list(image, words, pairs)
+    return Findings(image, words, pairs, segments, data, lacking, touched, places, is_exchange)
 
 
 def bytes_of(physical, segments, pairs, is_crash):
@@ -88,20 +90,22 @@ def bytes_of(physical, segments, pairs, is_crash):
     return found, lacking
 
 
-def touched_by(image, segments, words, pairs):
-    """Where the image is to write, or has its list or sources, in pages that it keeps for the code that runs the list: the number of
-    the word, the page and what it is. The program knows one control page, and Linux has several."""
+def touched_by_list(image, words, pairs):
+    """Where a list meets pages that the image keeps for the code that runs it: the number of the word, the page and what it is.
+    The program knows one control page, and Linux has several."""
     found = []
-    if image.is_crash:
-        for row in segments:
-            found += [(0, page, image.own[page]) for page in range(row.mem // PAGE, (row.mem + row.memsz) // PAGE) if page in image.own]
-        return found
     for number, _, word in words:
         if lists.kind_of(word) == "link" and word // PAGE in image.own:
             found.append((number, word // PAGE, image.own[word // PAGE]))
     for number, destination, source in pairs:
         found += [(number, at // PAGE, image.own[at // PAGE]) for at in (destination, source) if at // PAGE in image.own]
     return sorted(set(found))
+
+
+def touched_by_segments(image, segments):
+    """Where the segments of a crash image meet such pages; it has no list but its head, word 0."""
+    return [(0, page, what) for page, what in sorted(image.own.items())
+            if any(row.mem <= page * PAGE < row.mem + row.memsz for row in segments)]
 
 
 def own_text(own: Dict[int, str]):

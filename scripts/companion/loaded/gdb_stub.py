@@ -56,7 +56,8 @@ class Stub:
         self.send("c")
 
     def go_to(self, address, is_there, seconds):
-        """Lets the machine run until it is at an address, as `is_there` says: a program of its own may have the same address."""
+        """Lets the machine run until it is at an address, as `is_there` says: a program of its own may have the same
+        address."""
         self.breakpoint(SET, address)
         while True:
             self.go()

@@ -104,7 +104,8 @@ def libraries(program):
     ended = subprocess.run(["ldd", program], capture_output=True, text=True)
     if "not found" in ended.stdout:
         lacking = re.findall(r"(\S+) => not found", ended.stdout)
-        raise Wrong(f"{program} needs {', '.join(lacking)}, which ldd does not find: install its package, or set LD_LIBRARY_PATH")
+        raise Wrong(f"{program} needs {', '.join(lacking)}, which ldd does not find: install its package, or set "
+                    "LD_LIBRARY_PATH")
     return sorted(set(re.findall(r"(/\S+) \(0x", ended.stdout)))
 
 
@@ -145,8 +146,8 @@ def base(busybox):
 
 
 def next_initrd(given):
-    """The initrd of the next kernel: with so many MiB of noise, which no compression makes smaller; that of a crash kernel has
-    Python too, if it is to read its /proc/vmcore."""
+    """The initrd of the next kernel: with so many MiB of noise, which no compression makes smaller; that of a crash kernel
+    has Python too, if it is to read its /proc/vmcore."""
     rows = base(given.busybox) + [("noise", FILE, os.urandom(given.noise << 20))] * bool(given.noise)
     return archive(with_folders(rows + (python() if given.way == "vmcore" else [])))
 

@@ -20,8 +20,8 @@ class Cpu(NamedTuple):
 
 
 class Guest(qemu.Machine):
-    """A guest. `given` has its kernel, way, RAM, processors and more, as the command line gives it. It waits for a line on its
-    second serial line before it leaves its kernel."""
+    """A guest. `given` has its kernel, way, RAM, processors and more, as the command line gives it. It waits for a line on
+    its second serial line before it leaves its kernel."""
 
     def __init__(self, folder, given, initrd):
         words = [

@@ -1,4 +1,5 @@
-"""The image that a kernel has loaded: its struct kimage, and the pages that it keeps for itself (kernel/kexec_core.c of Linux)."""
+"""The image that a kernel has loaded: its struct kimage, and the pages that it keeps for itself (kernel/kexec_core.c of
+Linux)."""
 from typing import Dict, List, NamedTuple, Optional
 
 from companion.loaded import paging
@@ -22,8 +23,8 @@ class Segment(NamedTuple):
 
 
 class Image(NamedTuple):
-    """An image: its list begins with the word `head`, the new kernel at `start`. `control` is the page where the code that runs
-    the list is; `own` says of each page that the image keeps for this code what it is. All are numbers of pages."""
+    """An image: its list begins with the word `head`, the new kernel at `start`. `control` is the page where the code that
+    runs the list is; `own` says of each page that the image keeps for this code what it is. All are numbers of pages."""
 
     at: int
     is_crash: bool
@@ -60,8 +61,8 @@ def read(kernel, is_crash):
     value = lambda name: members[name].of(data)
     arch = kernel.btf.struct("kimage_arch")
     arch_data = data[members["arch"].place :][: arch.size]
-    # Older kernels keep two pages here, the top of the page tables and then the code; those that keep a top of its own have it in
-    # kimage_arch. Debian's 6.12 took this over from 6.14, so that BTF tells which it is, and the version does not.
+    # Older kernels keep two pages here, the top of the page tables and then the code; those that keep a top of its own have
+    # it in kimage_arch. Debian's 6.12 took this over from 6.14, so that BTF tells which it is, and the version does not.
     code = kernel.number_of_page(value("control_code_page"))
     is_apart = "pgd" in arch
     control = code if is_apart else code + 1
@@ -85,8 +86,8 @@ def transition_of(kernel, arch, data):
 
 
 def own_pages(kernel, at, members, top, transition):
-    """What each page is that the image keeps for the code in the control page: those of its list of control pages, and those of the
-    page tables that it runs by."""
+    """What each page is that the image keeps for the code in the control page: those of its list of control pages, and
+    those of the page tables that it runs by."""
     own = {page: "a control page" for page in kernel.pages_of_list(at + members["control_pages"].place)}
     virtual = kernel.virtual
     for page in paging.tables(kernel.physical, top * PAGE, virtual.levels, virtual.in_place) - transition:

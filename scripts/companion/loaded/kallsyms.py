@@ -11,7 +11,8 @@ TOKENS, MOST_SYMBOLS, MOST_NAMES = 256, 1 << 21, 1 << 26
 
 
 def read(virtual, note):
-    """The symbols by name, through page tables, by a VMCOREINFO that says where the tables lie; the first of a name counts."""
+    """The symbols by name, through page tables, by a VMCOREINFO that says where the tables lie; the first of a name
+    counts."""
     place = {name: note.symbol(name) for name in TABLES}
     if None in place.values():
         raise Wrong(f"the VMCOREINFO of Linux {note.release} does not say where its symbols lie, as it does from Linux 6.0 "

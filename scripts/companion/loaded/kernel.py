@@ -14,14 +14,15 @@ TRIED = ("6.1", "6.12", "6.16", "6.18", "7.1")
 
 
 class Kernel:
-    """The kernel that a VMCOREINFO tells of. `symbols` and `btf` come from files where these are given, and else from memory."""
+    """The kernel that a VMCOREINFO tells of. `symbols` and `btf` come from files where these are given, and else from
+    memory."""
 
     def __init__(self, physical, note, symbols=None, btf=None):
         self.physical, self.note, self.release = physical, note, note.release
         self.base = note.number("phys_base")
         top = note.symbol("init_top_pgt") or note.symbol("swapper_pg_dir")
         if self.base is None or not top:
-            raise Wrong(f"VMCOREINFO of {note.release or 'this kernel'} does not say where its page tables lie (phys_base and "
+            raise Wrong(f"VMCOREINFO of {note.release or 'this kernel'} does not say where its page tables lie (phys_base, "
                         "init_top_pgt): it is no kernel for x86-64, or one before 4.19")
         self.levels = 5 if note.number("pgtable_l5_enabled") else 4
         encrypted = note.number("sme_mask") or 0
@@ -56,8 +57,8 @@ class Kernel:
     def _btf(self):
         first, end = (self.symbols.get(name, 0) for name in ("__start_BTF", "__stop_BTF"))
         if end <= first:
-            raise Wrong(f"Linux {self.release} has no BTF, which says how its structs lie (CONFIG_DEBUG_INFO_BTF): give --btf "
-                        "FILE, a vmlinux of this kernel with a section .BTF, or the bytes of this section")
+            raise Wrong(f"Linux {self.release} has no BTF, which says how its structs lie (CONFIG_DEBUG_INFO_BTF): give "
+                        "--btf FILE, a vmlinux of this kernel with a section .BTF, or the bytes of this section")
         return self.virtual.read(first, end - first)
 
     def number_of_page(self, address):
@@ -98,8 +99,8 @@ def of_dump(physical, notes, symbols=None, btf=None):
     kernel that lies there."""
     found = list(vmcoreinfo.of_notes(notes)) or list(vmcoreinfo.of_memory(physical))
     if not found:
-        raise Wrong(f"{physical.path} has no VMCOREINFO, neither as a note nor in memory: it is no dump of a whole Linux, or its "
-                    "kernel has no CONFIG_VMCORE_INFO (CONFIG_CRASH_CORE before 6.9)")
+        raise Wrong(f"{physical.path} has no VMCOREINFO, neither as a note nor in memory: it is no dump of a whole Linux, or "
+                    "its kernel has no CONFIG_VMCORE_INFO (CONFIG_CRASH_CORE before 6.9)")
     refusals = []
     for note in found:
         try:
@@ -110,7 +111,8 @@ def of_dump(physical, notes, symbols=None, btf=None):
 
 
 def btf_of_file(path):
-    """The types in a file: a vmlinux with a section .BTF, or the bytes of this section, as /sys/kernel/btf/vmlinux has them."""
+    """The types in a file: a vmlinux with a section .BTF, or the bytes of this section, as /sys/kernel/btf/vmlinux has
+    them."""
     with open(path, "rb") as file:
         data = file.read()
     if data[:4] == b"\x7fELF":

@@ -33,8 +33,8 @@ def write_memory(path, physical, pages):
                 lacking += 1
         writer.end()
         if writer.count > MOST_PAGES:
-            raise Wrong(f"{writer.count} pages are not all zeros, and a memory file has at most {MOST_PAGES} (512 MiB): leave out "
-                        "--all, or load a smaller initrd")
+            raise Wrong(f"{writer.count} pages are not all zeros, and a memory file has at most {MOST_PAGES} (512 MiB): leave "
+                        "out --all, or load a smaller initrd")
         os.rename(f"{path}.new", path)
     finally:
         if os.path.exists(f"{path}.new"):

@@ -11,8 +11,8 @@ ENTRIES = 512
 
 
 class Virtual:
-    """Memory by the addresses of page tables, which begin at `top` and have so many levels. `encrypted` is the bit of an entry
-    that says that AMD's memory encryption is on, and is no part of a place."""
+    """Memory by the addresses of page tables, which begin at `top` and have so many levels. `encrypted` is the bit of an
+    entry that says that AMD's memory encryption is on, and is no part of a place."""
 
     def __init__(self, physical, top, levels, encrypted=0):
         self.physical, self.top, self.levels, self.in_place = physical, top, levels, PLACE & ~encrypted

@@ -25,8 +25,8 @@ class Places(NamedTuple):
 
 
 def placed(purgatory, mem):
-    """The addresses of a relocatable file's symbols, where its sections are laid out from an address on as Linux and kexec-tools do
-    it: first those with bytes, in their order, then those without."""
+    """The addresses of a relocatable file's symbols, where its sections are laid out from an address on as Linux and
+    kexec-tools do it: first those with bytes, in their order, then those without."""
     with_bytes = [row for row in purgatory.sections if row.flags & elf.ALLOC and row.kind != elf.NOBITS]
     without = [row for row in purgatory.sections if row.flags & elf.ALLOC and row.kind == elf.NOBITS]
     place, at = {}, mem
@@ -63,7 +63,8 @@ def of_kernel(kernel, image):
     if not 64 <= count <= MOST:
         return None
     try:
-        return by_symbols(Elf(kernel.virtual.read(first, count), "kexec_purgatory"), image, "by the symbols of Linux's purgatory")
+        purgatory = Elf(kernel.virtual.read(first, count), "kexec_purgatory")
+        return by_symbols(purgatory, image, "by the symbols of Linux's purgatory")
     except (Wrong, struct.error):
         return None
 
@@ -85,8 +86,8 @@ def of_loader(path, image):
 
 
 def by_contents(image, data):
-    """The places by what stands in the segment that the image begins in: a table whose rows are segments, and the SHA-256 of what
-    these have. So only a table is found whose digest is right."""
+    """The places by what stands in the segment that the image begins in: a table whose rows are segments, and the SHA-256
+    of what these have. So only a table is found whose digest is right."""
     memory = {row.mem: one.ljust(row.memsz, b"\0") for row, one in zip(image.segments, data)}
     sizes = {row.mem: row.memsz for row in image.segments}
     for row, one in zip(image.segments, data):

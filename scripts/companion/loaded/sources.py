@@ -17,12 +17,12 @@ def of_machine(proc, sysfs, btf_path=None):
         raise Wrong(why_not(core, error)) from None
     found = next(vmcoreinfo.of_notes(notes), None)
     if found is None:
-        raise Wrong(f"{core} has no note VMCOREINFO: this kernel is older than 4.19, or has no CONFIG_VMCORE_INFO (CONFIG_CRASH_CORE "
-                    "before 6.9), without which it has no kexec")
+        raise Wrong(f"{core} has no note VMCOREINFO: this kernel is older than 4.19, or has no CONFIG_VMCORE_INFO "
+                    "(CONFIG_CRASH_CORE before 6.9), without which it has no kexec")
     own = f"{sysfs}/kernel/btf/vmlinux"
     if not btf_path and not os.path.exists(own):
-        raise Wrong(f"this kernel has no BTF ({own}, CONFIG_DEBUG_INFO_BTF), which says how its structs lie: give --btf FILE, a "
-                    "vmlinux of this kernel with a section .BTF, or the bytes of this section")
+        raise Wrong(f"this kernel has no BTF ({own}, CONFIG_DEBUG_INFO_BTF), which says how its structs lie: give --btf "
+                    "FILE, a vmlinux of this kernel with a section .BTF, or the bytes of this section")
     btf = kernels.btf_of_file(btf_path or own)
     kernel = kernels.Kernel(memory, found, symbols.of_file(f"{proc}/kallsyms"), btf)
     return kernel, with_blanks(maps.read_map(f"{proc}/iomem")[0])
@@ -33,8 +33,8 @@ def why_not(path, error):
     if error.errno == errno.EACCES:
         return f"{path} is for root alone: read it as root (sudo), or give --core FILE, a dump of the machine"
     if error.errno == errno.EPERM:
-        return (f"{path} is locked down (kernel_lockdown(7)): this kernel shows its memory to nobody, not even to root. Start it "
-                "without lockdown=confidentiality, or read a dump of the machine: --core FILE")
+        return (f"{path} is locked down (kernel_lockdown(7)): this kernel shows its memory to nobody, not even to root. "
+                "Start it without lockdown=confidentiality, or read a dump of the machine: --core FILE")
     if error.errno == errno.ENOENT:
         return f"there is no {path}: this kernel has no CONFIG_PROC_KCORE; read a dump of the machine: --core FILE"
     return f"{path}: {error.strerror}"

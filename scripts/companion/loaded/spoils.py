@@ -8,7 +8,8 @@ from companion.qemu import HIGH, LOW_END
 
 
 def moved(found, number):
-    """The number, place and value of a source word whose page is not its own destination: the one with this number among them."""
+    """The number, place and value of a source word whose page is not its own destination: the one with this number among
+    them."""
     place = {number: (at, word) for number, at, word in found.words}
     rows = [(number, *place[number]) for number, destination, source in found.pairs if destination != source]
     return rows[min(number, len(rows) - 1)]

@@ -22,8 +22,8 @@ def of_file(path):
             if parts and not parts[3]:
                 found.setdefault(parts[2], int(parts[1], 16))
     if not found:
-        raise Wrong(f"{path} has no symbols: it is neither the text of /proc/kallsyms or of a System.map nor a vmlinux with its "
-                    "symbol table (Debian's package linux-image-..-dbg has both)")
+        raise Wrong(f"{path} has no symbols: it is neither the text of /proc/kallsyms or of a System.map nor a vmlinux with "
+                    "its symbol table (Debian's package linux-image-..-dbg has both)")
     if not any(found.values()):
         raise Wrong(f"{path} has zeros for all addresses, as Linux shows them to any user but root, and where "
                     "/proc/sys/kernel/kptr_restrict is 2: read it as root, with kptr_restrict 0 or 1")

@@ -40,8 +40,10 @@ def _image(found):
         print(f"pages of the segments that no pair brings: {found.lacking}; check names the first")
     print(f"pages of the image's own: {found_words.own_text(image.own)}")
     places = found.purgatory
-    print(f"purgatory: table of regions at {address(places.table)}, digest at {address(places.digest)}, found {places.how}"
-          if places else "purgatory: its table of regions was not found: the record has none, and exec says nothing of regions")
+    if places:
+        print(f"purgatory: table of regions at {address(places.table)}, digest at {address(places.digest)}, found {places.how}")
+    else:
+        print("purgatory: its table of regions was not found: the record has none, and exec says nothing of regions")
 
 
 def _mode(found, is_copies):

@@ -44,8 +44,8 @@ def of_notes(notes):
 
 
 def of_memory(physical):
-    """Each VMCOREINFO that stands in memory. There may be several: a kernel that was started by kexec leaves the note of the one
-    before it where it was."""
+    """Each VMCOREINFO that stands in memory. There may be several: a kernel that was started by kexec leaves the note of
+    the one before it where it was."""
     for at in physical.find(BEGIN):
         name_size, size, _ = struct.unpack("<III", physical.read(at - 12, 12))
         if name_size == len(NAME) + 1 and 0 < size <= MOST:
