@@ -8,6 +8,7 @@ from companion.loaded import copying, sources
 from made_up_machine import COPIES, DESTINATION, EXCHANGES, PAGE, SOURCE, Machine, filled
 
 # of the list of a made-up machine: its words with the head and the done word, its list pages, its pairs
+FILES = ("memory.kxmem", "record", "map")
 LIST = "accepted words 20 links 2 pairs 14\n"
 
 
@@ -61,10 +62,14 @@ def test_machines(tests):
         status, told = loaded(tests, *running("one"), *words, "here")
         tests.same(f"loaded of a running machine, {way}", (status, "not in the dump" in told), (0, False))
         tests.same(f"loaded of a dump, {way}", loaded(tests, "--core", "one/core", *words, "there")[0], 0)
-        for name in ("memory.kxmem", "record", "map"):
+        for name in FILES:
             tests.same(f"{name}, {way}: of a running machine and of its dump", tests.read(f"here/{name}"),
                        tests.read(f"there/{name}"))
         tests.same(f"the map, {way}", tests.read("there/map").decode(), machine.map)
+        tests.write("one/kdump", machine.kdump())
+        loaded(tests, "--core", "one/kdump", *words, "packed")
+        tests.same(f"of a dump in kdump's format, {way}", [tests.read(f"packed/{name}") for name in FILES],
+                   [tests.read(f"here/{name}") for name in FILES])
         look_at(tests, machine, way, code is EXCHANGES and way != "crash")
 
 
@@ -165,7 +170,7 @@ def test_options(tests):
     given = ("--symbols", "System.map", "--map", "map", "--btf", "one/sys/kernel/btf/vmlinux")
     tests.same("a dump of bytes, with files", loaded(tests, "--raw", "raw", *given, "there")[0], 0)
     loaded(tests, "--core", "core", "here")
-    for name in ("memory.kxmem", "record", "map"):
+    for name in FILES:
         tests.same(f"{name} of both", tests.read(f"there/{name}"), tests.read(f"here/{name}"))
 
 

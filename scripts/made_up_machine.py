@@ -2,6 +2,7 @@
 alone."""
 import hashlib
 import struct
+import zlib
 
 from made_up_types import btf_bytes, relocatable
 
@@ -245,6 +246,24 @@ class Machine:
             rows += struct.pack("<IIQQQQQQ", 1, 7, at + len(data), 0, first * PAGE, size, size, 0)
             data += b"".join(bytes(self.pages[number]) for number in numbers)
         return head + rows + data
+
+    def kdump(self):
+        """A dump in kdump's compressed format, in which pages of zeros are left out, and every other page is packed by zlib."""
+        count = 8 * PAGE
+        held = [number for number in sorted(self.pages) if any(self.pages[number])]
+        bitmap = lambda numbers: sum(1 << number for number in numbers).to_bytes(PAGE, "little")
+        head = (b"KDUMP   " + struct.pack("<I", 6)).ljust(424, b"\0") + struct.pack("<IIIII", 0, PAGE, 1, 2, count)
+        data, table, place = b"", b"", (4 + -(-24 * len(held) // PAGE)) * PAGE
+        text = self.note[24:]
+        sub = struct.pack("<QIIQQQQ", 0, 1, 0, 0, count, place, len(text))
+        data += text.ljust(PAGE, b"\0")
+        for i, number in enumerate(held):
+            one = bytes(self.pages[number])
+            one = zlib.compress(one) if i % 2 else one
+            table += struct.pack("<QIIQ", place + len(data), len(one), i % 2, 0)
+            data += one
+        parts = [part.ljust(PAGE, b"\0") for part in (head, sub, bitmap(self.pages), bitmap(held))]
+        return b"".join(parts) + table.ljust(place - 4 * PAGE, b"\0") + data
 
     def kallsyms(self):
         return "".join(f"{at:016x} D {name}\n" for name, at in self.listed.items())

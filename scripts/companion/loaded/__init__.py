@@ -10,7 +10,7 @@ TEXT = """Reads the image that Linux has loaded by kexec -l, and not run yet, fr
 machine's memory, as the program takes it: `check` judges its list, `dump`
 prints it, `exec` runs it, and look, picture and try show the result. Of this
 machine (as root), or of a dump of another: QEMU's dump-guest-memory,
-/proc/vmcore of a crash kernel, or what makedumpfile makes of them in ELF.
+/proc/vmcore of a crash kernel, or what makedumpfile makes of them.
 
 Files in FOLDER:
   memory.kxmem   the control page, the list pages and the source pages; of a
@@ -32,7 +32,8 @@ def parser():
     words.option("crash", "the crash kernel, loaded by kexec -p, in place of the next one")
     words.option("all", "put the destination pages, as they are now, into the memory file too")
     words.option("copies", "write a record of a plain load, also for a kernel that runs lists by exchanges")
-    words.option("core", "read this dump, an ELF core file, in place of this machine", "FILE")
+    words.option("core", "read this dump in place of this machine: an ELF core file, or one in kdump's compressed format",
+                 "FILE")
     words.option("raw", "read this dump, the bytes of memory from address 0 on", "FILE")
     words.option("map", "the map of the dump's machine, in place of the one in its memory", "FILE")
     words.option("symbols", "the symbols of the dump's kernel, in place of those in its memory: its System.map, vmlinux, or "

@@ -42,6 +42,8 @@ def parser():
     words.option("cpu", "the processor, as QEMU names it (max, with which page tables have 5 levels)", "CPU", default="max")
     words.option("loader", "the program kexec (/sbin/kexec)", "FILE", default="/sbin/kexec")
     words.option("busybox", "a static busybox (/bin/busybox)", "FILE", default="/bin/busybox")
+    words.option("makedumpfile", "with --way vmcore: let the crash kernel read what this program makes of its /proc/vmcore too",
+                 "FILE")
     words.option("inside", "let the guest read its own memory too, by /proc/kcore, and compare the files")
     words.option("whole", "compare all of RAM too, from the moment at which no other code of the old kernel runs")
     words.option("spoil", f"spoil the list in the guest's memory first: {', '.join(spoils.SPOILS)}", "WHAT",
@@ -108,7 +110,10 @@ class Story:
         self.stub.go()
         if not self.guest.wait_for("STORY next kernel ends", self.given.seconds):
             raise Wrong(f"the crash kernel did not come up: {self.guest.text()[-400:]}")
-        return self.compare_files("vmcore", "read in the crash kernel from /proc/vmcore")
+        is_same = self.compare_files("vmcore", "read in the crash kernel from /proc/vmcore")
+        for form in ("-c", "-E") if self.given.makedumpfile else ():
+            is_same &= self.compare_files(f"makedumpfile{form}", f"read there from what makedumpfile {form} -d 31 makes of it")
+        return is_same
 
     def judge(self):
         """Lets the program check the list and run it; whether it is accepted, and with the regions that it must have."""

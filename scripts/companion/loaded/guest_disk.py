@@ -1,4 +1,5 @@
 """The initrd of a guest that loads a next kernel: busybox, the program kexec, what it loads, and what the guest does."""
+import gzip
 import json
 import os
 import re
@@ -50,6 +51,13 @@ case $way in
         if [ -e /proc/vmcore ] && [ -e /bin/python3 ]; then
             where=vmcore
             read_here --core /proc/vmcore
+            for form in -c -E; do
+                if [ -e /bin/makedumpfile ] && makedumpfile $form -d 31 --message-level 0 /proc/vmcore /dump; then
+                    where=makedumpfile$form
+                    read_here --core /dump
+                    rm /dump
+                fi
+            done
         fi
         echo 'STORY next kernel ends'
         poweroff -f ;;
@@ -97,6 +105,12 @@ def with_folders(rows):
 def content(path):
     with open(path, "rb") as file:
         return file.read()
+
+
+def unpacked(path):
+    """The bytes of a kernel: a Multiboot one may be packed by gzip, which not every kexec unpacks."""
+    data = content(path)
+    return gzip.decompress(data) if data[:2] == b"\x1f\x8b" else data
 
 
 def libraries(program):
@@ -149,13 +163,15 @@ def next_initrd(given):
     """The initrd of the next kernel: with so many MiB of noise, which no compression makes smaller; that of a crash kernel
     has Python too, if it is to read its /proc/vmcore."""
     rows = base(given.busybox) + [("noise", FILE, os.urandom(given.noise << 20))] * bool(given.noise)
-    return archive(with_folders(rows + (python() if given.way == "vmcore" else [])))
+    if given.way == "vmcore":
+        rows += python() + (with_libraries(given.makedumpfile, "bin/makedumpfile") if given.makedumpfile else [])
+    return archive(with_folders(rows))
 
 
 def initrd(given, inner):
     """The initrd of the guest, which has the next kernel and its initrd in it."""
     rows = base(given.busybox) + with_libraries(given.loader, "bin/kexec")
-    rows += [("next/kernel", FILE, content(given.next)), ("next/initrd", FILE, inner)]
+    rows += [("next/kernel", FILE, unpacked(given.next)), ("next/initrd", FILE, inner)]
     if given.module:
         rows.append(("next/module", FILE, content(given.module)))
     if given.inside:

@@ -4,7 +4,7 @@ import os
 from typing import NamedTuple, Optional
 
 from companion import maps
-from companion.loaded import kernel as kernels, physical, resources, symbols, vmcoreinfo
+from companion.loaded import kdump, kernel as kernels, physical, resources, symbols, vmcoreinfo
 from companion.refusals import Wrong
 
 
@@ -58,7 +58,10 @@ class Dump(NamedTuple):
 
 def of_dump(given):
     """The kernel of a dump, and the rows of its map: from the dump, but for what is given."""
-    memory, notes = physical.of_core(given.core) if given.core else physical.of_raw(given.raw)
+    if given.raw:
+        memory, notes = physical.of_raw(given.raw)
+    else:
+        memory, notes = kdump.of_file(given.core) if kdump.is_one(given.core) else physical.of_core(given.core)
     found = symbols.of_file(given.symbols) if given.symbols else None
     kernel = kernels.of_dump(memory, notes, found, kernels.btf_of_file(given.btf) if given.btf else None)
     rows = with_blanks(maps.read_map(given.map)[0]) if given.map else resources.rows(kernel)
