@@ -2,9 +2,11 @@
 import errno
 import os
 import struct
+from types import SimpleNamespace
 
 import made_up_machine
-from companion.loaded import copying, sources
+from companion.loaded import copying, parts, sources
+from companion.loaded.image import Segment
 from made_up_machine import COPIES, DESTINATION, EXCHANGES, PAGE, SOURCE, Machine, filled
 
 # of the list of a made-up machine: its words with the head and the done word, its list pages, its pairs
@@ -206,6 +208,22 @@ def test_copying(tests):
         tests.same("the way of copying", copying.is_by_exchanges(code), wanted)
 
 
+def test_names(tests):
+    """The segments of a Linux kernel are named by its boot parameters, where they point to (The Linux/x86 Boot Protocol)."""
+    page = bytearray(2 * PAGE)
+    page[0x202:0x206], page[0x210] = b"HdrS", 0xD1
+    struct.pack_into("<II", page, 0x218, 0x5000000, 3 * PAGE)
+    struct.pack_into("<Q", page, 0x250, 0x100000)
+    rows = [(0x100000, bytes(48)), (0x5000000, bytes(3 * PAGE)), (0x9000000, bytes(9 * PAGE)), (0xA000000, bytes(page)),
+            (0xB000000, bytes(PAGE)), (0xC000000, b"\x7fELF\2\1\1" + bytes(9) + b"\4\0")]
+    segments = [Segment(mem, -(-len(data) // PAGE) * PAGE, len(data), False) for mem, data in rows]
+    found = SimpleNamespace(segments=segments, data=[data for _, data in rows], purgatory=None)
+    tests.same("the names of segments", parts.names_of(found),
+               ["setup data", "initrd", "kernel", "boot parameters", "", "crash headers"])
+    found.purgatory = SimpleNamespace(table=0xB000080)
+    tests.same("with a purgatory", parts.names_of(found)[4], "purgatory")
+
+
 def in_folder(test):
     """A test in a folder of its own, so that its files are no others'."""
 
@@ -221,4 +239,4 @@ def in_folder(test):
 
 
 ALL = [in_folder(test) for test in (test_machines, test_spoiled, test_loader, test_touched, test_options, test_refusals,
-                                    test_copying)]  # fmt: skip
+                                    test_copying, test_names)]  # fmt: skip

@@ -71,13 +71,16 @@ def read(kernel, is_crash):
     for word in (value("head") & -PAGE, value("start"), control * PAGE):
         if word >= END:
             raise Wrong(f"the layout of this kernel is not known: its struct kimage has the address {word:#x}")
+    segments = segments_of(kernel, members, data)
+    if is_crash and not kernel.physical.has(segments[0].mem):
+        raise Wrong(f"{kernel.physical.path} does not have the area that is reserved for a crash kernel, as /proc/vmcore leaves "
+                    "it out: the crash image cannot be read from it")
     own = own_pages(kernel, at, members, top, transition_of(kernel, arch, arch_data))
     own.update({top: "the top of the page tables", control: "the control page"})
     if swap is not None:
         own[swap] = "the swap page"
     return Image(at, is_crash, bool(value("file_mode")) if "file_mode" in members else False,
-                 bool(value("preserve_context")), value("head"), value("start"), control, swap, top, own,
-                 segments_of(kernel, members, data))
+                 bool(value("preserve_context")), value("head"), value("start"), control, swap, top, own, segments)
 
 
 def transition_of(kernel, arch, data):

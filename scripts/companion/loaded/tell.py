@@ -1,7 +1,7 @@
 """What is said of an image that was read."""
 import time
 
-from companion.loaded import copying, findings as found_words
+from companion.loaded import copying, findings as found_words, parts
 from companion.numbers import PAGE, address, counted, size_text
 
 STARTED = time.monotonic()
@@ -30,9 +30,11 @@ def _image(found):
     way = "kexec_file_load (kexec -s)" if image.is_by_file else "kexec_load (kexec -c)"
     print(f"{'crash' if image.is_crash else 'next'} kernel, loaded by {way}: entry {address(image.start)}, "
           f"{counted(len(image.segments), 'segment')}")
+    for row, name in zip(found.segments, parts.names_of(found)):
+        print(f"  segment {address(row.mem)} memsz {size_text(row.memsz)} bufsz {counted(row.bufsz, 'byte')} {name}".rstrip())
     for row in image.segments:
-        print(f"  segment {address(row.mem)} memsz {size_text(row.memsz)} bufsz {counted(row.bufsz, 'byte')}"
-              + (", loaded in its place, which no list has: left out" if row.is_in_place else ""))
+        if row.is_in_place:
+            print(f"  segment {address(row.mem)} was loaded in its place, which no list has: it is left out")
     if not image.is_crash:
         print(f"list: {counted(len(found.words), 'word')}, {counted(len(found.links()), 'link page')}, "
               f"{counted(len(found.pairs), 'pair')}")
