@@ -16,6 +16,19 @@ def run(*words):
     return status == 0, out
 
 
+def fault_of(folder, found):
+    """What tells that a list is spoiled: `check`, the regions that `exec` tests, or `loaded` itself; None where nothing does."""
+    files = [f"{folder}/memory.kxmem", f"{folder}/record"]
+    status, out, _ = program.run(["check", *files])
+    if status:
+        return f"check says {out.strip()}"
+    if found.touched:
+        number, page, what = found.touched[0]
+        return f"loaded says word {number} touches {what}, {address(page * PAGE)}"
+    told = program.run(["exec", *files, f"{folder}/out.kxmem"])[1]
+    return "exec says regions differ" if "regions differ" in told else None
+
+
 def differing(physical, pages, path):
     """The pages that memory does not have as the memory file does."""
     out = Memory(path)

@@ -20,8 +20,8 @@ and `exec` of the program judge and run it. Then the guest runs it, by kexec -e
 or by a panic, and stops at the first instruction of the new image. Each page
 of its memory that the image is to have is compared with OUT of `exec`."""
 EPILOG = """Each line says a step and what it showed; the last line is the row of a table.
-Status 0 where the list is accepted and no page differs, else 1; with --spoil 0
-where `check` or `exec` told the spoiled word."""
+Status 0 where the list is accepted, no page differs, and each spoiled word was
+told; else 1."""
 
 
 def parser():
@@ -46,8 +46,7 @@ def parser():
                  "FILE")
     words.option("inside", "let the guest read its own memory too, by /proc/kcore, and compare the files")
     words.option("whole", "compare all of RAM too, from the moment at which no other code of the old kernel runs")
-    words.option("spoil", f"spoil the list in the guest's memory first: {', '.join(spoils.SPOILS)}", "WHAT",
-                 choices=list(spoils.SPOILS))
+    words.option("spoil", "spoil the list in the guest's memory first, by one word after another, and say what tells it")
     words.option("on", "let the next kernel come up")
     words.option("keep", "keep the files, but for the guest's RAM", "FOLDER")
     return words
@@ -97,12 +96,19 @@ class Story:
         return is_same
 
     def spoil(self):
-        """Spoils the list in the guest's memory, and dumps and reads it again."""
-        place, value, what = spoils.SPOILS[self.given.spoil](self.found, self.guest.physical())
-        spoils.write(self.guest.memory, place, value)
-        tell.step(f"spoiled in the guest's memory: {what}")
-        os.remove(f"{self.folder}/guest.core")
-        self.read()
+        """Spoils the list in the guest's memory, by one word after another; whether each was told. The list is whole behind it."""
+        memory, folder, are_told = self.guest.physical(), f"{self.folder}/spoiled", True
+        for row in spoils.spoils_of(self.found, memory):
+            before = memory.word(row.place)
+            spoils.write(self.guest.memory, row.place, row.value)
+            kernel = self.kernel.over(self.guest.physical())
+            found = findings.find(kernel, self.is_crash, self.given.loader)
+            output.write(folder, kernel, found, ())
+            told = comparison.fault_of(folder, found)
+            spoils.write(self.guest.memory, row.place, before)
+            tell.step(f"spoiled: {row.what}: {told or 'NOT TOLD'}")
+            are_told = are_told and bool(told)
+        return are_told
 
     def panic(self):
         """Lets the guest panic, and its crash kernel read what the guest had loaded; whether it reads the same."""
@@ -181,9 +187,7 @@ def follow(story, given):
     story.read()
     story.compare_maps()
     is_good = not given.inside or story.compare_files("kcore", "read inside the guest from /proc/kcore")
-    if given.spoil:
-        story.spoil()
-        return not story.judge() or bool(story.found.touched)
+    is_good = (not given.spoil or story.spoil()) and is_good
     is_good = story.judge() and is_good
     if given.way == "vmcore":
         return story.panic() and is_good

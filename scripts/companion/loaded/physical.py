@@ -61,30 +61,6 @@ class Physical:
                     at = data.find(wanted, at + 1, offset + length)
 
 
-class Patched:
-    """A memory in which some words are others: (address, word) each."""
-
-    def __init__(self, physical, words):
-        self.physical, self.words = physical, words
-
-    def read(self, address, size):
-        data = bytearray(self.physical.read(address, size))
-        for at, word in self.words.items():
-            for i, byte in enumerate(struct.pack("<Q", word)):
-                if address <= at + i < address + size:
-                    data[at + i - address] = byte
-        return bytes(data)
-
-    def word(self, address):
-        return struct.unpack("<Q", self.read(address, 8))[0]
-
-    def page(self, number):
-        return self.read(number * PAGE, PAGE)
-
-    def __getattr__(self, name):
-        return getattr(self.physical, name)
-
-
 def of_core(path):
     """The memory of an ELF core file, and the bytes of its notes."""
     rows = dumps.core_rows(path)
