@@ -46,13 +46,21 @@ class Findings(NamedTuple):
 
 
 class Memory:
-    """Words of memory for the walk: past the end of a dump there is the word 0, which no list has."""
+    """Words of memory for the walk, a page at a time: what a dump lacks is zeros, and no list has the word 0."""
 
     def __init__(self, physical):
-        self.physical = physical
+        self.physical, self.number, self.held = physical, None, b""
 
     def word(self, address):
-        return self.physical.word(address) if self.physical.has(address) else 0
+        number, place = divmod(address, PAGE)
+        if number != self.number:
+            self.number, self.held = number, page_of(self.physical, number)
+        return int.from_bytes(self.held[place : place + 8], "little")
+
+
+def page_of(physical, number):
+    """A page; zeros where memory lacks it."""
+    return physical.page(number) if physical.has(number * PAGE) else bytes(PAGE)
 
 
 def find(kernel, is_crash, loader=None):
@@ -85,7 +93,7 @@ def bytes_of(physical, segments, pairs, is_crash):
         for address in range(row.mem, row.mem + row.bufsz, PAGE):
             at = address if is_crash else source.get(address)
             lacking += at is None
-            parts.append(physical.read(at, PAGE) if at is not None and physical.has(at) else bytes(PAGE))
+            parts.append(bytes(PAGE) if at is None else page_of(physical, at // PAGE))
         found.append(b"".join(parts)[: row.bufsz])
     return found, lacking
 

@@ -39,8 +39,11 @@ for word in $(cat /proc/cmdline); do
 done
 # reads an image here, with these words for it, and says the digests of the files
 read_here() {
-    PYTHONHOME=/python PYTHONDONTWRITEBYTECODE=1 PYTHONPATH=/lib/companion /bin/python3 -S -m companion.loaded "$@" /out
-    echo "STORY $where status $?"
+    PYTHONHOME=/python PYTHONDONTWRITEBYTECODE=1 PYTHONPATH=/lib/companion \\
+        /bin/python3 -S -m companion.loaded "$@" /out >/said 2>&1
+    status=$?
+    cat /said
+    echo "STORY $where status $status"
     echo "STORY $where digests $(cd /out && sha256sum memory.kxmem record map | cut -d ' ' -f 1 | tr '\\n' ' ')"
 }
 next='@NEXT@'
