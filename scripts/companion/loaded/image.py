@@ -45,10 +45,10 @@ def is_loaded(kernel, is_crash):
 
 def nothing(kernel, is_crash):
     """The refusal where no image of this kind is loaded."""
-    name, how = SYMBOLS[is_crash], "kexec -p loads one" if is_crash else "kexec -l loads one"
-    other = "a next kernel is: leave out --crash" if is_crash else "a crash kernel is: give --crash"
-    is_other = is_loaded(kernel, not is_crash)
-    return Wrong(f"no {'crash' if is_crash else 'next'} kernel is loaded ({name} is 0): " + (other if is_other else how))
+    told = f"no {'crash' if is_crash else 'next'} kernel is loaded ({SYMBOLS[is_crash]} is 0)"
+    if is_loaded(kernel, not is_crash):
+        return Wrong(told + (", but a next kernel is: leave out --crash" if is_crash else ", but a crash kernel is: give --crash"))
+    return Wrong(told + (": kexec -p loads one" if is_crash else ": kexec -l loads one"))
 
 
 def read(kernel, is_crash):
