@@ -1,6 +1,6 @@
 -- Relocations that put nothing.
-use Rattle.std.proofs.Common.{◌≡◌, ℕ, ◌+◌, ◌*◌, ◌<◌, List, take, Bool, true, refl, sym, ap, ◌∙◌, subst, Option, Some, None, Result, Ok, Err, arith}
-use Rattle.std.specs.Prelude.{◌==◌, is_ok}
+use Rattle.std.proofs.Common.{◌≡◌, ℕ, ◌+◌, ◌*◌, ◌<◌, List, take, Bool, true, false, refl, sym, ap, ◌∙◌, subst, Option, Some, None, Result, Ok, Err, arith}
+use Rattle.std.specs.Prelude.{◌==◌, ◌&&◌, is_ok, is_some}
 use Rattle.std.proofs.lemmas.Bool.Decides.{nat_tests}
 use Rattle.kx_laws.proofs.Booleans.{and_parts}
 use Rattle.elf_image.specs.declared.reloc.Reloc.{Reloc}
@@ -25,7 +25,15 @@ use Rattle.purgatory_link.proofs.Relocating.{PutsNothing, none_put, idle_entries
 pub unloaded_idle : (base : ℕ) (o : Relocatable) (starts : List (Option ℕ)) (r : Reloc) → None ≡ start_at starts r.target → PutsNothing base o starts r
 unloaded_idle base o starts r none = λ puts. sym (put_passed base o starts puts r none)
 
+pub unloaded_entry : (file : List ℕ) (starts : List (Option ℕ)) (s : RelocSection) (k : ℕ) (start : Option ℕ) → start ≡ start_at starts s.target → is_some start ≡ false → None ≡ start_at starts (entry_of file s k).target
+unfolding entry_of
+unloaded_entry file starts s k None is none = is
+unloaded_entry file starts s k (Some start) is none = cc
+
 -- it is of type R_X86_64_NONE, and its symbol has a value
+pub is_none_by : (base : ℕ) (o : Relocatable) (starts : List (Option ℕ)) (r : Reloc) (v : Result ℕ LinkFault) → r.kind ≡ 0 → v ≡ symbol_value base starts o.symbols r.symbol → is_ok v ≡ true → is_none base o starts r ≡ true
+is_none_by base o starts r v kind is ok = ap (λ k. (k == 0) && is_ok (symbol_value base starts o.symbols r.symbol)) kind ∙ ap is_ok (sym is) ∙ ok
+
 none_idle : (base : ℕ) (o : Relocatable) (starts : List (Option ℕ)) (r : Reloc) → is_none base o starts r ≡ true → PutsNothing base o starts r
 none_idle base o starts r is = λ puts. at puts (start_at starts r.target) refl
   where

@@ -4,12 +4,12 @@ use Rattle.purgatory_link.specs.Relocs.{with_one, put_of}
 use Rattle.purgatory_link.specs.inner.Relocs.{HasRoom, is_idle}
 use Rattle.purgatory_link.proofs.Found.{some_put}
 use Rattle.purgatory_link.proofs.Relocating.{one_put, entry_put, entry_refused, entries_put, all_idle}
-use Rattle.purgatory_link.proofs.Idle.{unloaded_idle, first_run, next_run}
+use Rattle.purgatory_link.proofs.Idle.{unloaded_idle, unloaded_entry, first_run, next_run}
 use Rattle.purgatory_link.proofs.relocate.relocate_section.Goals as goal
 
 pub returns-then-is_none-clause-put : goal.returns-then-is_none-clause-put
 returns-then-is_none-clause-put c =
-    all_idle c.args.base c.args.object.now c.args.starts.now c.args.buffer.now c.args.file.now c.args.section.now (λ k _. unloaded_idle c.args.base c.args.object.now c.args.starts.now (entry_of c.args.file.now c.args.section.now k) ?)
+    all_idle c.args.base c.args.object.now c.args.starts.now c.args.buffer.now c.args.file.now c.args.section.now (λ k _. unloaded_idle c.args.base c.args.object.now c.args.starts.now (entry_of c.args.file.now c.args.section.now k) (unloaded_entry c.args.file.now c.args.starts.now c.args.section.now k c.start_at.result c.start_at.ensures c.if-is_none.ensures))
 
 pub loop-entry-init : goal.loop-entry-init
 loop-entry-init c = record {
