@@ -28,6 +28,7 @@ UNMET = {
     "these parts are made, and given by no option": [
         "Plan Unused Kernel", "Plan Unused Headers", "Plan Unused Parameters", "Plan Unused Information"],
     "each type takes a purgatory": ["Plan Unused Purgatory"],
+    "a plan looks up four symbols, which have names of their own": ["Plan Link NoSymbol Other"],
 }
 
 # Endings that a scene meets inside alone, where no sentence is said.
