@@ -34,11 +34,11 @@ use Rattle.kexec_main.specs.Startup.{planned_startup}
 use Rattle.worked_commands.specs.Shelves.{Desk, Slate}
 
 -- a shelf that holds these files, and a sink that has been said this
-abbrev pub desk_with : Files → Desk
-desk_with held = record { files = Some held; faults = 0 }
+abbrev pub desk_of : Files → Desk
+desk_of held = record { files = Some held; faults = 0 }
 
-abbrev pub slate_with : List ℕ → Slate
-slate_with text = record { said = Some text; faults = 0 }
+abbrev pub slate_of : List ℕ → Slate
+slate_of text = record { said = Some text; faults = 0 }
 
 -- these bytes were put under this name, and all else is as it was; this was said
 abbrev pub IsPut : List ℕ → List ℕ → Files → Type 0

@@ -16,7 +16,7 @@ use Rattle.kexec_main.specs.LoadPanic.{PanicLoad}
 use Rattle.kexec_main.specs.Runs.{run_text}
 use Rattle.kexec_main.specs.Startup.{planned_startup}
 use Rattle.worked_commands.specs.Drawn.{EachBut, found, found_with}
-use Rattle.worked_commands.specs.Fields.{desk_with, fields_of_boot, fields_of_exec, fields_of_panic, fields_of_resident, slate_with}
+use Rattle.worked_commands.specs.Fields.{desk_of, fields_of_boot, fields_of_exec, fields_of_panic, fields_of_resident, slate_of}
 use Rattle.worked_commands.specs.Inputs.{few_read}
 use Rattle.worked_commands.specs.Lists.{plain_record}
 use Rattle.worked_commands.specs.Loads.{few_plan, nothing_loaded}
@@ -37,7 +37,7 @@ with_x output = insert empty (codes "x") output
 -- ---- `boot`: these files were there after it, and this was said
 abbrev pub BootsTo : Files → List ℕ → Type 0
 BootsTo now text =
-    HasBooted desk slate (desk_with empty) (slate_with []) (desk_with now) (slate_with text)
+    HasBooted desk slate (desk_of empty) (slate_of []) (desk_of now) (slate_of text)
     (boot_raw None) few_read
 
 -- all fields but number n hold, by this load and this output, and it was no boot
@@ -53,7 +53,7 @@ nothing_text = run_text None nothing_loaded (planned_startup few_plan)
 -- ---- `exec` of the loaded memory and of a record
 abbrev pub ExecsTo : Record → Files → List ℕ → Type 0
 ExecsTo r now text =
-    HasExecuted desk slate (desk_with empty) (slate_with []) (desk_with now) (slate_with text)
+    HasExecuted desk slate (desk_of empty) (slate_of []) (desk_of now) (slate_of text)
     (exec_record false) (list_files loaded r)
 
 abbrev pub ExecNeeds : ℕ → Record → Checked → List ℕ → Files → List ℕ → Type 0
@@ -98,8 +98,8 @@ no_segments = record crash_load { segments = [] }
 -- ---- `boot-resident`, without resident pages
 abbrev pub ResidentTo : ResidentInputs → Files → List ℕ → Type 0
 ResidentTo i now text =
-    HasBootedResident desk slate (desk_with empty) (slate_with []) (desk_with now)
-    (slate_with text) boot_resident_raw i
+    HasBootedResident desk slate (desk_of empty) (slate_of []) (desk_of now)
+    (slate_of text) boot_resident_raw i
 
 -- the list that is made of it, in the pages 10, 11 and 12
 abbrev pub made_list : ResidentList

@@ -1,6 +1,6 @@
 //! What logs say: of a copy of `a` to `o`, with a second output `r` and a text, and of two commands.
 
-ghost use Rattle.std.specs.Prelude.{◌≡◌, ◌∷◌, [], Some, None, codes};
+ghost use Rattle.std.specs.Prelude.{◌≡◌, ℕ, ◌∷◌, [], Some, None, codes};
 ghost use Rattle.call_log.specs.Calls.{ShelfGoes, SinkGoes, put, said, unput, unsaid as say_failed, untaken, wanting};
 ghost use Rattle.call_log.specs.Replays.{Recorded};
 ghost use Rattle.call_log.specs.Told.{IsSteady, IsUnrefused, ReadAs, of_bytes, of_files, taken_files, with_puts};
@@ -61,8 +61,8 @@ pub fn files_of_a_log()
     ensures steady { IsSteady copy_calls }
     ensures taken_again { IsSteady (a_taken (codes "xyz") ∷ a_taken (codes "xyz") ∷ []) }
     ensures changed { IsSteady (a_taken (codes "xyz") ∷ a_taken (codes "xy") ∷ []) → ⊥ }
-    ensures unrefused { IsUnrefused (unwritten (codes "r")) }
-    ensures is_refused { IsUnrefused (refused (by 7)) → ⊥ }
+    ensures unrefused { IsUnrefused {F = ℕ} {R = ℕ} (unwritten (codes "r")) }
+    ensures is_refused { IsUnrefused {F = ℕ} {R = ℕ} (refused (by 7)) → ⊥ }
 {}
 
 /// The log of a boot of the kernel `abc` says that OUT is the file of the run, whatever the shelf; and that of a migrated

@@ -1,7 +1,7 @@
 -- By what was taken, made and put.
 use Rattle.std.proofs.Common.{◌≡◌, ◌∙◌, ◌≤◌, ℕ, List, [], ◌∷◌, Some, None, Result, Ok, Err, Bool, true, false, cond, length, refl, sym, ap, arith, inl, inr}
 use Rattle.std.specs.Prelude.{◌⊎◌, codes, nat_lt}
-use Rattle.call_log.specs.Calls.{Call, put, said, taken, wanting}
+use Rattle.call_log.specs.Calls.{Call, put, said, taken, unput, wanting}
 use Rattle.call_log.specs.Replays.{EndsUntaken, EndsWanting, Replays, puts_of}
 use Rattle.file_commands.specs.Answers.{Goods}
 use Rattle.file_commands.specs.Files.{whole_file}
@@ -16,7 +16,7 @@ took = whole_file 3 (codes "a")
 -- the log of these bytes, and of what comes behind them
 replays : (rest : List Call) → Replays took (a_taken (codes "xyz") ∷ rest) (Ok (codes "xyz")) rest
 unfolding Replays
-replays rest = (codes "xyz", rest, refl, omega arith, (refl, refl))
+replays rest = (codes "xyz", rest, refl, (let p : 3 ≤ 4 = omega arith in p), (refl, refl))
 
 abbrev puts : List Call
 puts = put (codes "o") (codes "xyz") ∷ put (codes "r") (codes "12") ∷ []
@@ -41,14 +41,14 @@ unfolding Replays
 nothing_behind x rest (bytes, more, e, within, h) =
     tail_same (a_taken (codes "xyz")) (taken (codes "a") 4 bytes) [] more e ∙ rest_of (nat_lt 3 (length bytes)) bytes more rest x h
 
-puts_something : (x : List ℕ) (goods : Goods ℕ) → copies None x (Ok goods) → goods ≡ copy_goods None x
-puts_something [] goods m = absurd m
-puts_something (b ∷ bs) goods m = m
+goods_are : (x : List ℕ) (goods : Goods ℕ) → copies None x (Ok goods) → goods ≡ copy_goods None x
+goods_are [] goods m = absurd m
+goods_are (b ∷ bs) goods m = m
 
 pub returns-clause-no_put : goal.returns-clause-no_put
 returns-clause-no_put c = λ (x, goods, h, m, fault, text).
-    let g = puts_something x goods m in
-    no_rest _ _ (nothing_behind x _ h ∙ ap (λ (g : Goods ℕ). puts_of g.outputs) g)
+    let g = goods_are x goods m in
+    no_rest (put (codes "o") x) (put (codes "r") (codes "12") ∷ []) (nothing_behind x (puts_of goods.outputs) h ∙ ap (λ (g : Goods ℕ). puts_of g.outputs) g)
 
 no_text : (c : Call) → ◌≡◌ {A = List Call} [] (c ∷ []) → ⊥
 no_text c e = cc
@@ -67,10 +67,10 @@ pub returns-clause-unwritten : goal.returns-clause-unwritten
 returns-clause-unwritten c = (
   codes "xyz",
   copy_goods None (codes "xyz"),
-  _,
-  replays _,
+  put (codes "o") (codes "xyz") ∷ unput (codes "r") (codes "12") ∷ [],
+  replays (put (codes "o") (codes "xyz") ∷ unput (codes "r") (codes "12") ∷ []),
   refl,
-  inr (_, refl, inl (refl, refl)),
+  inr (unput (codes "r") (codes "12") ∷ [], refl, inl (refl, refl)),
   refl,
 )
 
@@ -79,11 +79,11 @@ returns-clause-unsaid c = (codes "xyz", copy_goods None (codes "xyz"), replays p
 
 pub returns-clause-refused : goal.returns-clause-refused
 unfolding Replays
-returns-clause-refused c = (inr ([], ([], [], refl, omega arith, (refl, refl)), refl), refl)
+returns-clause-refused c = (inr ([], ([], [], refl, (let p : 0 ≤ 4 = omega arith in p), (refl, refl)), refl), refl)
 
 pub returns-clause-too_long : goal.returns-clause-too_long
 unfolding Replays
-returns-clause-too_long c = (inl (codes "wxyz", [], refl, omega arith, (refl, refl)), refl)
+returns-clause-too_long c = (inl (codes "wxyz", [], refl, (let p : 4 ≤ 4 = omega arith in p), (refl, refl)), refl)
 
 pub returns-clause-wanted : goal.returns-clause-wanted
 unfolding EndsWanting
@@ -104,9 +104,9 @@ other_call cs e = cc
 
 not_put : EndsWanting took copy_calls → ⊥
 unfolding EndsWanting
-not_put (inl e) = no_rest _ _ (sym e)
+not_put (inl e) = no_rest (a_taken (codes "xyz")) puts (sym e)
 not_put (inr (inl e)) = other_call puts e
-not_put (inr (inr (bytes, more, e, h))) = no_rest _ _ (sym (tail_same (a_taken (codes "xyz")) (taken (codes "a") 4 bytes) puts more e ∙ check_ends (nat_lt 3 (length bytes)) bytes more h))
+not_put (inr (inr (bytes, more, e, h))) = no_rest (put (codes "o") (codes "xyz")) (put (codes "r") (codes "12") ∷ []) (sym (tail_same (a_taken (codes "xyz")) (taken (codes "a") 4 bytes) puts more e ∙ check_ends (nat_lt 3 (length bytes)) bytes more h))
 
 pub returns-clause-wanted_and_put : goal.returns-clause-wanted_and_put
 returns-clause-wanted_and_put c = λ h. not_put h.0

@@ -10,16 +10,18 @@ use Rattle.kx_pages.specs.declared.image.Wish.TheVariants.{Plain}
 use Rattle.file_commands.specs.Taking.{and_then}
 use Rattle.call_log.specs.Calls.{Call, put, said}
 use Rattle.call_log.specs.Replays.{Replays}
-use Rattle.call_log.specs.Told.{of_bytes, of_files}
+use Rattle.call_log.specs.Told.{of_bytes, of_files, with_puts}
 use Rattle.kexec_main.specs.Inputs.{load_inputs}
+use Rattle.kexec_main.specs.Runs.{run_text}
+use Rattle.kexec_main.specs.Startup.{planned_startup}
 use Rattle.kexec_main.proofs.Ending.{again_of, machine_of}
 use Rattle.kexec_main.proofs.Leaving.{leaves_of}
 use Rattle.kexec_main.proofs.Loads.{normal}
 use Rattle.kexec_main.proofs.Proving.{proves_itself}
 use Rattle.recorded_kexec.specs.Boot.{HasBootedLogged}
-use Rattle.worked_commands.specs.Inputs.{each_of, few_read}
+use Rattle.worked_commands.specs.Inputs.{each_file, each_of, few_read}
 use Rattle.worked_commands.specs.Loads.{boot_text, few_plan}
-use Rattle.worked_commands.specs.Logs.{boot_calls}
+use Rattle.worked_commands.specs.Logs.{boot_calls, migrate_calls}
 use Rattle.worked_commands.specs.Memories.{run_file}
 use Rattle.worked_commands.specs.Names.{boot_raw, few_inputs}
 use Rattle.worked_commands.proofs.Loads.{plan_is}
@@ -59,10 +61,10 @@ silent : (call : Call) → ◌≡◌ {A = List Call} [] (call ∷ []) → ⊥
 silent call e = cc
 
 pub returns-clause-not_said : goal.returns-clause-not_said
-returns-clause-not_said c = λ h. silent _ h.said_text
+returns-clause-not_said c = λ h. silent (said (run_text None h.checked (planned_startup h.planned))) h.said_text
 
 pub returns-clause-migrated : goal.returns-clause-migrated
-returns-clause-migrated c = (codes "record segments 1\n", refl, migrated of_files of_bytes _ [] _ (codes "record segments 1\n") refl refl)
+returns-clause-migrated c = (codes "record segments 1\n", refl, migrated of_files of_bytes each_file [] (with_puts each_file migrate_calls) (codes "record segments 1\n") refl refl)
 
 pub returns-clause-no_load : goal.returns-clause-no_load
 returns-clause-no_load c = (codes "record segments 1\n", refl, tt)
