@@ -62,7 +62,8 @@ def test_machines(tests):
         laid_out(tests, "one", machine)
         words = ["--crash"] * (way == "crash")
         status, told = loaded(tests, *running("one"), *words, "here")
-        tests.same(f"loaded of a running machine, {way}", (status, "not in the dump" in told), (0, False))
+        tests.same(f"loaded of a running machine, {way}",
+                   (status, "not in the dump" in told, "the digest is that of the bytes" in told), (0, False, True))
         tests.same(f"loaded of a dump, {way}", loaded(tests, "--core", "one/core", *words, "there")[0], 0)
         for name in FILES:
             tests.same(f"{name}, {way}: of a running machine and of its dump", tests.read(f"here/{name}"),
@@ -134,6 +135,8 @@ def test_loader(tests):
     tests.same("table and digest by the symbols", numbers[-2:], (machine.table, machine.digest))
     told = tests.run("kexec", "exec", "bad/out/memory.kxmem", "bad/out/record", "out.kxmem")[1]
     tests.same("a byte of a source is told by the regions", "regions differ" in told, True)
+    told = loaded(tests, "--core", "bad/core", "--loader", "bad/loader", "bad/out")[1]
+    tests.same("and by loaded", "the digest is NOT that of the bytes" in told, True)
     loaded(tests, "--core", "bad/core", "bad/out")
     numbers, _ = record_of(tests, "bad/out/record")
     tests.same("without the program they are left out", numbers[-2:], (0, 0))

@@ -76,7 +76,7 @@ def find(kernel, is_crash, loader=None):
     data, lacking = bytes_of(kernel.physical, segments, pairs, is_crash)
     if images.read(kernel, is_crash) != image:
         raise Wrong("another image was loaded while this one was read: try again")
-    places = purgatory.find(kernel, image, [one[: row.bufsz] for row, one in zip(segments, data)], loader)
+    places = purgatory.find(kernel, image, segments, data, loader)
     is_exchange = None if is_crash else copying.is_by_exchanges(copying.code_of(kernel))
     touched = touched_by_segments(image, segments) if is_crash else touched_by_list(image, words, pairs)
     return Findings(image, words, pairs, segments, data, lacking, touched, places, is_exchange)
