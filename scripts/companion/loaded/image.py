@@ -40,7 +40,9 @@ class Image(NamedTuple):
 
 
 def is_loaded(kernel, is_crash):
-    return bool(kernel.virtual.word(kernel.symbol(SYMBOLS[is_crash])))
+    """Whether an image of this kind is loaded; a kernel without CONFIG_CRASH_DUMP has no symbol for a crash image."""
+    address = kernel.symbols.get(SYMBOLS[is_crash])
+    return bool(address and kernel.virtual.word(address))
 
 
 def nothing(kernel, is_crash):

@@ -44,9 +44,10 @@ def _image(found):
     places = found.purgatory
     if places:
         print(f"purgatory: table of regions at {address(places.table)}, digest at {address(places.digest)}, found {places.how}")
-        is_right = purgatory.is_right(found.segments, found.data, places)
-        print("  the digest is that of the bytes" if is_right else "  the digest is NOT that of the bytes: they are not those that were "
-              "loaded")
+        if purgatory.is_right(found.segments, found.data, places):
+            print("  the digest is that of the bytes")
+        else:
+            print("  the digest is NOT that of the bytes: they are not those that were loaded")
     else:
         print("purgatory: its table of regions was not found: the record has none, and exec says nothing of regions")
 
