@@ -153,6 +153,19 @@ def test_touched(tests):
         tests.same(f"a source that is {what}", (status, wanted in told), (1, True))
 
 
+def test_in_place(tests):
+    """A segment that was loaded in its place is left out of the record, since no list has it."""
+    machine = Machine("load", True, COPIES, in_place=1)
+    laid_out(tests, "one", machine)
+    status, told = loaded(tests, "--core", "one/core", "here")
+    tests.same("a segment in its place", (status, "segment 0x400000 was loaded in its place" in told), (0, True))
+    tests.same("the others", record_of(tests, "here/record")[1], machine.segments[1:])
+    told = tests.run("kexec", "check", "here/memory.kxmem", "here/record")[1]
+    tests.same("check of the others", told, "accepted words 13 links 2 pairs 8\n")
+    laid_out(tests, "one", Machine("load", True, COPIES, in_place=3))
+    tests.refuses("it has no list to be checked", "scripts/kernelyet", "loaded", "--core", "one/core", "here")
+
+
 def test_options(tests):
     """--copies, --all, --raw, and symbols, types and map from files."""
     machine = Machine("load")
@@ -241,5 +254,5 @@ def in_folder(test):
     return run
 
 
-ALL = [in_folder(test) for test in (test_machines, test_spoiled, test_loader, test_touched, test_options, test_refusals,
-                                    test_copying, test_names)]  # fmt: skip
+ALL = [in_folder(test) for test in (test_machines, test_spoiled, test_loader, test_touched, test_in_place, test_options,
+                                    test_refusals, test_copying, test_names)]  # fmt: skip

@@ -18,7 +18,7 @@ def run(*words):
 
 
 def fault_of(folder, found):
-    """What tells that a list is spoiled: `check`, the regions that `exec` tests, or `loaded` itself; None where nothing does."""
+    """What tells that a list is spoiled: `check`, the regions that `exec` tests, or `loaded` itself; None where none does."""
     files = [f"{folder}/memory.kxmem", f"{folder}/record"]
     status, out, _ = program.run(["check", *files])
     if status:

@@ -96,7 +96,8 @@ class Story:
         return is_same
 
     def spoil(self):
-        """Spoils the list in the guest's memory, by one word after another; whether each was told. The list is whole behind it."""
+        """Spoils the list in the guest's memory, by one word after another; whether each was told. The list is whole again
+        behind it."""
         memory, folder, are_told = self.guest.physical(), f"{self.folder}/spoiled", True
         for row in spoils.spoils_of(self.found, memory):
             before = memory.word(row.place)
