@@ -8,7 +8,7 @@ import shutil
 import tempfile
 
 from companion import program, qemu
-from companion.loaded import comparison, findings, guest_disk, output, sources, spoils, tell
+from companion.loaded import comparison, findings, guest_disk, many_runs, output, sources, spoils, tell
 from companion.loaded.guest_machine import Guest
 from companion.numbers import PAGE, address, counted
 from companion.parsers import Parser, integer
@@ -49,6 +49,9 @@ def parser():
     words.option("spoil", "spoil the list in the guest's memory first, by one word after another, and say what tells it")
     words.option("on", "let the next kernel come up")
     words.option("keep", "keep the files, but for the guest's RAM", "FOLDER")
+    words.option("runs", "make many runs: each line of the file has the options of one; their table is printed behind them",
+                 "FILE")
+    words.option("together", "with --runs: how many at once (1)", "N", type=integer, default=1)
     return words
 
 
@@ -198,6 +201,9 @@ def follow(story, given):
 def main(arguments):
     words = parser()
     given = words.parse_args(arguments)
+    if given.runs:
+        common = [f"--loader={given.loader}", f"--busybox={given.busybox}", f"--seconds={given.seconds}"]
+        return 0 if many_runs.tell(given.runs, common, given.together) else 1
     given.next = given.next or given.kernel
     given.module = (given.module or given.kernel) if given.way == "multiboot" else None
     files = [("a kernel (--kernel)", given.kernel), ("a next kernel (--next)", given.next),
