@@ -206,8 +206,8 @@ def main(arguments):
         return 0 if many_runs.tell(given.runs, common, given.together) else 1
     given.next = given.next or given.kernel
     given.module = (given.module or given.kernel) if given.way == "multiboot" else None
-    files = [("a kernel (--kernel)", given.kernel), ("a next kernel (--next)", given.next),
-             ("kexec (--loader)", given.loader), ("a static busybox (--busybox)", given.busybox)]
+    files = [("kernel (--kernel)", given.kernel), ("next kernel (--next)", given.next), ("kexec (--loader)", given.loader),
+             ("static busybox (--busybox)", given.busybox)]
     lacks = [qemu.QEMU] * (not shutil.which(qemu.QEMU)) + [what for what, path in files if not os.path.isfile(path)]
     if lacks:
         raise Wrong(f"there is no {', no '.join(lacks)}")

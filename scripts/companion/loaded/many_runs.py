@@ -5,6 +5,7 @@ import subprocess
 import sys
 from concurrent.futures import ThreadPoolExecutor
 
+from companion.numbers import counted
 from companion.refusals import Wrong
 
 HEAD = ("Linux", "Loaded by", "RAM", "KASLR", "Levels", "Segments, bytes", "Runs lists by", "Words", "Differed before",
@@ -39,8 +40,10 @@ def tell(path, common, together):
             rows += [line for line in said.splitlines() if line.startswith("| ")]
             failed += status != 0
     print(f"| {' | '.join(HEAD)} |\n|{'---|' * len(HEAD)}")
-    print("\n".join(rows))
+    for row in rows:
+        print(row)
     cells = [row.strip("| ").split(" | ") for row in rows]
-    print(f"{len(runs)} runs, {failed} not as they must be; {sum(int(row[9]) for row in cells)} destination pages compared, "
-          f"{sum(int(row[10]) for row in cells)} differ")
+    compared, differ = (sum(int(row[HEAD.index(name)]) for row in cells) for name in ("Compared", "Differ"))
+    print(f"{counted(len(runs), 'run')}, {failed} not as they must be; {counted(compared, 'destination page')} compared, "
+          f"{differ} differ")
     return failed == 0
