@@ -1,17 +1,40 @@
 """Tests of `loaded` over made-up machines, which need no QEMU and no root: `tests` is what scripts/test-scripts makes."""
 import errno
 import os
+import re
+import socket
 import struct
+import threading
 from types import SimpleNamespace
 
 import made_up_machine
-from companion.loaded import copying, parts, sources
+from companion import program
+from companion.loaded import comparison, copying, findings, guest_machine, many_runs, output, parts, sources, spoils
+from companion.loaded.gdb_stub import Stub
 from companion.loaded.image import Segment
 from made_up_machine import COPIES, DESTINATION, EXCHANGES, PAGE, SOURCE, Machine, filled
 
 # of the list of a made-up machine: its words with the head and the done word, its list pages, its pairs
 FILES = ("memory.kxmem", "record", "map")
 LIST = "accepted words 20 links 2 pairs 14\n"
+# What tells each way to spoil a list; where it is not the same, with exchanges and with copies.
+TOLD = {
+    "a byte of a source": "exec says regions differ",
+    "a word has no flag": "check says word [0-9]+: Flags",
+    "a word has two flags": "check says word [0-9]+: Flags",
+    "a word has the source of an earlier word": ("check says word [0-9]+: PairsMeet", "exec says regions differ"),
+    "a word has the source of the next word": ("check says word [0-9]+: PairsMeet", "exec says regions differ"),
+    "a word has an earlier destination as its source": "check says word [0-9]+: SourceSpoiled",
+    "a word has the control page as its source": "check says word [0-9]+: ControlTouched",
+    "a word has the top of the page tables as its source": "loaded says word [0-9]+ touches the top of the page tables",
+    "a word has a source that is not below 2^46": "check says word [0-9]+: PastLimit",
+    "a word is a destination in place of a source": "check says word [0-9]+: NotWanted",
+    "a word ends the list": "check says word [0-9]+: Missing",
+    "the last word does not end the list": "check says word [0-9]+: (NotWanted|Flags|TwiceWritten)",
+    "a word has the swap page as its source": ("check says word [0-9]+: SwapTouched",
+                                               "loaded says word [0-9]+ touches the swap page"),
+    "a word links to the page of an earlier link": "check says word [0-9]+: LinkAgain",
+}
 
 
 def laid_out(tests, name, machine):
@@ -62,7 +85,8 @@ def test_machines(tests):
         laid_out(tests, "one", machine)
         words = ["--crash"] * (way == "crash")
         status, told = loaded(tests, *running("one"), *words, "here")
-        tests.same(f"loaded of a running machine, {way}", (status, "not in the dump" in told), (0, False))
+        tests.same(f"loaded of a running machine, {way}",
+                   (status, "not in the dump" in told, "the digest is that of the bytes" in told), (0, False, True))
         tests.same(f"loaded of a dump, {way}", loaded(tests, "--core", "one/core", *words, "there")[0], 0)
         for name in FILES:
             tests.same(f"{name}, {way}: of a running machine and of its dump", tests.read(f"here/{name}"),
@@ -134,6 +158,8 @@ def test_loader(tests):
     tests.same("table and digest by the symbols", numbers[-2:], (machine.table, machine.digest))
     told = tests.run("kexec", "exec", "bad/out/memory.kxmem", "bad/out/record", "out.kxmem")[1]
     tests.same("a byte of a source is told by the regions", "regions differ" in told, True)
+    told = loaded(tests, "--core", "bad/core", "--loader", "bad/loader", "bad/out")[1]
+    tests.same("and by loaded", "the digest is NOT that of the bytes" in told, True)
     loaded(tests, "--core", "bad/core", "bad/out")
     numbers, _ = record_of(tests, "bad/out/record")
     tests.same("without the program they are left out", numbers[-2:], (0, 0))
@@ -148,6 +174,19 @@ def test_touched(tests):
         status, told = loaded(tests, "--core", "bad/core", "bad/out")
         wanted = f"word 4 touches page {number * PAGE:#x}, {what}, without which Linux cannot run the list"
         tests.same(f"a source that is {what}", (status, wanted in told), (1, True))
+
+
+def test_in_place(tests):
+    """A segment that was loaded in its place is left out of the record, since no list has it."""
+    machine = Machine("load", True, COPIES, in_place=1)
+    laid_out(tests, "one", machine)
+    status, told = loaded(tests, "--core", "one/core", "here")
+    tests.same("a segment in its place", (status, "segment 0x400000 was loaded in its place" in told), (0, True))
+    tests.same("the others", record_of(tests, "here/record")[1], machine.segments[1:])
+    told = tests.run("kexec", "check", "here/memory.kxmem", "here/record")[1]
+    tests.same("check of the others", told, "accepted words 13 links 2 pairs 8\n")
+    laid_out(tests, "one", Machine("load", True, COPIES, in_place=3))
+    tests.refuses("it has no list to be checked", "scripts/kernelyet", "loaded", "--core", "one/core", "here")
 
 
 def test_options(tests):
@@ -165,10 +204,7 @@ def test_options(tests):
     moved = "".join(f"{at - made_up_machine.SHIFT:016x} D {name}\n" for name, at in machine.listed.items())
     tests.write("System.map", moved)
     tests.write("map", machine.map)
-    raw = bytearray(max(machine.pages) * PAGE + PAGE)
-    for page, data in machine.pages.items():
-        raw[page * PAGE : page * PAGE + PAGE] = data
-    tests.write("raw", bytes(raw))
+    tests.write("raw", raw_of(machine))
     given = ("--symbols", "System.map", "--map", "map", "--btf", "one/sys/kernel/btf/vmlinux")
     tests.same("a dump of bytes, with files", loaded(tests, "--raw", "raw", *given, "there")[0], 0)
     loaded(tests, "--core", "core", "here")
@@ -224,6 +260,93 @@ def test_names(tests):
     tests.same("with a purgatory", parts.names_of(found)[4], "purgatory")
 
 
+def raw_of(machine):
+    """The memory of a machine, as bytes from address 0 on."""
+    raw = bytearray(max(machine.pages) * PAGE + PAGE)
+    for page, data in machine.pages.items():
+        raw[page * PAGE : page * PAGE + PAGE] = data
+    return bytes(raw)
+
+
+def test_spoils(tests):
+    """Each word that the experiment spoils in a guest's memory is told: by check, by the regions, or by loaded itself."""
+    program.KEXEC = tests.env["KEXEC"]
+    for way, is_apart, code in (("file", False, EXCHANGES), ("load", True, COPIES)):
+        machine = Machine(way, is_apart, code)
+        tests.write("ram", raw_of(machine))
+        tests.write("loader", b"the program" + machine.purgatory.file)
+        path, folder, loader = (f"{tests.folder}/{name}" for name in ("ram", "spoiled", "loader"))
+        kernel = sources.of_dump(sources.Dump(raw=path))[0]
+        rows = spoils.spoils_of(findings.find(kernel, False), kernel.physical)
+        told = {}
+        for row in rows:
+            before = kernel.physical.word(row.place)
+            spoils.write(path, row.place, row.value)
+            found = findings.find(kernel, False, loader)
+            output.write(folder, kernel, found, ())
+            # the words without the numbers of words and pages
+            told[re.sub("word [0-9]+", "a word", row.what)] = comparison.fault_of(folder, found) or ""
+            spoils.write(path, row.place, before)
+        for what, wanted in TOLD.items():
+            wanted = wanted if isinstance(wanted, str) else wanted[code is COPIES]
+            found = told.pop(what, "")
+            tests.same(f"{way}: {what}", found if not re.search(wanted, found) else wanted, wanted)
+        tests.same(f"{way}: no other way to spoil", told, {})
+
+
+def test_guest_memory(tests):
+    """The file of a guest's RAM: what is above 3 GiB lies from 4 GiB on."""
+    path = f"{tests.folder}/ram"
+    with open(path, "wb") as file:
+        for place, data in ((0x5000, b"low page"), (3 << 30, b"high one")):
+            file.seek(place)
+            file.write(data)
+        file.truncate((3 << 30) + 2 * PAGE)
+    memory = guest_machine.physical(path)
+    tests.same("low and high memory", (memory.read(0x5000, 8), memory.read(1 << 32, 8)), (b"low page", b"high one"))
+    tests.same("no memory between", [memory.has(at) for at in ((3 << 30) - 1, 3 << 30, (1 << 32) + 2 * PAGE)],
+               [True, False, False])
+    spoils.write(path, (1 << 32) + 8, 0x1122334455667788)
+    tests.same("a word that is written there", memory.word((1 << 32) + 8), 0x1122334455667788)
+    os.remove(path)
+
+
+def test_stub(tests):
+    """The way to a breakpoint: a stop at the same address elsewhere is stepped past (GDB Remote Serial Protocol)."""
+    ours, theirs = socket.socketpair()
+    asked = []
+
+    def serve():
+        theirs.sendall(b"$T05thread:01;#07")
+        while True:
+            data = theirs.recv(4096)
+            for text in re.findall(rb"\$([^#]*)#", data):
+                asked.append(text.decode())
+                # what lets the machine run is answered by the stop, anything else at once, and a stop may come before it
+                theirs.sendall(b"+$T05thread:01;#07" if text in (b"c", b"s") else b"+$T02#b6$OK#9a")
+            if len(asked) == 7:
+                return
+
+    thread = threading.Thread(target=serve, daemon=True)
+    thread.start()
+    stops = iter((False, True))
+    Stub(ours).go_to(0x9A120, lambda: next(stops), 10)
+    thread.join(10)
+    tests.same("what was asked of the stub", asked, ["Z1,9a120,1", "c", "z1,9a120,1", "s", "Z1,9a120,1", "c", "z1,9a120,1"])
+    ours.close()
+    theirs.close()
+
+
+def test_runs(tests):
+    """A file of runs has the words of one on each line, and remarks."""
+    tests.write("runs", "# a remark\n--way load  # another\n\n--kernel 'a b' --way file\n")
+    tests.same("the runs of a file", many_runs.lines_of(f"{tests.folder}/runs"),
+               [["--way", "load"], ["--kernel", "a b", "--way", "file"]])
+    tests.write("runs", "# none\n")
+    tests.refuses("has no run", "scripts/kernelyet", "guest", "--loaded", "--runs", "runs")
+    tests.refuses("there is no kernel (--kernel)", "scripts/kernelyet", "guest", "--loaded", "--kernel", "nothing")
+
+
 def in_folder(test):
     """A test in a folder of its own, so that its files are no others'."""
 
@@ -238,5 +361,6 @@ def in_folder(test):
     return run
 
 
-ALL = [in_folder(test) for test in (test_machines, test_spoiled, test_loader, test_touched, test_options, test_refusals,
-                                    test_copying, test_names)]  # fmt: skip
+ALL = [in_folder(test) for test in (test_machines, test_spoiled, test_loader, test_touched, test_in_place, test_options,
+                                    test_refusals, test_copying, test_names, test_spoils, test_guest_memory, test_stub,
+                                    test_runs)]  # fmt: skip

@@ -28,13 +28,14 @@ def filled(number):
 
 
 class Machine:
-    """The machine. `is_apart` is the newer layout, in which the control page has no page tables before it; `way` is load,
-    file or crash. `words` of the list may be spoiled before `core` or `files` are asked for."""
+    """The machine. `way` is load, file or crash. `is_apart` is the newer layout, in which the control page has no page tables
+    before it. `spoil` changes the list once it stands. `changes` are what a test wants otherwise, as `in_place`: so many
+    segments that no list has."""
 
     def __init__(self, way="load", is_apart=False, code=EXCHANGES, levels=4, spoil=None, **changes):
         self.way, self.is_apart, self.levels, self.changes = way, is_apart, levels, changes
         self.pages, self.at, self.symbols = {}, {}, {}
-        self.free = 0x1400
+        self.free, self.in_place = 0x1400, changes.get("in_place", 0)
         self.types = btf_bytes(is_apart, changes.get("without"))
         self.put_list()
         if spoil:
@@ -80,7 +81,7 @@ class Machine:
                 self.write(mem, data.ljust(size, b"\0"))
             return
         words = []
-        for mem, size, data in self.segments:
+        for mem, size, data in self.segments[self.in_place :]:
             words.append(mem | DESTINATION)
             for at in range(0, size, PAGE):
                 source = self.take() * PAGE
@@ -116,6 +117,8 @@ class Machine:
         for i, (mem, size, data) in enumerate(self.segments):
             row = struct.pack("<4Q", 0, len(data), mem, self.changes.get("memsz", size))
             self.write(self.kimage + self.types.places["segment"] + 32 * i, row)
+        for i in range(self.in_place):
+            self.write(self.kimage + self.types.places["segment_cma"] + 8 * i, struct.pack("<Q", VMEMMAP))
         self.put_ring([(kept, 0 if self.is_apart else 1), (self.swap, 0)])
 
     def put_ring(self, rows):

@@ -60,10 +60,14 @@ def btf_bytes(is_apart, without=None):
     arch = out.struct("kimage_arch", 8 * len(arch_names), [(name, pointer, 64 * i) for i, name in enumerate(arch_names)])
     places = {"head": 0, "start": 24, "control_code_page": 32, "swap_page": 40, "nr_segments": 56, "segment": 64,
               "control_pages": 576, "flags": 592, "arch": 600}
-    kinds = {"segment": rows, "control_pages": ring, "arch": arch, "control_code_page": pointer, "swap_page": pointer}
+    if is_apart:
+        places["segment_cma"] = 648
+    pages = out.add("", ARRAY, 0, struct.pack("<III", pointer, half, 16))
+    kinds = {"segment": rows, "segment_cma": pages, "control_pages": ring, "arch": arch, "control_code_page": pointer,
+             "swap_page": pointer}
     members = [(name, kinds.get(name, word), 8 * place, 0) for name, place in places.items() if name != "flags"]
     members += [(name, half, 8 * places["flags"] + i, 1) for i, name in enumerate(("type", "preserve_context", "file_mode"))]
-    out.struct("kimage", 648, [row for row in members if row[0] != without], 1)
+    out.struct("kimage", 776 if is_apart else 648, [row for row in members if row[0] != without], 1)
     return Types(out.bytes(), {**places, "pgd": places["arch"]})
 
 

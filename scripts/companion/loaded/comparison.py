@@ -5,6 +5,7 @@ from companion import program
 from companion.loaded import copying, findings, guest_machine, output, tell
 from companion.memory_files import Memory
 from companion.numbers import PAGE, address, counted
+from companion.refusals import Wrong
 
 
 def run(*words):
@@ -17,7 +18,7 @@ def run(*words):
 
 
 def fault_of(folder, found):
-    """What tells that a list is spoiled: `check`, the regions that `exec` tests, or `loaded` itself; None where nothing does."""
+    """What tells that a list is spoiled: `check`, the regions that `exec` tests, or `loaded` itself; None where none does."""
     files = [f"{folder}/memory.kxmem", f"{folder}/record"]
     status, out, _ = program.run(["check", *files])
     if status:
@@ -53,7 +54,8 @@ class Moment:
         output.write(self.path, self.kernel, now, ())
         output.write_memory(f"{self.path}/memory.kxmem", self.physical, self.pages())
         run("check", f"{self.path}/memory.kxmem", f"{self.path}/record")
-        self.is_done, _ = run("exec", f"{self.path}/memory.kxmem", f"{self.path}/record", f"{self.path}/out.kxmem")
+        if not run("exec", f"{self.path}/memory.kxmem", f"{self.path}/record", f"{self.path}/out.kxmem")[0]:
+            raise Wrong("the list that was accepted from the dump is not accepted at this moment")
 
     def pages(self):
         return [page for start, _, _, size in self.physical.parts for page in range(start // PAGE, (start + size) // PAGE)]

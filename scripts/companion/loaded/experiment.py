@@ -8,7 +8,7 @@ import shutil
 import tempfile
 
 from companion import program, qemu
-from companion.loaded import comparison, findings, guest_disk, output, sources, spoils, tell
+from companion.loaded import comparison, findings, guest_disk, many_runs, output, sources, spoils, tell
 from companion.loaded.guest_machine import Guest
 from companion.numbers import PAGE, address, counted
 from companion.parsers import Parser, integer
@@ -49,6 +49,9 @@ def parser():
     words.option("spoil", "spoil the list in the guest's memory first, by one word after another, and say what tells it")
     words.option("on", "let the next kernel come up")
     words.option("keep", "keep the files, but for the guest's RAM", "FOLDER")
+    words.option("runs", "make many runs: each line of the file has the options of one; their table is printed behind them",
+                 "FILE")
+    words.option("together", "with --runs: how many at once (1)", "N", type=integer, default=1)
     return words
 
 
@@ -96,7 +99,8 @@ class Story:
         return is_same
 
     def spoil(self):
-        """Spoils the list in the guest's memory, by one word after another; whether each was told. The list is whole behind it."""
+        """Spoils the list in the guest's memory, by one word after another; whether each was told. The list is whole again
+        behind it."""
         memory, folder, are_told = self.guest.physical(), f"{self.folder}/spoiled", True
         for row in spoils.spoils_of(self.found, memory):
             before = memory.word(row.place)
@@ -197,10 +201,13 @@ def follow(story, given):
 def main(arguments):
     words = parser()
     given = words.parse_args(arguments)
+    if given.runs:
+        common = [f"--loader={given.loader}", f"--busybox={given.busybox}", f"--seconds={given.seconds}"]
+        return 0 if many_runs.tell(given.runs, common, given.together) else 1
     given.next = given.next or given.kernel
     given.module = (given.module or given.kernel) if given.way == "multiboot" else None
-    files = [("a kernel (--kernel)", given.kernel), ("a next kernel (--next)", given.next),
-             ("kexec (--loader)", given.loader), ("a static busybox (--busybox)", given.busybox)]
+    files = [("kernel (--kernel)", given.kernel), ("next kernel (--next)", given.next), ("kexec (--loader)", given.loader),
+             ("static busybox (--busybox)", given.busybox)]
     lacks = [qemu.QEMU] * (not shutil.which(qemu.QEMU)) + [what for what, path in files if not os.path.isfile(path)]
     if lacks:
         raise Wrong(f"there is no {', no '.join(lacks)}")

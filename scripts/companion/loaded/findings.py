@@ -11,8 +11,8 @@ from companion.refusals import Wrong
 
 class Findings(NamedTuple):
     """What was read of an image. `words` are the number, place and value of each word of the list; `pairs` the number of a
-    source word with destination and source; `data` the bytes of each segment. `lacking` are the pages of segments that no
-    pair brings; `touched` the word of the list that meets a page of the image's own, and what page it is; `is_exchange`
+    source word with destination and source; `data` the bytes of each segment. `lacking` counts the pages of segments that no
+    pair brings; `touched` has the word of the list that meets a page of the image's own, and what page it is; `is_exchange`
     whether this kernel runs the list by exchanges, None where its code does not say."""
 
     image: Image
@@ -67,6 +67,8 @@ def find(kernel, is_crash, loader=None):
     """What the kernel has loaded. `loader` is the program kexec, whose purgatory the image may have."""
     image = images.read(kernel, is_crash)
     segments = [row for row in image.segments if not row.is_in_place]
+    if not segments:
+        raise Wrong("each segment of the image was loaded in its place, in contiguous memory: it has no list to be checked")
     pages = sum(row.memsz for row in segments) // PAGE
     if pages > MOST_SEGMENT_PAGES:
         raise Wrong(f"the image has {counted(pages, 'page')} ({size_text(pages * PAGE)}), and a load record has at most "
@@ -76,7 +78,7 @@ def find(kernel, is_crash, loader=None):
     data, lacking = bytes_of(kernel.physical, segments, pairs, is_crash)
     if images.read(kernel, is_crash) != image:
         raise Wrong("another image was loaded while this one was read: try again")
-    places = purgatory.find(kernel, image, [one[: row.bufsz] for row, one in zip(segments, data)], loader)
+    places = purgatory.find(kernel, image, segments, data, loader)
     is_exchange = None if is_crash else copying.is_by_exchanges(copying.code_of(kernel))
     touched = touched_by_segments(image, segments) if is_crash else touched_by_list(image, words, pairs)
     return Findings(image, words, pairs, segments, data, lacking, touched, places, is_exchange)

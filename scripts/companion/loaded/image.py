@@ -40,14 +40,17 @@ class Image(NamedTuple):
 
 
 def is_loaded(kernel, is_crash):
-    return bool(kernel.virtual.word(kernel.symbol(SYMBOLS[is_crash])))
+    """Whether an image of this kind is loaded; a kernel without CONFIG_CRASH_DUMP has no symbol for a crash image."""
+    address = kernel.symbols.get(SYMBOLS[is_crash])
+    return bool(address and kernel.virtual.word(address))
 
 
 def nothing(kernel, is_crash):
     """The refusal where no image of this kind is loaded."""
     told = f"no {'crash' if is_crash else 'next'} kernel is loaded ({SYMBOLS[is_crash]} is 0)"
     if is_loaded(kernel, not is_crash):
-        return Wrong(told + (", but a next kernel is: leave out --crash" if is_crash else ", but a crash kernel is: give --crash"))
+        other, how = ("next", "leave out") if is_crash else ("crash", "give")
+        return Wrong(f"{told}, but a {other} kernel is: {how} --crash")
     return Wrong(told + (": kexec -p loads one" if is_crash else ": kexec -l loads one"))
 
 
@@ -73,8 +76,8 @@ def read(kernel, is_crash):
             raise Wrong(f"the layout of this kernel is not known: its struct kimage has the address {word:#x}")
     segments = segments_of(kernel, members, data)
     if is_crash and not kernel.physical.has(segments[0].mem):
-        raise Wrong(f"{kernel.physical.path} does not have the area that is reserved for a crash kernel, as /proc/vmcore leaves "
-                    "it out: the crash image cannot be read from it")
+        raise Wrong(f"{kernel.physical.path} does not have the area that is reserved for a crash kernel, as /proc/vmcore "
+                    "leaves it out: the crash image cannot be read from it")
     own = own_pages(kernel, at, members, top, transition_of(kernel, arch, arch_data))
     own.update({top: "the top of the page tables", control: "the control page"})
     if swap is not None:

@@ -85,38 +85,60 @@ def of_loader(path, image):
     return None
 
 
-def by_contents(image, data):
-    """The places by what stands in the segment that the image begins in: a table whose rows are segments, and the SHA-256
-    of what these have. So only a table is found whose digest is right."""
-    memory = {row.mem: one.ljust(row.memsz, b"\0") for row, one in zip(image.segments, data)}
-    sizes = {row.mem: row.memsz for row in image.segments}
-    for row, one in zip(image.segments, data):
+class Bytes:
+    """The memory of segments with these bytes: zeros follow them up to the end of their memory."""
+
+    def __init__(self, segments, data):
+        self.rows = [(row.mem, one.ljust(row.memsz, b"\0")) for row, one in zip(segments, data)]
+
+    def at(self, address, size):
+        """So many bytes; None where they do not lie in one segment."""
+        for mem, whole in self.rows:
+            if mem <= address and address + size <= mem + len(whole):
+                return whole[address - mem : address - mem + size]
+        return None
+
+
+def is_right(segments, data, places):
+    """Whether the digest at its place is the SHA-256 of the regions of the table; a row of no length is none."""
+    memory, digest = Bytes(segments, data), hashlib.sha256()
+    table = memory.at(places.table, 16 * ROWS)
+    for start, length in struct.iter_unpack("<QQ", table or b""):
+        region = memory.at(start, length) if length else b""
+        if region is None:
+            return False
+        digest.update(region)
+    return table is not None and memory.at(places.digest, DIGEST) == digest.digest()
+
+
+def by_contents(image, segments, data):
+    """The places by what stands in the segment that the image begins in: a table whose rows are segments, and the SHA-256 of
+    what these have. So only a table is found whose digest is right."""
+    for row, one in zip(segments, data):
         if not row.mem <= image.start < row.mem + row.memsz:
             continue
-        for first in image.segments:
+        for first in segments:
             at = one.find(struct.pack("<QQ", first.mem, first.memsz))
             while at >= 0:
-                place = one.find(digest_of(one, at, memory, sizes))
+                place = one.find(digest_of_rows(segments, data, one, at))
                 if place >= 0:
                     return Places(row.mem + at, row.mem + place, "by its contents")
                 at = one.find(struct.pack("<QQ", first.mem, first.memsz), at + 1)
     return None
 
 
-def digest_of(one, at, memory, sizes):
+def digest_of_rows(segments, data, one, at):
     """The SHA-256 of the segments that the rows of a table name, up to one that is none."""
+    whole = {(row.mem, row.memsz): own.ljust(row.memsz, b"\0") for row, own in zip(segments, data)}
     digest = hashlib.sha256()
-    for i in range(ROWS):
-        if at + 16 * i + 16 > len(one):
+    for row in struct.iter_unpack("<QQ", one[at : at + 16 * ROWS][: len(one[at:]) // 16 * 16]):
+        if row not in whole:
             break
-        start, length = struct.unpack_from("<QQ", one, at + 16 * i)
-        if sizes.get(start) != length:
-            break
-        digest.update(memory[start])
+        digest.update(whole[row])
     return digest.digest()
 
 
-def find(kernel, image, data, loader):
+def find(kernel, image, segments, data, loader):
     """The places of table and digest of an image whose segments have these bytes; None where they are not known."""
     found = of_kernel(kernel, image) if image.is_by_file else of_loader(loader, image) if loader else None
-    return found or by_contents(image, data)
+    return found or by_contents(image, segments, data)

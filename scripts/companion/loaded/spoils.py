@@ -24,10 +24,10 @@ def spoils_of(found, memory):
     """All ways to spoil a list, each by one word."""
     place = {number: (at, word) for number, at, word in found.words}
     moved = [(number, *place[number], destination) for number, destination, source in found.pairs if destination != source]
-    _, _, early, earlier = moved[min(EARLY, len(moved) // 3)]
+    _, _, early, earlier = moved[min(EARLY, len(moved) // 7)]
     number, at, word, _ = moved[min(LATE, len(moved) // 2)]
     _, _, behind, _ = moved[min(LATE, len(moved) // 2) + 1]
-    links = [row for row in found.words if lists.kind_of(row[2]) == "link" and row[1] is not None]
+    links = [row for row in found.words if lists.kind_of(row[2]) == "link"]
     image, address, own = found.image, word & -PAGE, (early & -PAGE) + 8
     rows = [
         Spoil("a byte of a source", own, memory.word(own) ^ 1),
@@ -46,7 +46,8 @@ def spoils_of(found, memory):
     if image.swap is not None:
         rows.append(Spoil(f"word {number} has the swap page as its source", at, image.swap * PAGE | SOURCE))
     if len(links) > 1:
-        rows.append(Spoil(f"word {links[1][0]} links to the page of an earlier link", links[1][1], links[0][2]))
+        # the head is the first of them, and has no place in memory's list
+        rows.append(Spoil(f"word {links[-1][0]} links to the page of an earlier link", links[-1][1], links[0][2]))
     return rows
 
 

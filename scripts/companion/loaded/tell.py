@@ -1,7 +1,7 @@
 """What is said of an image that was read."""
 import time
 
-from companion.loaded import copying, findings as found_words, parts
+from companion.loaded import copying, findings as found_words, parts, purgatory
 from companion.numbers import PAGE, address, counted, size_text
 
 STARTED = time.monotonic()
@@ -44,6 +44,10 @@ def _image(found):
     places = found.purgatory
     if places:
         print(f"purgatory: table of regions at {address(places.table)}, digest at {address(places.digest)}, found {places.how}")
+        if purgatory.is_right(found.segments, found.data, places):
+            print("  the digest is that of the bytes")
+        else:
+            print("  the digest is NOT that of the bytes: they are not those that were loaded")
     else:
         print("purgatory: its table of regions was not found: the record has none, and exec says nothing of regions")
 
