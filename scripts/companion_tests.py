@@ -236,8 +236,8 @@ def test_plan(tests):
 
 def test_crash_sizes(tests):
     """The least area by arithmetic loads, and one page less does not."""
-    for name, init_size, alignment, initrd in (("plain", 1 << 20, 1 << 21, 0), ("large", 40 << 20, 1 << 24, 3 << 20),
-                                               ("odd", (5 << 20) + 1, 1 << 12, 12345)):
+    for name, init_size, alignment, initrd in (("plain", 1 << 20, 1 << 21, 0), ("large", 3 << 20, 1 << 23, 300 << 10),
+                                               ("odd", (1 << 20) + 1, 1 << 12, 12345)):
         write_bzimage(f"{tests.folder}/k", 64 << 10, init_size, (bytes([7]) * PAGE for _ in range(16)),
                       kernel_alignment=alignment)
         tests.write("i", bytes([1]) * initrd)
