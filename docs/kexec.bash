@@ -71,6 +71,14 @@ _kernelyet_value() {
         'try:--start') said='nothing' ;;
         'try:--ram') said='nothing' ;;
         'try:--seconds') said='nothing' ;;
+        'loaded:--core') said='files' ;;
+        'loaded:--raw') said='files' ;;
+        'loaded:--map') said='files' ;;
+        'loaded:--symbols') said='files' ;;
+        'loaded:--btf') said='files' ;;
+        'loaded:--loader') said='files' ;;
+        'loaded:--proc') said='files' ;;
+        'loaded:--sysfs') said='files' ;;
         'guest:--kernel') said='files' ;;
         'guest:--vmlinux') said='files' ;;
         'guest:--busybox') said='files' ;;
@@ -87,7 +95,7 @@ _kernelyet() {
     COMPREPLY=()
     if [ "$COMP_CWORD" -eq 1 ]; then
         local known='boot load load-panic check dump exec trace migrate sample boot-resident drill core'
-        [[ ${COMP_WORDS[0]} == *kexec ]] || known+=' plan machine look compare picture parameters try guest'
+        [[ ${COMP_WORDS[0]} == *kexec ]] || known+=' plan machine look compare picture parameters try loaded guest'
         mapfile -t COMPREPLY < <(compgen -W "$known --help" -- "$word")
         return
     fi
@@ -131,7 +139,8 @@ _kernelyet() {
         'picture list') options='--kept --record --svg --check --make' words=(files) ;;
         'parameters') options='--initrd --kernel --json' words=(files) ;;
         'try') options='--start --ram --seconds' words=(files) ;;
-        'guest') options='--kernel --vmlinux --busybox --ram --crash --seconds --keep' words=() ;;
+        'loaded') options='--crash --all --copies --core --raw --map --symbols --btf --loader --proc --sysfs' words=(files) ;;
+        'guest') options='--kernel --vmlinux --busybox --ram --crash --seconds --keep --loaded' words=() ;;
     esac
     # the positional words before this one
     for ((at = from; at < COMP_CWORD; at++)); do

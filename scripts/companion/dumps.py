@@ -1,6 +1,7 @@
 """Dumps of a machine's memory: ELF core files and raw bytes."""
 import os
 import struct
+from typing import NamedTuple
 
 from companion.numbers import END_PAGE, PAGE
 from companion.refusals import Wrong
@@ -22,8 +23,23 @@ def refuse_others(path, head):
             raise Wrong(f"{path} is {what}: dump it without compression, or unpack it first (dump-guest-memory without -z)")
 
 
-def core_parts(path):
-    """Where an ELF core file has memory: (address, place in the file, size), rising."""
+class CoreRow(NamedTuple):
+    """A program header of a core file: what it says of (PT_LOAD, PT_NOTE), its place in the file, the address of its memory,
+    its size in the file, and in memory."""
+
+    kind: int
+    offset: int
+    address: int
+    length: int
+    memory: int
+
+
+LOAD, NOTE = 1, 4
+
+
+def core_rows(path):
+    """The program headers of an ELF core file: its notes, and the parts of memory; those of /proc/kcore at no place of memory
+    are left out."""
     with open(path, "rb") as file:
         size = os.fstat(file.fileno()).st_size
         head = file.read(64)
@@ -36,14 +52,19 @@ def core_parts(path):
         rows = file.read(entry * count)
     if entry < 56 or len(rows) < entry * count:
         raise Wrong(f"{path} is cut off in its program headers")
-    parts = []
+    found = []
     for i in range(count):
-        kind, _, offset, _, address, length, _, _ = struct.unpack_from("<IIQQQQQQ", rows, entry * i)
-        if kind == 1 and address < MOST_ADDRESS:
+        kind, _, offset, _, address, length, memory, _ = struct.unpack_from("<IIQQQQQQ", rows, entry * i)
+        if kind == NOTE or kind == LOAD and address < MOST_ADDRESS:
             if offset + length > size:
                 raise Wrong(f"{path} is cut off: the memory from {address:#x} on is not in it")
-            parts.append((address, offset, length))
-    return sorted(parts)
+            found.append(CoreRow(kind, offset, address, length, memory))
+    return found
+
+
+def core_parts(path):
+    """Where an ELF core file has memory: (address, place in the file, size), rising."""
+    return sorted((row.address, row.offset, row.length) for row in core_rows(path) if row.kind == LOAD)
 
 
 def raw_parts(path):

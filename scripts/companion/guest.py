@@ -13,6 +13,7 @@ import tempfile
 
 from companion import core_readers, maps, program, qemu
 from companion.guest_initrd import make_initrd, said_between
+from companion.loaded import experiment
 from companion.numbers import size_text
 from companion.parsers import Parser, integer
 from companion.progress import Progress, growth
@@ -51,6 +52,8 @@ def parser():
     words.option("crash", "its crash area in MiB; 160 without it", "MIB", type=integer, default=160)
     words.option("seconds", "how long one machine may run; 600 without it", "N", type=integer, default=600)
     words.option("keep", "keep all files in this folder", "FOLDER")
+    words.option("loaded", "let a guest run a list that its own kexec loaded, and compare its memory with OUT of exec: another story, "
+                 "with options of its own (guest --loaded --help)")
     return words
 
 
@@ -171,6 +174,8 @@ def tell(given):
 
 
 def main(arguments):
+    if "--loaded" in arguments:
+        return experiment.main([word for word in arguments if word != "--loaded"])
     given = parser().parse_args(arguments)
     lacks = [tool for tool in (qemu.QEMU, "gcc", "ld") if not shutil.which(tool)]
     named = [("a kernel (--kernel)", given.kernel), ("a static busybox (--busybox)", given.busybox)]

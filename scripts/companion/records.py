@@ -2,7 +2,7 @@
 import hashlib
 import struct
 
-from companion.numbers import PAGE
+from companion.numbers import PAGE, up
 from companion.refusals import Wrong
 
 # The bytes of a segment's numbers in a load record, and of its digest, by the record's first eight bytes.
@@ -119,16 +119,18 @@ def initrd_of(page):
 
 
 def record_bytes(head, control, segments, **numbers):
-    """The bytes of a load record, version 2: the segments are (address, bytes), zero-filled to whole pages; `swap`, `entry`
-    and the registers are numbers. With a swap page its context is preserved."""
+    """The bytes of a load record, version 2: the segments are (address, bytes), zero-filled to whole pages, or (address, bytes,
+    memsz); `swap`, `entry` and the registers are numbers. With a swap page its context is preserved."""
     value = lambda name: numbers.get(name, 0)
     entry = numbers.get("entry", segments[0][0])
     record = b"KXREC002" + struct.pack("<II", value("kind"), 1 if "swap" in numbers else 0)
     record += struct.pack("<10Q", head, control, value("swap"), entry, value("rax"), value("rbx"), value("rsi"),
                           value("regions"), value("digest"), len(segments))
-    for at, data in segments:
-        record += struct.pack("<QQQ", at, -(-len(data) // PAGE) * PAGE, len(data)) + hashlib.sha256(data).digest() + data
-    return record
+    parts = [record]
+    for at, data, *memory in segments:
+        (size,) = memory or (up(len(data), PAGE),)
+        parts += [struct.pack("<QQQ", at, size, len(data)), hashlib.sha256(data).digest(), data]
+    return b"".join(parts)
 
 
 def without_digests(record):

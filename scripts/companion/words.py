@@ -22,6 +22,7 @@ WORDS = {
     "picture": Word("companion.picture", "draw a machine's memory, or a list of page copies"),
     "parameters": Word("companion.parameters", "read the boot parameters out of a load record"),
     "try": Word("companion.trial", "boot a memory file in a virtual machine"),
+    "loaded": Word("companion.loaded", "read the image that a running Linux has loaded from its memory"),
     "guest": Word("companion.guest", "follow a guest from its panic to its vmcore, in QEMU"),
 }
 

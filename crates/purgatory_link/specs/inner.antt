@@ -2,7 +2,6 @@
 pub mod Relocs
 pub mod Taken
 pub mod Progress
-pub mod Names
 pub mod Set
 pub mod Meaning
 pub mod Tie

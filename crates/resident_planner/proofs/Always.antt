@@ -1,19 +1,16 @@
 -- Where nothing is refused, there is a list.
-use Rattle.std.proofs.Common.{◌≡◌, ℕ, ◌+◌, ◌-◌, ◌^◌, ◌<◌, ◌≤◌, List, [], ◌∷◌, ◌++◌, length, take, drop, filter, count_by, Option, Some, None, Bool, true, false, cond, refl, sym, ap, ◌∙◌, subst, inl, inr, ⊎_elim, arith}
+use Rattle.std.proofs.Common.{◌≡◌, ℕ, ◌+◌, ◌-◌, ◌^◌, ◌<◌, ◌≤◌, List, [], ◌∷◌, ◌++◌, length, take, drop, filter, Option, Some, None, Bool, true, false, cond, refl, sym, ap, ◌∙◌, subst, ⊎_elim, arith}
 use Rattle.std.specs.List.{AllByRecursion, range_with_len}
-use Rattle.std.specs.Prelude.{◌⊎◌}
 use Rattle.std.proofs.lemmas.Bool.{cases_lt}
 use Rattle.std.proofs.lemmas.List.{append_assoc, length-drop, length-take-le, take-append-drop}
 use Rattle.kx_laws.proofs.Booleans.{same_truth}
-use Rattle.kx_pages.specs.Bytes.{Mem}
-use Rattle.kx_pages.specs.Lists.{Has, has, Distinct, destinations}
+use Rattle.kx_pages.specs.Lists.{has, Distinct}
 use Rattle.kx_pages.specs.declared.image.Mode.TheVariants.{Plain}
-use Rattle.kx_pages.proofs.Lists.{Each-at, Each-filter, Each-from_Has, Each-left, Has-from_has, has-from_Has, Has-range, range-Has}
+use Rattle.kx_pages.proofs.Lists.{Each-at, Each-filter, Each-from_Has, Each-left, Has-from_has, has-from_Has, range-Has}
 use Rattle.page_memory.specs.Contents.{Contents, at, with_page}
 use Rattle.page_memory.specs.Memory.{put}
 use Rattle.page_memory.proofs.Laws.{at-with_page}
 use Rattle.segments.specs.Values.{SegmentValue, want, is_destination}
-use Rattle.segments.specs.inner.Rules.{IsBare}
 use Rattle.segments.proofs.Laws.{AreSegments-from_IsBare, Has-from_is_destination, pages_below}
 use Rattle.list_checker.specs.inner.Laws.{ListsWanted}
 use Rattle.kimage_list.specs.Laying.{link_pages, source_pages, put_all}
@@ -21,8 +18,7 @@ use Rattle.resident_planner.specs.declared.fault.ResidentFault.{ResidentFault}
 use Rattle.resident_planner.specs.declared.fault.ResidentFault.TheVariants as faults
 use Rattle.resident_planner.specs.declared.plan.Made.{Made}
 use Rattle.resident_planner.specs.Cycles.{cycles}
-use Rattle.resident_planner.specs.Plan.{is_fresh, Planned}
-use Rattle.resident_planner.specs.Laid.{given_sources, pair_items, plan_head, plan_memory}
+use Rattle.resident_planner.specs.Laid.{given_sources, pair_items, plan_head}
 use Rattle.resident_planner.specs.Stretches.{Rising}
 use Rattle.resident_planner.specs.Refusals.{AreWantedPages, IsFault, link_count, need_of, pairs_refusal, resident_of, usable}
 use Rattle.resident_planner.specs.Made.{IsMade}
@@ -59,6 +55,7 @@ with_pages m [] = m
 with_pages m (x ∷ xs) = with_page (with_pages m xs) x.0 x.1
 
 at-with_pages : (m : Contents) (xs : List (ℕ × List ℕ)) → at (with_pages m xs) ≡ put_all (at m) xs
+unfolding with_pages
 at-with_pages m [] = refl
 at-with_pages m (x ∷ xs) = at-with_page (with_pages m xs) x.0 x.1 ∙ ap (λ N. put N x.0 x.1) (at-with_pages m xs)
 

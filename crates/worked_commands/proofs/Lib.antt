@@ -20,3 +20,5 @@ pub mod WrongBoots
 pub mod WrongExecs
 pub mod WrongPanics
 pub mod WrongResidents
+pub mod Migrated
+pub mod Replayed

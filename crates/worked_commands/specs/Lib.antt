@@ -19,3 +19,4 @@ pub mod Kept
 pub mod Drawn
 pub mod Fields
 pub mod Wrong
+pub mod Logs

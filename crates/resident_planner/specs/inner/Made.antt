@@ -1,6 +1,6 @@
 -- What the planner makes (this project's own).
 -- No clause of `kexec` reaches what stands here: it serves laws, and contracts inside the crates.
-use Rattle.std.specs.Prelude.{◌≡◌, ℕ, ◌+◌, ◌^◌, ◌<◌, ◌≤◌, ◌++◌, ◌∷◌, List, [], length, map, Option, None, All, count_by}
+use Rattle.std.specs.Prelude.{◌≡◌, ℕ, ◌^◌, ◌<◌, ◌≤◌, ◌++◌, ◌∷◌, List, [], length, map, Option, None, All, count_by}
 use Rattle.std.specs.List.{AllByRecursion}
 use Rattle.kx_pages.specs.Bytes.{Mem}
 use Rattle.kx_pages.specs.Items.{code}

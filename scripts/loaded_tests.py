@@ -1,0 +1,242 @@
+"""Tests of `loaded` over made-up machines, which need no QEMU and no root: `tests` is what scripts/test-scripts makes."""
+import errno
+import os
+import struct
+from types import SimpleNamespace
+
+import made_up_machine
+from companion.loaded import copying, parts, sources
+from companion.loaded.image import Segment
+from made_up_machine import COPIES, DESTINATION, EXCHANGES, PAGE, SOURCE, Machine, filled
+
+# of the list of a made-up machine: its words with the head and the done word, its list pages, its pairs
+FILES = ("memory.kxmem", "record", "map")
+LIST = "accepted words 20 links 2 pairs 14\n"
+
+
+def laid_out(tests, name, machine):
+    """A machine's files, as the folder of a running machine and as a dump."""
+    for place, data in ((f"{name}/proc/kcore", machine.core(True)), (f"{name}/proc/kallsyms", machine.kallsyms()),
+                        (f"{name}/proc/iomem", machine.map), (f"{name}/sys/kernel/btf/vmlinux", machine.types.data),
+                        (f"{name}/core", machine.core())):
+        os.makedirs(f"{tests.folder}/{os.path.dirname(place)}", exist_ok=True)
+        tests.write(place, data)
+
+
+def loaded(tests, *words):
+    """Runs the word: its status, and what it printed."""
+    status, out, said = tests.run("scripts/kernelyet", "loaded", *words)
+    return status, out + said
+
+
+def running(name, *words):
+    return ("--proc", f"{name}/proc", "--sysfs", f"{name}/sys", *words)
+
+
+def memory_of(tests, path):
+    """The pages of a memory file."""
+    data = tests.read(path)
+    return {struct.unpack_from("<Q", data, at)[0]: data[at + 8 : at + 4104] for at in range(16, len(data), 4104)}
+
+
+def record_of(tests, path):
+    """Kind, mode, head, control, swap, entry, table and digest of a load record, and its segments."""
+    data = tests.read(path)
+    kind, mode, head, control, swap, entry, _, _, _, table, digest, count = struct.unpack_from("<II10Q", data, 8)
+    at, segments = 96, []
+    for _ in range(count):
+        mem, memsz, size = struct.unpack_from("<QQQ", data, at)
+        segments.append((mem, memsz, data[at + 56 : at + 56 + size]))
+        at += 56 + size
+    return (data[:8], kind, mode, head, control, swap, entry, table, digest), segments
+
+
+def test_machines(tests):
+    """Each kind of image, by both layouts and both depths of page tables: from a running machine and from a dump the same
+    files."""
+    for way, is_apart, levels, code in (
+        ("load", False, 4, EXCHANGES), ("file", False, 5, EXCHANGES), ("load", True, 5, COPIES),
+        ("file", True, 4, EXCHANGES), ("crash", False, 4, EXCHANGES),
+    ):  # fmt: skip
+        machine = Machine(way, is_apart, code, levels)
+        laid_out(tests, "one", machine)
+        words = ["--crash"] * (way == "crash")
+        status, told = loaded(tests, *running("one"), *words, "here")
+        tests.same(f"loaded of a running machine, {way}", (status, "not in the dump" in told), (0, False))
+        tests.same(f"loaded of a dump, {way}", loaded(tests, "--core", "one/core", *words, "there")[0], 0)
+        for name in FILES:
+            tests.same(f"{name}, {way}: of a running machine and of its dump", tests.read(f"here/{name}"),
+                       tests.read(f"there/{name}"))
+        tests.same(f"the map, {way}", tests.read("there/map").decode(), machine.map)
+        tests.write("one/kdump", machine.kdump())
+        loaded(tests, "--core", "one/kdump", *words, "packed")
+        tests.same(f"of a dump in kdump's format, {way}", [tests.read(f"packed/{name}") for name in FILES],
+                   [tests.read(f"here/{name}") for name in FILES])
+        look_at(tests, machine, way, code is EXCHANGES and way != "crash")
+
+
+def look_at(tests, machine, way, is_kept):
+    """The files are what the machine has, and the program accepts them."""
+    is_crash = way == "crash"
+    numbers, segments = record_of(tests, "here/record")
+    wanted = (b"KXREC002", int(is_crash), int(is_kept), machine.head, 0 if is_crash else machine.control * PAGE,
+              machine.swap * PAGE if is_kept else 0, machine.start, machine.table, machine.digest)
+    tests.same(f"the record, {way}", numbers, wanted)
+    tests.same(f"its segments, {way}", segments, machine.segments)
+    if is_crash:
+        pages = {page for mem, size, _ in machine.segments for page in range(mem // PAGE, (mem + size) // PAGE)}
+    else:
+        sources_of = {machine.word(at) // PAGE for at in machine.places if machine.word(at) & 0xFFF == SOURCE}
+        pages = {machine.control, *machine.list_pages, *sources_of}
+    held = {page: bytes(machine.pages[page]) for page in pages if any(machine.pages[page])}
+    tests.same(f"the memory, {way}", memory_of(tests, "here/memory.kxmem"), held)
+    told = tests.run("kexec", "check", "here/memory.kxmem", "here/record")[1]
+    tests.same(f"check, {way}", told, "accepted crash pages 14\n" if is_crash else LIST)
+    told = tests.run("kexec", "exec", "here/memory.kxmem", "here/record", "out.kxmem")[1]
+    tests.same(f"the regions, {way}", [line for line in told.split("\n") if line.startswith("regions")], ["regions same"])
+
+
+def put(machine, number, word):
+    """Sets a word of the list, by its number."""
+    machine.write(machine.places[number - 1], struct.pack("<Q", word))
+
+
+def spoiled_by(way):
+    """What a list is told whose eighth word, or fifth of the second page, is another."""
+    source = lambda machine, number: machine.word(machine.places[number - 1])
+    return {
+        "twice": lambda m: put(m, 4, source(m, 3)),
+        "flag": lambda m: put(m, 4, source(m, 4) & -PAGE),
+        "destination": lambda m: put(m, 4, source(m, 4) & -PAGE | DESTINATION),
+        "done": lambda m: put(m, 4, 4),
+        "byte": lambda m: m.write((source(m, 3) & -PAGE) + 8, b"\xff"),
+    }[way]
+
+
+def test_spoiled(tests):
+    """One wrong word of a list is told by check, with its number and the reason; a wrong byte of a source by the regions."""
+    for way, code, wanted in (("twice", EXCHANGES, "word 4: PairsMeet\n"), ("twice", COPIES, LIST),
+                              ("flag", EXCHANGES, "word 4: Flags\n"), ("destination", EXCHANGES, "word 5: NotWanted\n"),
+                              ("done", COPIES, "word 4: Missing 402000\n"), ("byte", COPIES, LIST)):
+        laid_out(tests, "bad", Machine("load", True, code, spoil=spoiled_by(way)))
+        tests.same(f"a list that is spoiled is read: {way}", loaded(tests, "--core", "bad/core", "bad/out")[0], 0)
+        told = tests.run("kexec", "check", "bad/out/memory.kxmem", "bad/out/record")[1]
+        tests.same(f"check of a list that is spoiled: {way}", told, wanted)
+
+
+def test_loader(tests):
+    """The purgatory of kexec-tools is found in its program, also where its digest is wrong."""
+    machine = Machine("load", True, COPIES, spoil=spoiled_by("byte"))
+    laid_out(tests, "bad", machine)
+    tests.write("bad/loader", b"\x7fELF the program" + bytes(999) + machine.purgatory.file)
+    loaded(tests, "--core", "bad/core", "--loader", "bad/loader", "bad/out")
+    numbers, _ = record_of(tests, "bad/out/record")
+    tests.same("table and digest by the symbols", numbers[-2:], (machine.table, machine.digest))
+    told = tests.run("kexec", "exec", "bad/out/memory.kxmem", "bad/out/record", "out.kxmem")[1]
+    tests.same("a byte of a source is told by the regions", "regions differ" in told, True)
+    loaded(tests, "--core", "bad/core", "bad/out")
+    numbers, _ = record_of(tests, "bad/out/record")
+    tests.same("without the program they are left out", numbers[-2:], (0, 0))
+
+
+def test_touched(tests):
+    """A list that touches a page of the image's own is named: the program knows one of them, and Linux has more."""
+    for what, page in (("the top of the page tables", "top"), ("a page table", "own_table"), ("the swap page", "swap")):
+        plain = Machine("load")
+        number = getattr(plain, page)
+        laid_out(tests, "bad", Machine("load", spoil=lambda m: put(m, 4, number * PAGE | SOURCE)))
+        status, told = loaded(tests, "--core", "bad/core", "bad/out")
+        wanted = f"word 4 touches page {number * PAGE:#x}, {what}, without which Linux cannot run the list"
+        tests.same(f"a source that is {what}", (status, wanted in told), (1, True))
+
+
+def test_options(tests):
+    """--copies, --all, --raw, and symbols, types and map from files."""
+    machine = Machine("load")
+    laid_out(tests, "one", machine)
+    loaded(tests, "--core", "one/core", "--copies", "--all", "here")
+    numbers, _ = record_of(tests, "here/record")
+    tests.same("--copies", numbers[1:3], (0, 0))
+    before = filled(99)
+    machine.write(0x400000, before)
+    tests.write("core", machine.core())
+    loaded(tests, "--core", "core", "--all", "here")
+    tests.same("--all has the destinations as they are", memory_of(tests, "here/memory.kxmem").get(0x400), before)
+    moved = "".join(f"{at - made_up_machine.SHIFT:016x} D {name}\n" for name, at in machine.listed.items())
+    tests.write("System.map", moved)
+    tests.write("map", machine.map)
+    raw = bytearray(max(machine.pages) * PAGE + PAGE)
+    for page, data in machine.pages.items():
+        raw[page * PAGE : page * PAGE + PAGE] = data
+    tests.write("raw", bytes(raw))
+    given = ("--symbols", "System.map", "--map", "map", "--btf", "one/sys/kernel/btf/vmlinux")
+    tests.same("a dump of bytes, with files", loaded(tests, "--raw", "raw", *given, "there")[0], 0)
+    loaded(tests, "--core", "core", "here")
+    for name in FILES:
+        tests.same(f"{name} of both", tests.read(f"there/{name}"), tests.read(f"here/{name}"))
+
+
+def test_refusals(tests):
+    """Each refusal is one sentence that says what to do."""
+    for changes, sentence in (
+        ({"nothing": 1}, "no next kernel is loaded (kexec_image is 0): kexec -l loads one"),
+        ({"no_btf": 1}, "has no BTF, which says how its structs lie (CONFIG_DEBUG_INFO_BTF): give --btf FILE"),
+        ({"no_note": 1}, "has no VMCOREINFO, neither as a note nor in memory"),
+        ({"without": "control_pages"},
+         "the layout of this kernel is not known: its struct kimage has no member control_pages"),
+        ({"count": 17}, "the layout of this kernel is not known: its struct kimage has 17 segments"),
+        ({"memsz": 128 << 20}, "and a load record has at most 65536 (256 MiB)"),
+    ):
+        laid_out(tests, "bad", Machine("load", **changes))
+        tests.refuses(sentence, "scripts/kernelyet", "loaded", "--core", "bad/core", "bad/out")
+    laid_out(tests, "one", Machine("crash"))
+    tests.refuses("a crash kernel is: give --crash", "scripts/kernelyet", "loaded", "--core", "one/core", "out")
+    tests.write("one/proc/kallsyms", f"{0:016x} T _text\n")
+    tests.refuses("has zeros for all addresses", "scripts/kernelyet", "loaded", *running("one"), "out")
+    os.remove(f"{tests.folder}/one/sys/kernel/btf/vmlinux")
+    tests.refuses("this kernel has no BTF", "scripts/kernelyet", "loaded", *running("one"), "out")
+    tests.refuses("there is no none/proc/kcore", "scripts/kernelyet", "loaded", *running("none"), "out")
+    tests.write("text", "no core\n")
+    tests.refuses("text is not an ELF64 core file", "scripts/kernelyet", "loaded", "--core", "text", "out")
+    for code, sentence in ((errno.EPERM, "is locked down (kernel_lockdown(7))"), (errno.EACCES, "is for root alone")):
+        tests.same(f"errno {code}", sentence in sources.why_not("/proc/kcore", OSError(code, "")), True)
+
+
+def test_copying(tests):
+    """The code of a kernel says whether it runs plain lists by exchanges."""
+    for code, wanted in ((EXCHANGES, True), (COPIES, False), (b"\xc3" * 99, None)):
+        tests.same("the way of copying", copying.is_by_exchanges(code), wanted)
+
+
+def test_names(tests):
+    """The segments of a Linux kernel are named by its boot parameters, where they point to (The Linux/x86 Boot Protocol)."""
+    page = bytearray(2 * PAGE)
+    page[0x202:0x206], page[0x210] = b"HdrS", 0xD1
+    struct.pack_into("<II", page, 0x218, 0x5000000, 3 * PAGE)
+    struct.pack_into("<Q", page, 0x250, 0x100000)
+    rows = [(0x100000, bytes(48)), (0x5000000, bytes(3 * PAGE)), (0x9000000, bytes(9 * PAGE)), (0xA000000, bytes(page)),
+            (0xB000000, bytes(PAGE)), (0xC000000, b"\x7fELF\2\1\1" + bytes(9) + b"\4\0")]
+    segments = [Segment(mem, -(-len(data) // PAGE) * PAGE, len(data), False) for mem, data in rows]
+    found = SimpleNamespace(segments=segments, data=[data for _, data in rows], purgatory=None)
+    tests.same("the names of segments", parts.names_of(found),
+               ["setup data", "initrd", "kernel", "boot parameters", "", "crash headers"])
+    found.purgatory = SimpleNamespace(table=0xB000080)
+    tests.same("with a purgatory", parts.names_of(found)[4], "purgatory")
+
+
+def in_folder(test):
+    """A test in a folder of its own, so that its files are no others'."""
+
+    def run(tests):
+        folder, tests.folder = tests.folder, f"{tests.folder}/loaded"
+        os.makedirs(tests.folder, exist_ok=True)
+        try:
+            test(tests)
+        finally:
+            tests.folder = folder
+
+    return run
+
+
+ALL = [in_folder(test) for test in (test_machines, test_spoiled, test_loader, test_touched, test_options, test_refusals,
+                                    test_copying, test_names)]  # fmt: skip
