@@ -2,7 +2,7 @@
 import shlex
 
 from companion import maps, planning, program, reports
-from companion.crash_sizes import ROOM, STEP, Needs
+from companion.crash_sizes import ROOM, STEP, Needs, linked_bytes
 from companion.numbers import END, PAGE, counted, option_size, size_of, size_text
 from companion.parsers import Parser
 
@@ -32,8 +32,8 @@ class Crash:
     """The area of a crash kernel, and what it needs of one."""
 
     def __init__(self, plan):
-        size = plan.given.purgatory and len(open(plan.given.purgatory, "rb").read())
-        self.needs = Needs(plan.kernel, plan.initrd, plan.machine.rows, plan.notes(), plan.given.command, size or 0)
+        size = linked_bytes(plan.given.purgatory) if plan.given.purgatory else 0
+        self.needs = Needs(plan.kernel, plan.initrd, plan.machine.rows, plan.notes(), plan.given.command, size)
         self.is_tried = False
         if plan.given.crash:
             plan.machine.with_crash(size_of(plan.given.crash, "--crash"))
