@@ -79,7 +79,7 @@ def number_of(word):
 
 
 def page_of(content, number):
-    """What a file gives to a page: of a memory file the bytes of the page of this number, of another all of its bytes."""
+    """What a file gives to a page: of a memory file the bytes of the page of this number, of another all bytes."""
     if not content.startswith(b"KXMEM001"):
         return content
     start = number.to_bytes(8, "little")

@@ -1,5 +1,5 @@
-"""Tests of run-scenes: a right scene is ok, and each kind of wrong expectation is told with its line, what was found and what is
-to be."""
+"""Tests of run-scenes: a right scene is ok, and each kind of wrong expectation is told with its line, what was found and
+what is to be."""
 
 # The first example, right: with a refusal, its sentence, and a memory that is known in part.
 RIGHT = """file m memory

@@ -10,7 +10,7 @@ use Rattle.std.proofs.lemmas.List.Elements.{All-nil, All-cons, All-append, All-m
 use Rattle.kx_fields.specs.Fields.{bytes_at}
 use Rattle.kx_fields.specs.Formats.{read}
 use Rattle.elf_image.specs.declared.section.SectionHeader.{SectionHeader}
-use Rattle.elf_image.specs.declared.symbol.SymbolEntry.{SymbolEntry}
+use Rattle.elf_image.specs.declared.symbol.Symbol.{Symbol}
 use Rattle.elf_image.specs.declared.reloc.RelocSection.{RelocSection}
 use Rattle.elf_image.specs.declared.fault.ElfFault.{ElfFault}
 use Rattle.elf_image.specs.declared.fault.ElfFault.TheVariants as faults
@@ -58,7 +58,7 @@ index_of sections i h = elim (or_cases (nat_lt i sections) _ h) [ inl t ↦ inl 
     other : ((i == 65521) || (i == 65522)) ≡ true → (i ≡ 65521) ⊎ (i ≡ 65522)
     other h = elim (or_cases (i == 65521) (i == 65522) h) [ inl t ↦ inl (grind (arith, nat_tests)) | inr t ↦ inr (grind (arith, nat_tests)) ]
 
-defined_of : (sections at k : ℕ) (e : SymbolEntry) (o : Option (List ℕ)) (s : Sym) → symbol_of sections at k e o ≡ Ok s → IsDefined sections s
+defined_of : (sections at k : ℕ) (e : Symbol) (o : Option (List ℕ)) (s : Sym) → symbol_of sections at k e o ≡ Ok s → IsDefined sections s
 defined_of sections at k e None s h = cc
 defined_of sections at k e (Some name) s h = by (is_index sections e.section) refl h
   where

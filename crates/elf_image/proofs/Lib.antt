@@ -8,6 +8,8 @@ pub mod Bytes
 pub mod Order
 pub mod Sound
 pub mod Gathering
+pub mod Named
+pub mod Noted
 pub mod Sections
 pub mod Strays
 pub mod Objects

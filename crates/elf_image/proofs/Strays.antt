@@ -1,5 +1,5 @@
 -- The symbols of a section of relocations, entry by entry.
-use Rattle.std.proofs.Common.{◌≡◌, ℕ, ◌+◌, ◌<◌, ◌≤◌, List, length, get_or, Bool, true, false, cond, refl, sym, ap, ◌∙◌, subst, Ok, Err, Some, None, inl, inr, arith}
+use Rattle.std.proofs.Common.{◌≡◌, ℕ, ◌+◌, ◌*◌, ◌<◌, ◌≤◌, List, length, get_or, Bool, true, false, cond, refl, sym, ap, ◌∙◌, subst, Ok, Err, Some, None, inl, inr, arith}
 use Rattle.std.specs.Prelude.{nat_lt, not}
 use Rattle.std.specs.List.{position_or_len, range_with_len}
 use Rattle.std.proofs.lemmas.Bool.{cases_lt}
@@ -11,6 +11,7 @@ use Rattle.elf_image.specs.declared.fault.ElfFault.TheVariants as faults
 use Rattle.elf_image.specs.declared.reloc.Reloc.{Reloc}
 use Rattle.elf_image.specs.declared.reloc.RelocSection.{RelocSection}
 use Rattle.elf_image.specs.Reloc.{entry_of, entry_place, is_stray, test_symbols}
+use Rattle.elf_image.specs.inner.Reloc.{has_symbol}
 
 number : (n k : ℕ) → k < n → get_or (range_with_len 0 n) k 0 ≡ k
 number n k below = get_or-range_with_len 0 n k 0 below ∙ omega arith
@@ -40,6 +41,11 @@ pub is_here : (file : List ℕ) (symbols : ℕ) (s : RelocSection) (k : ℕ) (r 
 is_here file symbols s k r is past =
     let beyond : nat_lt r.symbol symbols ≡ false = grind (arith, nat_tests, past) in
     sym (ap (λ (r : Reloc). not (nat_lt r.symbol symbols)) is) ∙ ap not beyond
+
+-- an entry that was noted to have its symbol
+pub passed_over : (file : List ℕ) (symbols : ℕ) (s : RelocSection) (k : ℕ) → has_symbol file symbols (s.offset + 24 * k) ≡ true → is_stray file symbols s k ≡ false
+unfolding has_symbol entry_of
+passed_over file symbols s k has = ap not has
 
 -- the same of those up to k, where it is none itself
 pub one_more : (file : List ℕ) (symbols : ℕ) (s : RelocSection) (k : ℕ) (r : Reloc) → ((j : ℕ) → j < k → is_stray file symbols s j ≡ false) → r ≡ entry_of file s k → r.symbol < symbols → (j : ℕ) → j < k + 1 → is_stray file symbols s j ≡ false

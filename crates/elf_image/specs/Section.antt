@@ -14,6 +14,8 @@ use Rattle.elf_image.specs.Numbers.{sht_null, sht_nobits}
 use Rattle.elf_image.specs.FileHeader.{object_header}
 use Rattle.elf_image.specs.Table.{Table}
 
+-- sh_type, sh_flags, sh_offset, sh_size, sh_link, sh_info, sh_addralign and sh_entsize. Nothing is read of sh_name and of
+-- sh_addr: a section has its place from the linker here.
 abbrev pub section_header : Format SectionHeader
 section_header = record {
   layout = λ at. record {

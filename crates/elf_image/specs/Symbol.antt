@@ -5,7 +5,7 @@ use Rattle.std.specs.List.{slice_get, range_with_len}
 use Rattle.kx_fields.specs.Fields.{bytes_at}
 use Rattle.kx_fields.specs.Formats.{Format, read}
 use Rattle.elf_image.specs.declared.section.SectionHeader.{SectionHeader}
-use Rattle.elf_image.specs.declared.symbol.SymbolEntry.{SymbolEntry}
+use Rattle.elf_image.specs.declared.symbol.Symbol.{Symbol}
 use Rattle.elf_image.specs.declared.fault.ElfFault.{ElfFault}
 use Rattle.elf_image.specs.declared.fault.ElfFault.TheVariants as faults
 use Rattle.kx_laws.specs.Results.{◌>>=◌, unless_at}
@@ -15,7 +15,7 @@ use Rattle.elf_image.specs.Sym.{Sym}
 use Rattle.elf_image.specs.Table.{Table}
 use Rattle.elf_image.specs.Section.{place_of, first_of, read_in}
 
-abbrev pub symbol_entry : Format SymbolEntry
+abbrev pub symbol_entry : Format Symbol
 symbol_entry = record {
   layout = λ at. record { name = at 0 4; section = at 6 2; value = at 8 8; size = at 16 8 };
   numbers = λ s. [];
@@ -33,14 +33,14 @@ abbrev pub is_index : ℕ → ℕ → Bool
 is_index sections index = nat_lt index sections || ((index == shn_abs) || (index == shn_common))
 
 -- symbol k, which stands at this place of the file
-abbrev pub symbol_of : ℕ → ℕ → ℕ → SymbolEntry → Option (List ℕ) → Result Sym ElfFault
+abbrev pub symbol_of : ℕ → ℕ → ℕ → Symbol → Option (List ℕ) → Result Sym ElfFault
 symbol_of sections at k s None = Err (faults.BadString k)
 symbol_of sections at k s (Some name) =
     if is_index sections s.section
     then Ok (record { name = name; section = s.section; value = s.value; size = s.size })
     else Err (faults.BadIndex (at + 6))
 
-abbrev pub named_symbol : List ℕ → ℕ → ℕ → ℕ → SymbolEntry → Result Sym ElfFault
+abbrev pub named_symbol : List ℕ → ℕ → ℕ → ℕ → Symbol → Result Sym ElfFault
 named_symbol strings sections at k s = symbol_of sections at k s (name_in strings s.name)
 
 unfoldable pub symbol_in : List ℕ → List ℕ → ℕ → ℕ → ℕ → Result Sym ElfFault

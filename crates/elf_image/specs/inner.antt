@@ -7,5 +7,7 @@ pub mod Joined
 pub mod Texts
 pub mod FileHeader
 pub mod Section
+pub mod Symbol
+pub mod Runs
 pub mod Reloc
 pub mod Object

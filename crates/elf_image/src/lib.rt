@@ -20,7 +20,9 @@ mod numbers;
 mod object;
 mod program_header;
 mod reloc;
+mod runs;
 mod section;
+mod strings;
 mod symbol;
 
 pub use exec::{Exec, read_exec};
@@ -30,5 +32,7 @@ pub use load::Load;
 pub use numbers::{SHN_ABS, SHN_COMMON, SHN_UNDEF, SHT_NOBITS, SHT_NULL, SHT_REL};
 pub use object::{Object, read_object};
 pub use reloc::{Reloc, RelocSection};
+pub use runs::EntryRuns;
 pub use section::Section;
-pub use symbol::Symbol;
+pub use strings::StringTable;
+pub use symbol::{Symbol, SymbolTable};

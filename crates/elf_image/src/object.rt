@@ -9,7 +9,7 @@ ghost use Rattle.elf_image.specs.inner.Object.{IsObject};
 use crate::fault::ElfFault;
 use crate::reloc::{RelocSection, read_relocs};
 use crate::section::{Section, SectionTable};
-use crate::symbol::{Symbol, read_symbols};
+use crate::symbol::{SymbolTable, read_symbols};
 use std::alloc::Global;
 use std::marker::Model;
 
@@ -19,7 +19,7 @@ pub struct Object {
     /// The sections, in the order of their indexes.
     pub sections: Vec<Section>,
     /// The symbols, in the order of their indexes.
-    pub symbols: Vec<Symbol>,
+    pub symbols: SymbolTable,
     /// The sections of relocations with addends, in the order of their indexes.
     pub reloc_sections: Vec<RelocSection>,
 }
@@ -31,7 +31,7 @@ impl Model for Object {
 
     ghost view = { λ o. record {
       sections = o.sections.items;
-      symbols = o.symbols.items;
+      symbols = o.symbols;
       reloc_sections = o.reloc_sections.items;
     } };
 }

@@ -1,6 +1,6 @@
 //! Relocations with addends.
 
-ghost use Rattle.std.specs.Prelude.{◌≡◌, ◌+◌, ◌*◌, ◌^◌, ◌≤◌, ◌<◌, length};
+ghost use Rattle.std.specs.Prelude.{◌≡◌, ◌+◌, ◌*◌, ◌^◌, ◌≤◌, ◌<◌, true, length, IfOk};
 ghost use Rattle.std.specs.List.{slice_get};
 ghost use Rattle.kx_fields.specs.Fields.{bytes_at};
 ghost use Rattle.kx_fields.specs.Formats.{read};
@@ -12,13 +12,15 @@ ghost use Rattle.elf_image.specs.Numbers.{sht_symtab};
 ghost use Rattle.elf_image.specs.Section.{is_of};
 ghost use Rattle.elf_image.specs.inner.Section.{IsTable};
 ghost use Rattle.elf_image.specs.Reloc.{rela, rela_fault, entry_of, reloc_section, relocs_at, read_relocs, test_symbols};
-ghost use Rattle.elf_image.specs.inner.Reloc.{AreInside};
+ghost use Rattle.elf_image.specs.inner.Reloc.{AreInside, has_symbol};
+ghost use Rattle.elf_image.specs.inner.Runs.{AreRuns};
 
 use crate::fault::ElfFault;
 use crate::numbers::{SHT_RELA, SHT_SYMTAB};
+use crate::runs::EntryRuns;
 use crate::section::{SectionHeader, SectionTable};
 use kx_fields::Block;
-use std::alloc::Global;
+use std::alloc::{AllocError, Global};
 
 /// What the symbol counts in `r_info`: its type stands below.
 const HALF: u64 = 0x1_0000_0000;
@@ -42,11 +44,14 @@ pub struct Reloc {
     pub entry: usize,
 }
 
-/// An entry of a section of relocations.
+/// An entry of a section of relocations (`Elf64_Rela`).
 #[derive(Clone, Copy)]
 pub(crate) struct Rela {
+    /// Where its field stands (`r_offset`).
     pub(crate) offset: u64,
+    /// Its symbol and its type (`r_info`).
     pub(crate) info: u64,
+    /// Its addend (`r_addend`).
     pub(crate) addend: i64,
 }
 
@@ -111,18 +116,57 @@ impl RelocSection {
         }
     }
 
-    // Refuses the first relocation whose symbol is none of so many.
-    fn test_symbols(&self, file: &[u8], symbols: usize) -> Result<(), ElfFault>
-        requires { AreInside file.now self.now }
+    // Refuses the first relocation whose symbol is none of so many. Those that are noted to have one are passed over.
+    fn test_symbols(&self, file: &[u8], symbols: usize, runs: &EntryRuns) -> Result<(), ElfFault>
+        requires inside { AreInside file.now self.now }
+        requires runs { AreRuns (has_symbol file.now symbols) runs.now }
         ensures { result ≡ test_symbols file.now symbols self.now }
     {
-        for entry in 0..self.count {
+        for entry in runs.run(self.offset)..self.count {
             if self.reloc(file, entry).symbol >= symbols {
                 let at = self.offset + 24 * entry + 8;
                 return Err(ElfFault::BadIndex { at: at as u64 });
             }
         }
         Ok(())
+    }
+}
+
+// Whether an entry stands at this byte of the file, and its symbol is one of so many.
+fn has_symbol(file: &[u8], at: usize, symbols: usize) -> bool
+    ensures { result ≡ true → has_symbol file.now symbols at ≡ true }
+{
+    if file.len() < 24 || at > file.len() - 24 {
+        return false;
+    }
+    Rela::read(file, at).info / HALF < symbols as u64
+}
+
+// Runs of entries whose symbols are some of so many, from each byte of the file on.
+fn note_runs(alloc: Global, file: &[u8], symbols: usize) -> Result<EntryRuns, AllocError>
+    ensures { IfOk result (AreRuns (has_symbol file.now symbols)) }
+{
+    let mut runs = EntryRuns::of_file(alloc, file.len())?;
+    for noted in 0..file.len() {
+        runs.push(has_symbol(file, file.len() - 1 - noted, symbols))?;
+    }
+    Ok(runs)
+}
+
+// The same where the sections of relocations have more bytes than the file, so that some have the same ones. Else each
+// entry is tested but once anyway, and nothing is noted.
+fn runs_of(
+    alloc: Global,
+    file: &[u8],
+    table: &SectionTable,
+    symbols: usize,
+) -> Result<EntryRuns, AllocError>
+    ensures { IfOk result (AreRuns (has_symbol file.now symbols)) }
+{
+    if table.size_of_kind(SHT_RELA) > file.len() as u64 {
+        note_runs(alloc, file, symbols)
+    } else {
+        Ok(EntryRuns::none(alloc))
     }
 }
 
@@ -172,9 +216,11 @@ fn add_section(
     file: &[u8],
     table: &SectionTable,
     symbols: usize,
+    runs: &EntryRuns,
     i: usize,
 ) -> Result<(), ElfFault>
-    requires { IsTable file.now table.now }
+    requires table { IsTable file.now table.now }
+    requires runs { AreRuns (has_symbol file.now symbols) runs.now }
     ensures { Adds out.old.items out.new.items result (relocs_at file.now table.now symbols i) }
 {
     let header = match table.get(i) {
@@ -189,7 +235,7 @@ fn add_section(
         Err(fault) => return Err(fault),
     }
     let section = reloc_section(i, &header);
-    match section.test_symbols(file, symbols) {
+    match section.test_symbols(file, symbols, runs) {
         Ok(()) => (),
         Err(fault) => return Err(fault),
     }
@@ -207,9 +253,10 @@ pub(crate) fn read_relocs(
     requires { IsTable file.now table.now }
     ensures { Gives Memory (λ v. v.items) result (read_relocs file.now table.now symbols) }
 {
+    let runs = runs_of(alloc, file, table, symbols)?;
     let mut sections = Vec::new(alloc);
     for i in 0..table.len() {
-        match add_section(&mut sections, file, table, symbols, i) {
+        match add_section(&mut sections, file, table, symbols, &runs, i) {
             Ok(()) => (),
             Err(fault) => return Err(fault),
         }

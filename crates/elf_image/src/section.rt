@@ -33,16 +33,24 @@ pub struct Section {
     pub target: u32,
 }
 
-/// A section header.
+/// A section header (`Elf64_Shdr`), by the numbers that are read of it.
 #[derive(Clone, Copy, Drop)]
 pub(crate) struct SectionHeader {
+    /// The section's type (`sh_type`).
     pub(crate) kind: u32,
+    /// Its flags (`sh_flags`).
     pub(crate) flags: u64,
+    /// Where its bytes stand in the file (`sh_offset`).
     pub(crate) offset: u64,
+    /// How many bytes it has (`sh_size`).
     pub(crate) size: u64,
+    /// The section that it goes with (`sh_link`): of a symbol table its string table, of relocations their symbol table.
     pub(crate) link: u32,
+    /// More about it (`sh_info`): of relocations the section that they relocate.
     pub(crate) info: u32,
+    /// Its alignment (`sh_addralign`).
     pub(crate) align: u64,
+    /// How many bytes an entry has, of a section of entries (`sh_entsize`).
     pub(crate) entsize: u64,
 }
 
@@ -144,6 +152,17 @@ fn first_kind(headers: &[SectionHeader], kind: u32) -> Option<usize>
     headers.iter().position(|h| h.kind == kind)
 }
 
+// How many bytes the sections of this type have, or 2^64 - 1 where there are more.
+fn size_of_kind(headers: &[SectionHeader], kind: u32) -> u64 {
+    let mut size: u64 = 0;
+    for header in headers {
+        if header.kind == kind {
+            size = size.saturating_add(header.size);
+        }
+    }
+    size
+}
+
 /// The section headers of a file.
 #[derive(Drop)]
 pub(crate) struct SectionTable {
@@ -204,6 +223,11 @@ impl SectionTable {
         ensures inside { IfSome result (Lies self.now) }
     {
         self.headers.get(i).copied()
+    }
+
+    /// How many bytes the sections of this type have, counted for each of them.
+    pub(crate) fn size_of_kind(&self, kind: u32) -> u64 {
+        size_of_kind(&self.headers, kind)
     }
 
     /// Where the section header of this index stands in the file.

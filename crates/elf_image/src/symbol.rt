@@ -1,6 +1,7 @@
-//! Symbols and their names.
+//! Symbols, and the string table that has their names.
 
-ghost use Rattle.std.specs.Prelude.{◌≡◌, ◌+◌, ◌*◌, ◌≤◌, ◌<◌, ◌==◌, length, position, IfSome, IfNone, Some, None, Ok};
+ghost use Rattle.std.specs.Prelude.{◌≡◌, ℕ, ◌+◌, ◌*◌, ◌≤◌, ◌<◌, List, [], length, map, IfSome, IfNone, Some, None, Ok};
+ghost use Rattle.std.specs.List.{slice_get};
 ghost use Rattle.kx_fields.specs.Fields.{bytes_at};
 ghost use Rattle.kx_fields.specs.Formats.{read};
 ghost use Rattle.kx_laws.specs.inner.Results.{Gives};
@@ -8,20 +9,22 @@ ghost use Rattle.elf_image.specs.declared.fault.ElfFault.TheVariants.{Memory};
 ghost use Rattle.elf_image.specs.Gathered.{each};
 ghost use Rattle.elf_image.specs.Section.{section_of, place_of};
 ghost use Rattle.elf_image.specs.inner.Section.{IsTable, IsInside};
-ghost use Rattle.elf_image.specs.Symbol.{symbol_entry, up_to_nul, name_in, is_index, symbol_in, entries_in, strings_of, symbols_in, refuse_second, symbols_at, read_symbols};
+ghost use Rattle.elf_image.specs.inner.Symbol.{called, named, IsToLastNul};
+ghost use Rattle.elf_image.specs.Symbol.{symbol_entry, is_index, symbol_in, entries_in, strings_of, symbols_in, refuse_second, symbols_at, read_symbols};
 
 use crate::fault::ElfFault;
 use crate::numbers::{SHN_ABS, SHN_COMMON, SHT_STRTAB, SHT_SYMTAB};
 use crate::section::{SectionHeader, SectionTable};
+use crate::strings::{StringTable, length_to_last_nul};
 use kx_fields::Block;
 use std::alloc::Global;
 use std::marker::Model;
 
-/// A symbol (ELF gABI, chapter 4, "Symbol Table").
-#[derive(Debug, Drop)]
+/// A symbol (ELF gABI, chapter 4, "Symbol Table"), by the numbers of its entry.
+#[derive(Clone, Copy, Debug, Drop, PartialEq, Eq)]
 pub struct Symbol {
-    /// Its name's bytes, without the NUL.
-    pub name: Vec<u8>,
+    /// Where its name starts in the string table (`st_name`).
+    pub name: u32,
     /// The section that it is defined in, or a number that stands for none (`st_shndx`).
     pub section: u16,
     /// Its value (`st_value`): of a symbol in a section, its offset there.
@@ -30,26 +33,59 @@ pub struct Symbol {
     pub size: u64,
 }
 
-impl Model for Symbol {
-    ghost use Rattle.elf_image.specs.Sym.{Sym};
-
-    ghost Value = { Sym };
-
-    ghost view = { λ s. record {
-      name = s.name.items;
-      section = s.section;
-      value = s.value;
-      size = s.size;
-    } };
+/// The symbols of an object, in the order of their indexes, and the string table that has their names. Contracts see the
+/// list of the symbols, each with the bytes of its name.
+#[derive(Debug, Drop)]
+pub struct SymbolTable {
+    /// The symbols.
+    pub symbols: Vec<Symbol>,
+    /// The texts of their names.
+    pub strings: StringTable,
 }
 
-/// An entry of a symbol table.
-#[derive(Clone, Copy)]
-pub(crate) struct SymbolEntry {
-    pub(crate) name: u32,
-    pub(crate) section: u16,
-    pub(crate) value: u64,
-    pub(crate) size: u64,
+impl Model for SymbolTable {
+    ghost use Rattle.std.specs.Prelude.{List, map};
+    ghost use Rattle.elf_image.specs.Sym.{Sym};
+    ghost use Rattle.elf_image.specs.inner.Symbol.{named};
+
+    ghost Value = { List Sym };
+
+    ghost view = { λ t. map (named t.strings) t.symbols.items };
+}
+
+// The symbol of this index, if it is there.
+fn symbol_at(symbols: &[Symbol], index: usize) -> Option<Symbol>
+    ensures { result ≡ slice_get symbols.now index }
+{
+    symbols.get(index).copied()
+}
+
+impl SymbolTable {
+    // No symbols.
+    fn none(alloc: Global) -> SymbolTable
+        ensures { result ≡ [] }
+    {
+        SymbolTable {
+            symbols: Vec::new(alloc),
+            strings: StringTable::new(Vec::new(alloc)),
+        }
+    }
+
+    /// How many symbols there are.
+    pub fn len(&self) -> usize
+        ensures { result ≡ length self.now }
+    {
+        self.symbols.len()
+    }
+
+    /// The symbol of this index, if it is there.
+    pub fn get(&self, index: usize) -> Option<Symbol>
+        ensures none { IfNone result (slice_get self.now index ≡ None) }
+        ensures some { IfSome result (λ s. (name : List ℕ)
+            × (slice_get self.now index ≡ Some (called name s))) }
+    {
+        symbol_at(&self.symbols, index)
+    }
 }
 
 // The places in an ELF64 symbol.
@@ -64,22 +100,22 @@ macro_rules! symbol_entry {
     };
 }
 
-impl SymbolEntry {
-    fn numbers(block: &Block<24>) -> SymbolEntry
+impl Symbol {
+    fn numbers(block: &Block<24>) -> Symbol
         ensures { result ≡ read symbol_entry block.now }
     {
-        symbol_entry!(get block, SymbolEntry)
+        symbol_entry!(get block, Symbol)
     }
 
     // The entry at this place of the file.
-    fn read(file: &[u8], at: usize) -> SymbolEntry
+    fn read(file: &[u8], at: usize) -> Symbol
         requires { at + 24 ≤ length file.now }
         ensures { result ≡ read symbol_entry (bytes_at at 24 file.now) }
     {
-        SymbolEntry::numbers(&Block::<24>::cut(file, at).unwrap())
+        Symbol::numbers(&Block::<24>::cut(file, at).unwrap())
     }
 
-    // Its section is one of so many, SHN_ABS or SHN_COMMON.
+    // Whether its section is one of so many, SHN_ABS or SHN_COMMON.
     fn is_index(&self, sections: usize) -> bool
         ensures { result ≡ is_index sections self.now.section }
     {
@@ -89,63 +125,30 @@ impl SymbolEntry {
     }
 }
 
-// The place of the first NUL. It is looked for up to there, and no further.
-fn first_nul(bytes: &[u8]) -> Option<usize>
-    ensures value { result ≡ position (λ b. b == 0) bytes.now }
-    ensures within { IfSome result (λ n. n < length bytes.now) }
-{
-    bytes.iter().position(|b| *b == 0)
-}
-
-// The bytes up to the first NUL, if there is one.
-fn up_to_nul(bytes: &[u8]) -> Option<&[u8]>
-    ensures none { IfNone result (up_to_nul bytes.now ≡ None) }
-    ensures some { IfSome result (λ s. up_to_nul bytes.now ≡ Some s.now) }
-{
-    match first_nul(bytes) {
-        Some(length) => Some(bytes.split_at(length).0),
-        None => None,
-    }
-}
-
-// The name that starts at this place of a string table, if a NUL follows there.
-fn name_at(strings: &[u8], start: usize) -> Option<&[u8]>
-    ensures none { IfNone result (name_in strings.now start ≡ None) }
-    ensures some { IfSome result (λ s. name_in strings.now start ≡ Some s.now) }
-{
-    if start > strings.len() {
-        return None;
-    }
-    up_to_nul(strings.split_at(start).1)
-}
-
-// Symbol `k`, which stands at this place of the file.
+// Symbol `k`, which stands at this place of the file. Its name has an end where it starts among the first `ended` bytes of
+// the string table.
 #[tactic(auto, unfolding(crate::specs::Symbol::symbol_in))]
 fn read_symbol(
-    alloc: Global,
     file: &[u8],
     strings: &[u8],
+    ended: usize,
     sections: usize,
     at: usize,
     k: usize,
 ) -> Result<Symbol, ElfFault>
-    requires { at + 24 ≤ length file.now }
-    ensures { Gives Memory (λ s. s) result (symbol_in file.now strings.now sections at k) }
+    requires inside { at + 24 ≤ length file.now }
+    requires ended { IsToLastNul strings.now ended }
+    ensures { Gives Memory (named strings.now) result
+        (symbol_in file.now strings.now sections at k) }
 {
-    let entry = SymbolEntry::read(file, at);
-    let name = match name_at(strings, entry.name as usize) {
-        Some(name) => name,
-        None => return Err(ElfFault::BadString { symbol: k }),
-    };
-    if !entry.is_index(sections) {
+    let symbol = Symbol::read(file, at);
+    if symbol.name as usize >= ended {
+        return Err(ElfFault::BadString { symbol: k });
+    }
+    if !symbol.is_index(sections) {
         return Err(ElfFault::BadIndex { at: at as u64 + 6 });
     }
-    Ok(Symbol {
-        name: name.to_vec(alloc)?,
-        section: entry.section,
-        value: entry.value,
-        size: entry.size,
-    })
+    Ok(symbol)
 }
 
 // The whole entries of a symbol table.
@@ -157,20 +160,42 @@ fn read_entries(
     strings: &[u8],
 ) -> Result<Vec<Symbol>, ElfFault>
     requires { header.now.offset + header.now.size ≤ length file.now }
-    ensures { Gives Memory (λ v. v.items) result
+    ensures { Gives Memory (λ v. map (named strings.now) v.items) result
         (entries_in file.now sections header.now strings.now) }
 {
+    let ended = length_to_last_nul(strings);
     let count = (header.size / 24) as usize;
     let mut symbols = Vec::new(alloc);
     symbols.reserve_exact(count)?;
     for k in 0..count {
         let at = header.offset as usize + 24 * k;
-        match read_symbol(alloc, file, strings, sections, at, k) {
+        match read_symbol(file, strings, ended, sections, at, k) {
             Ok(symbol) => symbols.push(symbol)?,
             Err(fault) => return Err(fault),
         }
     }
     Ok(symbols)
+}
+
+// The same, and the string table.
+fn read_named(
+    alloc: Global,
+    file: &[u8],
+    sections: usize,
+    header: &SectionHeader,
+    strings: &[u8],
+) -> Result<SymbolTable, ElfFault>
+    requires { header.now.offset + header.now.size ≤ length file.now }
+    ensures { Gives Memory (λ t. t) result
+        (entries_in file.now sections header.now strings.now) }
+{
+    match read_entries(alloc, file, sections, header, strings) {
+        Ok(symbols) => Ok(SymbolTable {
+            symbols,
+            strings: StringTable::new(strings.to_vec(alloc)?),
+        }),
+        Err(fault) => Err(fault),
+    }
 }
 
 // The string table that a section header, at this place, names.
@@ -207,14 +232,14 @@ fn read_table(
     table: &SectionTable,
     place: u64,
     header: &SectionHeader,
-) -> Result<Vec<Symbol>, ElfFault>
+) -> Result<SymbolTable, ElfFault>
     requires table { IsTable file.now table.now }
     requires place { place + 64 ≤ length file.now }
     requires inside { header.now.offset + header.now.size ≤ length file.now }
-    ensures { Gives Memory (λ v. v.items) result (symbols_in file.now table.now place header.now) }
+    ensures { Gives Memory (λ t. t) result (symbols_in file.now table.now place header.now) }
 {
     match strings_of(file, table, place, header) {
-        Ok(strings) => read_entries(alloc, file, table.len(), header, strings),
+        Ok(strings) => read_named(alloc, file, table.len(), header, strings),
         Err(fault) => Err(fault),
     }
 }
@@ -238,13 +263,13 @@ pub(crate) fn read_symbols(
     alloc: Global,
     file: &[u8],
     table: &SectionTable,
-) -> Result<Vec<Symbol>, ElfFault>
+) -> Result<SymbolTable, ElfFault>
     requires { IsTable file.now table.now }
-    ensures { Gives Memory (λ v. v.items) result (read_symbols file.now table.now) }
+    ensures { Gives Memory (λ t. t) result (read_symbols file.now table.now) }
 {
     let i = match table.first_of(SHT_SYMTAB, 0) {
         Some(i) => i,
-        None => return Ok(Vec::new(alloc)),
+        None => return Ok(SymbolTable::none(alloc)),
     };
     let header = table.header(i);
     let symbols = match read_table(alloc, file, table, table.place(i), &header) {

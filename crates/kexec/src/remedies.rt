@@ -31,7 +31,7 @@ fn bzimage_remedy(fault: &BzFault) -> Option<&'static str> {
 
 fn link_remedy(fault: &LinkFault) -> Option<&'static str> {
     match fault {
-        LinkFault::NoSymbol => Some(
+        LinkFault::NoSymbol { .. } => Some(
             "it must define entry64_regs, purgatory_sha_regions, purgatory_sha256_digest and purgatory_start",
         ),
         LinkFault::WrongSize { .. } => Some(

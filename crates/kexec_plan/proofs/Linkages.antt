@@ -52,9 +52,9 @@ record Lies (l : Image) (n a : ℕ) : Type 0 where
   from : l.base ≤ a
   to : a + n ≤ l.base + length l.bytes
 
-place_lies : (l : Image) (n : ℕ) (o : Option (ℕ × ℕ)) (a : ℕ) → place_by l n o ≡ Ok a → Lies l n a
-place_lies l n None a h = cc
-place_lies l n (Some s) a h =
+place_lies : (l : Image) (name : List ℕ) (n : ℕ) (o : Option (ℕ × ℕ)) (a : ℕ) → place_by l name n o ≡ Ok a → Lies l n a
+place_lies l name n None a h = cc
+place_lies l name n (Some s) a h =
     let one = guard_ok (not (n == s.1)) (link.WrongSize s.1) (cond (not (is_inside l s.0 s.1)) (Err (link.WrongSize s.1)) (Ok s.0)) a h in
     let two = guard_ok (not (is_inside l s.0 s.1)) (link.WrongSize s.1) (Ok s.0) a one.1 in
     subst (Lies l n) (ok_same s.0 a two.1)
@@ -62,7 +62,7 @@ place_lies l n (Some s) a h =
 
 symbol_lies : (l : Image) (name : List ℕ) (n a : ℕ) → symbol_place l name n ≡ Ok a → Lies l n a
 unfolding symbol_place
-symbol_lies l name n a h = place_lies l n (symbol_of l.names name) a h
+symbol_lies l name n a h = place_lies l name n (symbol_of l.names name) a h
 
 -- the symbols behind those that were found
 abbrev with_start : Image → ℕ → ℕ → ℕ → Result Symbols LinkFault

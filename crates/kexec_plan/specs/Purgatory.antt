@@ -11,6 +11,7 @@ use Rattle.purgatory_link.specs.declared.fault.LinkFault.{LinkFault}
 use Rattle.purgatory_link.specs.declared.fault.LinkFault.TheVariants as link
 use Rattle.purgatory_link.specs.Layout.{linked_size}
 use Rattle.purgatory_link.specs.Link.{linking}
+use Rattle.purgatory_link.specs.PurgatorySymbols.{symbol_called}
 use Rattle.purgatory_link.specs.Sym.{Image}
 use Rattle.purgatory_link.specs.Set.{symbol_of, is_inside}
 use Rattle.kexec_plan.specs.declared.fault.Part.TheVariants as parts
@@ -42,24 +43,24 @@ some_purgatory (Some file) = do
 abbrev pub purgatory_rule : ℕ → PurgatoryValue → PlaceRule
 purgatory_rule most p = highest parts.Purgatory p.size most
 
--- the address of a symbol of n bytes that lie in the linked bytes
-abbrev pub place_by : Image → ℕ → Option (ℕ × ℕ) → Result ℕ LinkFault
-place_by l n None = Err link.NoSymbol
-place_by l n (Some s) =
+-- the address of the symbol of this name, which has n bytes that lie in the linked bytes
+abbrev pub place_by : Image → List ℕ → ℕ → Option (ℕ × ℕ) → Result ℕ LinkFault
+place_by l name n None = Err (link.NoSymbol (symbol_called name))
+place_by l name n (Some s) =
     if not (n == s.1) then Err (link.WrongSize s.1)
     else if not (is_inside l s.0 s.1) then Err (link.WrongSize s.1)
     else Ok s.0
 
 unfoldable pub symbol_place : Image → List ℕ → ℕ → Result ℕ LinkFault
-symbol_place l name n = place_by l n (symbol_of l.names name)
+symbol_place l name n = place_by l name n (symbol_of l.names name)
 
--- the address of a symbol of any size
-abbrev pub address_by : Option (ℕ × ℕ) → Result ℕ LinkFault
-address_by None = Err link.NoSymbol
-address_by (Some s) = Ok s.0
+-- the address of the symbol of this name, of any size
+abbrev pub address_by : List ℕ → Option (ℕ × ℕ) → Result ℕ LinkFault
+address_by name None = Err (link.NoSymbol (symbol_called name))
+address_by name (Some s) = Ok s.0
 
 unfoldable pub symbol_address : Image → List ℕ → Result ℕ LinkFault
-symbol_address l name = address_by (symbol_of l.names name)
+symbol_address l name = address_by name (symbol_of l.names name)
 
 -- the symbols of a purgatory: the registers, the table of regions, the digest, and the start
 unfoldable pub symbols_of : Image → Result Symbols LinkFault

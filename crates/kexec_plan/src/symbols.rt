@@ -6,16 +6,7 @@ ghost use Rattle.kexec_plan.specs.inner.Purgatory.{HasSymbols};
 
 use kx_fields::Block;
 use kx_pages::Start;
-use purgatory_link::{LinkFault, Linked};
-
-/// The names of the symbols: the registers of the new kernel, the table of regions, the digest, and the start.
-const REGISTERS: &[u8; 12] = b"entry64_regs";
-
-const REGIONS: &[u8; 21] = b"purgatory_sha_regions";
-
-const DIGEST: &[u8; 23] = b"purgatory_sha256_digest";
-
-const START: &[u8; 15] = b"purgatory_start";
+use purgatory_link::{DIGEST, LinkFault, Linked, PurgatorySymbol, REGIONS, REGISTERS, START};
 
 /// The addresses of a purgatory's symbols.
 #[derive(Clone, Copy)]
@@ -38,7 +29,9 @@ fn symbol_place(linked: &Linked, name: &[u8], size: u64) -> Result<u64, LinkFaul
     ensures to { IfOk result (λ a. a + size ≤ linked.now.base + length linked.now.bytes) }
 {
     let Some((address, found)) = linked.symbol(name) else {
-        return Err(LinkFault::NoSymbol);
+        return Err(LinkFault::NoSymbol {
+            symbol: PurgatorySymbol::called(name),
+        });
     };
     if size != found {
         return Err(LinkFault::WrongSize { found });
@@ -56,7 +49,9 @@ fn symbol_address(linked: &Linked, name: &[u8]) -> Result<u64, LinkFault>
 {
     match linked.symbol(name) {
         Some((address, _)) => Ok(address),
-        None => Err(LinkFault::NoSymbol),
+        None => Err(LinkFault::NoSymbol {
+            symbol: PurgatorySymbol::called(name),
+        }),
     }
 }
 

@@ -5,8 +5,10 @@ pub mod Taking
 pub mod Putting
 pub mod Found
 pub mod Relocating
+pub mod Idle
 pub mod Linking
 pub mod Naming
+pub mod Pushed
 pub mod Bytes
 pub mod Meaning
 pub mod Digesting

@@ -1,6 +1,7 @@
 -- All relocations, step by step.
-use Rattle.std.proofs.Common.{◌≡◌, ℕ, ◌+◌, ◌<◌, ◌≤◌, List, [], ◌∷◌, ◌++◌, append_assoc, length, take, drop, get_or, refl, sym, ap, subst, ◌∙◌, Option, Some, None, Result, Ok, Err, arith}
+use Rattle.std.proofs.Common.{◌≡◌, ℕ, zero, suc, inl, inr, ◌+◌, ◌<◌, ◌≤◌, List, [], ◌∷◌, ◌++◌, append_assoc, length, take, drop, get_or, refl, sym, ap, subst, ◌∙◌, Option, Some, None, Result, Ok, Err, arith}
 use Rattle.std.specs.List.{flat_map}
+use Rattle.std.proofs.lemmas.Bool.{cases_lt}
 use Rattle.std.proofs.lemmas.List.{at_drop_more, at_drop_all, take_more, drop_more, take_all, take-append-drop}
 use Rattle.std.proofs.lemmas.List.FromFn.{length-map-range_with_len, get_or-map-range_with_len}
 use Rattle.kx_fields.specs.Fields.{with_field}
@@ -82,6 +83,34 @@ entry_refused base o starts old now file s k f below first is =
 
 pub entries_put : (base : ℕ) (o : Relocatable) (starts : List (Option ℕ)) (old new : LinkBuffer) (file : List ℕ) (s : RelocSection) (k : ℕ) → s.count ≤ k → ArePut base o starts old new (take k (entries_of file s)) → ArePut base o starts old new (entries_of file s)
 entries_put base o starts old new file s k past are = subst (ArePut base o starts old new) (take_all k (entries_of file s) (omega (arith, past, long file s))) are
+
+-- ---- relocations that put nothing
+abbrev pub PutsNothing : ℕ → Relocatable → List (Option ℕ) → Reloc → Type 0
+PutsNothing base o starts r = (puts : List Put) → put_of base o starts puts r ≡ Ok None
+
+idle_put : (base : ℕ) (o : Relocatable) (starts : List (Option ℕ)) (b : LinkBuffer) (r : Reloc) → PutsNothing base o starts r → ArePut base o starts b b (r ∷ [])
+idle_put base o starts b r idle = one_put base o starts b b r None (λ puts _. sym (idle puts)) (λ puts are. are) refl
+
+-- so many entries behind those that were put
+pub idle_entries : (base : ℕ) (o : Relocatable) (starts : List (Option ℕ)) (old now : LinkBuffer) (file : List ℕ) (s : RelocSection) (j n : ℕ) → ArePut base o starts old now (take j (entries_of file s)) → ((k : ℕ) → k < n → j + k < s.count → PutsNothing base o starts (entry_of file s (j + k))) → ArePut base o starts old now (take (j + n) (entries_of file s))
+idle_entries base o starts old now file s j zero are idle = let e : j ≡ j + 0 = omega arith in subst (λ m. ArePut base o starts old now (take m (entries_of file s))) e are
+idle_entries base o starts old now file s j (suc n) are idle =
+    let es = entries_of file s in
+    let front = idle_entries base o starts old now file s j n are (λ k below. idle k (omega (arith, below))) in
+    let on : j + n + 1 ≡ j + suc n = omega arith in
+    elim (cases_lt (j + n) s.count) [
+      | inl l ↦ subst (λ m. ArePut base o starts old now (take m es)) on (entry_put base o starts old now now file s (j + n) l front (idle_put base o starts now (entry_of file s (j + n)) (idle n (omega arith) l)))
+      | inr l ↦
+          let whole = take_all (j + n) es (omega (arith, l, long file s)) in
+          let also = take_all (j + suc n) es (omega (arith, l, long file s)) in
+          subst (ArePut base o starts old now) (whole ∙ sym also) front
+    ]
+
+-- all of them
+pub all_idle : (base : ℕ) (o : Relocatable) (starts : List (Option ℕ)) (b : LinkBuffer) (file : List ℕ) (s : RelocSection) → ((k : ℕ) → k < s.count → PutsNothing base o starts (entry_of file s k)) → ArePut base o starts b b (entries_of file s)
+all_idle base o starts b file s idle =
+    entries_put base o starts b b file s (0 + s.count) (omega arith)
+    (idle_entries base o starts b b file s 0 s.count (none_put base o starts b file s) (λ k below _. let e : k ≡ 0 + k = omega arith in subst (λ m. PutsNothing base o starts (entry_of file s m)) e (idle k below)))
 
 -- ---- the sections
 -- all that the relocations of an object put, or the first fault

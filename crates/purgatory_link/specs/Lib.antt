@@ -4,6 +4,7 @@ pub mod Symbols
 pub mod Formulas
 pub mod Relocs
 pub mod Link
+pub mod PurgatorySymbols
 pub mod Set
 pub mod Regions
 pub mod RegionTest

@@ -2,6 +2,7 @@
 pub mod Relocs
 pub mod Taken
 pub mod Progress
+pub mod Names
 pub mod Set
 pub mod Meaning
 pub mod Tie

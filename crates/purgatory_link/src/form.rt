@@ -3,9 +3,12 @@
 ghost use Rattle.std.specs.Prelude.{◌≡◌, ℕ, ◌^◌, ◌+◌, ◌<◌, ◌≤◌, ◌≤ℤ◌, pos, negsuc, neg_ℤ, Some, None, if◌then◌else◌};
 ghost use Rattle.purgatory_link.specs.Formulas.{form_of, wide, formula, fits, modulo};
 
+/// The type of a relocation that puts nothing.
+pub(crate) const R_X86_64_NONE: u32 = 0;
+
 /// What a relocation computes, and the field that it goes to (x86-64 psABI, "Relocation Types").
 #[derive(Clone, Copy, Drop)]
-pub enum Form {
+pub(crate) enum Form {
     /// R_X86_64_NONE: nothing.
     Empty,
     /// R_X86_64_64: S + A, modulo 2^64.
@@ -20,11 +23,11 @@ pub enum Form {
 
 impl Form {
     /// The form of a type of relocations, none of an unknown one.
-    pub fn of(kind: u32) -> Option<Form>
+    pub(crate) fn of(kind: u32) -> Option<Form>
         ensures { result ≡ form_of kind }
     {
         match kind {
-            0 => Some(Form::Empty),
+            R_X86_64_NONE => Some(Form::Empty),
             1 => Some(Form::Whole),
             2 | 4 => Some(Form::Relative),
             10 => Some(Form::Unsigned),
@@ -34,7 +37,7 @@ impl Form {
     }
 
     /// The width of its field in bytes.
-    pub fn wide(self) -> u64
+    pub(crate) fn wide(self) -> u64
         ensures { result ≡ wide self }
     {
         match self {
@@ -45,7 +48,7 @@ impl Form {
     }
 
     /// Its value: `symbol` is S, `addend` A and `place` P.
-    pub fn value(self, symbol: u64, addend: i64, place: u64) -> i128
+    pub(crate) fn value(self, symbol: u64, addend: i64, place: u64) -> i128
         ensures { result ≡ formula self symbol addend place }
     {
         let sum = i128::from(symbol) + i128::from(addend);
@@ -56,7 +59,7 @@ impl Form {
     }
 
     /// The number that the field holds, none where the value does not fit.
-    pub fn field(self, value: i128) -> Option<u64>
+    pub(crate) fn field(self, value: i128) -> Option<u64>
         requires low { neg_ℤ (pos (2 ^ 65)) ≤ℤ value }
         requires high { value ≤ℤ pos (2 ^ 65) }
         ensures { result

@@ -13,8 +13,8 @@ use elf_image::{SHT_NOBITS, SHT_NULL, SHT_REL, Section};
 use kx_pages::{PAGE_SIZE, whole_pages};
 use std::alloc::{AllocError, Global};
 
-/// How many bytes may be linked.
-const MOST: u64 = 16_777_216;
+/// The most bytes that may be linked: 16 MiB.
+const LINKED_LIMIT: u64 = 16_777_216;
 
 /// Whether the section is loaded.
 fn is_loaded(section: &Section) -> bool
@@ -126,7 +126,7 @@ pub(crate) fn linked_size(sections: &[Section]) -> Result<u64, LinkFault>
         Err(fault) => return Err(fault),
     }
     let end = end_of(sections);
-    if end > MOST {
+    if end > LINKED_LIMIT {
         return Err(LinkFault::TooLarge { bytes: end });
     }
     Ok(whole_pages(end).max(PAGE_SIZE))

@@ -18,6 +18,7 @@ mod form;
 mod layout;
 mod linked;
 mod names;
+mod purgatory_symbol;
 mod put;
 mod region_test;
 mod reloc;
@@ -29,6 +30,7 @@ pub use digests::{digest_of, regions_of};
 pub use fault::LinkFault;
 pub use linked::{Linked, link, size, write_at};
 pub use names::Names;
+pub use purgatory_symbol::{DIGEST, PurgatorySymbol, REGIONS, REGISTERS, START};
 pub use region_test::{
     RegionTest, digested_regions_are_same, loaded_regions_are_same, test_regions,
 };

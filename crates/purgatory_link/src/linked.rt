@@ -13,6 +13,7 @@ ghost use Rattle.purgatory_link.specs.inner.Set.{setting};
 
 use crate::fault::LinkFault;
 use crate::names::Names;
+use crate::purgatory_symbol::PurgatorySymbol;
 use crate::{layout, relocate, symbols};
 use elf_image::Object;
 use std::alloc::Global;
@@ -73,7 +74,11 @@ impl Linked {
     {
         let (address, size) = match self.symbol(name) {
             Some(symbol) => symbol,
-            None => return Err(LinkFault::NoSymbol),
+            None => {
+                return Err(LinkFault::NoSymbol {
+                    symbol: PurgatorySymbol::called(name),
+                });
+            }
         };
         if bytes.len() as u64 != size {
             return Err(LinkFault::WrongSize { found: size });
@@ -118,7 +123,7 @@ fn link_sized(
         Ok(bytes) => bytes,
         Err(fault) => return Err(fault),
     };
-    let names = Names::new(symbols::names_of(alloc, base, &starts, &object.symbols)?);
+    let names = symbols::names_of(alloc, base, &starts, &object.symbols)?;
     Ok(Linked { base, bytes, names })
 }
 

@@ -21,8 +21,8 @@ use sha2::{Digest, Sha256};
 /// How many rows a table of regions has.
 const ROWS: usize = 16;
 
-/// The most bytes that all regions together have.
-const MOST: u64 = 0x1000_0000;
+/// The most bytes that all regions of a table have together: 2^28.
+const REGIONS_LIMIT: u64 = 0x1000_0000;
 
 /// What the test of regions found.
 #[derive(Debug, Drop)]
@@ -62,7 +62,7 @@ fn first_wild(table: &Block<256>) -> Option<usize>
             return Some(i);
         }
         sum += size;
-        if sum > MOST {
+        if sum > REGIONS_LIMIT {
             return Some(i);
         }
     }

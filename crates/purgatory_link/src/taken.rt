@@ -14,7 +14,7 @@ use std::marker::Model;
 
 /// Which linked bytes are taken, so that no later field may have them. Contracts see the list of the row's words.
 #[derive(Drop)]
-pub struct Taken {
+pub(crate) struct Taken {
     words: Vec<u64>,
 }
 
@@ -67,7 +67,7 @@ fn mark(words: &mut [u64], at: usize, wide: usize)
 
 impl Taken {
     /// Room for `count` bytes, of which none is taken.
-    pub fn new(alloc: Global, count: usize) -> Result<Taken, AllocError>
+    pub(crate) fn new(alloc: Global, count: usize) -> Result<Taken, AllocError>
         ensures none { IfOk result (λ t. AreTaken [] t) }
         ensures room { IfOk result (λ t. count ≤ room t) }
     {
@@ -77,7 +77,7 @@ impl Taken {
     }
 
     /// Whether one of the `wide` bytes at this place is taken. Bytes past the room are not.
-    pub fn meets(&self, at: usize, wide: usize) -> bool
+    pub(crate) fn meets(&self, at: usize, wide: usize) -> bool
         requires { at + wide < 2 ^ 64 }
         ensures { (puts : List Put) → AreTaken puts self.now → result ≡ meets at wide puts }
     {
@@ -85,7 +85,7 @@ impl Taken {
     }
 
     /// Takes the bytes of a field.
-    pub fn add(&mut self, put: &Put)
+    pub(crate) fn add(&mut self, put: &Put)
         requires small { put.now.at + put.now.wide < 2 ^ 64 }
         requires within { put.now.at + put.now.wide ≤ room self.old }
         ensures taken { (puts : List Put) → AreTaken puts self.old

@@ -19,7 +19,7 @@ pub fn faults_of_parts()
     ensures bzimage { of_bzimage (bz.OldVersion 523) ≡ faults.Bzimage (bz.OldVersion 523) }
     ensures params { of_params (params.CommandTooLong 5 4)
         ≡ faults.Params (params.CommandTooLong 5 4) }
-    ensures link { of_link link.NoSymbol ≡ faults.Link link.NoSymbol }
+    ensures link { of_link (link.BadAlign 3) ≡ faults.Link (link.BadAlign 3) }
     ensures multiboot { of_multiboot (multiboot.UnknownFlag 2)
         ≡ faults.Multiboot (multiboot.UnknownFlag 2) }
     ensures crash { of_crash (crash.NotesOutside 3) ≡ faults.Crash (crash.NotesOutside 3) }

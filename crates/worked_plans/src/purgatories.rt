@@ -4,6 +4,7 @@ ghost use Rattle.std.specs.Prelude.{◌≡◌, ◌++◌, ◌==◌, ◌∷◌, []
 ghost use Rattle.byteorder.specs.Endian.{little_bytes};
 ghost use Rattle.elf_image.specs.declared.fault.ElfFault.TheVariants as elf;
 ghost use Rattle.purgatory_link.specs.declared.fault.LinkFault.TheVariants as link;
+ghost use Rattle.purgatory_link.specs.declared.purgatory_symbol.PurgatorySymbol.TheVariants as symbols;
 ghost use Rattle.purgatory_link.specs.Regions.{digest, others, wanted_bytes};
 ghost use Rattle.kexec_plan.specs.Purgatory.{read_purgatory, some_purgatory, purgatory_rule, place_by, symbol_place, address_by, symbol_address, symbols_of, linked_at, registers_text, arm};
 ghost use Rattle.kexec_plan.specs.Table.{highest};
@@ -27,26 +28,30 @@ pub fn purgatory_that_is_read()
 
 /// The address of a symbol, which has its size and lies in the linked bytes: 24 from 0x7000 on.
 pub fn places_of_symbols()
-    ensures none { place_by linked_image 8 None ≡ Err link.NoSymbol }
-    ensures here { place_by linked_image 8 (Some (0x7010, 8)) ≡ Ok 0x7010 }
-    ensures other_size { place_by linked_image 8 (Some (0x7010, 7)) ≡ Err (link.WrongSize 7) }
-    ensures past_the_end { place_by linked_image 8 (Some (0x7011, 8)) ≡ Err (link.WrongSize 8) }
-    ensures before_the_start { place_by linked_image 8 (Some (0x6fff, 8))
+    ensures none { place_by linked_image (codes "entry64_regs") 8 None
+        ≡ Err (link.NoSymbol symbols.Registers) }
+    ensures here { place_by linked_image (codes "second") 8 (Some (0x7010, 8)) ≡ Ok 0x7010 }
+    ensures other_size { place_by linked_image (codes "second") 8 (Some (0x7010, 7)) ≡ Err (link.WrongSize 7) }
+    ensures past_the_end { place_by linked_image (codes "second") 8 (Some (0x7011, 8)) ≡ Err (link.WrongSize 8) }
+    ensures before_the_start { place_by linked_image (codes "second") 8 (Some (0x6fff, 8))
         ≡ Err (link.WrongSize 8) }
     ensures named { symbol_place linked_image (codes "second") 16 ≡ Ok 0x7008 }
     ensures named_twice { symbol_place linked_image (codes "first") 8 ≡ Ok 0x7000 }
-    ensures not_named { symbol_place linked_image (codes "third") 8 ≡ Err link.NoSymbol }
-    ensures address { address_by (Some (0x9000, 0)) ≡ Ok 0x9000 }
-    ensures no_address { address_by None ≡ Err link.NoSymbol }
+    ensures not_named { symbol_place linked_image (codes "third") 8
+        ≡ Err (link.NoSymbol symbols.Other) }
+    ensures address { address_by (codes "third") (Some (0x9000, 0)) ≡ Ok 0x9000 }
+    ensures no_address { address_by (codes "purgatory_start") None
+        ≡ Err (link.NoSymbol symbols.Start) }
     ensures address_of_a_name { symbol_address linked_image (codes "second") ≡ Ok 0x7008 }
-    ensures address_of_no_name { symbol_address linked_image (codes "thir") ≡ Err link.NoSymbol }
+    ensures address_of_no_name { symbol_address linked_image (codes "thir")
+        ≡ Err (link.NoSymbol symbols.Other) }
 {}
 
 /// The symbols of a purgatory at 0x7ff000, and the first that is refused.
 pub fn symbols_of_a_purgatory()
     ensures linked { linked_at (purgatory_of 136) (record { at = 0x7f_f000; size = 4096 })
         ≡ Ok (linkage 0x7f_f000) }
-    ensures no_symbol { symbols_of linked_image ≡ Err link.NoSymbol }
+    ensures no_symbol { symbols_of linked_image ≡ Err (link.NoSymbol symbols.Registers) }
     ensures registers_first { linked_at (purgatory_of 128) (record { at = 0x7f_f000; size = 4096 })
         ≡ Err (faults.Link (link.WrongSize 128)) }
 {}

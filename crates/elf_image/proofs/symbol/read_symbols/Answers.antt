@@ -5,7 +5,7 @@ use Rattle.elf_image.proofs.Objects.{no_symbols, symbols_fail, second_fails, sym
 use Rattle.elf_image.proofs.symbol.read_symbols.Goals as goal
 
 pub returns-in-None : goal.returns-in-None
-returns-in-None c = no_symbols c.args.file.now c.args.table.now (sym c.in-None.ensures.value) ∙ ap Ok (sym c.new.ensures.items)
+returns-in-None c = no_symbols c.args.file.now c.args.table.now (sym c.in-None.ensures.value) ∙ ap Ok (sym c.none.ensures)
 
 pub returns-in-Err : goal.returns-in-Err
 returns-in-Err c =
@@ -14,10 +14,10 @@ returns-in-Err c =
 
 pub returns-in-Ok-refuse_second : goal.returns-in-Ok-refuse_second
 returns-in-Ok-refuse_second c =
-    symbols_told c.args.file.now c.args.table.now c.in-Some.i c.header-header.result c.in-Ok.symbols.items (sym c.in-Some.ensures.value) c.header-header.ensures.value
+    symbols_told c.args.file.now c.args.table.now c.in-Some.i c.header-header.result c.in-Ok.symbols (sym c.in-Some.ensures.value) c.header-header.ensures.value
     (ap (λ p. symbols_in c.args.file.now c.args.table.now p c.header-header.result) (sym c.place.ensures) ∙ c.in-Ok.ensures) (sym c.in-Ok-refuse_second.ensures)
 
 pub returns-in-Err-refuse_second : goal.returns-in-Err-refuse_second
 returns-in-Err-refuse_second c =
-    second_fails c.args.file.now c.args.table.now c.in-Some.i c.header-header.result c.in-Ok.symbols.items c.in-Err-refuse_second.fault (sym c.in-Some.ensures.value) c.header-header.ensures.value
+    second_fails c.args.file.now c.args.table.now c.in-Some.i c.header-header.result c.in-Ok.symbols c.in-Err-refuse_second.fault (sym c.in-Some.ensures.value) c.header-header.ensures.value
     (ap (λ p. symbols_in c.args.file.now c.args.table.now p c.header-header.result) (sym c.place.ensures) ∙ c.in-Ok.ensures) (sym c.in-Err-refuse_second.ensures)

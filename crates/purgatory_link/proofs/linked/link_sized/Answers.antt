@@ -31,7 +31,7 @@ returns c =
     let done = same_relocated c.args.base o c.args.file.now c.args.size c.deref-3.result.now c.in_ok-bytes.bytes.items (Ok new) sts old c.in-Ok.ensures in
     record {
       exact = linked_ok c.args.base o c.args.file.now c.args.size c.deref-3.result.now c.in_ok-bytes.bytes.items new _ sts old c.in-Ok.ensures
-          (c.new-names.ensures ∙ c.in_ok-names_of.ensures ∙ ap (λ l. names_of c.args.base l c.deref-5.result.now) (c.deref-4.ensures.value ∙ sym c.deref-3.ensures.value) ∙ ap (names_of c.args.base c.deref-3.result.now) (c.deref-5.ensures.value ∙ ap (λ (o : Relocatable). o.symbols) c.object.view_is));
+          (c.in_ok-names.ensures ∙ ap (λ l. names_of c.args.base l c.object.inside.symbols) (c.deref-4.ensures.value ∙ sym c.deref-3.ensures.value) ∙ ap (names_of c.args.base c.deref-3.result.now) (ap (λ (o : Relocatable). o.symbols) c.object.view_is));
       fields = fields_by c.args.base o c.args.file.now c.args.size (unlinked_bytes o c.args.file.now c.args.size) new room long done;
       others = others_by c.args.base o c.args.file.now c.args.size new c.requires.object.sections room long done;
     }

@@ -19,11 +19,11 @@ pub returns-in-Err-symbol_value : goal.returns-in-Err-symbol_value
 returns-in-Err-symbol_value c = λ puts i.
     put_valueless c.args.base c.args.object.now c.args.starts.now puts c.args.reloc.now c.in-Some.start c.in-Some-of.form c.in-Err-symbol_value.fault c.in-Some.ensures c.in-Some-of.ensures
     (c.in-Ok.ensures.exact puts i ∙ ap (test_place c.args.base c.args.object.now puts c.args.reloc.now (c.in-Some.start + c.args.reloc.now.offset)) c.wide.ensures)
-    (rw (c.deref.ensures.value ∙ ap (λ (o : Relocatable). o.symbols) c.object.view_is) at c.in-Err-symbol_value.ensures)
+    (rw (ap (λ (o : Relocatable). o.symbols) c.object.view_is) at c.in-Err-symbol_value.ensures)
 
 pub returns : goal.returns
 returns c = λ puts i.
     c.put_value.ensures
     ∙ put_given c.args.base c.args.object.now c.args.starts.now puts c.args.reloc.now c.in-Some.start c.in-Some-of.form c.in-Ok-symbol_value.symbol c.in-Some.ensures c.in-Some-of.ensures
     (c.in-Ok.ensures.exact puts i ∙ ap (test_place c.args.base c.args.object.now puts c.args.reloc.now (c.in-Some.start + c.args.reloc.now.offset)) c.wide.ensures)
-    (rw (c.deref.ensures.value ∙ ap (λ (o : Relocatable). o.symbols) c.object.view_is) at c.in-Ok-symbol_value.ensures)
+    (rw (ap (λ (o : Relocatable). o.symbols) c.object.view_is) at c.in-Ok-symbol_value.ensures)

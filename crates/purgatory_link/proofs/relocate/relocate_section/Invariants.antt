@@ -1,4 +1,4 @@
-use Rattle.std.proofs.Common.{◌≡◌, length, take}
+use Rattle.std.proofs.Common.{◌≡◌, ◌-◌, length, take}
 use Rattle.elf_image.specs.Reloc.{entries_of}
 use Rattle.purgatory_link.specs.inner.Progress.{ArePut}
 use Rattle.purgatory_link.specs.inner.Taken.{room, IsRow}
@@ -11,3 +11,6 @@ invariant-loop-entry l = record {
   room_stays : room l.buffer.taken ≡ room l.fn.buffer.taken;
   long : length l.buffer.bytes.items ≡ length l.fn.buffer.bytes.items;
 }
+
+abbrev pub decreases-loop-entry : goal.decreases-loop-entry
+decreases-loop-entry l = l.section.count - l.entry

@@ -1,9 +1,10 @@
 use Rattle.std.proofs.Common.{sym, arith}
-use Rattle.elf_image.proofs.Strays.{none_stray, first_stray, one_more, is_here}
+use Rattle.elf_image.specs.inner.Reloc.{has_symbol}
+use Rattle.elf_image.proofs.Strays.{none_stray, first_stray, one_more, is_here, passed_over}
 use Rattle.elf_image.proofs.reloc.RelocSection.test_symbols.Goals as goal
 
 pub loop-entry-init : goal.loop-entry-init
-loop-entry-init c = λ k below. absurd (omega (arith, below))
+loop-entry-init c = λ k below. passed_over c.args.file.now c.args.symbols c.args.self.now k (c.run-entry.ensures.runs (has_symbol c.args.file.now c.args.symbols) c.requires.runs k below)
 
 pub returns-then-reloc-symbols : goal.returns-then-reloc-symbols
 returns-then-reloc-symbols c =
