@@ -74,9 +74,7 @@ fn plan_remedy(fault: &PlanFault, is_crash: bool) -> Option<&'static str> {
         PlanFault::NoHole { .. }
         | PlanFault::Segments {
             fault: SegFault::HalfOfMemory,
-        } => Some(
-            "for a Linux kernel, kernelyet plan prints the sizes and the largest holes",
-        ),
+        } => Some("for a Linux kernel, kernelyet plan prints the sizes and the largest holes"),
         _ => None,
     }
 }
