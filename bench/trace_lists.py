@@ -2,7 +2,8 @@
 import random
 import struct
 
-PAGE = 4096
+from inputs import PAGE, memory_files
+
 LIST, DATA, SWAP = 0x20, 0x100000, 0x10
 # the words of a page of a list: pairs of a destination and a source word, a word that does nothing, and the link
 WORDS = PAGE // 8
@@ -19,18 +20,10 @@ def swap():
     return f"{SWAP * PAGE:x}"
 
 
-def write_slots(file, pages):
-    """A memory file of these pages, each a number and its bytes, in rising order."""
-    with open(file, "wb") as out:
-        out.write(b"KXMEM001" + struct.pack("<Q", len(pages)))
-        for number, page in pages:
-            out.write(struct.pack("<Q", number) + page)
-
-
 def write_steps(file):
     """A list of one page: 511 destination words and a link to the page itself."""
     words = [DATA * PAGE | 1] * (WORDS - 1) + [LIST * PAGE | 2]
-    write_slots(file, [(LIST, struct.pack(f"<{WORDS}Q", *words))])
+    memory_files.write_memory(file, [(LIST, struct.pack(f"<{WORDS}Q", *words))])
 
 
 def write_moves(file, held):
@@ -47,7 +40,7 @@ def write_moves(file, held):
         words += [0, (LIST + (k + 1) % lists) * PAGE | 2]
         pages.append((LIST + k, struct.pack(f"<{WORDS}Q", *words)))
     pages += [(number, struct.pack("<Q", number) * WORDS) for number in numbers]
-    write_slots(file, pages)
+    memory_files.write_memory(file, pages)
 
 
 def steps_of(moves):

@@ -6,6 +6,8 @@ from the top down the initrd, the crash headers, the boot parameters and the pur
 To run, as a rule of thumb: this, the unpacked initrd, which Linux holds in memory beside the file, and ROOM for what the
 kernel allocates and its processes; and of all that 1/64 for the records of its pages (struct page, 64 bytes for 4 KiB).
 """
+import struct
+
 from companion.maps import ranges_outside_crash_areas
 from companion.numbers import PAGE, up
 
@@ -13,8 +15,26 @@ from companion.numbers import PAGE, up
 ROOM = 32 << 20
 # Linux begins an area at a multiple of 16 MiB
 STEP = 16 << 20
+# sh_flags of a section that is loaded (System V ABI, chapter 4)
+SHF_ALLOC = 2
 # what is added to the command line: elfcorehdr= and a number of KiB below 2^46, and the words of its memmap=
 ADDED = len(" elfcorehdr=68719476736K")
+
+
+def linked_bytes(path):
+    """The bytes of a purgatory when it is linked: its sections with SHF_ALLOC, each at the next multiple of its alignment
+    (docs/KERNELS.md, Purgatories). What is no ELF64 object has none, and the load refuses it."""
+    with open(path, "rb") as file:
+        data = file.read()
+    if data[:6] != b"\x7fELF\2\1" or len(data) < 64:
+        return 0
+    (table,), (size, count) = struct.unpack_from("<Q", data, 40), struct.unpack_from("<HH", data, 58)
+    end = 0
+    for at in range(table, table + size * count, size or 1):
+        if size >= 64 and at + 64 <= len(data) and struct.unpack_from("<Q", data, at + 8)[0] & SHF_ALLOC:
+            length, alignment = (struct.unpack_from("<Q", data, at + place)[0] for place in (32, 48))
+            end = up(end, max(alignment, 1)) + length
+    return end
 
 
 def headers_bytes(rows, notes):

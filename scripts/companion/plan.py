@@ -2,7 +2,7 @@
 import shlex
 
 from companion import maps, planning, program, reports
-from companion.crash_sizes import ROOM, STEP, Needs
+from companion.crash_sizes import ROOM, STEP, Needs, linked_bytes
 from companion.numbers import END, PAGE, counted, option_size, size_of, size_text
 from companion.parsers import Parser
 
@@ -32,8 +32,8 @@ class Crash:
     """The area of a crash kernel, and what it needs of one."""
 
     def __init__(self, plan):
-        size = plan.given.purgatory and len(open(plan.given.purgatory, "rb").read())
-        self.needs = Needs(plan.kernel, plan.initrd, plan.machine.rows, plan.notes(), plan.given.command, size or 0)
+        size = linked_bytes(plan.given.purgatory) if plan.given.purgatory else 0
+        self.needs = Needs(plan.kernel, plan.initrd, plan.machine.rows, plan.notes(), plan.given.command, size)
         self.is_tried = False
         if plan.given.crash:
             plan.machine.with_crash(size_of(plan.given.crash, "--crash"))
@@ -102,9 +102,11 @@ def crash_lines(plan, crash):
     area = f"{size_text(crash.end - crash.start)} at {crash.start:#x}{used}"
     yield f"{'crash area':15}  {area}" + "; the map has none, this one was tried" * crash.is_tried
     yield f"{'to load':15}  crashkernel={option_size(crash.to_load)} or more"
-    yield (f"{'to run':15}  crashkernel={option_size(crash.to_run)} or more, as a rule of thumb: the parts "
-           f"({size_text(crash.needs.to_load(crash.start))}), the unpacked initrd ({size_text(crash.needs.unpacked)}"
-           f"{', a guess' if plan.initrd and plan.initrd.is_guess else ''}), {size_text(ROOM)} to work in, and 1/64")
+    guess = " (a guess)" * bool(plan.initrd and plan.initrd.is_guess)
+    initrd = f", {size_text(crash.needs.unpacked)} for the unpacked initrd{guess}" * bool(plan.initrd)
+    yield f"{'to run':15}  crashkernel={option_size(crash.to_run)} or more, as a rule of thumb:"
+    yield (f"{'':15}  {size_text(crash.needs.to_load(crash.start))} for the parts{initrd}, {size_text(ROOM)} to work in, and "
+           "1/64 of that")
     if plan.record and not crash.is_enough:
         yield f"{'':15}  the area is smaller: the kernel loads, and may run out of memory when it starts"
 

@@ -8,7 +8,7 @@ from companion import maps, pools, program
 from companion.initrds import Unpacked
 from companion.kernels import Kernel, front_of, kind_of
 from companion.memory_files import write_memory
-from companion.numbers import counted, option_size, size_of, size_text
+from companion.numbers import counted, size_of, size_text
 from companion.progress import Progress
 from companion.records import Record
 from companion.refusals import Wrong
@@ -63,7 +63,7 @@ class Machine:
     def __init__(self, given):
         self.is_made_up, self.source = False, given.map or IOMEM
         if given.ram:
-            self.make_up(size_of(given.ram, "--ram"), f"a made-up PC with {option_size(size_of(given.ram))} of RAM")
+            self.make_up(size_of(given.ram, "--ram"), f"a made-up PC with {size_text(size_of(given.ram))} of RAM")
         elif given.map:
             self.rows = maps.read_map(given.map)[1]
         else:
@@ -71,7 +71,7 @@ class Machine:
                 self.rows = maps.read_map(IOMEM)[1]
                 self.source = f"this machine ({IOMEM})"
             except (OSError, Wrong):
-                self.make_up(MADE_UP, f"a made-up PC with {option_size(MADE_UP)} of RAM, since the map of this machine is "
+                self.make_up(MADE_UP, f"a made-up PC with {size_text(MADE_UP)} of RAM, since the map of this machine is "
                              "shown to root alone")
 
     def make_up(self, ram, source):

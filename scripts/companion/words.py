@@ -65,7 +65,7 @@ numbers without 0x."""
 
 
 def main(argv):
-    """Does what the words say, and answers the status; a command of the program is not come back from."""
+    """Does what the words say, and answers the status; from a command of the program this does not come back."""
     words, name = argv[1:], name_called()
     if words[:1] == ["help"]:
         # help WORD is WORD --help
@@ -85,4 +85,4 @@ def main(argv):
         return 2
     from companion import program
 
-    return program.become(words, name)
+    return program.tell(words, name) if program.asks(words) else program.become(words, name)
