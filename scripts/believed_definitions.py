@@ -120,7 +120,7 @@ class Library:
     def __init__(self):
         self.files, self.uses, self.types, self.read = {}, {}, {}, {}
         self.crates = {it.name for it in CRATES.iterdir() if it.is_dir()}
-        for path in sorted(CRATES.glob("*/specs/**/*.antt")) + sorted(CRATES.glob("*/proofs/**/*.antt")):
+        for path in sorted(CRATES.glob("*/specs/**/*.antt")):
             crate, part, *rest = path.relative_to(CRATES).with_suffix("").parts
             module = ".".join(["Rattle", crate, part, *rest])
             self.files[module], self.uses[module] = SpecReader(path, module).read()
