@@ -159,21 +159,19 @@ class Library:
 
     def named(self, module, uses, lines):
         text = "\n".join(line.split("--")[0] for line in lines)
-        bound, found = bound_in(text), []
         own = self.files.get(module, {})
-        words = [(word, text[at.end() : at.end() + 3]) for at in WORD.finditer(text) for word in [at[0]]]
-        for word, behind in words:
-            if behind.startswith(" = ") and word not in own:
+        free, found = bound_in(text) - self.made(module, uses), []  # what is a variable, and no constructor
+        for at in WORD.finditer(text):
+            word = at[0]
+            if word not in own and text.startswith(" = ", at.end()):
                 continue
             head, _, rest = word.partition(".")
             if rest and head in uses.modules:
                 found.append(self.find(uses.modules[head], rest.split(".")[0]))
             for name in (word, head, f"◌{word}◌", "◌>>=◌" if word == "←" else word):
-                if name in bound and name not in self.made(module, uses):
-                    continue
-                if name in uses.names:
+                if name in uses.names and name not in free:
                     found.append(self.find(*uses.names[name]))
-                elif name in own:
+                elif name in own and name not in free:
                     found.append(own[name])
         return list(dict.fromkeys(found))
 
