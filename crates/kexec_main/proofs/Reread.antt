@@ -11,7 +11,6 @@ use Rattle.segments.specs.declared.fault.SegFault.{SegFault}
 use Rattle.load_record.specs.File.{Record, tested_head, record_of, record_reading, record_by, tested_segments}
 use Rattle.load_record.specs.Head.{version_of}
 use Rattle.load_record.specs.declared.fault.RecFault.{RecFault}
-use Rattle.load_record.specs.declared.head.Head.{Head}
 use Rattle.file_commands.specs.Files.{from_reader, whole_file}
 use Rattle.file_commands.specs.Taking.{Refusal, ok, reads, too_long, ◌>>=◌}
 use Rattle.file_commands.specs.inner.Taking.{file_at}
@@ -25,6 +24,13 @@ use Rattle.kexec_main.specs.declared.status.Reason.{Reason}
 use Rattle.kexec_main.specs.declared.status.Reason.TheVariants.{Input}
 use Rattle.kexec_main.specs.Exec.{ExecInputs, exec_files, exec_of}
 use Rattle.kexec_main.specs.Files.{crash_files, list_files, load_by, load_files, load_record_file, memory_file, memory_limit, record_limit}
+
+-- the head of a record, a type that load_record keeps to itself: what a record is made of first
+abbrev DomainOf : {A B : Type 0} → (A → B) → Type 0
+DomainOf {A} f = A
+
+abbrev Head : Type 0
+Head = DomainOf record_by
 
 -- a whole file is what the name holds
 whole_found : (limit : ℕ) (name : List ℕ) (held : Files) (bytes : List ℕ) → reads {R = Reason} (whole_file limit name) held ≡ Ok bytes → file_at held name ≡ bytes

@@ -4,7 +4,7 @@ ghost use Rattle.std.specs.Prelude.{◌≡◌, ◌++◌, ◌∷◌, [], Ok, Err,
 ghost use Rattle.byteorder.specs.Endian.{little_bytes};
 ghost use Rattle.segments.specs.declared.fault.SegFault.TheVariants as segment_faults;
 ghost use Rattle.load_record.specs.File.{record_file, record_reading, record_text};
-ghost use Rattle.load_record.specs.declared.version.Version.TheVariants.{First};
+ghost use Rattle.load_record.specs.Head.{version_of};
 ghost use Rattle.load_record.specs.declared.fault.RecFault.TheVariants as faults;
 ghost use Rattle.worked_examples.specs.Records.{kept_record, three_bytes_file, three_bytes_first, three_bytes_record};
 
@@ -14,7 +14,8 @@ pub fn record_of_one_page()
     ensures bytes { record_file three_bytes_record ≡ three_bytes_file }
     ensures length { length three_bytes_file ≡ 155 }
     ensures read { record_reading three_bytes_file ≡ Ok three_bytes_record }
-    ensures first_bytes { record_text First three_bytes_record ≡ three_bytes_first }
+    ensures first_bytes { record_text (version_of three_bytes_first) three_bytes_record
+        ≡ three_bytes_first }
     ensures first_length { length three_bytes_first ≡ 123 }
     ensures first_read { record_reading three_bytes_first ≡ Ok three_bytes_record }
     ensures kept { record_reading (record_file kept_record) ≡ Ok kept_record }
