@@ -10,7 +10,6 @@
 //! | `elf_headers_tests` | ELF64's headers |
 //! | `executable_tests`, `object_tests`, `multiboot_tests`, `bzimage_tests` | each prefix of a file |
 //! | `length_tests` | lengths that 64 bits do not hold |
-//! | `overlap_tests` | objects whose sections of relocations have the same entries |
 //! | `region_tests` | the regions that a purgatory tests |
 //! | `vmcore_tests` | the greatest core file |
 #![tactic(auto)]
@@ -29,8 +28,6 @@ mod length_tests;
 mod multiboot_tests;
 #[cfg(test)]
 mod object_tests;
-#[cfg(test)]
-mod overlap_tests;
 #[cfg(test)]
 mod region_tests;
 #[cfg(test)]

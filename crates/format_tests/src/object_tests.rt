@@ -102,18 +102,3 @@ fn public_numbers_are_those_of_the_standard(rt: HostRuntime) {
     assert_eq!(rt; [SHT_NULL, SHT_NOBITS, SHT_REL], [0, 8, 9]);
     assert_eq!(rt; [SHN_UNDEF, SHN_ABS, SHN_COMMON], [0, 0xfff1, 0xfff2]);
 }
-
-// The name of symbol 1 begins in the middle of what was its name.
-#[test]
-fn names_may_share_their_bytes(rt: HostRuntime) -> Result<(), Fail> {
-    let mut file = object_file(rt.alloc())?;
-    put(&mut file, 152, &[3]);
-    let object = read_object(rt.alloc(), &file)?;
-    let symbol = object.symbols.get(1).ok_or("symbol 1")?;
-    assert_eq!(rt; object.symbols.strings.text(symbol.name), b"try".as_slice());
-    assert!(rt; object.symbols.strings.has_text(3, b"try"));
-    assert!(rt; !object.symbols.strings.has_text(3, b"tr"));
-    assert!(rt; !object.symbols.strings.has_text(3, b"try\0abs"));
-    assert!(rt; !object.symbols.strings.has_text(1, b"try"));
-    Ok(())
-}
