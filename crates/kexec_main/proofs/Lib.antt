@@ -20,3 +20,4 @@ pub mod Resident
 pub mod Together
 pub mod Proving
 pub mod Places
+pub mod Untaken

@@ -64,7 +64,7 @@ fn run_command<S: Shelf, O: Sink>(
 }
 
 // What each answer says, in one clause.
-#[tactic(auto, unfolding(file_commands::specs::Taking::Took, file_commands::specs::Taking::WantedAt))]
+#[tactic(auto, unfolding(file_commands::specs::Taking::Took))]
 fn run_words<S: Shelf, O: Sink>(
     alloc: Global,
     words: &[String],
