@@ -1,5 +1,5 @@
 """Memory maps, the text of /proc/iomem: docs/FORMATS.md has their format."""
-from companion.numbers import END, PAGE, UNITS
+from companion.numbers import END, PAGE, UNITS, without
 from companion.refusals import Wrong
 
 RAM, CRASH, RESERVED = "System RAM", "Crash kernel", "Reserved"
@@ -67,17 +67,8 @@ def ram_runs(rows):
 
 def free_runs(rows):
     """The runs (first, end) of pages that lie wholly in RAM and that no other row takes, rising."""
-    taken = sorted((first // PAGE, last // PAGE + 1) for first, last, what in rows if what in TAKEN)
-    found = []
-    for first, end in sorted(ram_runs(rows)):
-        for low, high in taken:
-            if high > first and low < end:
-                if low > first:
-                    found.append((first, low))
-                first = max(first, high)
-        if first < end:
-            found.append((first, end))
-    return found
+    taken = ((first // PAGE, last // PAGE + 1) for first, last, what in rows if what in TAKEN)
+    return without(sorted(ram_runs(rows)), taken)
 
 
 def from_1_mib(runs):

@@ -232,7 +232,8 @@ pub(crate) fn refusal(
     place: Option<u64>,
     item: &Item,
 ) -> Option<Why>
-    ensures { (s : spec.Earlier) → Shows (swap_page image.now.mode) earlier.now s → IsBelow item.now →
+    ensures { (s : spec.Earlier) →
+        Shows (swap_page image.now.mode) earlier.now s → IsBelow item.now →
         result ≡ why_refused memory.now segments.now image.now place s (Some item.now) }
 {
     match item {

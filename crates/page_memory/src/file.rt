@@ -268,7 +268,8 @@ pub(crate) fn file_of(alloc: Global, frames: &[u8], table: &Table) -> Result<Vec
 /// What `write` gives is read back: the file of a memory within the limit reads as a memory that agrees with it at
 /// every page.
 pub fn reads_back()
-    ensures { (m : Contents) → IsMemory m → length (stored_pages m) ≤ file_page_limit → IsReadAgain m }
+    ensures { (m : Contents) → IsMemory m → length (stored_pages m) ≤ file_page_limit →
+        IsReadAgain m }
 {}
 
 /// Each memory has one file: memories that agree at every page store the same pages, and have the same file.

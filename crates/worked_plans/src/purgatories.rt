@@ -31,8 +31,10 @@ pub fn places_of_symbols()
     ensures none { place_by linked_image (codes "entry64_regs") 8 None
         ≡ Err (link.NoSymbol symbols.Registers) }
     ensures here { place_by linked_image (codes "second") 8 (Some (0x7010, 8)) ≡ Ok 0x7010 }
-    ensures other_size { place_by linked_image (codes "second") 8 (Some (0x7010, 7)) ≡ Err (link.WrongSize 7) }
-    ensures past_the_end { place_by linked_image (codes "second") 8 (Some (0x7011, 8)) ≡ Err (link.WrongSize 8) }
+    ensures other_size { place_by linked_image (codes "second") 8 (Some (0x7010, 7))
+        ≡ Err (link.WrongSize 7) }
+    ensures past_the_end { place_by linked_image (codes "second") 8 (Some (0x7011, 8))
+        ≡ Err (link.WrongSize 8) }
     ensures before_the_start { place_by linked_image (codes "second") 8 (Some (0x6fff, 8))
         ≡ Err (link.WrongSize 8) }
     ensures named { symbol_place linked_image (codes "second") 16 ≡ Ok 0x7008 }
