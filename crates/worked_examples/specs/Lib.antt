@@ -4,6 +4,7 @@ pub mod Lists
 pub mod Runs
 pub mod Maps
 pub mod Records
+pub mod Conditions
 pub mod Cores
 pub mod Executables
 pub mod BzImages

@@ -10,11 +10,12 @@ ghost use Rattle.segments.specs.declared.fault.SegFault.TheVariants as faults;
 ghost use Rattle.segments.specs.declared.fault.Kind.TheVariants as kinds;
 ghost use Rattle.worked_examples.specs.Kernels.{three_bytes, two_pages, no_bytes, zeros, pages_at};
 
-/// A kernel of three bytes: its page is to have them and then zeros, and no other page changes.
+/// A kernel of three bytes: its page is to have them and then zeros, and no other page changes. The same of a page higher up.
 pub fn one_page_is_wanted()
     ensures page { want three_bytes 2 ≡ Some (codes "abc" ++ replicate 4093 0) }
     ensures before { want three_bytes 1 ≡ None }
     ensures behind { want three_bytes 3 ≡ None }
+    ensures high { want (pages_at 0x1000 1 ∷ []) 0x1000 ≡ Some (replicate 4096 0) }
     ensures changed { (M : Mem) → overlay M (want three_bytes) 2 ≡ codes "abc" ++ replicate 4093 0 }
     ensures unchanged { (M : Mem) → overlay M (want three_bytes) 3 ≡ M 3 }
     ensures passes { bare_refusal three_bytes ≡ None }
@@ -52,10 +53,12 @@ pub fn segments_that_overlap()
         ≡ None }
 {}
 
-/// An address that is no page's, and a list without segments.
+/// An address that is no page's, a segment that ends at 2^46 and one that ends a page below, and a list without segments.
 pub fn bad_addresses()
     ensures inside_a_page { bare_refusal (record { bytes = []; mem = 0x800; memsz = 0x1000 } ∷ [])
         ≡ Some (faults.BadAddress 0) }
+    ensures at_the_limit { bare_refusal (pages_at 0x3_ffff_ffff 1 ∷ []) ≡ Some (faults.BadAddress 0) }
+    ensures below_the_limit { bare_refusal (pages_at 0x3_ffff_fffe 1 ∷ []) ≡ None }
     ensures errno { errno (faults.BadAddress 0) ≡ 99 }
     ensures none { bare_refusal [] ≡ Some faults.NoSegments }
 {}
@@ -66,6 +69,7 @@ pub fn too_much()
         ≡ Some (faults.TooFull 0) }
     ensures sixteen { bare_refusal (replicate 16 (pages_at 0x100 0)) ≡ None }
     ensures seventeen { bare_refusal (replicate 17 (pages_at 0x100 0)) ≡ Some faults.TooMany }
+    ensures most_pages { bare_refusal (pages_at 0x100 65536 ∷ []) ≡ None }
     ensures pages { bare_refusal (pages_at 0x100 65537 ∷ []) ≡ Some (faults.TooLarge 65537) }
 {}
 
@@ -81,14 +85,20 @@ pub fn misplaced_segments()
     ensures before { refusal (record { first = 0; count = 0x200 } ∷ [])
         (kinds.Crash (record { first = 0x100; count = 0x10 })) (pages_at 0xff 4 ∷ [])
         ≡ Some (faults.OutsideReserved 0) }
+    ensures behind_a_high_area { refusal (record { first = 0; count = 0x2000 } ∷ [])
+        (kinds.Crash (record { first = 0x1000; count = 1 })) (pages_at 0x1000 2 ∷ [])
+        ≡ Some (faults.OutsideReserved 0) }
     ensures errno { errno (faults.OutsideReserved 0) ≡ 99 }
 {}
 
-/// Memory of eight pages: a segment of four passes, and one of five takes more than half of memory.
+/// Memory of eight pages: a segment of four passes, and one of five takes more than half of memory, as do one of three and one
+/// of two together.
 pub fn half_of_memory()
     ensures four { refusal (record { first = 0x100; count = 8 } ∷ []) kinds.Normal
         (pages_at 0x100 4 ∷ []) ≡ None }
     ensures five { refusal (record { first = 0x100; count = 8 } ∷ []) kinds.Normal
         (pages_at 0x100 5 ∷ []) ≡ Some faults.HalfOfMemory }
+    ensures together { refusal (record { first = 0x100; count = 8 } ∷ []) kinds.Normal
+        (pages_at 0x100 3 ∷ pages_at 0x103 2 ∷ []) ≡ Some faults.HalfOfMemory }
     ensures errno { errno faults.HalfOfMemory ≡ 22 }
 {}

@@ -6,6 +6,7 @@
 #![tactic(auto)]
 
 mod bzimages;
+mod conditions;
 mod cores;
 mod events;
 mod exchanges;
@@ -29,6 +30,7 @@ mod samples;
 mod words;
 
 pub use bzimages::{boot_parameters, boot_parameters_with_many_rows, setup_header_of_a_bzimage};
+pub use conditions::{conditions_of_kept_lists, conditions_of_plain_lists};
 pub use cores::{core_file_of_a_memory, places_in_a_core_file};
 pub use events::{image_that_is_replaced, load_that_is_run, texts_of_events};
 pub use exchanges::{

@@ -16,6 +16,7 @@ pub fn words_of_items()
     ensures destination { code (Destination 2) ≡ 0x2001 }
     ensures link { code (Link 0x11) ≡ 0x11002 }
     ensures done { code (Done 0) ≡ 4 }
+    ensures done_of_a_page { code (Done 0x12) ≡ 0x12004 }
     ensures source { code (Source 0x12) ≡ 0x12008 }
 {}
 
@@ -24,6 +25,7 @@ pub fn items_of_words()
     ensures destination { decode 0x2001 ≡ Some (Destination 2) }
     ensures link { decode 0x11002 ≡ Some (Link 0x11) }
     ensures done { decode 4 ≡ Some (Done 0) }
+    ensures done_of_a_page { decode 0x12004 ≡ Some (Done 0x12) }
     ensures source { decode 0x12008 ≡ Some (Source 0x12) }
     ensures two_flags { decode 0x2009 ≡ None }
     ensures no_flag { decode 0x2000 ≡ None }

@@ -8,6 +8,14 @@ pub returns-clause-inside_a_page : goal.returns-clause-inside_a_page
 unfolding page_of bare_refusal refusal shape_refusal
 returns-clause-inside_a_page c = refl
 
+pub returns-clause-at_the_limit : goal.returns-clause-at_the_limit
+unfolding page_of bare_refusal refusal shape_refusal
+returns-clause-at_the_limit c = refl
+
+pub returns-clause-below_the_limit : goal.returns-clause-below_the_limit
+unfolding page_of bare_refusal refusal shape_refusal
+returns-clause-below_the_limit c = refl
+
 pub returns-clause-errno : goal.returns-clause-errno
 unfolding page_of bare_refusal refusal shape_refusal
 returns-clause-errno c = refl

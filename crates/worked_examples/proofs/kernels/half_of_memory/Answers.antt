@@ -12,6 +12,10 @@ pub returns-clause-five : goal.returns-clause-five
 unfolding page_of bare_refusal refusal shape_refusal
 returns-clause-five c = refl
 
+pub returns-clause-together : goal.returns-clause-together
+unfolding page_of bare_refusal refusal shape_refusal
+returns-clause-together c = refl
+
 pub returns-clause-errno : goal.returns-clause-errno
 unfolding page_of bare_refusal refusal shape_refusal
 returns-clause-errno c = refl

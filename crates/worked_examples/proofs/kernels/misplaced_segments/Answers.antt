@@ -20,6 +20,10 @@ pub returns-clause-before : goal.returns-clause-before
 unfolding page_of bare_refusal refusal shape_refusal
 returns-clause-before c = refl
 
+pub returns-clause-behind_a_high_area : goal.returns-clause-behind_a_high_area
+unfolding page_of bare_refusal refusal shape_refusal
+returns-clause-behind_a_high_area c = refl
+
 pub returns-clause-errno : goal.returns-clause-errno
 unfolding page_of bare_refusal refusal shape_refusal
 returns-clause-errno c = refl

@@ -16,6 +16,10 @@ pub returns-clause-behind : goal.returns-clause-behind
 unfolding page_of bare_refusal refusal shape_refusal
 returns-clause-behind c = refl
 
+pub returns-clause-high : goal.returns-clause-high
+unfolding page_of bare_refusal refusal shape_refusal
+returns-clause-high c = refl
+
 pub returns-clause-changed : goal.returns-clause-changed
 unfolding page_of bare_refusal refusal shape_refusal
 returns-clause-changed c = λ M. refl

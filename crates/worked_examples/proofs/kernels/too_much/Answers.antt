@@ -16,6 +16,10 @@ pub returns-clause-seventeen : goal.returns-clause-seventeen
 unfolding page_of bare_refusal refusal shape_refusal
 returns-clause-seventeen c = refl
 
+pub returns-clause-most_pages : goal.returns-clause-most_pages
+unfolding page_of bare_refusal refusal shape_refusal
+returns-clause-most_pages c = refl
+
 pub returns-clause-pages : goal.returns-clause-pages
 unfolding page_of bare_refusal refusal shape_refusal
 returns-clause-pages c = refl

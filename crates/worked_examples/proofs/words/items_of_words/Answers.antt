@@ -18,6 +18,10 @@ pub returns-clause-done : goal.returns-clause-done
 unfolding word page_of kind_of page_with_word
 returns-clause-done c = refl
 
+pub returns-clause-done_of_a_page : goal.returns-clause-done_of_a_page
+unfolding word page_of kind_of page_with_word
+returns-clause-done_of_a_page c = refl
+
 pub returns-clause-source : goal.returns-clause-source
 unfolding word page_of kind_of page_with_word
 returns-clause-source c = refl
