@@ -11,8 +11,11 @@ ghost use Rattle.std.specs.Prelude.{◌≡◌, ◌+◌, ◌<◌, ◌≤◌, ◌^
 ghost use Rattle.std.specs.List.{position_or_len};
 ghost use Rattle.text_lines.specs.Lines.{lines, cut, number, decimal, two_numbers, both, number_in, number_of};
 
+mod reader;
 #[cfg(test)]
 mod tests;
+
+pub use reader::{LineReader, read_lines};
 
 /// The most digits of a hexadecimal number: 16 fit 64 bits.
 const MOST_DIGITS: usize = 16;
