@@ -5,7 +5,7 @@ use Rattle.std.specs.Prelude.{◌==◌, codes}
 use Rattle.std.proofs.lemmas.Bool.Decides.{nat_tests}
 use Rattle.kx_edge.specs.Edge.{Files}
 use Rattle.kx_pages.specs.declared.image.ImageType.TheVariants.{Auto}
-use Rattle.crash_headers.specs.Notes.{lines_onto as notes_onto, line_onto as note_line, note_of}
+use Rattle.crash_headers.specs.Notes.{line_onto as note_line, note_of}
 use Rattle.image_slots.specs.Events.{Panic}
 use Rattle.image_slots.specs.Texts.{caller_in, decimal_of, event_in, events_onto, events_reading, named_event}
 use Rattle.file_commands.specs.Taking.{Take, and_then, ok, reads}
@@ -13,11 +13,11 @@ use Rattle.file_commands.specs.Files.{from_reader, optional_file, whole_file}
 use Rattle.file_commands.proofs.Steps.{reads_ok}
 use Rattle.kx_fields.specs.Fields.{field}
 use Rattle.memory_map.specs.Maps.{is_ram, ram_pages}
-use Rattle.memory_map.specs.Text.{map_reading, lines_onto, line_onto, checked_entry, entry_of, class_of}
+use Rattle.memory_map.specs.Text.{map_reading, lines_onto as map_onto, line_onto, checked_entry, entry_of, class_of}
 use Rattle.memory_map.specs.declared.fault.MapFault.TheVariants as faults
 use Rattle.page_memory.specs.File.{read_pages, pages_onto, entry_at}
 use Rattle.page_pool.specs.File.{pool_reading, pages_onto as pool_onto, line_onto as pool_line, checked_range, range_of}
-use Rattle.text_lines.specs.Lines.{lines, cut, number, number_of}
+use Rattle.text_lines.specs.Lines.{lines, cut, number, number_of, lines_onto, two_numbers}
 use Rattle.crash_headers.specs.declared.fault.NoteFault.TheVariants as notes
 use Rattle.crash_headers.specs.declared.note.Note.{Note}
 use Rattle.image_slots.specs.declared.fault.EventsFault.TheVariants as events
@@ -42,7 +42,7 @@ some_ram : (ram_pages all_ram == 0) ≡ false
 some_ram = grind (arith, nat_tests, one_passes (is_ram all_ram) 1 refl (2 ^ 34) (omega arith))
 
 map_is : map_reading map_text ≡ Ok all_ram
-unfolding map_reading lines_onto line_onto checked_entry entry_of class_of lines cut number number_of
+unfolding map_reading map_onto line_onto checked_entry entry_of class_of lines cut number number_of
 map_is = ap (λ b. cond b (Err faults.NoRam) (Ok all_ram)) some_ram
 
 map_read : (held : Files) → reads (whole_file {R = Reason} text_limit (codes "t")) held ≡ Ok map_text → reads (map_file (codes "t")) held ≡ Ok all_ram
@@ -91,7 +91,7 @@ abbrev crash_read : List Note → CrashInputs
 crash_read notes = record { memory = no_memory; map = all_ram; request = record all_asked { crash = true; modules = []; notes = notes } }
 
 crash_kernel : reads (after_crash_map (Some (codes "n"))) each_file ≡ Ok (crash_read (record { start = 0x200000; size = 0x400 } ∷ []))
-unfolding and_then after_crash_map notes_onto note_line note_of lines cut number number_of
+unfolding and_then after_crash_map lines_onto two_numbers note_line note_of lines cut number number_of
 crash_kernel = read_by each_of (after_crash_map (Some (codes "n")))
 
 crash_kernel_without : reads (after_crash_map None) each_file ≡ Ok (crash_read [])
@@ -112,7 +112,7 @@ without_notes = crash_inputs_read None [] crash_kernel_without
 
 -- spoiled notes, and the memory and the map before them
 spoiled_notes : reads (after_crash_map (Some (codes "n"))) (spoiled (codes "n" ∷ [])) ≡ Err (unreadable (inputs.Notes (notes.BadLine 1)))
-unfolding and_then after_crash_map notes_onto note_line note_of lines cut number number_of
+unfolding and_then after_crash_map lines_onto two_numbers note_line note_of lines cut number number_of
 spoiled_notes = read_by (spoiled_of (codes "n" ∷ [])) (after_crash_map (Some (codes "n")))
 
 abbrev other_memory : (name : List ℕ) → Type 0
