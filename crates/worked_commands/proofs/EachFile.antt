@@ -7,7 +7,7 @@ use Rattle.kx_edge.specs.Edge.{Files}
 use Rattle.kx_pages.specs.declared.image.ImageType.TheVariants.{Auto}
 use Rattle.crash_headers.specs.Notes.{line_onto as note_line, note_of}
 use Rattle.image_slots.specs.Events.{Panic}
-use Rattle.image_slots.specs.Texts.{caller_in, decimal_of, event_in, events_onto, events_reading, named_event}
+use Rattle.image_slots.specs.Texts.{caller_in, event_in, events_onto, events_reading, named_event}
 use Rattle.file_commands.specs.Taking.{Take, and_then, ok, reads}
 use Rattle.file_commands.specs.Files.{from_reader, optional_file, whole_file}
 use Rattle.file_commands.proofs.Steps.{reads_ok}
@@ -17,7 +17,7 @@ use Rattle.memory_map.specs.Text.{map_reading, lines_onto as map_onto, line_onto
 use Rattle.memory_map.specs.declared.fault.MapFault.TheVariants as faults
 use Rattle.page_memory.specs.File.{read_pages, pages_onto, entry_at}
 use Rattle.page_pool.specs.File.{pool_reading, pages_onto as pool_onto, line_onto as pool_line, checked_range, range_of}
-use Rattle.text_lines.specs.Lines.{lines, cut, number, number_of, lines_onto, two_numbers}
+use Rattle.text_lines.specs.Lines.{lines, cut, number, number_of, decimal, lines_onto, two_numbers}
 use Rattle.crash_headers.specs.declared.fault.NoteFault.TheVariants as notes
 use Rattle.crash_headers.specs.declared.note.Note.{Note}
 use Rattle.image_slots.specs.declared.fault.EventsFault.TheVariants as events
@@ -135,7 +135,7 @@ after_drill_map = and_then (events_file (codes "e"))
     (λ events. ok (record { memory = no_memory; pool = 0x10 ∷ 0x11 ∷ 0x12 ∷ []; map = all_ram; events = events; out = codes "o" }))
 
 events_read : reads after_drill_map each_file ≡ Ok (record { memory = no_memory; pool = 0x10 ∷ 0x11 ∷ 0x12 ∷ []; map = all_ram; events = Panic ∷ []; out = codes "o" })
-unfolding and_then after_drill_map events_reading events_onto event_in named_event caller_in decimal_of lines cut number number_of
+unfolding and_then after_drill_map events_reading events_onto event_in named_event caller_in decimal lines cut number number_of
 events_read = read_by each_of after_drill_map
 
 pub drill_read : reads (drill_files drill_events) each_file ≡ Ok (record { memory = no_memory; pool = 0x10 ∷ 0x11 ∷ 0x12 ∷ []; map = all_ram; events = Panic ∷ []; out = codes "o" })
@@ -154,7 +154,7 @@ unfolding and_then pool_reading pool_onto pool_line checked_range range_of lines
 events_pool = read_by (spoiled_of (codes "e" ∷ [])) (pool_file (codes "p") None)
 
 events_spoiled : reads after_drill_map (spoiled (codes "e" ∷ [])) ≡ Err (unreadable (inputs.Events (events.BadLine 1)))
-unfolding and_then after_drill_map events_reading events_onto event_in named_event caller_in decimal_of lines cut number number_of
+unfolding and_then after_drill_map events_reading events_onto event_in named_event caller_in decimal lines cut number number_of
 events_spoiled = read_by (spoiled_of (codes "e" ∷ [])) after_drill_map
 
 pub drill_spoiled : reads (drill_files drill_events) (spoiled (codes "e" ∷ [])) ≡ Err (unreadable (inputs.Events (events.BadLine 1)))
