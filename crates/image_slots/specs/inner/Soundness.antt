@@ -18,7 +18,7 @@ use Rattle.load_states.specs.Loads.{entries_of, loading_of, memory_of}
 use Rattle.load_states.specs.inner.Runs.{after_once, after_plain}
 use Rattle.load_states.specs.declared.accepted.Accepted.{Accepted}
 use Rattle.load_states.specs.declared.accepted.Accepted.TheVariants as accepted
-use Rattle.page_pool.specs.Pages.{pool_page_limit};
+use Rattle.page_pool.specs.Pages.{pool_page_limit}
 use Rattle.image_slots.specs.States.{Crash, Normal, Stage, Draft, Written, Placed, State, Underway}
 use Rattle.image_slots.specs.Pages.{all_pages, in_area}
 use Rattle.image_slots.specs.Steps.{image_pairs, wish_of}
