@@ -18,7 +18,7 @@
 //! | too long, refused | the takes, or the goods, refuse for exactly this; nothing was put or said |
 //! | memory | some of the takes were made, in their order; nothing was put or said |
 //!
-//! The crate knows no command and no file format: `list_commands` and `load_commands` have them. All of this is this project's own.
+//! The crate knows no command and no file format: `kexec_main` has them. All of this is this project's own.
 #![tactic(auto)]
 
 mod command;
