@@ -243,7 +243,8 @@ pub fn run_boot_resident<S: Shelf, O: Sink>(
     shelf: &mut S,
     out: &mut O,
 ) -> Result<(), Stop<ListFault, Reason>>
-    ensures { Meets S.Shelf O.Sink (boot_resident_entry (boot_resident_value words)).command shelf.old out.old
+    ensures { Meets S.Shelf O.Sink (boot_resident_entry (boot_resident_value words)).command
+        shelf.old out.old
         (call_answer result) shelf.new out.new }
 {
     run(alloc, BootResidentWords { words }, shelf, out)

@@ -143,7 +143,8 @@ pub fn run_load_panic<S: Shelf, O: Sink>(
     shelf: &mut S,
     out: &mut O,
 ) -> Result<(), Stop<ListFault, Reason>>
-    ensures { Meets S.Shelf O.Sink (load_panic_entry (load_panic_value words)).command shelf.old out.old
+    ensures { Meets S.Shelf O.Sink (load_panic_entry (load_panic_value words)).command shelf.old
+        out.old
         (call_answer result) shelf.new out.new }
 {
     run(alloc, LoadPanicWords { words }, shelf, out)
