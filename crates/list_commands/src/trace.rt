@@ -14,7 +14,7 @@ use kx_edge::{Shelf, Sink};
 use kx_pages::{Mode, Page};
 use list_checker::ListFault;
 use page_memory::Memory;
-use relocate_machine::{Outcome, run};
+use relocate_machine::{Outcome, run as run_steps};
 use std::alloc::{AllocError, Global};
 
 /// The words of `trace`.
@@ -97,7 +97,7 @@ fn make_trace(alloc: Global, trace: TraceInputs) -> Result<Goods<ListFault>, Mak
         limit,
         out,
     } = trace;
-    let outcome = run(&mut memory, head, mode, limit)?;
+    let outcome = run_steps(&mut memory, head, mode, limit)?;
     let text = outcome_line(alloc, outcome)?;
     let outputs = memory_output(alloc, memory, out)?;
     Ok(Goods {
