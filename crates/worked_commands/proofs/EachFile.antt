@@ -21,14 +21,15 @@ use Rattle.text_lines.specs.Lines.{lines, cut, number, number_of, decimal, lines
 use Rattle.crash_headers.specs.declared.fault.NoteFault.TheVariants as notes
 use Rattle.crash_headers.specs.declared.note.Note.{Note}
 use Rattle.image_slots.specs.declared.fault.EventsFault.TheVariants as events
-use Rattle.kexec_main.specs.CrashInputs.{CrashInputs, crash_inputs, crash_request}
-use Rattle.kexec_main.specs.Drill.{DrillInputs, drill_files}
-use Rattle.kexec_main.specs.EventFile.{events_file}
-use Rattle.kexec_main.specs.Files.{map_file, memory_file, pool_file, some_notes, text_limit, usable_below}
-use Rattle.kexec_main.specs.Inputs.{LoadInputs, kernel_files, load_inputs, request_with}
-use Rattle.kexec_main.specs.declared.status.InputFault.TheVariants as inputs
-use Rattle.kexec_main.specs.declared.status.Reason.{Reason}
-use Rattle.kexec_main.specs.declared.status.Reason.TheVariants.{Input}
+use Rattle.load_commands.specs.CrashInputs.{CrashInputs, crash_inputs, crash_request}
+use Rattle.load_commands.specs.Drill.{DrillInputs, drill_files}
+use Rattle.load_commands.specs.EventFile.{events_file}
+use Rattle.load_commands.specs.Files.{map_file, pool_file, some_notes, usable_below}
+use Rattle.command_parts.specs.Files.{memory_file, text_limit}
+use Rattle.load_commands.specs.Inputs.{LoadInputs, kernel_files, load_inputs, request_with}
+use Rattle.command_parts.specs.declared.reason.InputFault.TheVariants as inputs
+use Rattle.command_parts.specs.declared.reason.Reason.{Reason}
+use Rattle.command_parts.specs.declared.reason.Reason.TheVariants.{Input}
 use Rattle.worked_commands.specs.Inputs.{all_asked, all_ram, each_file, each_of, spoiled, spoiled_of, unreadable}
 use Rattle.worked_commands.specs.Names.{all_inputs, crash_inputs_of, drill_events}
 use Rattle.worked_commands.specs.Texts.{no_memory}

@@ -13,8 +13,8 @@ ghost use Rattle.file_commands.specs.Answers.{done, memory, not_accepted, refuse
 ghost use Rattle.file_commands.specs.Taking.{by, too_long};
 ghost use Rattle.kexec_main.specs.ExitStatuses.{code_of};
 ghost use Rattle.kexec_main.specs.Statuses.{answer_of};
-ghost use Rattle.kexec_main.specs.declared.status.InputFault.TheVariants as inputs;
-ghost use Rattle.kexec_main.specs.declared.status.Reason.TheVariants as reasons;
+ghost use Rattle.command_parts.specs.declared.reason.InputFault.TheVariants as inputs;
+ghost use Rattle.command_parts.specs.declared.reason.Reason.TheVariants as reasons;
 ghost use Rattle.kexec_main.specs.declared.status.Status.TheVariants as status;
 
 /// How a command ended, and with which exit status.

@@ -8,15 +8,15 @@ use Rattle.page_pool.specs.File.{pool_reading, pages_onto as pool_onto, line_ont
 use Rattle.text_lines.specs.Lines.{lines, cut, number, number_of, lines_onto, two_numbers}
 use Rattle.resident_planner.specs.Pairs.{pair_of, line_onto as pair_line}
 use Rattle.file_commands.specs.Taking.{and_then, ok}
-use Rattle.kexec_main.specs.Boot.{boot_files}
-use Rattle.kexec_main.specs.BootResident.{resident_files}
-use Rattle.kexec_main.specs.CoreFile.{core_files}
-use Rattle.kexec_main.specs.CrashInputs.{crash_inputs}
-use Rattle.kexec_main.specs.Exec.{exec_files}
-use Rattle.kexec_main.specs.Files.{load_files_of}
-use Rattle.kexec_main.specs.Load.{load_command_files}
-use Rattle.kexec_main.specs.LoadPanic.{load_panic_of as load_panic_command}
-use Rattle.kexec_main.specs.Trace.{trace_files}
+use Rattle.load_commands.specs.Boot.{boot_files}
+use Rattle.load_commands.specs.BootResident.{resident_files}
+use Rattle.load_commands.specs.CoreFile.{core_files}
+use Rattle.load_commands.specs.CrashInputs.{crash_inputs}
+use Rattle.list_commands.specs.Exec.{exec_files}
+use Rattle.list_commands.specs.Records.{load_files_of}
+use Rattle.load_commands.specs.Load.{load_command_files}
+use Rattle.load_commands.specs.LoadPanic.{load_panic_of as load_panic_command}
+use Rattle.list_commands.specs.Trace.{trace_files}
 use Rattle.file_commands.proofs.Steps.{reads_err}
 use Rattle.worked_commands.specs.Inputs.{spoiled, spoiled_of}
 use Rattle.worked_commands.specs.Names.{boot_raw, boot_resident_raw, core_memory, crash_inputs_of, exec_record, load_panic_of, load_raw, of_record, trace_memory}

@@ -1,9 +1,9 @@
 -- By computing.
 use Rattle.std.specs.Prelude.{[], ◌∷◌, None, codes}
-use Rattle.kexec_main.specs.BootResident.{resident_files}
-use Rattle.kexec_main.specs.CoreFile.{core_files}
-use Rattle.kexec_main.specs.Drill.{drill_files}
-use Rattle.kexec_main.specs.Trace.{trace_files}
+use Rattle.load_commands.specs.BootResident.{resident_files}
+use Rattle.load_commands.specs.CoreFile.{core_files}
+use Rattle.load_commands.specs.Drill.{drill_files}
+use Rattle.list_commands.specs.Trace.{trace_files}
 use Rattle.worked_commands.specs.Inputs.{spoiled_of}
 use Rattle.worked_commands.specs.Names.{boot_resident_raw, core_memory, drill_events, trace_memory}
 use Rattle.worked_commands.proofs.Reading.{read_by}

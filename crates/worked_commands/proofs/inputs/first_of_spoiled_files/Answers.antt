@@ -1,16 +1,15 @@
 -- By computing.
 use Rattle.std.specs.Prelude.{[], ◌∷◌, Some, codes}
-use Rattle.kexec_main.specs.Boot.{boot_files}
-use Rattle.kexec_main.specs.Files.{load_files_of}
-use Rattle.kexec_main.specs.LoadPanic.{load_panic_files}
-use Rattle.kexec_main.specs.Migrate.{migrate_files}
+use Rattle.load_commands.specs.Boot.{boot_files}
+use Rattle.list_commands.specs.Records.{load_files_of}
+use Rattle.load_commands.specs.LoadPanic.{load_panic_files, load_panic_of as load_panic_command}
+use Rattle.list_commands.specs.Migrate.{migrate_files}
 use Rattle.worked_commands.specs.Inputs.{spoiled, spoiled_of}
 use Rattle.worked_commands.specs.Names.{boot_all, crash_inputs_of, load_panic_of, migrate_record, of_record}
 use Rattle.worked_commands.proofs.Reading.{read_by}
 use Rattle.file_commands.specs.Taking.{ok}
 use Rattle.file_commands.proofs.Steps.{reads_err}
-use Rattle.kexec_main.specs.CrashInputs.{crash_inputs}
-use Rattle.kexec_main.specs.LoadPanic.{load_panic_of as load_panic_command}
+use Rattle.load_commands.specs.CrashInputs.{crash_inputs}
 use Rattle.worked_commands.proofs.EachFile.{crash_notes}
 use Rattle.file_commands.specs.Taking.{and_then}
 use Rattle.kx_fields.specs.Fields.{field}
