@@ -6,9 +6,9 @@ ghost use Rattle.kexec_main.specs.ExitStatuses.{code_of};
 use crate::causes::Cause;
 use crate::report::Report;
 use crate::words::WordsError;
+use command_table::{Help, Usage, help_of, usage_of};
 use kexec_main::Status;
 use kexec_usage::{asks_for_help, asks_for_version, meant_of, read_answer};
-use kexec_words::{Help, Usage, help_of, usage_of};
 use std::alloc::Global;
 use std::fmt::{self, Display, Formatter, Write};
 

@@ -5,7 +5,7 @@ use Rattle.kx_edge.specs.declared.edge.Sink.{Ghosts as Sink}
 use Rattle.file_commands.specs.Answers.{Meets, memory}
 use Rattle.file_commands.specs.Taking.{Take, WantedAt, by, file, ok, refuse}
 use Rattle.kexec_words.specs.Values.{CommandValue}
-use Rattle.kexec_words.specs.declared.faults.UsageWhy.{UsageWhy}
+use Rattle.command_table.specs.declared.faults.UsageWhy.{UsageWhy}
 use Rattle.command_parts.specs.declared.reason.Reason.{Reason}
 use Rattle.command_parts.specs.declared.reason.Reason.TheVariants.{Usage}
 use Rattle.kexec_main.specs.Commands.{Holds, entry_of}

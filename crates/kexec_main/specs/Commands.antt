@@ -1,7 +1,7 @@
 -- The commands of the program (this project's own).
 use Rattle.std.specs.Prelude.{Result}
 use Rattle.file_commands.specs.Entry.{Holds as HoldsOf}
-use Rattle.kexec_words.specs.declared.faults.UsageWhy.{UsageWhy}
+use Rattle.command_table.specs.declared.faults.UsageWhy.{UsageWhy}
 use Rattle.kexec_words.specs.Values.{CommandValue}
 use Rattle.kexec_words.specs.Values as words
 use Rattle.command_parts.specs.declared.reason.Reason.TheVariants.{Usage}

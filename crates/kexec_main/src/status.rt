@@ -7,10 +7,10 @@ ghost use Rattle.file_commands.specs.inner.Calls.{answer_of as stop_answer};
 ghost use Rattle.kexec_main.specs.Statuses.{answer_of};
 ghost use Rattle.kexec_main.specs.ExitStatuses.{code_of};
 
+use command_table::UsageWhy;
 use file_commands::Stop;
 use image_slots::SlotsFault;
 use kexec_plan::PlanFault;
-use kexec_words::UsageWhy;
 use list_checker::ListFault;
 use resident_planner::ResidentFault;
 use thiserror::Error;

@@ -1,6 +1,7 @@
 //! What no clause says: the meaning of the table, on words as people write them.
 
-use kexec_words::{Command, Runs, UsageWhy, Which, WordsFault, help_of, read, usage_of};
+use command_table::{UsageWhy, Which, help_of, usage_of};
+use kexec_words::{Command, Runs, WordsFault, read};
 use kx_pages::{ImageType, Page};
 use std::alloc::Global;
 use std::test::Fail;

@@ -11,7 +11,7 @@ ghost use Rattle.resident_planner.specs.declared.fault.PairsFault.TheVariants as
 ghost use Rattle.file_commands.specs.Answers.{unread};
 ghost use Rattle.file_commands.specs.Taking.{by, reads};
 ghost use Rattle.kexec_words.specs.Values as words;
-ghost use Rattle.kexec_words.specs.declared.faults.UsageWhy.TheVariants as usage;
+ghost use Rattle.command_table.specs.declared.faults.UsageWhy.TheVariants as usage;
 ghost use Rattle.kexec_main.specs.Call.{EndsWithoutFiles, HasDone, HasRefusal, IsInOrder};
 ghost use Rattle.kexec_main.specs.Commands.{Holds};
 ghost use Rattle.command_parts.specs.declared.reason.InputFault.TheVariants as inputs;

@@ -2,7 +2,7 @@
 
 ghost use Rattle.std.specs.Prelude.{◌≡◌, codes, string_bytes};
 ghost use Rattle.kexec_plan.specs.declared.fault.PlanFault.TheVariants as plans;
-ghost use Rattle.kexec_words.specs.declared.faults.UsageWhy.TheVariants as words;
+ghost use Rattle.command_table.specs.declared.faults.UsageWhy.TheVariants as words;
 ghost use Rattle.list_checker.specs.declared.fault.Why.TheVariants as whys;
 ghost use Rattle.page_memory.specs.declared.fault.MemFault.TheVariants as mem_faults;
 ghost use Rattle.page_pool.specs.declared.fault.PoolFault.TheVariants as pool_faults;
