@@ -1,9 +1,9 @@
 //! Why a command is refused.
 
+use command_table::UsageWhy;
 use crash_headers::NoteFault;
 use image_slots::{EventsFault, SlotsFault};
 use kexec_plan::PlanFault;
-use kexec_words::UsageWhy;
 use load_record::RecFault;
 use memory_map::MapFault;
 use page_memory::MemFault;
