@@ -55,6 +55,8 @@ pub(crate) struct Details<'a> {
     pub(crate) cause: Option<Cause<'a>>,
     /// What the front of the refused file tells.
     pub(crate) hint: Option<&'static str>,
+    /// The first page of the kernel that is not System RAM.
+    pub(crate) page: Option<u64>,
 }
 
 // Why the command was refused.
@@ -79,6 +81,7 @@ fn notice_of<'a>(
         answer: read_answer(alloc, words),
         cause: details.cause,
         hint: details.hint,
+        page: details.page,
     };
     if !is_usage {
         return Notice::Refusal { report };

@@ -8,6 +8,9 @@ mod causes;
 mod ending;
 mod files;
 mod hints;
+mod outside;
+#[cfg(test)]
+mod outside_tests;
 mod plans;
 mod remedies;
 mod report;
@@ -22,6 +25,7 @@ use causes::{Cause, cause_of};
 use ending::{Details, Ending};
 use hints::hint_of;
 use kx_edge::{HostShelf, StdSink};
+use outside::page_outside_ram;
 use recorded_kexec::kexec_recorded;
 use std::process::ExitCode;
 use words::read_words;
@@ -57,6 +61,7 @@ fn main(rt: HostRuntime) -> ExitCode {
     let details = Details {
         cause,
         hint: hint_of(&rt, &words, &status),
+        page: page_outside_ram(&rt, &words, &status),
     };
     finish(&rt, &Ending::of(rt.alloc(), &words, &status, details))
 }

@@ -20,6 +20,8 @@ pub(crate) struct Report<'a> {
     pub(crate) cause: Option<Cause<'a>>,
     /// What the front of the refused file tells.
     pub(crate) hint: Option<&'static str>,
+    /// The first page of the kernel that is not System RAM.
+    pub(crate) page: Option<u64>,
 }
 
 // Standard output failed. A reader that has closed the pipe, as `head` does, is not a want of room.
@@ -80,7 +82,9 @@ impl Report<'_> {
                 write!(f, "{name:?} cannot be written: {cause}")
             }
             (Status::Unsaid, Some(Cause::System { error })) => write_unsaid(error, f),
-            (Status::Plan { fault }, _) => write_plan(fault, self.is_crash(), given, f),
+            (Status::Plan { fault }, _) => {
+                write_plan(fault, self.is_crash(), self.page, given, f)
+            },
             (Status::NoPages { pool, need }, _) => match text_of(given, "--below") {
                 Some(limit) => write_below(*pool, *need, limit, f),
                 None => write!(f, "{}", self.status),

@@ -18,10 +18,11 @@ use std::test::Fail;
 const NOTHING: Details<'static> = Details {
     cause: None,
     hint: None,
+    page: None,
 };
 
-// The words of a line, with one space between them.
-fn words_of(alloc: Global, line: &str) -> Result<Vec<String>, AllocError> {
+/// The words of a line, with one space between them.
+pub(crate) fn words_of(alloc: Global, line: &str) -> Result<Vec<String>, AllocError> {
     let mut words = Vec::new(alloc);
     for word in line.split(' ') {
         words.push(String::from_str(alloc, word)?)?;
@@ -29,8 +30,8 @@ fn words_of(alloc: Global, line: &str) -> Result<Vec<String>, AllocError> {
     Ok(words)
 }
 
-// Whether a command with these words that ended so ends with this exit status and this sentence: none where it is empty.
-fn is_told(
+/// Whether a command with these words that ended so ends with this exit status and this sentence: none where it is empty.
+pub(crate) fn is_told(
     rt: &HostRuntime,
     line: &str,
     status: &Status,
@@ -148,6 +149,7 @@ fn what_the_system_said_is_told(rt: HostRuntime) -> Result<(), Fail> {
                 error: io::Error::from_raw_os_error(*number),
             }),
             hint: None,
+            page: None,
         };
         // A command of the new kernel is not a file, whatever it is called.
         let line = "boot --command p m p o k";
@@ -367,6 +369,7 @@ fn an_output_that_is_an_input_by_another_name_is_told_with_both(
     let details = Details {
         cause: Some(cause_of(&rt, &words, &status, cause)),
         hint: None,
+        page: None,
     };
     let wanted =
         "kexec: OUT \"./once\" cannot be written: it is the same file as MEMORY \"once\"; give it a file of its own";
