@@ -20,7 +20,7 @@ find_map value test (x ∷ xs) = go (test (value x)) (find_map value test xs)
 -- what a search finds, as a value
 pub found : {A B : Type 0} (value : A → B) (test : B → Bool) (xs : List A) (r : Option (Bor A))
     → option_map (λ x. x.now) r ≡ find (λ x. test (value x)) xs → option_map (λ x. value x.now) r ≡ find test (map value xs)
-found value test xs r e = values r ∙ ap (option_map value) e ∙ find_map value test xs
+found {A = A} value test xs r e = values r ∙ ap (option_map value) e ∙ find_map value test xs
   where
     values : (o : Option (Bor A)) → option_map (λ x. value x.now) o ≡ option_map value (option_map (λ x. x.now) o)
     values None = refl

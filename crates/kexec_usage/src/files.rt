@@ -7,14 +7,22 @@ ghost use Rattle.kexec_usage.specs.inner.Files.{is_file_with, file_with, is_othe
 use crate::given::Given;
 use command_table::Kind;
 
+// The first file with this text.
+fn first_with<'b, 'a>(given: &'b [Given<'a>], text: &str) -> Option<&'b Given<'a>>
+    ensures { option_map (λ one. given_value one.now) result
+        ≡ find (is_file_with text.now) (map given_value given.now) }
+{
+    given
+        .iter()
+        .find(|one| one.kind.is_file() && one.text == text)
+}
+
 /// The name of the first file with this text.
 pub fn file_with<'a>(given: &[Given<'a>], text: &str) -> Option<&'a str>
     ensures { option_map (λ name. name.now) result
         ≡ file_with (map given_value given.now) text.now }
 {
-    let file = given
-        .iter()
-        .find(|one| one.kind.is_file() && one.text == text)?;
+    let file = first_with(given, text)?;
     Some(file.name)
 }
 

@@ -85,11 +85,11 @@ answers_given value n read words given r e h =
     subst (λ x. Answers value x r) (read_given (fault_of (app_by n) words) (given_of (arguments_by n) (matches_of (app_by n) words)) given read e) h
 
 -- and what they do not give, they do not say
-pub answers_refused : {A B C : Type 0} (value : B → A) (as_given : C → List GivenValue) (n : Name) (read : List GivenValue → Result A UsageWhy) (words : List Text) (e : WordsFault)
-    → Answers as_given (answer_by n (λ given. Ok given) words) (Err e) → Answers value (answer_by n read words) (Err e)
-answers_refused value as_given n read words Memory h = tt
-answers_refused value as_given n read words (Usage w) h =
-    read_refused (fault_of (app_by n) words) (given_of (arguments_by n) (matches_of (app_by n) words)) w read h
+pub answers_refused : {A B : Type 0} (value : B → A) (n : Name) (read : List GivenValue → Result A UsageWhy) (words : List Text) (e : WordsFault)
+    → ((w : UsageWhy) → e ≡ Usage w → answer_by n (λ given. Ok given) words ≡ Err w) → Answers value (answer_by n read words) (Err e)
+answers_refused value n read words Memory h = tt
+answers_refused value n read words (Usage w) h =
+    read_refused (fault_of (app_by n) words) (given_of (arguments_by n) (matches_of (app_by n) words)) w read (h w refl)
 
 -- the exit of a `?`
 pub exits : {A B : Type 0} (value : B → A) (said : Result A UsageWhy) (r : Result B WordsFault) (e : WordsFault)

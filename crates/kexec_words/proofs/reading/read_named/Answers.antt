@@ -8,8 +8,9 @@ use Rattle.kexec_words.proofs.reading.read_named.Goals as goal
 pub returns-in-Ok : goal.returns-in-Ok
 returns-in-Ok c =
     answers_given command_value c.args.name (command_in c.args.name) (map string_bytes c.args.words.now) (given_values c.in-Ok.given.items) c.command_in.result
-    c.in-Ok.ensures (rw (← c.deref.ensures) c.command_in.ensures)
+    c.in-Ok.ensures (rw c.deref.ensures.value at c.command_in.ensures)
 
 pub returns-in-Err : goal.returns-in-Err
 returns-in-Err c =
-    answers_refused command_value (λ v. given_values v.items) c.args.name (command_in c.args.name) (map string_bytes c.args.words.now) c.in-Err.fault c.in-Err.ensures
+    answers_refused command_value c.args.name (command_in c.args.name) (map string_bytes c.args.words.now) c.in-Err.fault
+    (λ w is. rw is at c.in-Err.ensures)
