@@ -1,33 +1,35 @@
 //! Words are judged twice: by `clap`, as the command, and by kexec_usage, for the sentence. Both judge alike: kexec_usage
 //! finds a mistake exactly where `clap` does not take the words. A table of lines, options and forms of words.
 
-use command_table::{UsageWhy, arguments_of};
+use command_table::UsageWhy;
 use kexec_usage::read_answer;
 use kexec_words::{WordsFault, read};
 use std::alloc::Global;
 use std::test::Fail;
 
-// Each command with its positional words, and some with a word too few.
-const LINES: [&str; 15] = [
-    "boot m p o k",
-    "load m p o r k",
-    "load-panic m o r k",
-    "check m r",
-    "dump m r",
-    "exec m r o",
-    "trace m o 4 1",
-    "migrate r o",
-    "sample 7",
-    "boot-resident m p o k q",
-    "drill m p o v",
-    "core m o 8",
-    "boot m p o",
-    "exec m r",
-    "sample",
+// Lines of each command, some with a word too few; and an option for each, of every kind, or what is none of this command.
+const LINES: [(&str, &str); 20] = [
+    ("boot m p o k", "--kept"),
+    ("boot m p o k x y", "--type"),
+    ("boot m p o k", "--below"),
+    ("boot m p o", "--command"),
+    ("boot m p o k", "--ma"),
+    ("load m p o r k", "--kept"),
+    ("load m p o r k x", "--initrd"),
+    ("load-panic m o r k", "--map"),
+    ("load-panic m o r k", "--at"),
+    ("check m r", "--help"),
+    ("dump m r", "-h"),
+    ("exec m r o", "--twice"),
+    ("exec m r", "--twice"),
+    ("trace m o 4 1", "--swap"),
+    ("migrate r o", "-"),
+    ("sample 7", "m"),
+    ("sample", "--NUMBER"),
+    ("boot-resident m p o k q", "--at"),
+    ("drill m p o v", "--map"),
+    ("core m o 8", "--address"),
 ];
-
-// What is no option of any command.
-const OTHERS: [&str; 4] = ["--help", "--ma", "-m", "m"];
 
 // Forms of words, in which a name stands for the sign @.
 const FORMS: [&str; 22] = [
@@ -94,37 +96,12 @@ fn form_apart(alloc: Global, line: &str, name: &str) -> Result<Option<&'static s
     Ok(None)
 }
 
-// The first other name with a form that is not judged alike, and this form.
-fn other_apart(alloc: Global, line: &str) -> Result<Option<(&'static str, &'static str)>, Fail> {
-    for name in OTHERS {
-        if let Some(form) = form_apart(alloc, line, name)? {
-            return Ok(Some((name, form)));
-        }
-    }
-    Ok(None)
-}
-
-// The same of the options that the command has.
-fn option_apart(alloc: Global, line: &str) -> Result<Option<(&'static str, &'static str)>, Fail> {
-    let words = words_behind(alloc, line, "", "")?;
-    for argument in arguments_of(&words) {
-        if argument.form.is_option() {
-            if let Some(form) = form_apart(alloc, line, argument.name)? {
-                return Ok(Some((argument.name, form)));
-            }
-        }
-    }
-    Ok(None)
-}
-
 #[test]
 fn finds_mistakes_where_words_are_not_taken(rt: HostRuntime) -> Result<(), Fail> {
     let alloc = rt.alloc();
-    for line in LINES {
-        let option = option_apart(alloc, line)?;
-        assert!(rt; option.is_none(), "{line}: {option:?}");
-        let other = other_apart(alloc, line)?;
-        assert!(rt; other.is_none(), "{line}: {other:?}");
+    for (line, name) in LINES {
+        let apart = form_apart(alloc, line, name)?;
+        assert!(rt; apart.is_none(), "{line}, {name}: {apart:?}");
     }
     Ok(())
 }
