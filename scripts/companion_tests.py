@@ -176,7 +176,7 @@ def test_lists(tests):
     status, out, _ = tests.run(KERNELYET, "look", "list", "bad", "r")
     tests.same("look list of a fault", (status, "0x2000 is to be segment 0 +0x0, and its source is 0x11000" in out), (1, True))
     tests.same("look differ", tests.run(KERNELYET, "look", "differ", "m", "bad", "r")[1],
-               "0x11000-0x11fff 1 page: link page\n1 page differ\n")
+               "0x11000-0x11fff 1 page: link page\n1 page differs\n")
     tests.same("look pages", tests.run(KERNELYET, "look", "pages", "m")[1],
                "0x11000-0x12fff 2 pages\n2 pages of at most 131072\n")
 

@@ -35,7 +35,7 @@ def parts_of(record):
 
 
 def where_differs(one, other):
-    """Where two texts of bytes differ first, and in how many bytes."""
+    """Where two texts of bytes differ first; None where they are the same."""
     both = min(len(one), len(other))
     if one == other:
         return None
