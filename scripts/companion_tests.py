@@ -37,7 +37,7 @@ def test_numbers(tests):
     for count, wanted in ((1, "1 byte"), (4096, "4 KiB"), (14155776, "13.5 MiB"), (3 << 30, "3 GiB")):
         tests.same(f"{count} bytes", numbers.size_text(count), wanted)
     tests.same("0x or not", [numbers.number_of(text, 16, "x") for text in ("0x1F", "1f")], [31, 31])
-    tests.same("runs without others", numbers.without([(0, 10), (20, 30)], [(8, 22), (25, 26)]),
+    tests.same("runs without others", numbers.without([(0, 10), (20, 30)], iter([(25, 26), (8, 22)])),
                [(0, 8), (22, 25), (26, 30)])
 
 
