@@ -251,6 +251,11 @@ def test_crash_sizes(tests):
             statuses.append(tests.run("kexec", "load-panic", "--map", "area", "--command", "quiet", *more,
                                       f"{FIRST}/memory.kxmem", "o", "or", "k")[0])
         tests.same(f"the least crash area of a {name} kernel", statuses, [0, 8])
+    tests.write("i", gzip.compress(archive([("init", 0o100755, bytes(80 << 20))])))
+    unpacked = initrds.Unpacked(f"{tests.folder}/i")
+    rooms = [crash_sizes.Needs(Kernel(f"{tests.folder}/k"), unpacked, rows, 0, command).room
+             for command in ("quiet", "root=/dev/vda1 quiet", "rootfstype=ramfs")]
+    tests.same("an initrd that fills no more than half", rooms, [unpacked.size, 32 << 20, 32 << 20])
 
 
 def test_warnings(tests):

@@ -15,7 +15,7 @@ from companion import core_readers, maps, program, qemu
 from companion.guest_initrd import make_initrd, said_between
 from companion.loaded import experiment
 from companion.numbers import size_text
-from companion.parsers import Parser, integer
+from companion.parsers import Parser, integer, mebibytes
 from companion.progress import Progress, growth
 from companion.records import Record
 from companion.refusals import Wrong
@@ -50,8 +50,8 @@ def parser():
                  default=max(glob.glob("/boot/vmlinuz-*"), default=""))
     words.option("vmlinux", "the same kernel with its debugging information, which crash needs to read the log", "FILE")
     words.option("busybox", "a static busybox; /bin/busybox without it", "FILE", default="/bin/busybox")
-    words.option("ram", "the guest's RAM in MiB; 512 without it", "MIB", type=integer, default=512)
-    words.option("crash", "its crash area in MiB; 160 without it", "MIB", type=integer, default=160)
+    words.option("ram", "the guest's RAM; 512M without it", "SIZE", type=mebibytes, default=512)
+    words.option("crash", "its crash area; 160M without it", "SIZE", type=mebibytes, default=160)
     words.option("seconds", "how long one machine may run; 600 without it", "N", type=integer, default=600)
     words.option("keep", "keep all files in this folder", "FOLDER")
     words.option("loaded", "let a guest run a list that its own kexec loaded, and compare its memory with OUT of exec: "

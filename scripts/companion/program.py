@@ -11,6 +11,8 @@ HERE = os.path.dirname(os.path.realpath(__file__))
 PLACE = os.path.dirname(HERE)
 IS_INSTALLED = os.path.basename(PLACE) == "kernelyet"
 TOP = os.path.dirname(os.path.dirname(PLACE)) if IS_INSTALLED else os.path.dirname(PLACE)
+# Where the documents are.
+DOCUMENTS = f"{TOP}/share/doc/kernelyet" if IS_INSTALLED else "docs"
 # The program; tests name the one that the gate built. ./kexec builds it.
 KEXEC = os.environ.get("KEXEC") or (f"{TOP}/libexec/kernelyet/kexec" if IS_INSTALLED else f"{TOP}/kexec")
 # The C library asks for huge pages behind large buffers; what the caller has set comes later, and counts.

@@ -2,9 +2,11 @@
 import json
 import sys
 
+from companion.program import DOCUMENTS
+
 
 def option_json(words):
-    words.option("json", "print the same as JSON (docs/COMPANION.md has its form)")
+    words.option("json", f"print the same as JSON ({DOCUMENTS}/COMPANION.md has its form)")
 
 
 def text_given(path):
