@@ -11,16 +11,18 @@ use crate::table::Argument;
 use crate::texts;
 use std::fmt::{self, Display, Formatter, Write};
 
-/// The usage line of a command, or of all commands where none is named.
+/// The usage line of a command, or of all commands where none is named, under the name by which the program was called.
 #[derive(Clone, Copy)]
-pub struct Usage {
+pub struct Usage<'a> {
+    program: &'a str,
     name: Option<Name>,
 }
 
-/// The help of a command, or of all commands where none is named. Each line of it has at most 80 columns, and its last one
-/// no end.
+/// The help of a command, or of all commands where none is named, under the name by which the program was called. Each line
+/// of it has at most 80 columns, unless that name is longer than `kexec`, and its last one no end.
 #[derive(Clone, Copy)]
-pub struct Help {
+pub struct Help<'a> {
+    program: &'a str,
     name: Option<Name>,
 }
 
@@ -32,10 +34,15 @@ fn first_name(words: &[String]) -> Option<Name>
     name_of(first)
 }
 
-fn write_command_usage<W: Write>(name: Option<Name>, f: &mut Formatter<W>) -> fmt::Result {
+fn write_command_usage<W: Write>(
+    program: &str,
+    name: Option<Name>,
+    f: &mut Formatter<W>,
+) -> fmt::Result {
+    write!(f, "Usage: {program} ")?;
     match name {
         Some(name) => write_usage(name.text(), name.arguments(), f),
-        None => f.write_str("Usage: kexec COMMAND [OPTIONS] ARGUMENTS.."),
+        None => f.write_str("COMMAND [OPTIONS] ARGUMENTS.."),
     }
 }
 
@@ -75,44 +82,46 @@ fn write_files<W: Write>(f: &mut Formatter<W>) -> fmt::Result {
 }
 
 // What is said where no command is named.
-fn write_program<W: Write>(f: &mut Formatter<W>) -> fmt::Result {
+fn write_program<W: Write>(program: &str, f: &mut Formatter<W>) -> fmt::Result {
     write_paragraph(texts::PROGRAM, f)?;
     write_commands(f)?;
     write_files(f)?;
-    f.write_str("\n\nkexec COMMAND --help describes a command.")
+    write!(f, "\n\n{program} COMMAND --help describes a command.")
 }
 
-impl Display for Usage {
+impl Display for Usage<'_> {
     fn fmt<W: Write>(&self, f: &mut Formatter<W>) -> fmt::Result {
-        write_command_usage(self.name, f)
+        write_command_usage(self.program, self.name, f)
     }
 }
 
-impl Display for Help {
+impl Display for Help<'_> {
     fn fmt<W: Write>(&self, f: &mut Formatter<W>) -> fmt::Result {
-        write_command_usage(self.name, f)?;
+        write_command_usage(self.program, self.name, f)?;
         f.write_str("\n\n")?;
         match self.name {
             Some(name) => write_command(name, f),
-            None => write_program(f),
+            None => write_program(self.program, f),
         }
     }
 }
 
-/// The help of the command that the first word names, and else of all commands.
-pub fn help_of(words: &[String]) -> Help
+/// The help of the command that the first word names, and else of all commands; the program is called by this name.
+pub fn help_of<'a>(program: &'a str, words: &[String]) -> Help<'a>
     ensures { result.name ≡ first_name (map string_bytes words.now) }
 {
     Help {
+        program,
         name: first_name(words),
     }
 }
 
-/// The usage line of the command of this name, and else of all commands.
-pub fn usage_of(word: &str) -> Usage
+/// The usage line of the command of this name, and else of all commands; the program is called by `program`.
+pub fn usage_of<'a>(program: &'a str, word: &str) -> Usage<'a>
     ensures { result.name ≡ name_of word.now }
 {
     Usage {
+        program,
         name: name_of(word),
     }
 }

@@ -225,13 +225,13 @@ fn write_words<W: Write>(arguments: &[Argument], f: &mut Formatter<W>) -> fmt::R
     Ok(())
 }
 
-/// Writes the usage line of a command.
+/// Writes the usage line of a command, behind the program's name.
 pub(crate) fn write_usage<W: Write>(
     name: &str,
     arguments: &[Argument],
     f: &mut Formatter<W>,
 ) -> fmt::Result {
-    write!(f, "Usage: kexec {name}")?;
+    f.write_str(name)?;
     write_needed(arguments, f)?;
     write_optional(arguments, f)?;
     write_words(arguments, f)

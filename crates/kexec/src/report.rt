@@ -12,6 +12,8 @@ use std::io::{self, ErrorKind};
 /// One sentence: what was wrong, in which file, option or word, and what is wanted.
 #[derive(Drop)]
 pub(crate) struct Report<'a> {
+    /// The name by which the program was called.
+    pub(crate) program: &'a str,
     pub(crate) status: &'a Status,
     pub(crate) words: &'a [String],
     /// The words as the command takes them.
@@ -96,7 +98,7 @@ impl Report<'_> {
 
 impl Display for Report<'_> {
     fn fmt<W: Write>(&self, f: &mut Formatter<W>) -> fmt::Result {
-        f.write_str("kexec: ")?;
+        write!(f, "{}: ", self.program)?;
         if let Status::Usage { why } = self.status {
             let refusal = Refusal {
                 why,

@@ -16,6 +16,7 @@ use std::io::{self, ErrorKind};
 use std::test::Fail;
 
 const NOTHING: Details<'static> = Details {
+    program: "kexec",
     cause: None,
     hint: None,
     page: None,
@@ -145,6 +146,7 @@ fn what_the_system_said_is_told(rt: HostRuntime) -> Result<(), Fail> {
     ];
     for (status, number, wanted) in &rows {
         let details = Details {
+            program: "kexec",
             cause: Some(Cause::System {
                 error: io::Error::from_raw_os_error(*number),
             }),
@@ -367,6 +369,7 @@ fn an_output_that_is_an_input_by_another_name_is_told_with_both(
     let status = kexec(rt.alloc(), &words, &mut shelf, &mut sink);
     let cause = shelf.cause().ok_or("a cause")?;
     let details = Details {
+        program: "kexec",
         cause: Some(cause_of(&rt, &words, &status, cause)),
         hint: None,
         page: None,
