@@ -29,16 +29,22 @@ pub(crate) enum Notice<'a> {
         error: WordsError,
     },
     /// The version that was asked for of the program of this name.
-    Version { program: &'a str },
+    Version {
+        program: &'a str,
+    },
     /// The help that was asked for.
-    Help { help: Help<'a> },
+    Help {
+        help: Help<'a>,
+    },
     /// The usage line of the command that is meant, and behind it why the words were refused.
     Usage {
         usage: Usage<'a>,
         report: Report<'a>,
     },
     /// Why a command was refused otherwise.
-    Refusal { report: Report<'a> },
+    Refusal {
+        report: Report<'a>,
+    },
 }
 
 impl Display for Notice<'_> {
