@@ -3,7 +3,7 @@ use Rattle.std.specs.Prelude.{◌≡◌, ℕ, List, [], ◌∷◌, false, None, 
 use Rattle.kx_pages.specs.declared.image.Wish.{Wish}
 use Rattle.kx_pages.specs.declared.image.Wish.TheVariants.{Plain, Kept}
 use Rattle.page_memory.specs.Contents.{at}
-use Rattle.file_commands.specs.Taking.{Refusal, Take, ok, too_long, by}
+use Rattle.file_commands.specs.Taking.{Refusal, Take, ok, too_long, by, ◌>>=◌}
 use Rattle.load_states.specs.States.{Checked, Load}
 use Rattle.load_states.specs.Ready.{Told}
 use Rattle.load_record.specs.File.{Record, record_file}
@@ -12,7 +12,7 @@ use Rattle.kexec_plan.specs.Requests.{Plan}
 use Rattle.command_parts.specs.declared.reason.Reason.{Reason}
 use Rattle.load_commands.specs.Inputs.{LoadInputs, load_inputs}
 use Rattle.load_commands.specs.Loading.{IsLoaded, RefusesLoad}
-use Rattle.command_parts.specs.Outputs.{Made, HasNoFile, IsFileOf}
+use Rattle.command_parts.specs.Outputs.{Made, HasNoFile, IsFileOf, IsReadBack}
 use Rattle.command_parts.specs.Runs.{list_text}
 use Rattle.kx_edge.specs.Edge.{Said}
 use Rattle.kx_edge.specs.declared.edge.Shelf.{Ghosts as Shelf}

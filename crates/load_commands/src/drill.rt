@@ -10,7 +10,7 @@ ghost use Rattle.image_slots.specs.inner.Events.{HasFewBytes, event_of};
 ghost use Rattle.image_slots.specs.Pages.{in_area};
 ghost use Rattle.image_slots.specs.Sequences.{fresh};
 ghost use Rattle.image_slots.specs.inner.States.{state_of};
-ghost use Rattle.file_commands.specs.Answers.{Meets};
+ghost use Rattle.file_commands.specs.Answers.{Meets as MeetsCommand};
 ghost use Rattle.file_commands.specs.inner.Calls.{Makes, MakesOr, Takes, call_answer};
 ghost use Rattle.kexec_words.specs.inner.Values.{drill_value};
 ghost use Rattle.load_commands.specs.Drill.{AreRam, DrillInputs as Inputs, Meets, drill_files, drills, drill_entry};
@@ -169,7 +169,8 @@ pub fn run_drill<S: Shelf, O: Sink>(
     shelf: &mut S,
     out: &mut O,
 ) -> Result<(), Stop<ListFault, Reason>>
-    ensures { Meets S.Shelf O.Sink (drill_entry (drill_value words)).command shelf.old out.old
+    ensures { MeetsCommand S.Shelf O.Sink (drill_entry (drill_value words)).command shelf.old
+        out.old
         (call_answer result) shelf.new out.new }
 {
     run(alloc, DrillWords { words }, shelf, out)

@@ -24,5 +24,5 @@ returns c =
     record {
       p = p;
       load = record { planned = planned; enough = c.in_ok-loaded.ensures.0; laid = c.in_ok-loaded.ensures.1 };
-      startup = c.of_plan-startup.ensures;
+      startup = c.planned_startup-startup.ensures;
     }
