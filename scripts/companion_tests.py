@@ -37,7 +37,7 @@ def test_numbers(tests):
     for count, wanted in ((1, "1 byte"), (4096, "4 KiB"), (14155776, "13.5 MiB"), (3 << 30, "3 GiB")):
         tests.same(f"{count} bytes", numbers.size_text(count), wanted)
     tests.same("0x or not", [numbers.number_of(text, 16, "x") for text in ("0x1F", "1f")], [31, 31])
-    tests.same("runs without others", numbers.without([(0, 10), (20, 30)], [(8, 22), (25, 26)]),
+    tests.same("runs without others", numbers.without([(0, 10), (20, 30)], iter([(25, 26), (8, 22)])),
                [(0, 8), (22, 25), (26, 30)])
 
 
@@ -176,7 +176,7 @@ def test_lists(tests):
     status, out, _ = tests.run(KERNELYET, "look", "list", "bad", "r")
     tests.same("look list of a fault", (status, "0x2000 is to be segment 0 +0x0, and its source is 0x11000" in out), (1, True))
     tests.same("look differ", tests.run(KERNELYET, "look", "differ", "m", "bad", "r")[1],
-               "0x11000-0x11fff 1 page: link page\n1 page differ\n")
+               "0x11000-0x11fff 1 page: link page\n1 page differs\n")
     tests.same("look pages", tests.run(KERNELYET, "look", "pages", "m")[1],
                "0x11000-0x12fff 2 pages\n2 pages of at most 131072\n")
 
@@ -251,6 +251,11 @@ def test_crash_sizes(tests):
             statuses.append(tests.run("kexec", "load-panic", "--map", "area", "--command", "quiet", *more,
                                       f"{FIRST}/memory.kxmem", "o", "or", "k")[0])
         tests.same(f"the least crash area of a {name} kernel", statuses, [0, 8])
+    tests.write("i", gzip.compress(archive([("init", 0o100755, bytes(80 << 20))])))
+    unpacked = initrds.Unpacked(f"{tests.folder}/i")
+    rooms = [crash_sizes.Needs(Kernel(f"{tests.folder}/k"), unpacked, rows, 0, command).room
+             for command in ("quiet", "root=/dev/vda1 quiet", "rootfstype=ramfs")]
+    tests.same("an initrd that fills no more than half", rooms, [unpacked.size, 32 << 20, 32 << 20])
 
 
 def test_warnings(tests):

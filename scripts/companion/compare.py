@@ -10,8 +10,7 @@ from companion.records import Record
 TEXT = """Says what differs between two load records: kind and mode, the command line,
 the kernel, the initrd and every other part, by its bytes, its size and its
 place, where the kernel is entered, the map that it is handed, and the pages of
-the list. With both memories it compares the lists too, and the bytes of the
-pages that the loads need."""
+the list. With both memories it compares the lists too."""
 EPILOG = """A part is found in both by what it is. Status 0 where nothing differs; 1 where
 something does, or an input is refused; 2 where the words are refused."""
 
@@ -35,7 +34,7 @@ def parts_of(record):
 
 
 def where_differs(one, other):
-    """Where two texts of bytes differ first, and in how many bytes."""
+    """Where two texts of bytes differ first; None where they are the same."""
     both = min(len(one), len(other))
     if one == other:
         return None

@@ -5,6 +5,8 @@ from the top down the initrd, the crash headers, the boot parameters and the pur
 
 To run, as a rule of thumb: this, the unpacked initrd, which Linux holds in memory beside the file, and ROOM for what the
 kernel allocates and its processes; and of all that 1/64 for the records of its pages (struct page, 64 bytes for 4 KiB).
+Linux unpacks into a tmpfs, which takes at most half of the memory, so that as much again must stay beside it; with root=
+or rootfstype=ramfs it is a ramfs, which has no limit (Documentation/filesystems/ramfs-rootfs-initramfs).
 """
 import struct
 
@@ -19,6 +21,8 @@ STEP = 16 << 20
 SHF_ALLOC = 2
 # what is added to the command line: elfcorehdr= and a number of KiB below 2^46, and the words of its memmap=
 ADDED = len(" elfcorehdr=68719476736K")
+# the words of a command line with which the unpacked initrd may fill the memory
+UNLIMITED = ("root=", "rootfstype=ramfs")
 
 
 def linked_bytes(path):
@@ -49,6 +53,9 @@ class Needs:
         self.kernel, self.alignment = kernel.memory()
         self.lowest = kernel.lowest()
         self.unpacked = initrd.size if initrd else 0
+        # what must stay free beside it
+        is_limited = not any(word.startswith(UNLIMITED) for word in command.split())
+        self.room = max(ROOM, self.unpacked) if is_limited else ROOM
         self.parts = [("kernel", self.kernel)]
         if initrd:
             self.parts.append(("initrd", max(PAGE, up(initrd.bytes, PAGE))))
@@ -63,7 +70,7 @@ class Needs:
         return first - start + sum(size for _, size in self.parts)
 
     def to_run(self, start=STEP):
-        needed = self.to_load(start) + self.unpacked + ROOM
+        needed = self.to_load(start) + self.unpacked + self.room
         return needed + needed // 64
 
     def advised(self, start=STEP):

@@ -15,12 +15,14 @@ from companion import core_readers, maps, program, qemu
 from companion.guest_initrd import make_initrd, said_between
 from companion.loaded import experiment
 from companion.numbers import size_text
-from companion.parsers import Parser, integer
+from companion.parsers import Parser, integer, mebibytes
 from companion.progress import Progress, growth
 from companion.records import Record
 from companion.refusals import Wrong
 from companion.words import name_called
 
+# On a busy machine the timer of an emulated one may come late, which is no fault of its interrupt controller.
+COMMAND = "console=ttyS0 no_timer_check"
 # this command itself, whose words the story runs
 SELF = os.path.realpath(sys.argv[0])
 TEXT = """Follows a guest from its panic to its vmcore, in QEMU, from nothing. A guest
@@ -48,12 +50,12 @@ def parser():
                  default=max(glob.glob("/boot/vmlinuz-*"), default=""))
     words.option("vmlinux", "the same kernel with its debugging information, which crash needs to read the log", "FILE")
     words.option("busybox", "a static busybox; /bin/busybox without it", "FILE", default="/bin/busybox")
-    words.option("ram", "the guest's RAM in MiB; 512 without it", "MIB", type=integer, default=512)
-    words.option("crash", "its crash area in MiB; 160 without it", "MIB", type=integer, default=160)
+    words.option("ram", "the guest's RAM; 512M without it", "SIZE", type=mebibytes, default=512)
+    words.option("crash", "its crash area; 160M without it", "SIZE", type=mebibytes, default=160)
     words.option("seconds", "how long one machine may run; 600 without it", "N", type=integer, default=600)
     words.option("keep", "keep all files in this folder", "FOLDER")
-    words.option("loaded", "let a guest run a list that its own kexec loaded, and compare its memory with OUT of exec: another story, "
-                 "with options of its own (guest --loaded --help)")
+    words.option("loaded", "let a guest run a list that its own kexec loaded, and compare its memory with OUT of exec: "
+                 "another story, with options of its own (guest --loaded --help)")
     return words
 
 
@@ -81,7 +83,7 @@ class Story:
     def take_guest(self):
         """Boots the guest until it panics, and takes its map, notes and memory."""
         # no KASLR, and 4-level paging: makedumpfile and gdb go by the addresses in the crash headers
-        command = f"console=ttyS0 crashkernel={self.given.crash}M nokaslr no5lvl story=guest panic=0"
+        command = f"{COMMAND} crashkernel={self.given.crash}M nokaslr no5lvl story=guest panic=0"
         words = ["-kernel", f"{self.folder}/vmlinuz", "-initrd", f"{self.folder}/initrd", "-append", command]
         with tempfile.TemporaryDirectory(dir=self.folder) as place:
             with qemu.Machine(place, self.given.ram, words, False) as guest:
@@ -103,7 +105,7 @@ class Story:
                         f"{size_text(os.path.getsize(f'{self.folder}/guest.core'))}")
 
     def boot_next(self):
-        command = "console=ttyS0 story=next panic=-1"
+        command = f"{COMMAND} story=next panic=-1"
         loaded, _ = self.run(["load", "--map", "guest/map", "--initrd", "initrd", "--command", command,
                               "guest/memory.kxmem", "guest/pool", "loaded.kxmem", "loaded.record", "vmlinuz"])
         if not loaded:
@@ -119,7 +121,7 @@ class Story:
         of the last range of memory in /proc/vmcore."""
         first, end = maps.ranges_outside_crash_areas(self.rows())[-1]
         done, said = self.run(["plan", "--json", "--crash", "--map", "guest/map", "--notes", "guest-notes", "--command",
-                               f"console=ttyS0 story=crash last={end - first} panic=-1", "vmlinuz", "initrd"], is_quiet=True)
+                               f"{COMMAND} story=crash last={end - first} panic=-1", "vmlinuz", "initrd"], is_quiet=True)
         if not done:
             return None
         command = json.loads(said)["command"]

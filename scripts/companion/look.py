@@ -118,7 +118,7 @@ def show_differ(given):
             parts.setdefault(part_of(record, roles, page) if record else "", []).append(page)
     found = [(*run, name) for name, pages in sorted(parts.items(), key=lambda item: min(item[1])) for run in runs(pages)]
     count = sum(map(len, parts.values()))
-    lines = [shown.page_run(*run) for run in found] + [f"{counted(count, 'page')} differ"]
+    lines = [shown.page_run(*run) for run in found] + [f"{counted(count, 'page')} differ{'s' * (count == 1)}"]
     objects = [shown.run_object(first, last, part=name or None) for first, last, name in found]
     reports.show(given, "look differ", {"pages": count, "runs": objects}, lines)
     return 1 if count else 0

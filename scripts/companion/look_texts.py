@@ -1,6 +1,4 @@
 """kernelyet look text: what a command of the program printed, in its parts."""
-import sys
-
 from companion import printed, reports
 from companion.numbers import counted, size_text
 from companion.parsers import Parser
@@ -27,12 +25,7 @@ def shown_value(name, value):
 
 
 def show_text(given):
-    if given.file:
-        with open(given.file, encoding="utf-8", errors="replace") as file:
-            text = file.read()
-    else:
-        text = sys.stdin.read()
-    found = printed.read(text)
+    found = printed.read(reports.text_given(given.file))
     lines = [", ".join([one["line"], *(f"{name} {shown_value(name, value)}" for name, value in one.items()
                                       if name != "line" and value not in (None, []))]) for one in found]
     lines.append(counted(len(found), "line"))

@@ -4,7 +4,7 @@ import struct
 
 from companion import dumps, maps, pools
 from companion.memory_files import MOST_PAGES, NONE, Writer
-from companion.numbers import common, counted, number_of, size_of, span
+from companion.numbers import PAGE, common, counted, number_of, size_of, size_text, span
 from companion.parsers import Parser
 from companion.progress import Progress, bar
 from companion.refusals import Wrong
@@ -164,7 +164,8 @@ def make_memory(given, free):
         return common(free, zeros), "pages of RAM that are all zeros"
     if given.ram or given.map:
         return free, "each page of RAM from 1 MiB on"
-    return buddy_runs(free, given.flags), "pages that the page allocator has free"
+    with Progress(f"reading {given.flags}"):
+        return buddy_runs(free, given.flags), "pages that the page allocator has free"
 
 
 def make(given):
@@ -180,7 +181,7 @@ def make(given):
     os.makedirs(given.folder, exist_ok=True)
     write_text(f"{given.folder}/map", text)
     ram, area = maps.free_runs(rows), maps.crash_area(rows)
-    print(f"{given.folder}/map: {len(rows)} lines, {sum(end - first for first, end in ram) >> 8} MiB of free RAM, "
+    print(f"{given.folder}/map: {len(rows)} lines, {size_text(PAGE * sum(end - first for first, end in ram))} of free RAM, "
           + (f"crash area {span(area[0], area[1] - 1)}" if area else "no crash area"))
     free, which = make_memory(given, maps.from_1_mib(ram))
     if not free:

@@ -95,9 +95,9 @@ def common(some, others):
 
 def without(some, others):
     """The runs (first, end) of some, where none of the others is."""
-    found = []
+    found, others = [], sorted(others)
     for first, end in some:
-        for low, high in sorted(others):
+        for low, high in others:
             if high > first and low < end:
                 if low > first:
                     found.append((first, low))

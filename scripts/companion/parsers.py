@@ -3,6 +3,8 @@ import argparse
 import re
 import sys
 
+from companion.numbers import size_of
+from companion.refusals import Wrong
 from companion.words import name_called
 
 
@@ -63,6 +65,9 @@ def sentence_of(message, word):
     found = re.fullmatch(r"argument (\S+): expected (.*)", message)
     if found:
         return f"{found[1]} takes {found[2].replace('argument', 'value')}"
+    found = re.fullmatch(r"argument (\S+): (must .*)", message)
+    if found:
+        return f"{found[1]} {found[2]}"
     found = re.fullmatch(r"argument (\S+): not allowed with argument (\S+)", message)
     if found:
         return f"{found[1]} cannot be given with {found[2]}"
@@ -74,6 +79,17 @@ def integer(text):
     if not (text.isascii() and text.isdigit()) or int(text) == 0:
         raise argparse.ArgumentTypeError(f"must be a whole number of at least 1, and {text!r} is given")
     return int(text)
+
+
+def mebibytes(text):
+    """A size of the command line in MiB, for the memory of a virtual machine."""
+    try:
+        size = size_of(text, "")
+    except Wrong:
+        size = 0
+    if size == 0 or size % (1 << 20):
+        raise argparse.ArgumentTypeError(f"must be a multiple of 1 MiB, as 512M or 2G, and {text!r} is given")
+    return size >> 20
 
 
 def choose(word, text, epilog, parsers, arguments):

@@ -3,7 +3,7 @@ import os
 import shutil
 import sys
 
-from companion import maps, picture_list, picture_memory, picture_text, plan, planning, program
+from companion import maps, picture_list, picture_memory, picture_text, plan, planning, program, reports
 from companion.memory_files import Memory
 from companion.parsers import Parser, choose
 from companion.records import Record
@@ -134,12 +134,7 @@ def draw_list(given):
     if given.check or given.make:
         return compare_examples(given.make)
     record = Record(given.record) if given.record else None
-    if given.file:
-        with open(given.file, encoding="utf-8", errors="replace") as file:
-            text = file.read()
-    else:
-        text = sys.stdin.read()
-    told = picture_list.List(text, record.names() if record else ())
+    told = picture_list.List(reports.text_given(given.file), record.names() if record else ())
     put(given, picture_list.draw(told, given.kept or (record is not None and record.mode == 1)))
     return 0
 

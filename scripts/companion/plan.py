@@ -12,9 +12,11 @@ temporary folder; nothing on this machine changes."""
 EPILOG = f"""With --crash it says how large crashkernel= must be, by arithmetic: to load the
 kernel, and to run it. The second is a rule of thumb: what is loaded, the
 unpacked initrd, {ROOM >> 20} MiB for the kernel's own memory and its processes, and 1/64
-for the records of the pages, in steps of 16 MiB. Without an area in the map the
-kernel is tried in one of that size. The command line is printed as a shell
-takes it, with the words that a crash kernel needs.
+for the records of the pages, in steps of 16 MiB. Without root= in the command
+line Linux unpacks into half of the memory at most, and as much as the unpacked
+initrd stays free beside it. Without an area in the map the kernel is tried in
+one of that size. The command line is printed as a shell takes it, with the
+words that a crash kernel needs.
 
 Status 0 where the kernel loads; 1 where it does not, or an input is refused; 2
 where the words are refused. Warnings do not change it."""
@@ -105,8 +107,8 @@ def crash_lines(plan, crash):
     guess = " (a guess)" * bool(plan.initrd and plan.initrd.is_guess)
     initrd = f", {size_text(crash.needs.unpacked)} for the unpacked initrd{guess}" * bool(plan.initrd)
     yield f"{'to run':15}  crashkernel={option_size(crash.to_run)} or more, as a rule of thumb:"
-    yield (f"{'':15}  {size_text(crash.needs.to_load(crash.start))} for the parts{initrd}, {size_text(ROOM)} to work in, and "
-           "1/64 of that")
+    yield (f"{'':15}  {size_text(crash.needs.to_load(crash.start))} for the parts{initrd}, {size_text(crash.needs.room)} to work in, "
+           "and 1/64 of that")
     if plan.record and not crash.is_enough:
         yield f"{'':15}  the area is smaller: the kernel loads, and may run out of memory when it starts"
 
@@ -142,7 +144,7 @@ def crash_object(plan, crash):
     return {"start": crash.start, "end": crash.end, "is_tried": crash.is_tried, "is_enough": crash.is_enough,
             "used": plan.record.pages() * PAGE if plan.record else None,
             "parts": [{"name": name, "bytes": size} for name, size in needs.parts], "unpacked_initrd": needs.unpacked,
-            "room": ROOM, "step": STEP, "to_load": crash.to_load, "to_run": crash.to_run}
+            "room": needs.room, "step": STEP, "to_load": crash.to_load, "to_run": crash.to_run}
 
 
 def object_of(plan, crash):

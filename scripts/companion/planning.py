@@ -8,7 +8,7 @@ from companion import maps, pools, program
 from companion.initrds import Unpacked
 from companion.kernels import Kernel, front_of, kind_of
 from companion.memory_files import write_memory
-from companion.numbers import counted, size_of, size_text
+from companion.numbers import counted, number_of, size_of, size_text
 from companion.progress import Progress
 from companion.records import Record
 from companion.refusals import Wrong
@@ -127,7 +127,7 @@ class Plan:
         for name in ("initrd", "notes", "purgatory"):
             if getattr(given, name):
                 words += [f"--{name}", os.path.abspath(getattr(given, name))]
-        words += ["--below", given.below.replace("0x", "", 1)] if given.below else []
+        words += ["--below", f"{number_of(given.below, 16, '--below'):x}"] if given.below else []
         words += [f"--command={self.command}"] if self.command else []
         pool = [] if self.is_crash else ["pool"]
         return [*words, "memory.kxmem", *pool, "loaded.kxmem", "loaded.record", os.path.abspath(given.kernel)]

@@ -1,6 +1,5 @@
 """The proved program: where it is, what it is called, and running it."""
 import os
-import re
 import subprocess
 import sys
 
@@ -11,6 +10,8 @@ HERE = os.path.dirname(os.path.realpath(__file__))
 PLACE = os.path.dirname(HERE)
 IS_INSTALLED = os.path.basename(PLACE) == "kernelyet"
 TOP = os.path.dirname(os.path.dirname(PLACE)) if IS_INSTALLED else os.path.dirname(PLACE)
+# Where the documents are.
+DOCUMENTS = f"{TOP}/share/doc/kernelyet" if IS_INSTALLED else "docs"
 # The program; tests name the one that the gate built. ./kexec builds it.
 KEXEC = os.environ.get("KEXEC") or (f"{TOP}/libexec/kernelyet/kexec" if IS_INSTALLED else f"{TOP}/kexec")
 # The C library asks for huge pages behind large buffers; what the caller has set comes later, and counts.
@@ -22,27 +23,13 @@ def environment():
 
 
 def become(words, name):
-    """Becomes the program, called by this name, with these words: streams, folder and status are its own."""
+    """Becomes the program, called by this name, with these words: streams, folder and status are its own. It says the name
+    where it refuses, and in its help."""
     try:
         os.execve(KEXEC, [name, *words], environment())
     except OSError as error:
         print(f"{name}: {KEXEC} cannot be run: {error.strerror}", file=sys.stderr)
         return 70
-
-
-def asks(words):
-    """Whether the words ask the program for its help or its version, which it gives on standard error and then ends."""
-    before = words[: words.index("--")] if "--" in words else words
-    return any(word in ("--help", "-h") for word in before) or words[:1] in (["--version"], ["-V"])
-
-
-def tell(words, name):
-    """Says what the program answers to such words, with the name by which this was called, and answers the status."""
-    status, printed, said = run(words)
-    sys.stdout.write(printed)
-    # the name stands in the usage line, and in sentences that say how to ask for help
-    sys.stderr.write(re.sub(r"\bkexec (?=--help|COMMAND\b)|(?<=^Usage: )kexec ", f"{name} ", said))
-    return status
 
 
 def run(words, folder=None, given=None):

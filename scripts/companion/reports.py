@@ -1,9 +1,20 @@
 """What a word found, as lines for people or as JSON for programs (docs/COMPANION.md, docs/companion.schema.json)."""
 import json
+import sys
+
+from companion.program import DOCUMENTS
 
 
 def option_json(words):
-    words.option("json", "print the same as JSON (docs/COMPANION.md has its form)")
+    words.option("json", f"print the same as JSON ({DOCUMENTS}/COMPANION.md has its form)")
+
+
+def text_given(path):
+    """The text of a file, or of standard input where no file is given."""
+    if not path:
+        return sys.stdin.read()
+    with open(path, encoding="utf-8", errors="replace") as file:
+        return file.read()
 
 
 def show(given, name, found, lines):

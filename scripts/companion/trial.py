@@ -6,7 +6,7 @@ import tempfile
 from companion import qemu
 from companion.memory_files import Memory
 from companion.numbers import PAGE, counted, span
-from companion.parsers import Parser, integer
+from companion.parsers import Parser, integer, mebibytes
 from companion.program import tool
 from companion.progress import Progress
 from companion.refusals import Wrong
@@ -134,7 +134,8 @@ def parser():
     words = Parser("try", "[OPTIONS] MEMORY", TEXT, EPILOG)
     words.word_of("MEMORY", "the memory file")
     words.option("start", "the line `start entry .. rax .. rbx .. rsi ..`; standard input without it", "LINE")
-    words.option("ram", "the machine's RAM in MiB; well above the highest page of the file without it", "MIB", type=integer)
+    words.option("ram", "the machine's RAM, as 2G; well above the highest page of the file without it", "SIZE",
+                 type=mebibytes)
     words.option("seconds", "how long the machine may run; 300 without it", "N", type=integer, default=300)
     return words
 

@@ -85,4 +85,4 @@ def main(argv):
         return 2
     from companion import program
 
-    return program.tell(words, name) if program.asks(words) else program.become(words, name)
+    return program.become(words, name)

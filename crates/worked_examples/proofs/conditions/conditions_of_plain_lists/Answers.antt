@@ -4,7 +4,7 @@ use Rattle.std.specs.Prelude.{◌⊎◌}
 use Rattle.worked_examples.proofs.conditions.conditions_of_plain_lists.Goals as goal
 
 -- a page is not written that is wanted
-not_there : (2 ≡ 3) ⊎ ⊥ → ⊥
+not_there : ◌≡◌ {A = ℕ} 2 3 ⊎ ⊥ → ⊥
 not_there (inl e) = omega (arith, e)
 not_there (inr e) = e
 
