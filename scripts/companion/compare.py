@@ -3,7 +3,7 @@ from companion import reports
 from companion.lists import merged, pairs_of, walk
 from companion.memory_files import Memory
 from companion.numbers import counted, size_text
-from companion.parameters import Parameters
+from companion.parameters import KINDS, Parameters
 from companion.parsers import Parser
 from companion.records import Record
 
@@ -88,7 +88,8 @@ def row_differences(one, other):
     rows = [{(start, start + size, kind) for start, size, kind in it.rows()} if it else set() for it in (one, other)]
     if rows[0] != rows[1]:
         yield "map of the kernel: rows in one alone", *(
-            ", ".join(f"{start:#x}-{end - 1:#x} kind {kind}" for start, end, kind in sorted(some - rest)[:4]) or "none"
+            ", ".join(f"{start:#x}-{end - 1:#x} {KINDS.get(kind, kind)}" for start, end, kind in sorted(some - rest)[:4])
+            or "none"
             for some, rest in (rows, rows[::-1]))
 
 

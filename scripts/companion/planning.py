@@ -186,8 +186,10 @@ class Plan:
             yield f"the pool has {counted(last - first + 1, 'page')} {first:#x}-{last:#x} that are not free RAM: {why}"
 
     def keep(self, folder):
-        """Keeps what the load read and wrote."""
-        shutil.copytree(self.folder, folder, dirs_exist_ok=True)
+        """Keeps what the load read and wrote, in a folder with the usual rights."""
+        os.makedirs(folder, exist_ok=True)
+        for name in os.listdir(self.folder):
+            shutil.copyfile(f"{self.folder}/{name}", f"{folder}/{name}")
 
 
 def temporary_folder():
