@@ -174,7 +174,8 @@ def main(arguments):
     memory = Memory(given.memory)
     ram = ram_of(given, memory)
     stub = place_of_stub(memory, ram)
-    line = given.start or sys.stdin.read()
+    # who types at a terminal has not piped the command's output in
+    line = given.start or ("" if sys.stdin.isatty() else sys.stdin.read())
     with tempfile.TemporaryDirectory(prefix="kernelyet-try-") as folder:
         words = make_stub(folder, line, stub)
         words += ["-chardev", f"socket,id=jump,path={folder}/jump,server=on,wait=off", "-serial", "chardev:jump"]
