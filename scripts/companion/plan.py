@@ -65,6 +65,12 @@ def holes_of(plan):
             ("the largest hole above 4 GiB", hole(free, 1 << 32, END))]
 
 
+def half_of_ram(plan):
+    """The bytes that the parts want together, and half of the RAM, which is the most that a load takes."""
+    ram = sum(end - first for first, end in maps.free_runs(plan.machine.rows))
+    return sum(size for _, size, *_ in wanted_of(plan)), ram * PAGE // 2
+
+
 def wanted_of(plan):
     """What the parts want: (name, bytes, the multiple at which it may begin, whether below 4 GiB)."""
     size, alignment = plan.kernel.memory()
@@ -119,6 +125,9 @@ def refusal_lines(plan):
     for name, size, alignment, is_low in wanted_of(plan):
         yield (f"  the {name} wants {size_text(size)} in one piece" + f" at a multiple of {alignment:#x}" * (alignment > PAGE)
                + " below 4 GiB" * is_low)
+    together, half = half_of_ram(plan)
+    if together > half and not plan.is_crash:
+        yield f"  together they want {size_text(together)}, and a load takes at most half of the RAM: {size_text(half)}"
     for name, found in holes_of(plan):
         yield f"  {name}: " + (f"{size_text(found[1] - found[0])} at {found[0]:#x}" if found else "none")
 

@@ -17,6 +17,8 @@ IOMEM = "/proc/iomem"
 MADE_UP = 4 << 30
 # the only memory below 1 MiB that a crash kernel is told of
 LOW_MEMORY = "memmap=0x9e000@0x1000"
+# what a refusal of the program says of this very command
+OF_PLAN = "; for a Linux kernel, kernelyet plan "
 # The exit statuses of the program that say: no plan, too few pages.
 NO_PLAN, NO_PAGES = 8, 9
 
@@ -90,7 +92,7 @@ def read_kernel(path):
     kind = kind_of(front_of(path))
     if kind != "bzimage":
         what = kind or "no kernel that is known"
-        more = ", and a gzipped initrd is given behind the kernel" * (kind == "compressed by gzip")
+        more = ", and an initrd is given behind the kernel" * what.startswith(("compressed by", "a cpio archive"))
         raise Wrong(f"{path} is {what}: give a bzImage for x86-64, the vmlinuz of a distribution{more}")
     return Kernel(path)
 
@@ -138,7 +140,7 @@ class Plan:
         if self.status == 0:
             self.record = Record(f"{self.folder}/loaded.record")
             return
-        self.record, self.refusal = None, program.sentence(said)
+        self.record, self.refusal = None, program.sentence(said).partition(OF_PLAN)[0]
         if self.status not in (NO_PLAN, NO_PAGES):
             raise Wrong(self.refusal)
 
@@ -176,8 +178,8 @@ class Plan:
         """What the load does not refuse, and is wrong all the same."""
         missing = self.kernel.missing()
         if missing:
-            yield (f"{self.kernel.path} is cut off: its header counts {self.kernel.syssize * 16} bytes behind the setup, and "
-                   f"{missing} of them are not in the file; it would load, and not run")
+            yield (f"{self.kernel.path} is cut off: its header counts {size_text(self.kernel.syssize * 16)} behind the setup, "
+                   f"and {size_text(missing)} of them are not in the file; it would load, and not run")
         if self.initrd and not self.initrd.bytes:
             yield f"{self.given.initrd} is empty: the kernel would find no initrd in it"
         elif self.initrd and not self.initrd.is_archive:
