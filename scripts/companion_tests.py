@@ -221,7 +221,7 @@ def test_plan(tests):
     status, out, _ = tests.run(KERNELYET, "plan", "--ram", "256M", "--crash", "64M", "vmlinuz", "initrd", "--command", "quiet",
                                "--keep", "kept")
     headers = files.Record(f"{tests.folder}/kept/loaded.record").named("crash headers").mem
-    wanted = f"--command 'quiet memmap=0x9e000@0x1000 memmap=4K${headers:#x}'"
+    wanted = f"command line     --command 'quiet memmap=0x9e000@0x1000 memmap=4K${headers:#x}'"
     tests.same("plan --crash", (status, out.splitlines()[-1]), (0, wanted))
     tests.write("small", "00100000-0010ffff : System RAM\n")
     status, out, _ = tests.run(KERNELYET, "plan", "vmlinuz", "--map", "small")

@@ -145,7 +145,7 @@ def lines_of(plan, crash):
     for warning in plan.warnings():
         yield f"warning: {warning}"
     if plan.record and plan.command:
-        yield f"--command {shlex.quote(plan.command)}"
+        yield f"{'command line':15}  --command {shlex.quote(plan.command)}"
 
 
 def crash_object(plan, crash):

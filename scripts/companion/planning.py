@@ -23,9 +23,15 @@ OF_PLAN = "; for a Linux kernel, kernelyet plan "
 NO_PLAN, NO_PAGES = 8, 9
 
 
+# What a plan has in place of options of kexec(8).
+COUNTERPARTS = {"--append": "--command", "--command-line": "--command", "--initrd": "INITRD, the file behind KERNEL",
+                "--ramdisk": "INITRD, the file behind KERNEL", "-p": "--crash", "--load-panic": "--crash"}
+
+
 def options(words):
     """The options of a plan."""
-    words.word_of("KERNEL", "the Linux kernel, a bzImage, as /boot/vmlinuz")
+    words.counterparts = COUNTERPARTS
+    words.word_of("KERNEL", "the Linux kernel, a bzImage, as /boot/vmlinuz-*")
     words.word_of("INITRD", "its initial RAM disk", nargs="?")
     words.option("map", "the map of the machine, the text of /proc/iomem read as root; this machine's without it", "FILE")
     words.option("ram", "a made-up PC with so much RAM, in place of a map", "SIZE")
