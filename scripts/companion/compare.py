@@ -5,6 +5,7 @@ from companion.memory_files import Memory
 from companion.numbers import counted, size_text
 from companion.parameters import KINDS, Parameters
 from companion.parsers import Parser
+from companion.progress import Progress
 from companion.records import Record
 
 TEXT = """Says what differs between two load records: kind and mode, the command line,
@@ -139,7 +140,8 @@ def main(arguments):
     if len(given.memory) not in (0, 2):
         words.error("give the memory files of both, or none")
     one, other = Record(given.record), Record(given.other)
-    found = list(differences(one, other, [Memory(path) for path in given.memory]))
+    with Progress(f"comparing {given.record} with {given.other}"):
+        found = list(differences(one, other, [Memory(path) for path in given.memory]))
     lines = [f"{what}:\n  {given.record}: {mine}\n  {given.other}: {theirs}" for what, mine, theirs in found]
     lines.append(counted(len(found), "difference") if found else "nothing differs")
     objects = [{"what": what, "one": mine, "other": theirs} for what, mine, theirs in found]

@@ -3,6 +3,7 @@ from companion import look_lists, look_steps, look_texts, memory_files, records,
 from companion.lists import address_of, kind_of, walk
 from companion.numbers import END, PAGE, address, counted, number_of, runs, size_text
 from companion.parsers import Parser, choose
+from companion.progress import Progress
 from companion.refusals import Wrong
 
 TEXT = """Shows what stands in memory files, load records and lists.
@@ -113,9 +114,10 @@ def show_differ(given):
     record = records.Record(given.record) if given.record else None
     roles = roles_of(one, record) if record else {}
     parts = {}
-    for page in one.place.keys() | other.place.keys():
-        if one.page(page) != other.page(page):
-            parts.setdefault(part_of(record, roles, page) if record else "", []).append(page)
+    with Progress(f"comparing {given.memory} with {given.other}"):
+        for page in one.place.keys() | other.place.keys():
+            if one.page(page) != other.page(page):
+                parts.setdefault(part_of(record, roles, page) if record else "", []).append(page)
     found = [(*run, name) for name, pages in sorted(parts.items(), key=lambda item: min(item[1])) for run in runs(pages)]
     count = sum(map(len, parts.values()))
     lines = [shown.page_run(*run) for run in found] + [f"{counted(count, 'page')} differ{'s' * (count == 1)}"]
