@@ -223,6 +223,8 @@ def test_plan(tests):
     headers = files.Record(f"{tests.folder}/kept/loaded.record").named("crash headers").mem
     wanted = f"command line     --command 'quiet memmap=0x9e000@0x1000 memmap=4K${headers:#x}'"
     tests.same("plan --crash", (status, out.splitlines()[-1]), (0, wanted))
+    status, out, _ = tests.run(KERNELYET, "plan", "vmlinuz", "--ram", "2G", "--below", "0x8000000")
+    tests.same("plan --below takes pages from below it", (status, " of 32512 pages used" in out), (0, True))
     tests.write("small", "00100000-0010ffff : System RAM\n")
     status, out, _ = tests.run(KERNELYET, "plan", "vmlinuz", "--map", "small")
     tests.same("plan of a small machine", (status, "wants 1 MiB" in out, "from 1 MiB to 4 GiB: 64 KiB" in out), (1, True, True))

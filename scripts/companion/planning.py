@@ -8,7 +8,7 @@ from companion import maps, pools, program
 from companion.initrds import Unpacked
 from companion.kernels import Kernel, front_of, kind_of
 from companion.memory_files import write_memory
-from companion.numbers import counted, number_of, size_of, size_text
+from companion.numbers import END, PAGE, common, counted, number_of, size_of, size_text
 from companion.progress import Progress
 from companion.records import Record
 from companion.refusals import Wrong
@@ -17,8 +17,9 @@ IOMEM = "/proc/iomem"
 MADE_UP = 4 << 30
 # the only memory below 1 MiB that a crash kernel is told of
 LOW_MEMORY = "memmap=0x9e000@0x1000"
-# what a refusal of the program says of this very command
+# What a refusal of the program says of this very command, and where it is one for want of a place.
 OF_PLAN = "; for a Linux kernel, kernelyet plan "
+OF_PLACES = ("there is no place for", "cannot be placed")
 # The exit statuses of the program that say: no plan, too few pages.
 NO_PLAN, NO_PAGES = 8, 9
 
@@ -109,6 +110,7 @@ class Plan:
     def __init__(self, given, machine, folder):
         self.given, self.machine, self.folder = given, machine, folder
         self.is_crash, self.command = given.crash is not None, given.command
+        self.limit = number_of(given.below, 16, "--below") if given.below else END
         self.kernel = read_kernel(given.kernel)
         with Progress("unpacking the initrd, to count its bytes"):
             self.initrd = Unpacked(given.initrd) if given.initrd else None
@@ -122,9 +124,11 @@ class Plan:
         if self.is_crash:
             return
         if self.given.pool:
+            self.pool = pools.read_pool(self.given.pool)
             shutil.copyfile(self.given.pool, f"{self.folder}/pool")
-        else:
-            pools.write_pool(f"{self.folder}/pool", maps.from_1_mib(maps.free_runs(self.machine.rows)), True)
+            return
+        free = maps.from_1_mib(maps.free_runs(self.machine.rows))
+        pools.write_pool(f"{self.folder}/pool", common(free, [(0, self.limit // PAGE)]), True)
         self.pool = pools.read_pool(f"{self.folder}/pool")
 
     def words(self):
@@ -135,7 +139,7 @@ class Plan:
         for name in ("initrd", "notes", "purgatory"):
             if getattr(given, name):
                 words += [f"--{name}", os.path.abspath(getattr(given, name))]
-        words += ["--below", f"{number_of(given.below, 16, '--below'):x}"] if given.below else []
+        words += ["--below", f"{self.limit:x}"] if given.below else []
         words += [f"--command={self.command}"] if self.command else []
         pool = [] if self.is_crash else ["pool"]
         return [*words, "memory.kxmem", *pool, "loaded.kxmem", "loaded.record", os.path.abspath(given.kernel)]
@@ -147,7 +151,8 @@ class Plan:
             self.record = Record(f"{self.folder}/loaded.record")
             return
         self.record, self.refusal = None, program.sentence(said).partition(OF_PLAN)[0]
-        if self.status not in (NO_PLAN, NO_PAGES):
+        is_for_places = self.status == NO_PLAN and any(text in self.refusal for text in OF_PLACES)
+        if self.status != NO_PAGES and not is_for_places:
             raise Wrong(self.refusal)
 
     def headers_words(self):
