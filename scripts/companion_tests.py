@@ -5,6 +5,8 @@ import lzma
 import os
 import re
 import struct
+import subprocess
+import time
 
 import kexec_files as files
 from companion import crash_sizes, initrds, kernels, machine, maps, numbers, picture_memory, pools, printed, scene
@@ -350,5 +352,15 @@ def test_json(tests):
         tests.same("a line of no command", "line 1 is not one that" in str(wrong), True)
 
 
+def test_try(tests):
+    """The memory is there only when the command on the other side of the pipe has ended."""
+    words = [f"{TOP}/{KERNELYET}", "try", "late"]
+    with subprocess.Popen(words, cwd=tests.folder, stdin=subprocess.PIPE, stderr=subprocess.PIPE, text=True) as run:
+        time.sleep(1)
+        tests.write("late", "no memory file")
+        said = run.communicate("start entry 2000 rax 0 rbx 0 rsi 0\n")[1]
+    tests.same("try waits for the line", (run.returncode, "late is not a memory file" in said), (1, True))
+
+
 ALL = (test_numbers, test_maps, test_pools, test_machine, test_running_machine, test_kernel_files, test_initrds, test_lists,
-       test_plan, test_crash_sizes, test_compare, test_warnings, test_pictures, test_scale, test_json)  # fmt: skip
+       test_plan, test_crash_sizes, test_compare, test_warnings, test_pictures, test_scale, test_try, test_json)  # fmt: skip
