@@ -1,18 +1,7 @@
-#!/usr/bin/env python3
-"""hostile_objects.py PROGRAM [BYTES]: time and memory for purgatories whose parts share their bytes.
-
-Makes object files of BYTES bytes (1048576), of twice and of four times as many, and boots a small raw kernel behind each.
-PROGRAM is the built program, as crates/kexec/out/kexec. For each file it prints the user time, the most memory that the
-program had, and how it ended: the objects are read and linked, and then refused, since they have not the symbols of a
-purgatory. A time and a memory that grow with the file are about twice those of the line above.
-
-  names     symbols of a loaded section: half of the file is their string table, which has a NUL at its end alone
-  tables    sections of relocations that have the same entries, of type R_X86_64_NONE
-  shifted   the same, each section but one entry further on
-  unloaded  the same entries, which relocate a section that is not loaded
-"""
-import os, struct, subprocess, sys, tempfile
-from pathlib import Path
+"""Purgatories whose parts share their bytes. Each is read and linked, and then refused, since it has not the symbols of a
+purgatory. Each kind writes its file in a folder, of so many times its least size, and answers its name and the words of a
+command."""
+import struct
 
 HEADER, ROW, SYMBOL, ENTRY = 64, 64, 24, 24
 MOST_SECTIONS = 0xfe00
@@ -56,46 +45,21 @@ def tables(size, kind=0, target=1, step=0):
     return object_file(sections, rows)
 
 
+def kind(make):
+    """A kind of purgatories, of 1 MiB and more, before the kernel of the first example."""
+
+    def write(folder, times):
+        with open(f"{folder}/object", "wb") as out:
+            out.write(make(times << 20))
+        options = ["--map", "map", "--type", "raw", "--at", "2000", "--purgatory", "object"]
+        return "object", ["boot", *options, "memory", "pool", "/dev/null", "kernel"]
+
+    return write
+
+
 KINDS = {
-    "names": names,
-    "tables": tables,
-    "shifted": lambda size: tables(size, step=1),
-    "unloaded": lambda size: tables(size, kind=1, target=2),
+    "names": kind(names),
+    "tables": kind(tables),
+    "shifted": kind(lambda size: tables(size, step=1)),
+    "elsewhere": kind(lambda size: tables(size, kind=1, target=2)),
 }
-
-
-def run(program, folder, file):
-    """The user time in seconds, the most memory in MiB, the exit status and the sentence of one boot."""
-    words = ["boot", "--map", "map", "--type", "raw", "--at", "2000", "--purgatory", file, "memory", "pool", "out", "kernel"]
-    process = subprocess.Popen([program, *words], cwd=folder, stdout=subprocess.DEVNULL, stderr=subprocess.PIPE)
-    told = process.stderr.read().decode(errors="replace").strip()
-    _, status, usage = os.wait4(process.pid, 0)
-    process.returncode = os.waitstatus_to_exitcode(status) if hasattr(os, "waitstatus_to_exitcode") else status >> 8
-    return usage.ru_utime, usage.ru_maxrss / 1024, process.returncode, told
-
-
-def make_machine(folder, examples):
-    """A map of 64 MiB, and the memory, pool and kernel of the first example."""
-    (folder / "map").write_text("00000000-03ffffff : System RAM\n")
-    for name, source in (("memory", "memory.kxmem"), ("pool", "pool"), ("kernel", "kernel")):
-        (folder / name).write_bytes((examples / source).read_bytes())
-
-
-def main():
-    if len(sys.argv) not in (2, 3) or sys.argv[1] in ("-h", "--help"):
-        sys.exit(__doc__)
-    program, size = str(Path(sys.argv[1]).resolve()), int(sys.argv[2]) if len(sys.argv) == 3 else 1 << 20
-    with tempfile.TemporaryDirectory() as name:
-        folder = Path(name)
-        make_machine(folder, Path(__file__).resolve().parent.parent / "examples/first")
-        print(f"{'object':10}{'bytes':>10}{'user s':>9}{'MiB':>8}{'status':>8}  sentence")
-        for kind, make in KINDS.items():
-            for times in (1, 2, 4):
-                file = folder / "object"
-                file.write_bytes(make(size * times))
-                seconds, memory, status, told = run(program, folder, "object")
-                print(f"{kind:10}{file.stat().st_size:>10}{seconds:>9.2f}{memory:>8.0f}{status:>8}  {told}", flush=True)
-
-
-if __name__ == "__main__":
-    main()

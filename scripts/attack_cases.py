@@ -16,7 +16,8 @@ import kexec_files as files
 from companion.kernels import setup_header
 
 EXAMPLES = f"{files.TOP}/examples"
-PROGRAM = f"{files.TOP}/crates/kexec/out/kexec"
+# KEXEC names a program that is built already; ./kexec is a script, and builds this one
+PROGRAM = os.path.abspath(os.environ.get("KEXEC") or f"{files.TOP}/crates/kexec/out/kexec")
 # a machine of 64 MiB whose upper half is for a crash kernel
 MAP = b"00001000-0009ffff : System RAM\n00100000-03ffffff : System RAM\n  02000000-02ffffff : Crash kernel\n"
 POOL = b"1000-13ff\n"

@@ -1,11 +1,11 @@
-"""The table of the commands' arguments, read in the program's source (crates/kexec_words/src)."""
+"""The table of the commands' arguments, read in the program's source (crates/command_table/src)."""
 
 import re
 from collections import namedtuple
 from pathlib import Path
 
 TOP = Path(__file__).resolve().parent.parent
-SOURCE = TOP / "crates" / "kexec_words" / "src"
+SOURCE = TOP / "crates" / "command_table" / "src"
 OPTIONS = ("Value", "Needed", "Flag")
 FILES = ("Input", "Output")
 
@@ -49,7 +49,7 @@ def read_commands():
             for constant, body in re.findall(r"^pub\(crate\) const (\w+): &\[Argument\] = &\[(.*?)\];",
                                              read_source("arguments.rt"), re.S | re.M)}
     commands = {}
-    for variants, constant in re.findall(r"^ +(Name::[\w: |]+) => arguments::(\w+),$", read_source("help.rt"), re.M):
+    for variants, constant in re.findall(r"^ +(Name::[\w: |]+) => arguments::(\w+),$", read_source("names.rt"), re.M):
         for variant in re.findall(r"Name::(\w+)", variants):
             commands[command_name(variant)] = rows[constant]
     return commands

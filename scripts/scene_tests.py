@@ -1,5 +1,10 @@
 """Tests of run-scenes: a right scene is ok, and each kind of wrong expectation is told with its line, what was found and
-what is to be."""
+what is to be. And the scenes that documents name are there."""
+import glob
+import os
+import re
+
+TOP = os.path.dirname(os.path.dirname(os.path.realpath(__file__)))
 
 # The first example, right: with a refusal, its sentence, and a memory that is known in part.
 RIGHT = """file m memory
@@ -63,3 +68,20 @@ def test_scenes(tests):
     tests.refuses("PROGRAM is missing", "scripts/run-scenes")
     tests.refuses("is not a program", "scripts/run-scenes", "none", "file")
     tests.same("no fault lacks a scene", tests.run("scripts/run-scenes", "--faults")[0], 0)
+    tests.same("documents name scenes that are there", unknown_scenes(), [])
+
+
+def unknown_scenes():
+    """What the paragraphs `Cases:` of the documents name, and is no scene and no file of scenes."""
+    names, unknown = set(), []
+    for path in glob.glob(f"{TOP}/crates/scenes/data/*.scenes"):
+        names.add(os.path.basename(path))
+        with open(path) as file:
+            names |= {" ".join(line.split()[1:]) for line in file if line.startswith("scene ")}
+    for path in sorted(glob.glob(f"{TOP}/docs/*.md")):
+        with open(path) as file:
+            paragraphs = file.read().split("\n\n")
+        for paragraph in (" ".join(text.split()) for text in paragraphs if text.startswith("Cases: ")):
+            told = re.findall(r"(?<!\w)'([^']+)'", paragraph) + re.findall(r"[\w-]+\.scenes", paragraph)
+            unknown += [f"{os.path.basename(path)}: {name}" for name in told if name not in names]
+    return unknown

@@ -1,6 +1,5 @@
 """The proved program: where it is, what it is called, and running it."""
 import os
-import re
 import subprocess
 import sys
 
@@ -24,27 +23,13 @@ def environment():
 
 
 def become(words, name):
-    """Becomes the program, called by this name, with these words: streams, folder and status are its own."""
+    """Becomes the program, called by this name, with these words: streams, folder and status are its own. It says the name
+    where it refuses, and in its help."""
     try:
         os.execve(KEXEC, [name, *words], environment())
     except OSError as error:
         print(f"{name}: {KEXEC} cannot be run: {error.strerror}", file=sys.stderr)
         return 70
-
-
-def asks(words):
-    """Whether the words ask the program for its help or its version, which it gives on standard error and then ends."""
-    before = words[: words.index("--")] if "--" in words else words
-    return any(word in ("--help", "-h") for word in before) or words[:1] in (["--version"], ["-V"])
-
-
-def tell(words, name):
-    """Says what the program answers to such words, with the name by which this was called, and answers the status."""
-    status, printed, said = run(words)
-    sys.stdout.write(printed)
-    # the name stands in the usage line, and in sentences that say how to ask for help
-    sys.stderr.write(re.sub(r"\bkexec (?=--help|COMMAND\b)|(?<=^Usage: )kexec ", f"{name} ", said))
-    return status
 
 
 def run(words, folder=None, given=None):

@@ -94,4 +94,4 @@ def main(argv):
         return refuse(first, name)
     from companion import program
 
-    return program.tell(words, name) if program.asks(words) else program.become(words, name)
+    return program.become(words, name)

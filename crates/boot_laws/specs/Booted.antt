@@ -12,11 +12,11 @@ use Rattle.segments.specs.Values.{SegmentValue}
 use Rattle.file_commands.specs.Taking.{reads}
 use Rattle.kexec_words.specs.Values.{BootValue, LoadPanicValue, boot, load_panic}
 use Rattle.kexec_plan.specs.Requests.{Asked, Plan}
-use Rattle.kexec_main.specs.Boot.{BootInputs, HasBooted, boot_files}
+use Rattle.load_commands.specs.Boot.{BootInputs, HasBooted, boot_files}
 use Rattle.kexec_main.specs.Call.{HasDone}
-use Rattle.kexec_main.specs.LoadPanic.{HasLoadedPanic, LoadPanicCommand, load_panic_files}
-use Rattle.kexec_main.specs.Outputs.{IsFileOf}
-use Rattle.kexec_main.specs.Runs.{IsOnce, after_runs}
+use Rattle.load_commands.specs.LoadPanic.{HasLoadedPanic, LoadPanicCommand, load_panic_files}
+use Rattle.command_parts.specs.Outputs.{IsFileOf}
+use Rattle.command_parts.specs.Runs.{IsOnce, after_runs}
 use Rattle.plan_laws.specs.Kernels.{KernelFinds}
 use Rattle.plan_laws.specs.Linux.{FitsEntry}
 use Rattle.plan_laws.specs.Memory.{HasBytes}

@@ -1,8 +1,7 @@
 -- Notes: where they may lie, and the text that lists them, each line `start size` in hexadecimal (this project's own).
 use Rattle.std.specs.Prelude.{ℕ, ◌+◌, ◌^◌, ◌++◌, ◌==◌, ◌&&◌, ◌||◌, not, Bool, List, [], ◌∷◌, nat_lt, nat_le, if◌then◌else◌, Option, Some, None, Result, Ok, Err}
 use Rattle.std.specs.List.{list_any}
-use Rattle.kx_laws.specs.Results.{◌>>=◌}
-use Rattle.text_lines.specs.Lines.{cut, lines, number}
+use Rattle.text_lines.specs.Lines.{lines, lines_onto, two_numbers}
 use Rattle.memory_map.specs.declared.row.Row.{Row}
 use Rattle.memory_map.specs.Rows.{row_end}
 use Rattle.crash_headers.specs.declared.note.Note.{Note}
@@ -22,20 +21,18 @@ abbrev pub is_outside : List Row → Note → Bool
 is_outside ranges n = not (list_any (lies_in n) ranges)
 
 -- a note has bytes, and all lie below 2^46
-abbrev pub note_from : Option ℕ → Option ℕ → Option Note
-note_from (Some start) (Some size) =
+abbrev pub note_from : ℕ → ℕ → Option Note
+note_from start size =
     if (size == 0) || nat_lt (2 ^ 46) (start + size) then None
     else Some (record { start = start; size = size })
-note_from (Some start) None = None
-note_from None size = None
 
-abbrev pub note_by : Option (List ℕ × List ℕ) → Option Note
-note_by (Some p) = note_from (number p.0) (number p.1)
+abbrev pub note_by : Option (ℕ × ℕ) → Option Note
+note_by (Some numbers) = note_from numbers.0 numbers.1
 note_by None = None
 
 -- the note of a line, `start size`: none where it has another form
 unfoldable pub note_of : List ℕ → Option Note
-note_of line = note_by (cut 32 line)
+note_of line = note_by (two_numbers line)
 
 abbrev pub note_onto : ℕ → List Note → Option Note → Result (List Note) NoteFault
 note_onto n notes (Some note) = Ok (notes ++ note ∷ [])
@@ -47,13 +44,6 @@ line_onto n notes line =
     if nat_lt 1024 n then Err (faults.BadLine n)
     else note_onto n notes (note_of line)
 
--- these notes and those of all lines, the first of which has the number n
-unfoldable pub lines_onto : ℕ → List Note → List (List ℕ) → Result (List Note) NoteFault
-lines_onto n notes [] = Ok notes
-lines_onto n notes (line ∷ rest) = do
-  more ← line_onto n notes line
-  lines_onto (n + 1) more rest
-
 -- the notes of a text, in its order, or the first line that is none
 abbrev pub notes_reading : List ℕ → Result (List Note) NoteFault
-notes_reading text = lines_onto 1 [] (lines text)
+notes_reading text = lines_onto line_onto 1 [] (lines text)

@@ -1,10 +1,11 @@
 //! Notes, and the text that lists them.
 
-ghost use Rattle.std.specs.Prelude.{◌≡◌, IfOk};
+ghost use Rattle.std.specs.Prelude.{List, ◌≡◌, IfOk};
 ghost use Rattle.std.specs.List.{list_any, position};
 ghost use Rattle.kx_laws.specs.inner.Results.{Gives};
 ghost use Rattle.crash_headers.specs.declared.fault.NoteFault.TheVariants.{Memory};
 ghost use Rattle.crash_headers.specs.inner.Ranges.{AreRising};
+ghost use Rattle.crash_headers.specs.declared.note.Note.{Note};
 ghost use Rattle.crash_headers.specs.Notes.{lies_in, is_outside, note_from, note_of, line_onto, notes_reading};
 
 use crate::fault::NoteFault;
@@ -12,7 +13,7 @@ use crate::ranges::{end_of, rising};
 use kx_pages::ADDRESS_LIMIT;
 use memory_map::Row;
 use std::alloc::{AllocError, Global};
-use text_lines::{cut, next_line, number};
+use text_lines::{LineReader, read_lines, two_numbers};
 
 /// How many lines a text of notes can have.
 const MOST_NOTES: u64 = 1024;
@@ -74,19 +75,14 @@ pub(crate) fn first_outside(
 }
 
 /// The note of a start and a size. None where it has no byte, or one at the limit of addresses or above.
-fn note_from(start: Option<u64>, size: Option<u64>) -> Option<Note>
+fn note_from(start: u64, size: u64) -> Option<Note>
     ensures { result ≡ note_from start size }
 {
-    match (start, size) {
-        (Some(start), Some(size)) => {
-            let end = u128::from(start) + u128::from(size);
-            if size == 0 || end > u128::from(ADDRESS_LIMIT) {
-                None
-            } else {
-                Some(Note { start, size })
-            }
-        }
-        _ => None,
+    let end = u128::from(start) + u128::from(size);
+    if size == 0 || end > u128::from(ADDRESS_LIMIT) {
+        None
+    } else {
+        Some(Note { start, size })
     }
 }
 
@@ -95,24 +91,39 @@ fn note_from(start: Option<u64>, size: Option<u64>) -> Option<Note>
 fn note_of(line: &[u8]) -> Option<Note>
     ensures { result ≡ note_of line.now }
 {
-    let (start, size) = cut(line, b' ')?;
-    note_from(number(start), number(size))
+    let (start, size) = two_numbers(line)?;
+    note_from(start, size)
 }
 
-/// Adds the note of the line of this number.
-#[tactic(auto, unfolding(crate::specs::Notes::line_onto))]
-fn add_line(notes: &mut Vec<Note>, line: u64, text: &[u8]) -> Result<(), NoteFault>
-    ensures { Gives Memory (λ _. notes.new.items) result (line_onto line notes.old.items text.now) }
-{
-    if line > MOST_NOTES {
-        return Err(NoteFault::BadLine { line });
-    }
-    match note_of(text) {
-        Some(note) => {
-            notes.push(note)?;
-            Ok(())
+/// The notes of the lines so far.
+#[derive(Drop)]
+struct NoteReader {
+    notes: Vec<Note>,
+}
+
+impl LineReader for NoteReader {
+    type Fault = NoteFault;
+
+    ghost Value = { List Note };
+
+    ghost value = { λ r. r.notes.items };
+
+    ghost adds = { line_onto };
+
+    ghost memory = { Memory };
+
+    #[tactic(auto, unfolding(crate::specs::Notes::line_onto))]
+    fn take_line(&mut self, line: u64, text: &[u8]) -> Result<(), NoteFault> {
+        if line > MOST_NOTES {
+            return Err(NoteFault::BadLine { line });
         }
-        None => Err(NoteFault::BadLine { line }),
+        match note_of(text) {
+            Some(note) => {
+                self.notes.push(note)?;
+                Ok(())
+            }
+            None => Err(NoteFault::BadLine { line }),
+        }
     }
 }
 
@@ -123,16 +134,11 @@ fn add_line(notes: &mut Vec<Note>, line: u64, text: &[u8]) -> Result<(), NoteFau
 pub fn read_notes(alloc: Global, text: &[u8]) -> Result<Vec<Note>, NoteFault>
     ensures { Gives Memory (λ v. v.items) result (notes_reading text.now) }
 {
-    let mut notes = Vec::new(alloc);
-    let mut rest = text;
-    let mut line = 1;
-    while let Some((here, after)) = next_line(rest) {
-        match add_line(&mut notes, line, here) {
-            Ok(()) => (),
-            Err(fault) => return Err(fault),
-        }
-        rest = after;
-        line += 1;
+    let mut reader = NoteReader {
+        notes: Vec::new(alloc),
+    };
+    match read_lines(text, &mut reader) {
+        Ok(()) => Ok(reader.notes),
+        Err(fault) => Err(fault),
     }
-    Ok(notes)
 }

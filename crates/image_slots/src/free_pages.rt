@@ -1,7 +1,7 @@
 //! The pages that are left.
 
 ghost use Rattle.std.specs.Prelude.{◌≡◌, ◌+◌, ◌++◌, ◌≤◌, ◌<◌, drop, length, slice_index, take, IfOk, OnErr, OnOk};
-ghost use Rattle.page_pool.specs.Pages.{usable_of};
+ghost use Rattle.page_pool.specs.Pages.{pool_page_limit, usable_of};
 
 use kx_pages::Page;
 use page_pool::Pool;
@@ -22,7 +22,7 @@ pub(crate) struct FreePages {
 impl Model for FreePages {
     ghost use Rattle.std.specs.Prelude.{ℕ, ◌++◌, ◌≤◌, List, length};
     ghost use Rattle.std.specs.Coded.{coded_ℕ, coded_list};
-    ghost use Rattle.page_pool.specs.Pages.{usable_of};
+    ghost use Rattle.page_pool.specs.Pages.{pool_page_limit, usable_of};
 
     ghost Value = { List ℕ };
 
@@ -30,7 +30,7 @@ impl Model for FreePages {
 
     ghost view = { λ f. usable_of f.pool ++ f.queue.items };
 
-    ghost invariant = { λ f. length (usable_of f.pool ++ f.queue.items) ≤ 262144 };
+    ghost invariant = { λ f. length (usable_of f.pool ++ f.queue.items) ≤ pool_page_limit };
 }
 
 impl FreePages {
@@ -49,7 +49,7 @@ impl FreePages {
     /// How many they are.
     pub(crate) fn count(&self) -> u64
         ensures value { result ≡ length self.now }
-        ensures few { result ≤ 262144 }
+        ensures few { result ≤ pool_page_limit }
     {
         self.pool.left() + self.queue.len() as u64
     }
@@ -103,7 +103,7 @@ impl FreePages {
 
     /// These pages come back, behind all that are left.
     pub(crate) fn give_back(&mut self, pages: &[Page]) -> Result<(), AllocError>
-        requires { length (self.old ++ pages.now) ≤ 262144 }
+        requires { length (self.old ++ pages.now) ≤ pool_page_limit }
         ensures given { OnOk result (self.new ≡ self.old ++ pages.now) }
         ensures same { OnErr result (self.new ≡ self.old) }
     {

@@ -8,6 +8,9 @@ mod causes;
 mod ending;
 mod files;
 mod hints;
+mod outside;
+#[cfg(test)]
+mod outside_tests;
 mod plans;
 mod remedies;
 mod report;
@@ -22,9 +25,10 @@ use causes::{Cause, cause_of};
 use ending::{Details, Ending};
 use hints::hint_of;
 use kx_edge::{HostShelf, StdSink};
+use outside::page_outside_ram;
 use recorded_kexec::kexec_recorded;
 use std::process::ExitCode;
-use words::read_words;
+use words::{LONGEST_NAME, name_called, read_words};
 
 // Says what there is to say on standard error, and gives the exit status. Where standard error takes nothing, the status
 // stays what it is.
@@ -38,9 +42,11 @@ fn finish(rt: &impl Eprint, ending: &Ending<'_>) -> ExitCode
 }
 
 fn main(rt: HostRuntime) -> ExitCode {
+    let mut room = [0u8; LONGEST_NAME];
+    let program = name_called(&rt, &mut room);
     let words = match read_words(&rt) {
         Ok(words) => words,
-        Err(error) => return finish(&rt, &Ending::without_words(error)),
+        Err(error) => return finish(&rt, &Ending::without_words(program, error)),
     };
     let (status, shelf, sink) = kexec_recorded(
         rt.alloc(),
@@ -55,8 +61,10 @@ fn main(rt: HostRuntime) -> ExitCode {
         (None, None) => None,
     };
     let details = Details {
+        program,
         cause,
         hint: hint_of(&rt, &words, &status),
+        page: page_outside_ram(&rt, &words, &status),
     };
     finish(&rt, &Ending::of(rt.alloc(), &words, &status, details))
 }

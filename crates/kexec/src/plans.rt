@@ -24,10 +24,19 @@ fn map_of<'a>(given: &[Given<'a>]) -> &'a str {
     text_of(given, "--map").unwrap_or("")
 }
 
+// The first page that is not System RAM, where it is known.
+fn write_first<W: Write>(page: Option<u64>, f: &mut Formatter<W>) -> fmt::Result {
+    match page {
+        Some(page) => write!(f, ": page 0x{page:x} is the first"),
+        None => Ok(()),
+    }
+}
+
 // A fault of the segments where the kernel is raw, told by the options that place it.
 fn write_raw<W: Write>(
     fault: &SegFault,
     at: &str,
+    page: Option<u64>,
     given: &[Given<'_>],
     f: &mut Formatter<W>,
 ) -> fmt::Result {
@@ -41,7 +50,8 @@ fn write_raw<W: Write>(
             write!(
                 f,
                 "--at {at}: the kernel has a page there that is not System RAM in the memory map {map:?}"
-            )
+            )?;
+            write_first(page, f)
         }
         fault => write!(f, "the kernel at --at {at} cannot be placed: {fault}"),
     }
@@ -51,6 +61,7 @@ fn write_raw<W: Write>(
 // every other part of a load is put on whole pages of RAM that nothing else takes.
 fn write_placed<W: Write>(
     fault: &SegFault,
+    page: Option<u64>,
     given: &[Given<'_>],
     f: &mut Formatter<W>,
 ) -> fmt::Result {
@@ -63,7 +74,8 @@ fn write_placed<W: Write>(
             write!(
                 f,
                 "segment {i} of the kernel has a page that is not System RAM in the memory map {map:?}"
-            )
+            )?;
+            write_first(page, f)
         }
         SegFault::TooLarge { pages } => write!(
             f,
@@ -113,13 +125,14 @@ fn write_unused<W: Write>(part: &Part, given: &[Given<'_>], f: &mut Formatter<W>
 pub(crate) fn write_plan<W: Write>(
     fault: &PlanFault,
     is_crash: bool,
+    page: Option<u64>,
     given: &[Given<'_>],
     f: &mut Formatter<W>,
 ) -> fmt::Result {
     match fault {
         PlanFault::Segments { fault } => match raw_address(given) {
-            Some(at) => write_raw(fault, at, given, f),
-            None => write_placed(fault, given, f),
+            Some(at) => write_raw(fault, at, page, given, f),
+            None => write_placed(fault, page, given, f),
         },
         PlanFault::NoHole { part } if is_crash => write!(
             f,

@@ -12,6 +12,8 @@ use std::io::{self, ErrorKind};
 /// One sentence: what was wrong, in which file, option or word, and what is wanted.
 #[derive(Drop)]
 pub(crate) struct Report<'a> {
+    /// The name by which the program was called.
+    pub(crate) program: &'a str,
     pub(crate) status: &'a Status,
     pub(crate) words: &'a [String],
     /// The words as the command takes them.
@@ -20,6 +22,8 @@ pub(crate) struct Report<'a> {
     pub(crate) cause: Option<Cause<'a>>,
     /// What the front of the refused file tells.
     pub(crate) hint: Option<&'static str>,
+    /// The first page of the kernel that is not System RAM.
+    pub(crate) page: Option<u64>,
 }
 
 // Standard output failed. A reader that has closed the pipe, as `head` does, is not a want of room.
@@ -80,7 +84,9 @@ impl Report<'_> {
                 write!(f, "{name:?} cannot be written: {cause}")
             }
             (Status::Unsaid, Some(Cause::System { error })) => write_unsaid(error, f),
-            (Status::Plan { fault }, _) => write_plan(fault, self.is_crash(), given, f),
+            (Status::Plan { fault }, _) => {
+                write_plan(fault, self.is_crash(), self.page, given, f)
+            },
             (Status::NoPages { pool, need }, _) => match text_of(given, "--below") {
                 Some(limit) => write_below(*pool, *need, limit, f),
                 None => write!(f, "{}", self.status),
@@ -92,7 +98,7 @@ impl Report<'_> {
 
 impl Display for Report<'_> {
     fn fmt<W: Write>(&self, f: &mut Formatter<W>) -> fmt::Result {
-        f.write_str("kexec: ")?;
+        write!(f, "{}: ", self.program)?;
         if let Status::Usage { why } = self.status {
             let refusal = Refusal {
                 why,

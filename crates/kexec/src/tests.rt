@@ -16,12 +16,14 @@ use std::io::{self, ErrorKind};
 use std::test::Fail;
 
 const NOTHING: Details<'static> = Details {
+    program: "kexec",
     cause: None,
     hint: None,
+    page: None,
 };
 
-// The words of a line, with one space between them.
-fn words_of(alloc: Global, line: &str) -> Result<Vec<String>, AllocError> {
+/// The words of a line, with one space between them.
+pub(crate) fn words_of(alloc: Global, line: &str) -> Result<Vec<String>, AllocError> {
     let mut words = Vec::new(alloc);
     for word in line.split(' ') {
         words.push(String::from_str(alloc, word)?)?;
@@ -29,8 +31,8 @@ fn words_of(alloc: Global, line: &str) -> Result<Vec<String>, AllocError> {
     Ok(words)
 }
 
-// Whether a command with these words that ended so ends with this exit status and this sentence: none where it is empty.
-fn is_told(
+/// Whether a command with these words that ended so ends with this exit status and this sentence: none where it is empty.
+pub(crate) fn is_told(
     rt: &HostRuntime,
     line: &str,
     status: &Status,
@@ -144,10 +146,12 @@ fn what_the_system_said_is_told(rt: HostRuntime) -> Result<(), Fail> {
     ];
     for (status, number, wanted) in &rows {
         let details = Details {
+            program: "kexec",
             cause: Some(Cause::System {
                 error: io::Error::from_raw_os_error(*number),
             }),
             hint: None,
+            page: None,
         };
         // A command of the new kernel is not a file, whatever it is called.
         let line = "boot --command p m p o k";
@@ -365,8 +369,10 @@ fn an_output_that_is_an_input_by_another_name_is_told_with_both(
     let status = kexec(rt.alloc(), &words, &mut shelf, &mut sink);
     let cause = shelf.cause().ok_or("a cause")?;
     let details = Details {
+        program: "kexec",
         cause: Some(cause_of(&rt, &words, &status, cause)),
         hint: None,
+        page: None,
     };
     let wanted =
         "kexec: OUT \"./once\" cannot be written: it is the same file as MEMORY \"once\"; give it a file of its own";

@@ -8,6 +8,12 @@ use std::io::ErrorKind;
 /// linux/binfmts.h.
 const LONGEST: usize = 131_072;
 
+/// The most bytes of the program's name that are read: PATH_MAX of linux/limits.h.
+pub(crate) const LONGEST_NAME: usize = 4096;
+
+/// The name that is said where the system gives none that is short enough and text.
+const NAME: &str = "kexec";
+
 /// Why the system does not give the words.
 #[derive(Clone, Copy, Debug, PartialEq, Eq)]
 pub(crate) enum WordsError {
@@ -50,6 +56,21 @@ fn first_not_text(rt: &impl Env) -> Option<usize> {
         }
     }
     None
+}
+
+/// The last part of the name by which the program was called, which is laid into `room`.
+pub(crate) fn name_called<'a>(rt: &impl Env, room: &'a mut [u8]) -> &'a str {
+    let Ok(length) = rt.arg(0, room) else {
+        return NAME;
+    };
+    let Ok(path) = str::from_utf8(&room[..length]) else {
+        return NAME;
+    };
+    let name = match path.rsplit_once('/') {
+        Some((_, last)) => last,
+        None => path,
+    };
+    if name.is_empty() { NAME } else { name }
 }
 
 /// The words after the program's name.

@@ -1,7 +1,7 @@
 //! What is said where the system does not give the words.
 
 use crate::ending::Ending;
-use crate::words::{WordsError, read_words};
+use crate::words::{LONGEST_NAME, WordsError, name_called, read_words};
 use std::env::{Env, FillError};
 use std::test::Fail;
 
@@ -81,10 +81,26 @@ fn without_words_there_is_a_sentence(rt: HostRuntime) -> Result<(), Fail> {
             "kexec: an argument is not valid UTF-8",
         ),
     ] {
-        let ending = Ending::without_words(error);
+        let ending = Ending::without_words("kexec", error);
         assert_eq!(rt; ending.code, 65);
         let notice = ending.notice.ok_or("a sentence")?;
         assert_eq!(rt; notice.to_string(rt.alloc())?.as_str(), wanted);
     }
     Ok(())
+}
+
+#[test]
+fn the_program_is_called_by_the_last_part_of_its_name(rt: HostRuntime) {
+    let rows: [(&[&[u8]], &str); 5] = [
+        (&[b"/usr/libexec/kernelyet/kexec"], "kexec"),
+        (&[b"kernelyet", b"check"], "kernelyet"),
+        (&[b"k\xff"], "kexec"),
+        (&[b"bin/"], "kexec"),
+        (&[], "kexec"),
+    ];
+    for (arguments, wanted) in rows {
+        let mut room = [0u8; LONGEST_NAME];
+        let program = name_called(&Process { arguments }, &mut room);
+        assert!(rt; program == wanted, "{program}");
+    }
 }

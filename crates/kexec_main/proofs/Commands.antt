@@ -1,32 +1,20 @@
-pub mod Boot
-pub mod BootResident
-pub mod Load
-pub mod LoadPanic
-pub mod Check
-pub mod Dump
-pub mod Exec
-pub mod Trace
-pub mod Migrate
-pub mod Sample
-pub mod Drill
-pub mod CoreFile
 -- What is proved of each command.
 use Rattle.file_commands.proofs.Keeping.{Keeps}
 use Rattle.kexec_words.specs.Values.{CommandValue}
 use Rattle.kexec_words.specs.Values as words
 use Rattle.kexec_main.specs.Commands.{entry_of}
-use Rattle.kexec_main.proofs.Commands.Boot.{boot_keeps}
-use Rattle.kexec_main.proofs.Commands.BootResident.{boot_resident_keeps}
-use Rattle.kexec_main.proofs.Commands.Load.{load_keeps}
-use Rattle.kexec_main.proofs.Commands.LoadPanic.{load_panic_keeps}
-use Rattle.kexec_main.proofs.Commands.Check.{check_keeps}
-use Rattle.kexec_main.proofs.Commands.Dump.{dump_keeps}
-use Rattle.kexec_main.proofs.Commands.Exec.{exec_keeps}
-use Rattle.kexec_main.proofs.Commands.Trace.{trace_keeps}
-use Rattle.kexec_main.proofs.Commands.Migrate.{migrate_keeps}
-use Rattle.kexec_main.proofs.Commands.Sample.{sample_keeps}
-use Rattle.kexec_main.proofs.Commands.Drill.{drill_keeps}
-use Rattle.kexec_main.proofs.Commands.CoreFile.{core_keeps}
+use Rattle.load_commands.proofs.Commands.Boot.{boot_keeps}
+use Rattle.load_commands.proofs.Commands.BootResident.{boot_resident_keeps}
+use Rattle.load_commands.proofs.Commands.Load.{load_keeps}
+use Rattle.load_commands.proofs.Commands.LoadPanic.{load_panic_keeps}
+use Rattle.list_commands.proofs.Commands.Check.{check_keeps}
+use Rattle.list_commands.proofs.Commands.Dump.{dump_keeps}
+use Rattle.list_commands.proofs.Commands.Exec.{exec_keeps}
+use Rattle.list_commands.proofs.Commands.Trace.{trace_keeps}
+use Rattle.list_commands.proofs.Commands.Migrate.{migrate_keeps}
+use Rattle.load_commands.proofs.Commands.Sample.{sample_keeps}
+use Rattle.load_commands.proofs.Commands.Drill.{drill_keeps}
+use Rattle.load_commands.proofs.Commands.CoreFile.{core_keeps}
 
 pub keeps : (c : CommandValue) → Keeps (entry_of c)
 keeps (words.boot v) = boot_keeps v

@@ -6,9 +6,9 @@ use Rattle.file_commands.specs.Answers.{MeetsTold, done}
 use Rattle.kexec_words.specs.Values.{CommandValue}
 use Rattle.kexec_words.specs.Values as words
 use Rattle.kexec_main.specs.Commands.{entry_of}
-use Rattle.kexec_main.specs.Laid.{HasLaid}
-use Rattle.kexec_main.proofs.Commands.Boot.{booted_laid}
-use Rattle.kexec_main.proofs.Commands.Load.{loaded_laid}
+use Rattle.load_commands.specs.Laid.{HasLaid}
+use Rattle.load_commands.proofs.Commands.Boot.{booted_laid}
+use Rattle.load_commands.proofs.Commands.Load.{loaded_laid}
 
 pub has_laid : {S O : Type 0} (D : Shelf S) (E : Sink O) (held : Files) (s : S) (o : O) (s' : S) (o' : O) (c : CommandValue) → MeetsTold D E (entry_of c).command held s o done s' o' → HasLaid D E held s o s' o' c
 has_laid D E held s o s' o' (words.boot b) m = booted_laid D E held s o s' o' b m

@@ -34,7 +34,7 @@ use Rattle.load_states.proofs.LaidAccepted.{pairs-chained, served_well}
 use Rattle.load_states.proofs.Outside.{walk_in}
 use Rattle.kexec_plan.proofs.Bare.{planned_bare}
 use Rattle.kexec_main.specs.inner.TooFew.{NoLoadOverFewer, UsesEachPageOnce, pages_used, swap_pages}
-use Rattle.kexec_main.proofs.Drawn.{OnLink, on_items}
+use Rattle.load_commands.proofs.Drawn.{OnLink, on_items}
 
 -- the link pages of a chain over words without a link
 links_among : (is r : List Item) → AllByRecursion (OnLink (λ p. ⊥)) is → links (is ++ r) ≡ links r

@@ -1,27 +1,18 @@
 -- `load` and then `exec` on its two files do what `boot` does.
-use Rattle.std.proofs.Common.{◌≡◌, ◌∙◌, ◌++◌, ℕ, Bool, List, length, Option, Some, None, Ok, ap, sym, subst}
-use Rattle.kx_laws.specs.Results.{◌>>=◌}
-use Rattle.kx_laws.proofs.Options.{some_same}
+use Rattle.std.proofs.Common.{◌≡◌, ◌∙◌, ℕ, Bool, Option, Some, None, Ok, ap, sym, subst}
 use Rattle.kx_laws.proofs.Results.{ok_same}
 use Rattle.kx_edge.specs.Edge.{Files}
 use Rattle.kx_edge.specs.declared.edge.Shelf.{Ghosts as Shelf}
 use Rattle.kx_edge.specs.declared.edge.Sink.{Ghosts as Sink}
-use Rattle.kx_pages.specs.declared.image.Start.{Start}
 use Rattle.kx_pages.specs.declared.image.Mode.{Mode}
 use Rattle.kx_pages.specs.declared.image.Wish.{Wish}
-use Rattle.page_memory.specs.Contents.{Contents, at}
+use Rattle.page_memory.specs.Contents.{at}
 use Rattle.page_memory.specs.File.{reading}
-use Rattle.kx_pages.specs.Bytes.{Mem}
 use Rattle.page_memory.specs.Memory.{Agree}
-use Rattle.page_memory.specs.declared.fault.MemFault.{MemFault}
-use Rattle.page_memory.proofs.OneFile.{file-agree}
-use Rattle.page_memory.proofs.RoundTrip.{file_read}
-use Rattle.segments.specs.Values.{SegmentValue}
-use Rattle.kimage_list.specs.Laying.{image_of, mode_with, swap_of}
+use Rattle.kimage_list.specs.Laying.{mode_with, swap_of}
 use Rattle.load_record.specs.File.{record_file, record_reading}
 use Rattle.load_record.specs.declared.fault.RecFault.{RecFault}
 use Rattle.load_states.specs.Fillings.{IsSealed}
-use Rattle.load_states.specs.Loads.{memory_of}
 use Rattle.load_states.specs.inner.Runs.{IsSameCheck, IsSameLoad}
 use Rattle.load_states.specs.States.{Checked, Load}
 use Rattle.load_states.proofs.Alike.{tells_alike}
@@ -34,32 +25,24 @@ use Rattle.kexec_words.specs.Values.{BootValue, ExecValue, LoadValue}
 use Rattle.kexec_plan.specs.Requests.{Plan}
 use Rattle.kexec_plan.specs.Plan.{plan}
 use Rattle.kexec_plan.specs.declared.fault.PlanFault.{PlanFault}
-use Rattle.kexec_main.specs.declared.files.LoadFiles.{LoadFiles}
-use Rattle.kexec_main.specs.declared.files.TakenLoad.TheVariants.{Normal}
-use Rattle.kexec_main.specs.declared.startup.Startup.{Startup}
-use Rattle.kexec_main.specs.declared.status.Reason.{Reason}
-use Rattle.kexec_main.specs.Boot.{BootInputs, HasBooted, boot_files}
-use Rattle.kexec_main.specs.Exec.{HasExecuted, exec_files, exec_of, files_text, runs_asked, runs_of}
-use Rattle.kexec_main.specs.Files.{list_files}
-use Rattle.kexec_main.specs.Inputs.{LoadInputs, load_inputs}
-use Rattle.kexec_main.specs.Load.{HasLoaded, LoadCommand, load_command_files, load_wish, record_of_load}
-use Rattle.kexec_main.specs.Loads.{IsLaid, NormalLoad}
-use Rattle.kexec_main.specs.Outputs.{IsFileOf}
-use Rattle.kexec_main.specs.Runs.{after_runs, list_text, run_text, wish_of}
-use Rattle.kexec_main.specs.Startup.{planned_startup}
-use Rattle.kexec_main.specs.Texts.{load_lines, purgatory_line, ran_line}
+use Rattle.list_commands.specs.declared.records.LoadFiles.{LoadFiles}
+use Rattle.list_commands.specs.declared.records.TakenLoad.TheVariants.{Normal}
+use Rattle.command_parts.specs.declared.reason.Reason.{Reason}
+use Rattle.load_commands.specs.Boot.{BootInputs, HasBooted, boot_files}
+use Rattle.list_commands.specs.Exec.{HasExecuted, exec_files, exec_of, files_text, runs_asked, runs_of}
+use Rattle.list_commands.specs.Records.{list_files}
+use Rattle.load_commands.specs.Inputs.{LoadInputs, load_inputs}
+use Rattle.load_commands.specs.Load.{HasLoaded, LoadCommand, load_command_files, load_wish, record_of_load}
+use Rattle.load_commands.specs.Loads.{IsLaid, NormalLoad}
+use Rattle.command_parts.specs.Outputs.{IsFileOf}
+use Rattle.command_parts.specs.Runs.{after_runs, run_text, wish_of}
+use Rattle.load_commands.specs.Startup.{planned_startup}
 use Rattle.kexec_main.specs.inner.Together.{AskTogether, LoadThenExecIsBoot, booted_text, is_twice}
-use Rattle.kexec_main.proofs.Reread.{IsReadAs, exec_read, memory_found, record_found}
-
--- a load of segments over a pool is one
-pub sealed_alike : (M : Mem) (pool : List ℕ) (wish : Wish) (ss : List SegmentValue) (r s : Load) → IsSealed M pool wish ss r → IsSealed M pool wish ss s → IsSameLoad r s
-sealed_alike M pool wish ss r s a b =
-    let loading : b.loading ≡ a.loading = some_same b.loading a.loading (sym b.requests ∙ a.requests) in
-    record {
-      reads = λ p. b.memory p ∙ ap (λ l. memory_of M wish ss l p) loading ∙ sym (a.memory p);
-      image = b.image ∙ ap (image_of wish) loading ∙ sym a.image;
-      segments = b.segments ∙ sym a.segments;
-    }
+use Rattle.list_commands.proofs.Reread.{IsReadAs, exec_read, record_found}
+use Rattle.command_parts.proofs.Found.{memory_found}
+use Rattle.load_commands.proofs.Loads.{sealed_alike}
+use Rattle.command_parts.proofs.Alike.{same_after, same_text}
+use Rattle.command_parts.proofs.Outputs.{file_agrees, one_file}
 
 same_then : (r s t : Load) → IsSameLoad r s → IsSameLoad s t → IsSameLoad r t
 same_then r s t a b = record { reads = λ p. b.reads p ∙ a.reads p; image = b.image ∙ a.image; segments = b.segments ∙ a.segments }
@@ -75,37 +58,11 @@ loads_alike wish v i j p q c d w same a b k l =
     (subst (λ wish. IsSealed (at j.memory) j.usable wish q.segments d.load) w l)) in
     (one, sealed_alike (at i.memory) i.usable wish p.segments c.load d.load k laid)
 
--- a memory has one file
-one_file : (N : Mem) (a b : List ℕ) → IsFileOf N a → IsFileOf N b → a ≡ b
-one_file N a b f g = f.4 ∙ file-agree f.0 g.0 (λ p. f.2 p ∙ sym (g.2 p)) ∙ sym g.4
-
--- the file of a memory reads as a memory that agrees with it
-file_agrees : (N : Mem) (bytes : List ℕ) (m : Contents) → IsFileOf N bytes → reading bytes ≡ Ok m → Agree (at m) N
-file_agrees N bytes m f h =
-    let k = file_read f.0 f.1 f.3 in
-    let again : reading bytes ≡ Ok (record { pages = k.0; sets = 0 }) =
-    ap reading f.4 ∙ ap (λ r. r >>= (λ pages. Ok (record { pages = pages; sets = 0 }))) k.1 in
-    let same : record { pages = k.0; sets = 0 } ≡ m = ok_same {F = MemFault} (record { pages = k.0; sets = 0 }) m (sym again ∙ h) in
-    λ p. ap (λ m. at m p) (sym same) ∙ k.2 p ∙ f.2 p
-
 -- the runs that `exec` asks of the load are those of the boot
 same_runs : (runs : Option Runs) (swap : ℕ) (twice : Bool) (mode : Mode) → twice ≡ is_twice runs → mode ≡ mode_with (wish_of runs) swap → runs_of twice mode ≡ runs
 same_runs None swap twice mode e m = ap (runs_of twice) m
 same_runs (Some Once) swap twice mode e m = ap (runs_of twice) m ∙ ap (λ t. runs_of t (mode_with (wish_of (Some Once)) swap)) e
 same_runs (Some Twice) swap twice mode e m = ap (runs_of twice) m ∙ ap (λ t. runs_of t (mode_with (wish_of (Some Twice)) swap)) e
-
-pub same_after : (runs : Option Runs) (c d : Checked) → IsSameCheck c d → after_runs runs d ≡ after_runs runs c
-same_after None c d s = s.plain
-same_after (Some Once) c d s = s.once
-same_after (Some Twice) c d s = s.twice
-
-same_list : (c d : Checked) (start : Start) → IsSameCheck c d → d.load.image ≡ c.load.image → list_text d start ≡ list_text c start
-same_list c d start s image = λ i. load_lines (s.words i) (s.links i) (length (s.pairs i)) (image i) start
-
-same_text : (runs : Option Runs) (c d : Checked) (t : Startup) → IsSameCheck c d → d.load.image ≡ c.load.image → run_text runs d t ≡ run_text runs c t
-same_text None c d t s image = λ i. (same_list c d t.start s image i ++ ran_line (s.words i)) ++ purgatory_line (s.plain i) t.purgatory
-same_text (Some Once) c d t s image = λ i. (same_list c d t.start s image i ++ ran_line (s.words i)) ++ purgatory_line (s.once i) t.purgatory
-same_text (Some Twice) c d t s image = λ i. (same_list c d t.start s image i ++ ran_line (s.words i)) ++ ran_line (s.words i)
 
 module _ {S O : Type 0} (D : Shelf S) (E : Sink O) (held after : Files) (s t u s' t' u' : S) (o p q o' p' q' : O) (b : BootValue) (l : LoadValue) (e : ExecValue)
     (ask : AskTogether b l e)

@@ -11,13 +11,14 @@ use Rattle.file_commands.specs.Taking.{by, ok}
 use Rattle.file_commands.proofs.Reasons.{Only, only_all, only_ok, only_optional, only_reader, only_then, only_whole}
 use Rattle.kexec_words.specs.Values.{BootValue, InputsValue, LoadValue}
 use Rattle.kexec_words.specs.Values as words
-use Rattle.kexec_main.specs.declared.status.InputFault.TheVariants as inputs
-use Rattle.kexec_main.specs.declared.status.Reason.{Reason}
-use Rattle.kexec_main.specs.declared.status.Reason.TheVariants.{Input, NoPages}
-use Rattle.kexec_main.specs.Boot.{boot_files}
-use Rattle.kexec_main.specs.Files.{map_file, memory_file, memory_limit, pages_file, pool_file, text_limit, usable_below}
-use Rattle.kexec_main.specs.Inputs.{kernel_files, left_after, load_inputs, purgatory_limit, request_with}
-use Rattle.kexec_main.specs.Load.{load_command_files, load_wish}
+use Rattle.command_parts.specs.declared.reason.InputFault.TheVariants as inputs
+use Rattle.command_parts.specs.declared.reason.Reason.{Reason}
+use Rattle.command_parts.specs.declared.reason.Reason.TheVariants.{Input, NoPages}
+use Rattle.load_commands.specs.Boot.{boot_files}
+use Rattle.load_commands.specs.Files.{map_file, pages_file, pool_file, usable_below}
+use Rattle.command_parts.specs.Files.{memory_file, memory_limit, text_limit}
+use Rattle.load_commands.specs.Inputs.{kernel_files, left_after, load_inputs, purgatory_limit, request_with}
+use Rattle.load_commands.specs.Load.{load_command_files, load_wish}
 use Rattle.kexec_main.specs.inner.TooFew.{BootLacksPages, BootRefusesForPages, IsRefusedForPages, LoadLacksPages, LoadRefusesForPages}
 
 abbrev IsInput : Reason → Type 0

@@ -5,9 +5,9 @@ use Rattle.kx_edge.specs.declared.edge.Sink.{Ghosts as Sink}
 use Rattle.file_commands.specs.Answers.{Meets, memory}
 use Rattle.file_commands.specs.Taking.{Take, WantedAt, by, file, ok, refuse}
 use Rattle.kexec_words.specs.Values.{CommandValue}
-use Rattle.kexec_words.specs.declared.faults.UsageWhy.{UsageWhy}
-use Rattle.kexec_main.specs.declared.status.Reason.{Reason}
-use Rattle.kexec_main.specs.declared.status.Reason.TheVariants.{Usage}
+use Rattle.command_table.specs.declared.faults.UsageWhy.{UsageWhy}
+use Rattle.command_parts.specs.declared.reason.Reason.{Reason}
+use Rattle.command_parts.specs.declared.reason.Reason.TheVariants.{Usage}
 use Rattle.kexec_main.specs.Commands.{Holds, entry_of}
 
 none_taken : {S R X : Type 0} (D : Shelf S) (t : Take R X) (s : S) → WantedAt D t s s

@@ -7,7 +7,7 @@ use Rattle.file_commands.specs.Answers.{Answer}
 use Rattle.file_commands.specs.Entry.{IsDone, IsReady, IsRefused, NeedsNoFiles}
 use Rattle.file_commands.specs.Taking.{Refusal}
 use Rattle.kexec_words.specs.Values.{CommandValue}
-use Rattle.kexec_main.specs.declared.status.Reason.{Reason}
+use Rattle.command_parts.specs.declared.reason.Reason.{Reason}
 use Rattle.kexec_main.specs.Commands.{entry_of}
 
 -- After a command answered Done over files that are told: they were read, and what is promised of what they are stands.

@@ -1,23 +1,23 @@
 -- The commands of the program (this project's own).
 use Rattle.std.specs.Prelude.{Result}
 use Rattle.file_commands.specs.Entry.{Holds as HoldsOf}
-use Rattle.kexec_words.specs.declared.faults.UsageWhy.{UsageWhy}
+use Rattle.command_table.specs.declared.faults.UsageWhy.{UsageWhy}
 use Rattle.kexec_words.specs.Values.{CommandValue}
 use Rattle.kexec_words.specs.Values as words
-use Rattle.kexec_main.specs.declared.status.Reason.TheVariants.{Usage}
-use Rattle.kexec_main.specs.Boot.{boot_entry}
-use Rattle.kexec_main.specs.BootResident.{boot_resident_entry}
-use Rattle.kexec_main.specs.Check.{check_entry}
-use Rattle.kexec_main.specs.CoreFile.{core_entry}
-use Rattle.kexec_main.specs.Drill.{drill_entry}
-use Rattle.kexec_main.specs.Dump.{dump_entry}
-use Rattle.kexec_main.specs.Entry.{Program, ProgramEntry}
-use Rattle.kexec_main.specs.Exec.{exec_entry}
-use Rattle.kexec_main.specs.Load.{load_entry}
-use Rattle.kexec_main.specs.LoadPanic.{load_panic_entry}
-use Rattle.kexec_main.specs.Migrate.{migrate_entry}
-use Rattle.kexec_main.specs.Sample.{sample_entry}
-use Rattle.kexec_main.specs.Trace.{trace_entry}
+use Rattle.command_parts.specs.declared.reason.Reason.TheVariants.{Usage}
+use Rattle.load_commands.specs.Boot.{boot_entry}
+use Rattle.load_commands.specs.BootResident.{boot_resident_entry}
+use Rattle.list_commands.specs.Check.{check_entry}
+use Rattle.load_commands.specs.CoreFile.{core_entry}
+use Rattle.load_commands.specs.Drill.{drill_entry}
+use Rattle.list_commands.specs.Dump.{dump_entry}
+use Rattle.command_parts.specs.Entry.{Program, ProgramEntry}
+use Rattle.list_commands.specs.Exec.{exec_entry}
+use Rattle.load_commands.specs.Load.{load_entry}
+use Rattle.load_commands.specs.LoadPanic.{load_panic_entry}
+use Rattle.list_commands.specs.Migrate.{migrate_entry}
+use Rattle.load_commands.specs.Sample.{sample_entry}
+use Rattle.list_commands.specs.Trace.{trace_entry}
 
 -- what is said of each command stands beside its other definitions
 abbrev pub entry_of : CommandValue → ProgramEntry

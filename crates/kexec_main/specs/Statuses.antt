@@ -3,8 +3,8 @@ use Rattle.std.specs.Prelude.{string_bytes}
 use Rattle.list_checker.specs.declared.fault.ListFault.{ListFault}
 use Rattle.file_commands.specs.Taking.{too_long, by}
 use Rattle.file_commands.specs.Answers.{Answer, done, not_accepted, unread, unwritten, unsaid, memory, refused}
-use Rattle.kexec_main.specs.declared.status.Reason.{Reason}
-use Rattle.kexec_main.specs.declared.status.Reason.TheVariants as reasons
+use Rattle.command_parts.specs.declared.reason.Reason.{Reason}
+use Rattle.command_parts.specs.declared.reason.Reason.TheVariants as reasons
 use Rattle.kexec_main.specs.declared.status.Status.{Status}
 use Rattle.kexec_main.specs.declared.status.Status.TheVariants as status
 

@@ -1,7 +1,3 @@
 -- What laws, and contracts inside the crates, speak of. No clause of `kexec` reaches it: it need not be believed.
 pub mod TooFew
 pub mod Together
-pub mod Views
-pub mod Ran
-pub mod Startups
-pub mod ShortStores

@@ -12,26 +12,19 @@ ghost use Rattle.kexec_words.specs.inner.Values.{command_value};
 ghost use Rattle.kexec_main.specs.Statuses.{answer_of};
 ghost use Rattle.kexec_main.specs.Call.{EndsWithoutFiles, HasDone, HasRefusal, IsInOrder};
 ghost use Rattle.kexec_main.specs.Commands.{Holds};
-ghost use Rattle.kexec_main.specs.Laid.{HasLaid};
-ghost use Rattle.kexec_main.specs.declared.status.Reason.{Reason};
+ghost use Rattle.load_commands.specs.Laid.{HasLaid};
+ghost use Rattle.command_parts.specs.declared.reason.Reason.{Reason};
 
-use crate::boot::BootWords;
-use crate::boot_resident::BootResidentWords;
-use crate::check::CheckWords;
-use crate::core_file::CoreWords;
-use crate::drill::DrillWords;
-use crate::dump::DumpWords;
-use crate::exec::ExecWords;
-use crate::load::LoadWords;
-use crate::load_panic::LoadPanicWords;
-use crate::migrate::MigrateWords;
-use crate::sample::SampleWords;
-use crate::status::{Reason, Status};
-use crate::trace::TraceWords;
-use file_commands::{Stop, run};
+use crate::status::Status;
+use command_parts::Reason;
+use file_commands::Stop;
 use kexec_words::{Command, WordsFault, read};
 use kx_edge::{Shelf, Sink};
 use list_checker::ListFault;
+use list_commands::{run_check, run_dump, run_exec, run_migrate, run_trace};
+use load_commands::{
+    run_boot, run_boot_resident, run_core, run_drill, run_load, run_load_panic, run_sample,
+};
 use std::alloc::Global;
 
 // Runs the command.
@@ -48,18 +41,18 @@ fn run_command<S: Shelf, O: Sink>(
         (Ok (command_value command)) }
 {
     match command {
-        Command::Boot(words) => run(alloc, BootWords { words }, shelf, out),
-        Command::Load(words) => run(alloc, LoadWords { words }, shelf, out),
-        Command::LoadPanic(words) => run(alloc, LoadPanicWords { words }, shelf, out),
-        Command::Check(words) => run(alloc, CheckWords { words }, shelf, out),
-        Command::Dump(words) => run(alloc, DumpWords { words }, shelf, out),
-        Command::Exec(words) => run(alloc, ExecWords { words }, shelf, out),
-        Command::Trace(words) => run(alloc, TraceWords { words }, shelf, out),
-        Command::Migrate(words) => run(alloc, MigrateWords { words }, shelf, out),
-        Command::Sample { number } => run(alloc, SampleWords { number }, shelf, out),
-        Command::BootResident(words) => run(alloc, BootResidentWords { words }, shelf, out),
-        Command::Drill(words) => run(alloc, DrillWords { words }, shelf, out),
-        Command::Core(words) => run(alloc, CoreWords { words }, shelf, out),
+        Command::Boot(words) => run_boot(alloc, words, shelf, out),
+        Command::Load(words) => run_load(alloc, words, shelf, out),
+        Command::LoadPanic(words) => run_load_panic(alloc, words, shelf, out),
+        Command::Check(words) => run_check(alloc, words, shelf, out),
+        Command::Dump(words) => run_dump(alloc, words, shelf, out),
+        Command::Exec(words) => run_exec(alloc, words, shelf, out),
+        Command::Trace(words) => run_trace(alloc, words, shelf, out),
+        Command::Migrate(words) => run_migrate(alloc, words, shelf, out),
+        Command::Sample { number } => run_sample(alloc, number, shelf, out),
+        Command::BootResident(words) => run_boot_resident(alloc, words, shelf, out),
+        Command::Drill(words) => run_drill(alloc, words, shelf, out),
+        Command::Core(words) => run_core(alloc, words, shelf, out),
     }
 }
 

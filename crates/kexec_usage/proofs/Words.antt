@@ -1,25 +1,30 @@
 -- What is found among words, one by one.
-use Rattle.std.proofs.Common.{◌≡◌, ℕ, ◌+◌, ◌<◌, ◌≤◌, ◌∙◌, sym, refl, Bool, true, false, List, Some, None, ap, length, drop, get_or, map}
+use Rattle.std.proofs.Common.{◌≡◌, ℕ, ◌+◌, ◌<◌, ◌≤◌, ◌∙◌, sym, refl, Bool, cond, true, false, List, [], ◌∷◌, Option, Some, None, ap, length, drop, get_or, map}
 use Rattle.std.proofs.lemmas.List.{drop_all, drop_more}
+use Rattle.std.specs.Borrow.{Bor}
+use Rattle.std.specs.List.{find}
+use Rattle.std.specs.Option.{option_map}
 use Rattle.std.specs.Prelude.{◌||◌, codes, if◌then◌else◌}
 use Rattle.std.specs.Str.{bytes_eq}
-use Rattle.kexec_usage.specs.declared.given.Given.{Given}
-use Rattle.kexec_usage.specs.inner.Words.{given_value, text_in, is_help, has_help}
+use Rattle.kexec_usage.specs.inner.Words.{is_help, has_help}
 
--- the first of the words that are left decides
-text_step : (gs : List Given) (name : List ℕ) (i : ℕ) (d : Given) (b : Bool) → i < length gs → b ≡ bytes_eq (get_or gs i d).name.now name → text_in (map given_value (drop i gs)) name ≡ (if b then Some (get_or gs i d).text.now else text_in (map given_value (drop (i + 1) gs)) name)
-text_step gs name i d b h e =
-    ap (λ xs. text_in (map given_value xs) name) (drop_more gs i d h)
-    ∙ ap (λ x. if x then Some (get_or gs i d).text.now else text_in (map given_value (drop (i + 1) gs)) name) (sym e)
+find_map : {A B : Type 0} (value : A → B) (test : B → Bool) (xs : List A) → option_map value (find (λ x. test (value x)) xs) ≡ find test (map value xs)
+find_map value test [] = refl
+find_map value test (x ∷ xs) = go (test (value x)) (find_map value test xs)
+  where
+    go : (b : Bool) → option_map value (find (λ y. test (value y)) xs) ≡ find test (map value xs)
+        → option_map value (cond b (Some x) (find (λ y. test (value y)) xs)) ≡ cond b (Some (value x)) (find test (map value xs))
+    go true h = refl
+    go false h = h
 
-pub text_here : (gs : List Given) (name : List ℕ) (i : ℕ) (d : Given) (b : Bool) → i < length gs → b ≡ bytes_eq (get_or gs i d).name.now name → b ≡ true → text_in (map given_value (drop i gs)) name ≡ text_in (map given_value gs) name → Some (get_or gs i d).text.now ≡ text_in (map given_value gs) name
-text_here gs name i d b h e same all = sym (text_step gs name i d true h (sym same ∙ e)) ∙ all
-
-pub text_on : (gs : List Given) (name : List ℕ) (i : ℕ) (d : Given) (b : Bool) → i < length gs → b ≡ bytes_eq (get_or gs i d).name.now name → b ≡ false → text_in (map given_value (drop i gs)) name ≡ text_in (map given_value gs) name → text_in (map given_value (drop (i + 1) gs)) name ≡ text_in (map given_value gs) name
-text_on gs name i d b h e other all = sym (text_step gs name i d false h (sym other ∙ e)) ∙ all
-
-pub text_none : (gs : List Given) (name : List ℕ) (i : ℕ) → length gs ≤ i → text_in (map given_value (drop i gs)) name ≡ text_in (map given_value gs) name → None ≡ text_in (map given_value gs) name
-text_none gs name i h all = sym (ap (λ xs. text_in (map given_value xs) name) (drop_all i gs h)) ∙ all
+-- what a search finds, as a value
+pub found : {A B : Type 0} (value : A → B) (test : B → Bool) (xs : List A) (r : Option (Bor A))
+    → option_map (λ x. x.now) r ≡ find (λ x. test (value x)) xs → option_map (λ x. value x.now) r ≡ find test (map value xs)
+found {A = A} value test xs r e = values r ∙ ap (option_map value) e ∙ find_map value test xs
+  where
+    values : (o : Option (Bor A)) → option_map (λ x. value x.now) o ≡ option_map value (option_map (λ x. x.now) o)
+    values None = refl
+    values (Some x) = refl
 
 -- what the words that are left tell: by the text of the first, whether it is `--`, and whether it asks for help
 help_step : {X : Type 0} (f : X → List ℕ) (ws : List X) (i : ℕ) (d : X) (word : List ℕ) (ends asks : Bool) → i < length ws → word ≡ f (get_or ws i d) → ends ≡ bytes_eq word (codes "--") → asks ≡ is_help word → has_help (map f (drop i ws)) ≡ (if ends then false else (asks || has_help (map f (drop (i + 1) ws))))

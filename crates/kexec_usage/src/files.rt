@@ -1,40 +1,46 @@
 //! Files among the words that are given.
 
-ghost use Rattle.std.specs.Prelude.{◌≡◌, map, option_map};
+ghost use Rattle.std.specs.Prelude.{◌≡◌, find, map, option_map};
 ghost use Rattle.kexec_usage.specs.inner.Words.{given_value};
-ghost use Rattle.kexec_usage.specs.inner.Files.{file_with, other_with, is_written, first_shared_file, shared_value};
+ghost use Rattle.kexec_usage.specs.inner.Files.{is_file_with, file_with, is_other_with, is_written, shared_file, shared_value};
 
 use crate::given::Given;
-use kexec_words::Kind;
+use command_table::Kind;
+
+// The first file with this text.
+fn first_with<'b, 'a>(given: &'b [Given<'a>], text: &str) -> Option<&'b Given<'a>>
+    ensures { option_map (λ one. given_value one.now) result
+        ≡ find (is_file_with text.now) (map given_value given.now) }
+{
+    given
+        .iter()
+        .find(|one| one.kind.is_file() && one.text == text)
+}
 
 /// The name of the first file with this text.
 pub fn file_with<'a>(given: &[Given<'a>], text: &str) -> Option<&'a str>
     ensures { option_map (λ name. name.now) result
         ≡ file_with (map given_value given.now) text.now }
 {
-    let (first, rest) = given.split_first()?;
-    if first.kind.is_file() {
-        if first.text == text {
-            return Some(first.name);
-        }
-    }
-    file_with(rest, text)
+    let file = first_with(given, text)?;
+    Some(file.name)
 }
 
-// The name of another file with the text of this one.
-fn other_with<'a>(given: &[Given<'a>], file: &Given<'a>) -> Option<&'a str>
-    ensures { option_map (λ name. name.now) result
-        ≡ other_with (map given_value given.now) (given_value file.now) }
+// Whether one is another file, with the text of this one.
+fn is_other_with(file: &Given<'_>, one: &Given<'_>) -> bool
+    ensures { result ≡ is_other_with (given_value file.now) (given_value one.now) }
 {
-    let (first, rest) = given.split_first()?;
-    if first.name != file.name {
-        if first.kind.is_file() {
-            if first.text == file.text {
-                return Some(first.name);
-            }
-        }
-    }
-    other_with(rest, file)
+    let is_other = one.name != file.name;
+    let is_same = one.text == file.text;
+    is_other && one.kind.is_file() && is_same
+}
+
+// Another file with the text of this one.
+fn other_with<'b, 'a>(given: &'b [Given<'a>], file: &Given<'a>) -> Option<&'b Given<'a>>
+    ensures { option_map (λ one. given_value one.now) result
+        ≡ find (is_other_with (given_value file.now)) (map given_value given.now) }
+{
+    given.iter().find(|one| is_other_with(file, one))
 }
 
 // Whether it is a file that is written.
@@ -44,24 +50,16 @@ fn is_written(kind: Kind) -> bool
     matches!(kind, Kind::Output)
 }
 
-// The first of these files that is written and has the text of another of all that are given, and that one's name.
-fn first_shared_file<'a>(files: &[Given<'a>], given: &[Given<'a>]) -> Option<(Given<'a>, &'a str)>
-    ensures { option_map shared_value result
-        ≡ first_shared_file (map given_value files.now) (map given_value given.now) }
-{
-    let (first, rest) = files.split_first()?;
-    if is_written(first.kind) {
-        if let Some(other) = other_with(given, first) {
-            return Some((*first, other));
-        }
-    }
-    first_shared_file(rest, given)
-}
-
 /// The first file that is written and has the text of another file, and that one's name.
 pub(crate) fn shared_file<'a>(given: &[Given<'a>]) -> Option<(Given<'a>, &'a str)>
-    ensures { option_map shared_value result
-        ≡ first_shared_file (map given_value given.now) (map given_value given.now) }
+    ensures { option_map shared_value result ≡ shared_file (map given_value given.now) }
 {
-    first_shared_file(given, given)
+    for file in given {
+        if is_written(file.kind) {
+            if let Some(other) = other_with(given, file) {
+                return Some((*file, other.name));
+            }
+        }
+    }
+    None
 }

@@ -1,13 +1,14 @@
 //! The words of a command, each with the name that it has in the table.
 
-ghost use Rattle.std.specs.Prelude.{◌≡◌, IfOk, map, option_map, string_bytes, is_some};
-ghost use Rattle.kexec_words.specs.inner.Table.{argument_value, argument_values};
+ghost use Rattle.std.specs.Prelude.{◌≡◌, IfOk, find, map, option_map, string_bytes, is_some};
+ghost use Rattle.std.specs.Str.{bytes_eq};
+ghost use Rattle.command_table.specs.inner.Table.{argument_value, argument_values};
 ghost use Rattle.kexec_usage.specs.inner.Reading.{reading_value, mistake_value, answer_value, is_option, split_value, value_step, word_step, flag_step, valued_step, known_step, option_step, awaited_step, free_step, step, want, reading_start, reading_of, rest_of, answer_of, IsRead};
 ghost use Rattle.kexec_usage.specs.inner.Words.{given_value, text_in};
 
 use crate::lookup::{is_repeated, next_word, option_in};
 use crate::mistake::Mistake;
-use kexec_words::{Argument, Form, Kind, arguments_of};
+use command_table::{Argument, Form, Kind, arguments_of};
 use std::alloc::{AllocError, Global};
 
 /// A word that is given: the text of a positional word, or of an option's value.
@@ -283,14 +284,17 @@ pub fn read_answer<'a>(alloc: Global, words: &'a [String]) -> Answer<'a>
     }
 }
 
+fn one_of<'b, 'a>(given: &'b [Given<'a>], name: &str) -> Option<&'b Given<'a>>
+    ensures { option_map (λ one. given_value one.now) result
+        ≡ find (λ one. bytes_eq one.name name.now) (map given_value given.now) }
+{
+    given.iter().find(|one| one.name == name)
+}
+
 /// The text that is given under this name of the help; the first, where there are several.
 pub fn text_of<'a>(given: &[Given<'a>], name: &str) -> Option<&'a str>
     ensures { option_map (λ text. text.now) result ≡ text_in (map given_value given.now) name.now }
 {
-    for one in given {
-        if one.name == name {
-            return Some(one.text);
-        }
-    }
-    None
+    let one = one_of(given, name)?;
+    Some(one.text)
 }

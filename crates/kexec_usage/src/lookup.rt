@@ -1,10 +1,10 @@
 //! Arguments in the table of a command.
 
 ghost use Rattle.std.specs.Prelude.{◌≡◌, option_map};
-ghost use Rattle.kexec_words.specs.inner.Table.{argument_value, argument_values};
+ghost use Rattle.command_table.specs.inner.Table.{argument_value, argument_values};
 ghost use Rattle.kexec_usage.specs.inner.Reading.{option_in, is_repeated, next_word, next_value};
 
-use kexec_words::{Argument, Form};
+use command_table::{Argument, Form};
 
 /// Whether a word of this form may be given several times.
 pub(crate) fn is_repeated(form: Form) -> bool
@@ -18,13 +18,7 @@ pub(crate) fn option_in(arguments: &'static [Argument], name: &str) -> Option<&'
     ensures { option_map (λ a. argument_value a.now) result
         ≡ option_in (argument_values arguments.now) name.now }
 {
-    let (first, rest) = arguments.split_first()?;
-    if first.form.is_option() {
-        if first.name == name {
-            return Some(first);
-        }
-    }
-    option_in(rest, name)
+    arguments.iter().find(|argument| argument.form.is_option() && argument.name == name)
 }
 
 /// The first positional word, and the arguments that are left behind it: itself too where it may be given several times.

@@ -1,6 +1,6 @@
 //! Why words are not those of a command.
 
-use kexec_words::Argument;
+use command_table::Argument;
 
 /// What stood among the words, and what must stand there.
 #[derive(Clone, Copy, Debug, PartialEq, Eq)]

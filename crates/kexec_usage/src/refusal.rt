@@ -8,7 +8,7 @@ use crate::given::{Answer, Given, text_of};
 use crate::lookup::option_in;
 use crate::mistake::Mistake;
 use crate::old_words::{command_for, has_no_counterpart, option_for};
-use kexec_words::{Argument, UsageWhy, Which, arguments_of};
+use command_table::{Argument, UsageWhy, Which, arguments_of};
 use std::fmt::{self, Display, Formatter, Write};
 
 // A sign is not part of a number.

@@ -1,3 +1,4 @@
 pub mod Digits
 pub mod Limits
 pub mod Taken
+pub mod Texts

@@ -1,32 +1,34 @@
 -- What the words say keeps the limits.
 use Rattle.std.proofs.Common.{◌≡◌, ◌∙◌, ◌<◌, ◌≤◌, ◌^◌, ◌%◌, ◌&&◌, ◌==◌, ℕ, Bool, true, false, not, List, [], ◌∷◌, length, arith, rules, sym, subst, refl, is_some, Option, Some, None, IfSome, IfOk, Result, Ok, Err, nat_lt, nat_le, if◌then◌else◌, codes}
 use Rattle.std.proofs.lemmas.Bool.{false≢true}
-use Rattle.clap.specs.Words.{App, Row, Text, first_of, fault_of, matches_of}
+use Rattle.clap.specs.Words.{fault_of, matches_of}
+use Rattle.command_table.specs.Arguments.{arguments_by}
+use Rattle.command_table.specs.Table.{Text}
 use Rattle.clap.specs.Kinds.{Kinds}
 use Rattle.clap.proofs.WalkLemmas.{both}
-use Rattle.kexec_words.specs.Found.{word_of, flag_of}
+use Rattle.kexec_words.specs.Given.{GivenValue, given_of, option_of, word_of, flag_of}
 use Rattle.kx_pages.specs.Numbers.{is_page_address}
 use Rattle.kexec_words.specs.Numbers.{number_of, if_passes, in_form, some_in_form, hex_of, page_address_of, steps_of, swap_of, head_of, limit_of, trace_numbers_from, is_headers_address, headers_address_of, core_address_of}
 use Rattle.kexec_words.specs.Values.{InputsValue, CrashInputsValue, ExecValue, MigrateValue, CommandValue}
 use Rattle.kexec_words.specs.Values.{boot, load, load_panic, check, dump, exec, trace, migrate, sample, boot_resident, drill, core}
 use Rattle.kx_pages.specs.Types.{needs_map}
-use Rattle.kexec_words.specs.Meaning.{has_same_name, files_of, crash_files_of, with_numbers, map_answer, image_from, image_or_refusal, image_where, inputs_of, boot_by, boot_with, boot_in, load_by, load_with, load_in, with_map, load_panic_with, load_panic_in, crash_inputs_of, exec_of, exec_with, exec_in, trace_with, trace_in, trace_numbers_by, migrate_of, migrate_with, migrate_in, sample_by, sample_in, boot_resident_at, boot_resident_with, boot_resident_in, resident_address_by, drill_by, drill_with, drill_in, core_by, core_with, core_in, answer_where, answer_by, command_by_name, plan_numbers_by}
+use Rattle.kexec_words.specs.Meaning.{has_same_name, files_of, crash_files_of, with_numbers, map_answer, image_from, image_or_refusal, image_where, inputs_of, boot_by, boot_with, boot_in, load_by, load_with, load_in, with_map, load_panic_with, load_panic_in, crash_inputs_of, exec_of, exec_with, exec_in, trace_with, trace_in, trace_numbers_by, migrate_of, migrate_with, migrate_in, sample_by, sample_in, boot_resident_at, boot_resident_with, boot_resident_in, resident_address_by, drill_by, drill_with, drill_in, core_by, core_with, core_in, answer_where, command_in, command_by_name, plan_numbers_by}
 use Rattle.kexec_words.specs.Meaning.{load_names_in}
 use Rattle.kexec_words.specs.inner.Meaning.{Answers}
 use Rattle.kexec_words.specs.inner.Values.{command_value}
-use Rattle.kexec_words.specs.Apps.{boot_app, load_app, load_panic_app, check_app, dump_app, exec_app, trace_app, migrate_app, sample_app, boot_resident_app, drill_app, core_app}
+use Rattle.kexec_words.specs.Apps.{app_by}
 use Rattle.kexec_words.specs.declared.commands.Command.{Command}
 use Rattle.kexec_words.specs.declared.faults.WordsFault.{WordsFault}
 use Rattle.kexec_words.specs.inner.Limits.{HasParts, IsWithinLimits, HasOutputsApart}
 use Rattle.kx_pages.specs.declared.image.ImageType.{ImageType}
 use Rattle.kexec_words.specs.declared.numbers.PlanNumbers.{PlanNumbers}
 use Rattle.kexec_words.specs.declared.numbers.TraceNumbers.{TraceNumbers}
-use Rattle.kexec_words.specs.declared.faults.Which.{Which}
-use Rattle.kexec_words.specs.declared.faults.Which.TheVariants as which
-use Rattle.kexec_words.specs.declared.faults.UsageWhy.{UsageWhy}
-use Rattle.kexec_words.specs.declared.faults.UsageWhy.TheVariants as why
-use Rattle.kexec_words.specs.declared.naming.Name.{Name}
-use Rattle.kexec_words.specs.declared.naming.Name.TheVariants as name
+use Rattle.command_table.specs.declared.faults.Which.{Which}
+use Rattle.command_table.specs.declared.faults.Which.TheVariants as which
+use Rattle.command_table.specs.declared.faults.UsageWhy.{UsageWhy}
+use Rattle.command_table.specs.declared.faults.UsageWhy.TheVariants as why
+use Rattle.command_table.specs.declared.names.Name.{Name}
+use Rattle.command_table.specs.declared.names.Name.TheVariants as name
 use Rattle.kexec_words.proofs.Digits.{number_has}
 
 abbrev Keeps : CommandValue → Type 0
@@ -83,15 +85,15 @@ load_has : (i : InputsValue) (o q : Text) (k : Bool) (n : PlanNumbers) → IfOk 
 load_has i o q k n = mapped_has (load_by i o q k) (image_where i (has_same_name (o ∷ q ∷ []) (files_of i)) n) _ _ (λ image h. h)
     (image_has i (has_same_name (o ∷ q ∷ []) (files_of i)) n)
 
-boot_keeps : (rows : List Row) → IfOk (boot_in rows) (λ b. Keeps (boot b))
-boot_keeps rows = numbers_has (plan_numbers_by (first_of (codes "kept") rows) rows) (λ n. boot_with (inputs_of n.below rows) (word_of (codes "OUT") rows) n) (λ _. Unit {0}) _
-    (anything (plan_numbers_by (first_of (codes "kept") rows) rows)) (λ n _. boot_has (inputs_of n.below rows) (word_of (codes "OUT") rows) n)
+boot_keeps : (given : List GivenValue) → IfOk (boot_in given) (λ b. Keeps (boot b))
+boot_keeps given = numbers_has (plan_numbers_by (option_of (codes "kept") given) given) (λ n. boot_with (inputs_of n.below given) (word_of (codes "OUT") given) n) (λ _. Unit {0}) _
+    (anything (plan_numbers_by (option_of (codes "kept") given) given)) (λ n _. boot_has (inputs_of n.below given) (word_of (codes "OUT") given) n)
 
-load_keeps : (rows : List Row) → IfOk (load_in rows) (λ l. Keeps (load l))
-load_keeps rows = numbers_has (plan_numbers_by None rows)
-    (λ n. load_with (inputs_of n.below rows) (word_of (codes "OUT") rows) (word_of (codes "RECORD") rows) (flag_of (codes "kept") rows) n) (λ _. Unit {0}) _
-    (anything (plan_numbers_by None rows))
-    (λ n _. load_has (inputs_of n.below rows) (word_of (codes "OUT") rows) (word_of (codes "RECORD") rows) (flag_of (codes "kept") rows) n)
+load_keeps : (given : List GivenValue) → IfOk (load_in given) (λ l. Keeps (load l))
+load_keeps given = numbers_has (plan_numbers_by None given)
+    (λ n. load_with (inputs_of n.below given) (word_of (codes "OUT") given) (word_of (codes "RECORD") given) (flag_of (codes "kept") given) n) (λ _. Unit {0}) _
+    (anything (plan_numbers_by None given))
+    (λ n _. load_has (inputs_of n.below given) (word_of (codes "OUT") given) (word_of (codes "RECORD") given) (flag_of (codes "kept") given) n)
 
 -- ---- load-panic and exec
 
@@ -108,8 +110,8 @@ panic_has i (Some m) o q = go (has_same_name (o ∷ q ∷ []) (crash_files_of i 
     go true e = tt
     go false e = (tt, e)
 
-panic_keeps : (rows : List Row) → IfOk (load_panic_in rows) (λ l. Keeps (load_panic l))
-panic_keeps rows = panic_has (crash_inputs_of rows) (first_of (codes "map") rows) (word_of (codes "OUT") rows) (word_of (codes "RECORD") rows)
+panic_keeps : (given : List GivenValue) → IfOk (load_panic_in given) (λ l. Keeps (load_panic l))
+panic_keeps given = panic_has (crash_inputs_of given) (option_of (codes "map") given) (word_of (codes "OUT") given) (word_of (codes "RECORD") given)
 
 exec_has : (v : ExecValue) → IfOk (exec_with v) (λ e. Keeps (exec e))
 exec_has v = go (has_same_name (v.out ∷ []) (v.memory ∷ v.load_record ∷ [])) refl
@@ -169,11 +171,11 @@ trace_has m o n h = go (has_same_name (o ∷ []) (m ∷ [])) refl
     go true e = tt
     go false e = let few : n.limit ≤ 100000000 = search (rules, h.0) in ((few, page_has n.swap h.1), e)
 
-trace_keeps : (rows : List Row) → IfOk (trace_in rows) (λ t. Keeps (trace t))
-trace_keeps rows = numbers_has (trace_numbers_by rows) (trace_with (word_of (codes "MEMORY") rows) (word_of (codes "OUT") rows)) InRange _
-    (trace_numbers_has (swap_of (first_of (codes "swap") rows)) (head_of (word_of (codes "HEAD") rows)) (limit_of (word_of (codes "LIMIT") rows))
-    (swap_has (first_of (codes "swap") rows)) (limit_has (word_of (codes "LIMIT") rows)))
-    (trace_has (word_of (codes "MEMORY") rows) (word_of (codes "OUT") rows))
+trace_keeps : (given : List GivenValue) → IfOk (trace_in given) (λ t. Keeps (trace t))
+trace_keeps given = numbers_has (trace_numbers_by given) (trace_with (word_of (codes "MEMORY") given) (word_of (codes "OUT") given)) InRange _
+    (trace_numbers_has (swap_of (option_of (codes "swap") given)) (head_of (word_of (codes "HEAD") given)) (limit_of (word_of (codes "LIMIT") given))
+    (swap_has (option_of (codes "swap") given)) (limit_has (word_of (codes "LIMIT") given)))
+    (trace_has (word_of (codes "MEMORY") given) (word_of (codes "OUT") given))
 
 migrate_has : (v : MigrateValue) → IfOk (migrate_with v) (λ m. Keeps (migrate m))
 migrate_has v = go (has_same_name (v.out ∷ []) (v.load_record ∷ [])) refl
@@ -182,11 +184,11 @@ migrate_has v = go (has_same_name (v.out ∷ []) (v.load_record ∷ [])) refl
     go true e = tt
     go false e = (tt, e)
 
-sample_keeps : (rows : List Row) → IfOk (sample_in rows) (λ n. Keeps (sample n))
-sample_keeps rows =
+sample_keeps : (given : List GivenValue) → IfOk (sample_in given) (λ n. Keeps (sample n))
+sample_keeps given =
     let two : 2 ≤ 10 = omega arith in
-    numbers_has (sample_by rows) (λ n. Ok n) (λ n. n < 10 ^ 18) (λ n. Keeps (sample n))
-    (in_form_has which.Number (number_of 10 18 (word_of (codes "NUMBER") rows)) _ (number_has 10 18 (word_of (codes "NUMBER") rows) two)) (λ n h. (h, tt))
+    numbers_has (sample_by given) (λ n. Ok n) (λ n. n < 10 ^ 18) (λ n. Keeps (sample n))
+    (in_form_has which.Number (number_of 10 18 (word_of (codes "NUMBER") given)) _ (number_has 10 18 (word_of (codes "NUMBER") given) two)) (λ n h. (h, tt))
 
 address_has : (t : Text) → IfOk (core_address_of t) (λ a. is_headers_address a ≡ true)
 address_has t = in_form_has which.Address (headers_address_of t) _ (passing_has is_headers_address (hex_of t))
@@ -203,9 +205,9 @@ core_has m o a h = go (has_same_name (o ∷ []) (m ∷ [])) refl
         let whole : a % 8 ≡ 0 = search (rules, p.0) in
         ((low, whole), e)
 
-core_keeps : (rows : List Row) → IfOk (core_in rows) (λ c. Keeps (core c))
-core_keeps rows = numbers_has (core_by rows) (core_with (word_of (codes "MEMORY") rows) (word_of (codes "OUT") rows)) (λ a. is_headers_address a ≡ true) _
-    (address_has (word_of (codes "ADDRESS") rows)) (core_has (word_of (codes "MEMORY") rows) (word_of (codes "OUT") rows))
+core_keeps : (given : List GivenValue) → IfOk (core_in given) (λ c. Keeps (core c))
+core_keeps given = numbers_has (core_by given) (core_with (word_of (codes "MEMORY") given) (word_of (codes "OUT") given)) (λ a. is_headers_address a ≡ true) _
+    (address_has (word_of (codes "ADDRESS") given)) (core_has (word_of (codes "MEMORY") given) (word_of (codes "OUT") given))
 
 -- ---- boot-resident and drill
 
@@ -222,11 +224,11 @@ resident_has m p o k q (Some at) = go (has_same_name (o ∷ []) (m ∷ p ∷ k �
     go true e = tt
     go false e = (tt, e)
 
-resident_keeps : (rows : List Row) → IfOk (boot_resident_in rows) (λ b. Keeps (boot_resident b))
-resident_keeps rows = numbers_has (resident_address_by rows)
-    (boot_resident_with (word_of (codes "MEMORY") rows) (word_of (codes "POOL") rows) (word_of (codes "OUT") rows) (word_of (codes "KERNEL") rows) (word_of (codes "PAIRS") rows))
-    (λ _. Unit {0}) _ (anything (resident_address_by rows))
-    (λ at _. resident_has (word_of (codes "MEMORY") rows) (word_of (codes "POOL") rows) (word_of (codes "OUT") rows) (word_of (codes "KERNEL") rows) (word_of (codes "PAIRS") rows) at)
+resident_keeps : (given : List GivenValue) → IfOk (boot_resident_in given) (λ b. Keeps (boot_resident b))
+resident_keeps given = numbers_has (resident_address_by given)
+    (boot_resident_with (word_of (codes "MEMORY") given) (word_of (codes "POOL") given) (word_of (codes "OUT") given) (word_of (codes "KERNEL") given) (word_of (codes "PAIRS") given))
+    (λ _. Unit {0}) _ (anything (resident_address_by given))
+    (λ at _. resident_has (word_of (codes "MEMORY") given) (word_of (codes "POOL") given) (word_of (codes "OUT") given) (word_of (codes "KERNEL") given) (word_of (codes "PAIRS") given) at)
 
 drill_has : (m p o v : Text) (map : Option Text) → IfOk (drill_with m p o v map) (λ d. Keeps (drill d))
 drill_has m p o v None = go (has_same_name (o ∷ []) (m ∷ p ∷ v ∷ []))
@@ -241,30 +243,33 @@ drill_has m p o v (Some map) = go (has_same_name (o ∷ []) (m ∷ p ∷ map ∷
     go true e = tt
     go false e = (tt, e)
 
-drill_keeps : (rows : List Row) → IfOk (drill_in rows) (λ d. Keeps (drill d))
-drill_keeps rows = drill_has (word_of (codes "MEMORY") rows) (word_of (codes "POOL") rows) (word_of (codes "OUT") rows) (word_of (codes "EVENTS") rows) (first_of (codes "map") rows)
+drill_keeps : (given : List GivenValue) → IfOk (drill_in given) (λ d. Keeps (drill d))
+drill_keeps given = drill_has (word_of (codes "MEMORY") given) (word_of (codes "POOL") given) (word_of (codes "OUT") given) (word_of (codes "EVENTS") given) (option_of (codes "map") given)
 
 -- ---- all commands
 
-said : {A : Type 0} (as_command : A → CommandValue) (app : App) (read : List Row → Result A UsageWhy) (words : List Text)
-    → ((rows : List Row) → IfOk (read rows) (λ a. Keeps (as_command a))) → IfOk (map_answer as_command (answer_by app read words)) Keeps
-said as_command app read words keeps = mapped_has as_command (answer_by app read words) (λ a. Keeps (as_command a)) Keeps (λ a h. h)
-    (taken_has (fault_of app words) (read (matches_of app words)) (λ a. Keeps (as_command a)) (keeps (matches_of app words)))
+said : {A : Type 0} (as_command : A → CommandValue) (read : Result A UsageWhy) → IfOk read (λ a. Keeps (as_command a)) → IfOk (map_answer as_command read) Keeps
+said as_command read keeps = mapped_has as_command read (λ a. Keeps (as_command a)) Keeps (λ a h. h) keeps
+
+given_keeps : (n : Name) (given : List GivenValue) → IfOk (command_in n given) Keeps
+given_keeps name.Boot given = said boot (boot_in given) (boot_keeps given)
+given_keeps name.Load given = said load (load_in given) (load_keeps given)
+given_keeps name.LoadPanic given = said load_panic (load_panic_in given) (panic_keeps given)
+given_keeps name.Check given = said check (load_names_in given) (tt, tt)
+given_keeps name.Dump given = said dump (load_names_in given) (tt, tt)
+given_keeps name.Exec given = said exec (exec_in given) (exec_has (exec_of given))
+given_keeps name.Trace given = said trace (trace_in given) (trace_keeps given)
+given_keeps name.Migrate given = said migrate (migrate_in given) (migrate_has (migrate_of given))
+given_keeps name.Sample given = said sample (sample_in given) (sample_keeps given)
+given_keeps name.BootResident given = said boot_resident (boot_resident_in given) (resident_keeps given)
+given_keeps name.Drill given = said drill (drill_in given) (drill_keeps given)
+given_keeps name.Core given = said core (core_in given) (core_keeps given)
 
 named_keeps : (o : Option Name) (words : List Text) → IfOk (command_by_name o words) Keeps
 named_keeps None words = tt
-named_keeps (Some name.Boot) words = said boot boot_app boot_in words boot_keeps
-named_keeps (Some name.Load) words = said load load_app load_in words load_keeps
-named_keeps (Some name.LoadPanic) words = said load_panic load_panic_app load_panic_in words panic_keeps
-named_keeps (Some name.Check) words = said check check_app load_names_in words (λ rows. (tt, tt))
-named_keeps (Some name.Dump) words = said dump dump_app load_names_in words (λ rows. (tt, tt))
-named_keeps (Some name.Exec) words = said exec exec_app exec_in words (λ rows. exec_has (exec_of rows))
-named_keeps (Some name.Trace) words = said trace trace_app trace_in words trace_keeps
-named_keeps (Some name.Migrate) words = said migrate migrate_app migrate_in words (λ rows. migrate_has (migrate_of rows))
-named_keeps (Some name.Sample) words = said sample sample_app sample_in words sample_keeps
-named_keeps (Some name.BootResident) words = said boot_resident boot_resident_app boot_resident_in words resident_keeps
-named_keeps (Some name.Drill) words = said drill drill_app drill_in words drill_keeps
-named_keeps (Some name.Core) words = said core core_app core_in words core_keeps
+named_keeps (Some n) words =
+    let given = given_of (arguments_by n) (matches_of (app_by n) words) in
+    taken_has (fault_of (app_by n) words) (command_in n given) Keeps (given_keeps n given)
 
 -- a command that is answered keeps the limits
 pub within_limits : (o : Option Name) (words : List Text) (r : Result Command WordsFault) → Answers command_value (command_by_name o words) r

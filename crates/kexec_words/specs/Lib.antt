@@ -1,6 +1,5 @@
-pub mod Table
 pub mod Apps
-pub mod Found
+pub mod Given
 pub mod Numbers
 pub mod Values
 pub mod Meaning

@@ -8,8 +8,8 @@ use Rattle.clap.specs.Words.{Text}
 use Rattle.kx_pages.specs.Numbers.{is_page_address}
 use Rattle.kexec_words.specs.declared.commands.Runs.{Runs}
 use Rattle.kexec_words.specs.declared.commands.Runs.TheVariants.{Once, Twice}
-use Rattle.kexec_words.specs.declared.faults.Which.{Which}
-use Rattle.kexec_words.specs.declared.faults.Which.TheVariants as which
+use Rattle.command_table.specs.declared.faults.Which.{Which}
+use Rattle.command_table.specs.declared.faults.Which.TheVariants as which
 use Rattle.kexec_words.specs.declared.numbers.TypeWord.{TypeWord}
 use Rattle.kexec_words.specs.declared.numbers.TypeWord.TheVariants as kind
 use Rattle.kexec_words.specs.declared.numbers.PlanNumbers.{PlanNumbers}

@@ -1,7 +1,5 @@
 -- What laws, and contracts inside the crates, speak of. No clause of `kexec` reaches it: it need not be believed.
-pub mod Table
-pub mod Found
+pub mod Given
 pub mod Values
 pub mod Meaning
 pub mod Limits
-pub mod Texts

@@ -1,18 +1,16 @@
 //! The words of `boot-resident`.
 
 ghost use Rattle.std.specs.Prelude.{◌≡◌, map, string_bytes};
-ghost use Rattle.clap.specs.Words.{rows_of, found_of};
-ghost use Rattle.kexec_words.specs.Apps.{boot_resident_app};
-ghost use Rattle.kexec_words.specs.Meaning.{answer_by, resident_address_by, boot_resident_with, boot_resident_in};
+ghost use Rattle.kexec_words.specs.Meaning.{resident_address_by, boot_resident_with, boot_resident_in};
+ghost use Rattle.kexec_words.specs.inner.Given.{given_values};
 ghost use Rattle.kexec_words.specs.inner.Meaning.{Answers};
 ghost use Rattle.kexec_words.specs.inner.Values.{boot_resident_value};
 
-use crate::arguments::BOOT_RESIDENT;
 use crate::commands::BootResident;
-use crate::faults::{UsageWhy, Which, WordsFault};
+use crate::faults::WordsFault;
+use crate::given::{Given, name_in, option_in};
 use crate::numbers::address_in;
-use crate::parsing::{matches_for, name_in, option_in};
-use clap::ArgMatches;
+use command_table::{UsageWhy, Which};
 use std::alloc::Global;
 
 fn boot_resident_from(
@@ -47,35 +45,24 @@ fn boot_resident_from(
     }
 }
 
-fn resident_address_in(matches: &ArgMatches<'_>) -> Result<Option<u64>, Which>
-    ensures { result ≡ resident_address_by (rows_of (found_of matches.now)) }
+fn resident_address_in(given: &[Given<'_>]) -> Result<Option<u64>, Which>
+    ensures { result ≡ resident_address_by (given_values given.now) }
 {
-    address_in(option_in(matches, "at"), Which::At)
+    address_in(option_in(given, "at"), Which::At)
 }
 
-fn boot_resident_in(alloc: Global, matches: &ArgMatches<'_>) -> Result<BootResident, WordsFault>
-    ensures { Answers boot_resident_value
-        (boot_resident_in (rows_of (found_of matches.now))) result }
-{
-    let at = resident_address_in(matches)?;
-    let memory = name_in(alloc, matches, "MEMORY")?;
-    let pool = name_in(alloc, matches, "POOL")?;
-    let out = name_in(alloc, matches, "OUT")?;
-    let kernel = name_in(alloc, matches, "KERNEL")?;
-    let pairs = name_in(alloc, matches, "PAIRS")?;
-    boot_resident_from(memory, pool, out, kernel, pairs, at)
-}
-
-// The words after `boot-resident`.
-pub(crate) fn read_boot_resident(
+pub(crate) fn boot_resident_in(
     alloc: Global,
-    words: &[String],
+    given: &[Given<'_>],
 ) -> Result<BootResident, WordsFault>
     ensures { Answers boot_resident_value
-        (answer_by boot_resident_app boot_resident_in (map string_bytes words.now)) result }
+        (boot_resident_in (given_values given.now)) result }
 {
-    match matches_for(alloc, "boot-resident", BOOT_RESIDENT, words) {
-        Ok(matches) => boot_resident_in(alloc, &matches),
-        Err(fault) => Err(fault),
-    }
+    let at = resident_address_in(given)?;
+    let memory = name_in(alloc, given, "MEMORY")?;
+    let pool = name_in(alloc, given, "POOL")?;
+    let out = name_in(alloc, given, "OUT")?;
+    let kernel = name_in(alloc, given, "KERNEL")?;
+    let pairs = name_in(alloc, given, "PAIRS")?;
+    boot_resident_from(memory, pool, out, kernel, pairs, at)
 }

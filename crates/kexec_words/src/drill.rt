@@ -1,18 +1,16 @@
 //! The words of `drill`.
 
 ghost use Rattle.std.specs.Prelude.{◌≡◌, map, option_map, string_bytes};
-ghost use Rattle.clap.specs.Words.{rows_of, found_of};
-ghost use Rattle.kexec_words.specs.Apps.{drill_app};
-ghost use Rattle.kexec_words.specs.Meaning.{answer_by, drill_with, drill_in};
+ghost use Rattle.kexec_words.specs.Meaning.{drill_with, drill_in};
+ghost use Rattle.kexec_words.specs.inner.Given.{given_values};
 ghost use Rattle.kexec_words.specs.inner.Meaning.{Answers};
 ghost use Rattle.kexec_words.specs.inner.Values.{drill_value};
 
-use crate::arguments::DRILL;
 use crate::commands::Drill;
-use crate::faults::{UsageWhy, WordsFault};
+use crate::faults::WordsFault;
+use crate::given::{Given, name_in, some_name_in};
 use crate::naming::is_given;
-use crate::parsing::{matches_for, name_in, some_name_in};
-use clap::ArgMatches;
+use command_table::UsageWhy;
 use std::alloc::Global;
 
 fn drill_from(
@@ -45,24 +43,13 @@ fn drill_from(
     }
 }
 
-fn drill_in(alloc: Global, matches: &ArgMatches<'_>) -> Result<Drill, WordsFault>
-    ensures { Answers drill_value (drill_in (rows_of (found_of matches.now))) result }
+pub(crate) fn drill_in(alloc: Global, given: &[Given<'_>]) -> Result<Drill, WordsFault>
+    ensures { Answers drill_value (drill_in (given_values given.now)) result }
 {
-    let memory = name_in(alloc, matches, "MEMORY")?;
-    let pool = name_in(alloc, matches, "POOL")?;
-    let out = name_in(alloc, matches, "OUT")?;
-    let events = name_in(alloc, matches, "EVENTS")?;
-    let map = some_name_in(alloc, matches, "map")?;
+    let memory = name_in(alloc, given, "MEMORY")?;
+    let pool = name_in(alloc, given, "POOL")?;
+    let out = name_in(alloc, given, "OUT")?;
+    let events = name_in(alloc, given, "EVENTS")?;
+    let map = some_name_in(alloc, given, "map")?;
     drill_from(memory, pool, out, events, map)
-}
-
-// The words after `drill`.
-pub(crate) fn read_drill(alloc: Global, words: &[String]) -> Result<Drill, WordsFault>
-    ensures { Answers drill_value
-        (answer_by drill_app drill_in (map string_bytes words.now)) result }
-{
-    match matches_for(alloc, "drill", DRILL, words) {
-        Ok(matches) => drill_in(alloc, &matches),
-        Err(fault) => Err(fault),
-    }
 }

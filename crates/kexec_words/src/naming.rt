@@ -1,93 +1,10 @@
-//! The names of the commands, and names of files.
+//! Names of files, compared.
 
 ghost use Rattle.std.specs.Prelude.{◌≡◌, option_map, string_bytes, map, [], ◌∷◌};
-ghost use Rattle.kexec_words.specs.Meaning.{name_of, name_of_reader, name_of_other, is_among, with_name, files_of, crash_files_of, has_same_name};
+ghost use Rattle.kexec_words.specs.Meaning.{is_among, with_name, files_of, crash_files_of, has_same_name};
 ghost use Rattle.kexec_words.specs.inner.Values.{inputs_value, crash_inputs_value};
 
 use crate::commands::{CrashInputs, Inputs};
-
-#[derive(Clone, Copy)]
-pub(crate) enum Name {
-    Boot,
-    Load,
-    LoadPanic,
-    Check,
-    Dump,
-    Exec,
-    Trace,
-    Migrate,
-    Sample,
-    BootResident,
-    Drill,
-    Core,
-}
-
-// All commands, in the order in which they are listed.
-pub(crate) const NAMES: [Name; 12] = [
-    Name::Boot,
-    Name::Load,
-    Name::LoadPanic,
-    Name::Check,
-    Name::Dump,
-    Name::Exec,
-    Name::Trace,
-    Name::Migrate,
-    Name::Sample,
-    Name::BootResident,
-    Name::Drill,
-    Name::Core,
-];
-
-// The name of a command that neither loads a kernel nor reads a load record.
-fn name_of_other(word: &str) -> Option<Name>
-    ensures { result ≡ name_of_other word.now }
-{
-    if word == "trace" {
-        Some(Name::Trace)
-    } else if word == "sample" {
-        Some(Name::Sample)
-    } else if word == "drill" {
-        Some(Name::Drill)
-    } else if word == "core" {
-        Some(Name::Core)
-    } else {
-        None
-    }
-}
-
-// The name of a command that does not load a kernel.
-fn name_of_reader(word: &str) -> Option<Name>
-    ensures { result ≡ name_of_reader word.now }
-{
-    if word == "check" {
-        Some(Name::Check)
-    } else if word == "dump" {
-        Some(Name::Dump)
-    } else if word == "exec" {
-        Some(Name::Exec)
-    } else if word == "migrate" {
-        Some(Name::Migrate)
-    } else {
-        name_of_other(word)
-    }
-}
-
-// The command of this name. In three functions, since the time of the proof grows with the square of the names.
-pub(crate) fn name_of(word: &str) -> Option<Name>
-    ensures { result ≡ name_of word.now }
-{
-    if word == "boot" {
-        Some(Name::Boot)
-    } else if word == "load" {
-        Some(Name::Load)
-    } else if word == "load-panic" {
-        Some(Name::LoadPanic)
-    } else if word == "boot-resident" {
-        Some(Name::BootResident)
-    } else {
-        name_of_reader(word)
-    }
-}
 
 // Whether a name is given, and is this text.
 pub(crate) fn is_given(name: &Option<String>, text: &str) -> bool

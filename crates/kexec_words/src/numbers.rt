@@ -1,11 +1,11 @@
 //! Numbers and types in words.
 
 ghost use Rattle.std.specs.Prelude.{◌≡◌, ◌≤◌, ◌<◌, ◌^◌};
-ghost use Rattle.kexec_words.specs.inner.Found.{text_in};
+ghost use Rattle.kexec_words.specs.inner.Given.{text_in};
 ghost use Rattle.kexec_words.specs.Numbers.{number_of, hex_of, type_of, kept_of, address_of, pool_limit_of, first_past, below_of, page_address_of, swap_of, head_of, limit_of, sample_of, headers_address_of, core_address_of, plan_numbers_of, trace_numbers_of};
 
 use crate::commands::Runs;
-use crate::faults::Which;
+use command_table::Which;
 use kx_pages::{ADDRESS_LIMIT, PAGE_SIZE, Page, is_page_address};
 
 const HEX_DIGITS: usize = 16;

@@ -1,16 +1,19 @@
-//! What `clap` finds in the words.
+//! What `clap` finds in the words behind a command.
 
-ghost use Rattle.std.specs.Prelude.{◌≡◌, IfOk, map, option_map, string_bytes, true, false};
-ghost use Rattle.clap.specs.Words.{app_of, rule_of, rows_of, found_of, is_simple_and_free, first_of};
+ghost use Rattle.std.specs.Prelude.{◌≡◌, IfOk, Ok, [], map, string_bytes, true, false, unwrap_or};
+ghost use Rattle.clap.specs.Words.{app_of, rule_of, rows_of, found_of, all_of, is_simple_and_free};
+ghost use Rattle.command_table.specs.inner.Table.{argument_value, argument_values};
 ghost use Rattle.kexec_words.specs.Apps.{rule_by, app_taking};
-ghost use Rattle.kexec_words.specs.inner.Table.{argument_value, argument_values};
-ghost use Rattle.kexec_words.specs.Found.{word_of, flag_of, words_of};
-ghost use Rattle.kexec_words.specs.inner.Found.{Parses, text_in, texts_in};
+ghost use Rattle.kexec_words.specs.Given.{given_by, given_of};
+ghost use Rattle.kexec_words.specs.Meaning.{answer_by};
+ghost use Rattle.kexec_words.specs.inner.Given.{Parses, texts_in, given_value, given_values};
+ghost use Rattle.kexec_words.specs.inner.Meaning.{Answers};
 
-use crate::table::{Argument, Form};
-use crate::{UsageWhy, WordsFault};
+use crate::WordsFault;
+use crate::given::Given;
 use clap::error::ErrorKind;
 use clap::{Arg, ArgAction, ArgMatches, Command};
+use command_table::{Argument, Form, Name, UsageWhy};
 use std::alloc::{AllocError, Global};
 
 fn arg_of<'a>(alloc: Global, argument: Argument) -> Arg<'a>
@@ -45,7 +48,7 @@ fn command_with<'a>(
     Ok(command)
 }
 
-pub(crate) fn matches_for<'a>(
+fn matches_for<'a>(
     alloc: Global,
     name: &'a str,
     arguments: &[Argument],
@@ -68,86 +71,70 @@ pub(crate) fn matches_for<'a>(
     }
 }
 
-// The value of an option.
-pub(crate) fn option_in<'a>(matches: &ArgMatches<'a>, id: &str) -> Option<&'a str>
-    ensures { text_in result ≡ first_of id.now (rows_of (found_of matches.now)) }
+fn copy_of<'a>(alloc: Global, texts: &[&'a str]) -> Result<Vec<&'a str>, AllocError>
+    ensures { IfOk result (λ v. v.items ≡ texts.now) }
 {
-    matches.get_str(id)
+    let mut copy = Vec::new(alloc);
+    copy.extend_from_slice(texts)?;
+    Ok(copy)
 }
 
-// A positional word that must be there.
-pub(crate) fn word_in<'a>(matches: &ArgMatches<'a>, id: &str) -> &'a str
-    ensures { result.now ≡ word_of id.now (rows_of (found_of matches.now)) }
-{
-    match option_in(matches, id) {
-        Some(text) => text,
-        None => "",
-    }
-}
-
-// Whether an option without a value is given.
-pub(crate) fn flag_in(matches: &ArgMatches<'_>, id: &str) -> bool
-    ensures { result ≡ flag_of id.now (rows_of (found_of matches.now)) }
-{
-    match option_in(matches, id) {
-        Some(text) => text == "true",
-        None => false,
-    }
-}
-
-// The name that is a positional word.
-pub(crate) fn name_in(
+// The texts that are found under this name.
+fn texts_for<'a>(
     alloc: Global,
-    matches: &ArgMatches<'_>,
+    matches: &ArgMatches<'a>,
     id: &str,
-) -> Result<String, AllocError>
-    ensures { IfOk result (λ s. string_bytes s ≡ word_of id.now (rows_of (found_of matches.now))) }
-{
-    String::from_str(alloc, word_in(matches, id))
-}
-
-fn own(alloc: Global, text: Option<&str>) -> Result<Option<String>, AllocError>
-    ensures { IfOk result (λ t. option_map string_bytes t ≡ text_in text.entry) }
-{
-    match text {
-        Some(text) => Ok(Some(String::from_str(alloc, text)?)),
-        None => Ok(None),
-    }
-}
-
-// The name that is an option's value.
-pub(crate) fn some_name_in(
-    alloc: Global,
-    matches: &ArgMatches<'_>,
-    id: &str,
-) -> Result<Option<String>, AllocError>
-    ensures { IfOk result (λ t. option_map string_bytes t
-        ≡ first_of id.now (rows_of (found_of matches.now))) }
-{
-    own(alloc, option_in(matches, id))
-}
-
-fn own_all(alloc: Global, texts: &[&str]) -> Result<Vec<String>, AllocError>
-    ensures { IfOk result (λ v. map string_bytes v.items ≡ texts_in texts.now) }
-{
-    let mut names = Vec::with_capacity(alloc, texts.len())?;
-    for text in texts {
-        names.push(String::from_str(alloc, text)?)?;
-    }
-    Ok(names)
-}
-
-// The names that are positional words of which there may be none, one or several.
-pub(crate) fn names_in(
-    alloc: Global,
-    matches: &ArgMatches<'_>,
-    id: &str,
-) -> Result<Vec<String>, AllocError>
-    ensures { IfOk result (λ v. map string_bytes v.items
-        ≡ words_of id.now (rows_of (found_of matches.now))) }
+) -> Result<Vec<&'a str>, AllocError>
+    ensures { IfOk result (λ v. texts_in v.items
+        ≡ unwrap_or (all_of id.now (rows_of (found_of matches.now))) []) }
 {
     match matches.get_strs(id) {
-        Some(texts) => own_all(alloc, texts),
+        Some(texts) => copy_of(alloc, texts),
         None => Ok(Vec::new(alloc)),
+    }
+}
+
+// What is found for an argument.
+fn given_by<'a>(
+    alloc: Global,
+    matches: &ArgMatches<'a>,
+    argument: &'static Argument,
+) -> Result<Given<'a>, AllocError>
+    ensures { IfOk result (λ g. given_value g
+        ≡ given_by (rows_of (found_of matches.now)) (argument_value argument.now)) }
+{
+    let texts = texts_for(alloc, matches, argument.id)?;
+    Ok(Given { argument, texts })
+}
+
+// What is found for each of the arguments, in their order.
+fn given_of<'a>(
+    alloc: Global,
+    matches: &ArgMatches<'a>,
+    arguments: &'static [Argument],
+) -> Result<Vec<Given<'a>>, AllocError>
+    ensures { IfOk result (λ v. given_values v.items
+        ≡ given_of (argument_values arguments.now) (rows_of (found_of matches.now))) }
+{
+    let mut given = Vec::with_capacity(alloc, arguments.len())?;
+    for argument in arguments {
+        given.push(given_by(alloc, matches, argument)?)?;
+    }
+    Ok(given)
+}
+
+/// What the words behind a command give for its arguments, where `clap` takes them.
+pub(crate) fn given_behind<'a>(
+    alloc: Global,
+    name: Name,
+    words: &'a [String],
+) -> Result<Vec<Given<'a>>, WordsFault>
+    ensures { Answers (λ v. given_values v.items)
+        (answer_by name (λ given. Ok given) (map string_bytes words.now)) result }
+{
+    let arguments = name.arguments();
+    match matches_for(alloc, name.text(), arguments, words) {
+        Ok(matches) => Ok(given_of(alloc, &matches, arguments)?),
+        Err(fault) => Err(fault),
     }
 }

@@ -1,43 +1,36 @@
 //! The words of `boot` and `load`.
 
 ghost use Rattle.std.specs.Prelude.{◌≡◌, IfOk, map, string_bytes};
-ghost use Rattle.clap.specs.Words.{rows_of, found_of};
-ghost use Rattle.kexec_words.specs.Apps.{boot_app, load_app};
-ghost use Rattle.kexec_words.specs.Meaning.{answer_by, inputs_of, image_from, image_or_refusal, image_where, plan_numbers_by, boot_with, boot_in, load_with, load_in};
+ghost use Rattle.kexec_words.specs.Meaning.{inputs_of, image_from, image_or_refusal, image_where, plan_numbers_by, boot_with, boot_in, load_with, load_in};
 ghost use Rattle.kexec_words.specs.inner.Meaning.{Answers};
-ghost use Rattle.kexec_words.specs.inner.Found.{text_in};
+ghost use Rattle.kexec_words.specs.inner.Given.{text_in, given_values};
 ghost use Rattle.kexec_words.specs.inner.Values.{inputs_value, boot_value, load_value};
 
-use crate::arguments::{BOOT, LOAD};
 use crate::commands::{Boot, Inputs, Load};
-use crate::faults::{UsageWhy, Which, WordsFault};
+use crate::faults::WordsFault;
+use crate::given::{Given, flag_in, name_in, names_in, option_in, some_name_in};
 use crate::naming::{is_input, is_repeated};
 use crate::numbers::{PlanNumbers, TypeWord, plan_numbers};
-use crate::parsing::{flag_in, matches_for, name_in, names_in, option_in, some_name_in};
-use clap::ArgMatches;
+use command_table::{UsageWhy, Which};
 use kx_pages::{ImageType, Page};
 use std::alloc::{AllocError, Global};
 
 const MOST_MODULES: usize = 12;
 
-fn inputs_in(
-    alloc: Global,
-    matches: &ArgMatches<'_>,
-    below: Option<Page>,
-) -> Result<Inputs, AllocError>
+fn inputs_in(alloc: Global, given: &[Given<'_>], below: Option<Page>) -> Result<Inputs, AllocError>
     ensures { IfOk result
-        (λ i. inputs_value i ≡ inputs_of below (rows_of (found_of matches.now))) }
+        (λ i. inputs_value i ≡ inputs_of below (given_values given.now)) }
 {
     Ok(Inputs {
-        memory: name_in(alloc, matches, "MEMORY")?,
-        pool: name_in(alloc, matches, "POOL")?,
+        memory: name_in(alloc, given, "MEMORY")?,
+        pool: name_in(alloc, given, "POOL")?,
         below,
-        map: some_name_in(alloc, matches, "map")?,
-        kernel: name_in(alloc, matches, "KERNEL")?,
-        initrd: some_name_in(alloc, matches, "initrd")?,
-        purgatory: some_name_in(alloc, matches, "purgatory")?,
-        modules: names_in(alloc, matches, "MODULES")?,
-        command: some_name_in(alloc, matches, "command")?,
+        map: some_name_in(alloc, given, "map")?,
+        kernel: name_in(alloc, given, "KERNEL")?,
+        initrd: some_name_in(alloc, given, "initrd")?,
+        purgatory: some_name_in(alloc, given, "purgatory")?,
+        modules: names_in(alloc, given, "MODULES")?,
+        command: some_name_in(alloc, given, "command")?,
     })
 }
 
@@ -81,15 +74,15 @@ fn image_for(inputs: &Inputs, is_same: bool, numbers: PlanNumbers) -> Result<Ima
     with_map(inputs, image_of(numbers))
 }
 
-fn numbers_in(matches: &ArgMatches<'_>, kept: Option<&str>) -> Result<PlanNumbers, Which>
-    ensures { result ≡ plan_numbers_by (text_in kept.entry) (rows_of (found_of matches.now)) }
+fn numbers_in(given: &[Given<'_>], kept: Option<&str>) -> Result<PlanNumbers, Which>
+    ensures { result ≡ plan_numbers_by (text_in kept.entry) (given_values given.now) }
 {
     plan_numbers(
-        option_in(matches, "type"),
+        option_in(given, "type"),
         kept,
-        option_in(matches, "at"),
-        option_in(matches, "entry"),
-        option_in(matches, "below"),
+        option_in(given, "at"),
+        option_in(given, "entry"),
+        option_in(given, "below"),
     )
 }
 
@@ -107,23 +100,13 @@ fn boot_from(inputs: Inputs, out: String, numbers: PlanNumbers) -> Result<Boot, 
     })
 }
 
-fn boot_in(alloc: Global, matches: &ArgMatches<'_>) -> Result<Boot, WordsFault>
-    ensures { Answers boot_value (boot_in (rows_of (found_of matches.now))) result }
+pub(crate) fn boot_in(alloc: Global, given: &[Given<'_>]) -> Result<Boot, WordsFault>
+    ensures { Answers boot_value (boot_in (given_values given.now)) result }
 {
-    let numbers = numbers_in(matches, option_in(matches, "kept"))?;
-    let inputs = inputs_in(alloc, matches, numbers.below)?;
-    let out = name_in(alloc, matches, "OUT")?;
+    let numbers = numbers_in(given, option_in(given, "kept"))?;
+    let inputs = inputs_in(alloc, given, numbers.below)?;
+    let out = name_in(alloc, given, "OUT")?;
     boot_from(inputs, out, numbers)
-}
-
-// The words after `boot`.
-pub(crate) fn read_boot(alloc: Global, words: &[String]) -> Result<Boot, WordsFault>
-    ensures { Answers boot_value (answer_by boot_app boot_in (map string_bytes words.now)) result }
-{
-    match matches_for(alloc, "boot", BOOT, words) {
-        Ok(matches) => boot_in(alloc, &matches),
-        Err(fault) => Err(fault),
-    }
 }
 
 fn load_from(
@@ -147,22 +130,12 @@ fn load_from(
     })
 }
 
-fn load_in(alloc: Global, matches: &ArgMatches<'_>) -> Result<Load, WordsFault>
-    ensures { Answers load_value (load_in (rows_of (found_of matches.now))) result }
+pub(crate) fn load_in(alloc: Global, given: &[Given<'_>]) -> Result<Load, WordsFault>
+    ensures { Answers load_value (load_in (given_values given.now)) result }
 {
-    let numbers = numbers_in(matches, None)?;
-    let inputs = inputs_in(alloc, matches, numbers.below)?;
-    let out = name_in(alloc, matches, "OUT")?;
-    let load_record = name_in(alloc, matches, "RECORD")?;
-    load_from(inputs, out, load_record, flag_in(matches, "kept"), numbers)
-}
-
-// The words after `load`.
-pub(crate) fn read_load(alloc: Global, words: &[String]) -> Result<Load, WordsFault>
-    ensures { Answers load_value (answer_by load_app load_in (map string_bytes words.now)) result }
-{
-    match matches_for(alloc, "load", LOAD, words) {
-        Ok(matches) => load_in(alloc, &matches),
-        Err(fault) => Err(fault),
-    }
+    let numbers = numbers_in(given, None)?;
+    let inputs = inputs_in(alloc, given, numbers.below)?;
+    let out = name_in(alloc, given, "OUT")?;
+    let load_record = name_in(alloc, given, "RECORD")?;
+    load_from(inputs, out, load_record, flag_in(given, "kept"), numbers)
 }

@@ -1,43 +1,55 @@
 //! All commands.
 
 ghost use Rattle.std.specs.Prelude.{◌≡◌, IfOk, map, string_bytes, Some};
-ghost use Rattle.kexec_words.specs.Meaning.{command_of, command_by_name};
+ghost use Rattle.kexec_words.specs.Meaning.{command_of, command_by_name, command_in};
+ghost use Rattle.kexec_words.specs.inner.Given.{given_values};
 ghost use Rattle.kexec_words.specs.inner.Meaning.{Answers};
 ghost use Rattle.kexec_words.specs.inner.Limits.{IsWithinLimits, HasOutputsApart};
 ghost use Rattle.kexec_words.specs.inner.Values.{command_value};
 
-use crate::boot_resident::read_boot_resident;
+use crate::boot_resident::boot_resident_in;
 use crate::commands::Command;
-use crate::drill::read_drill;
-use crate::faults::{UsageWhy, WordsFault};
-use crate::naming::{Name, name_of};
-use crate::planned::{read_boot, read_load};
+use crate::drill::drill_in;
+use crate::faults::WordsFault;
+use crate::given::Given;
+use crate::parsing::given_behind;
+use crate::planned::{boot_in, load_in};
 use crate::unplanned::{
-    read_check, read_core, read_dump, read_exec, read_load_panic, read_migrate, read_sample,
-    read_trace,
+    core_in, exec_in, load_panic_in, loaded_in, migrate_in, sample_in, trace_in,
 };
+use command_table::{Name, UsageWhy, name_of};
 use std::alloc::Global;
+
+// What is given for the arguments of a command says this.
+fn command_in(alloc: Global, name: Name, given: &[Given<'_>]) -> Result<Command, WordsFault>
+    ensures { Answers command_value (command_in name (given_values given.now)) result }
+{
+    Ok(match name {
+        Name::Boot => Command::Boot(boot_in(alloc, given)?),
+        Name::Load => Command::Load(load_in(alloc, given)?),
+        Name::LoadPanic => Command::LoadPanic(load_panic_in(alloc, given)?),
+        Name::Check => Command::Check(loaded_in(alloc, given)?),
+        Name::Dump => Command::Dump(loaded_in(alloc, given)?),
+        Name::Exec => Command::Exec(exec_in(alloc, given)?),
+        Name::Trace => Command::Trace(trace_in(alloc, given)?),
+        Name::Migrate => Command::Migrate(migrate_in(alloc, given)?),
+        Name::Sample => Command::Sample {
+            number: sample_in(given)?,
+        },
+        Name::BootResident => Command::BootResident(boot_resident_in(alloc, given)?),
+        Name::Drill => Command::Drill(drill_in(alloc, given)?),
+        Name::Core => Command::Core(core_in(alloc, given)?),
+    })
+}
 
 fn read_named(alloc: Global, name: Name, words: &[String]) -> Result<Command, WordsFault>
     ensures { Answers command_value
         (command_by_name (Some name) (map string_bytes words.now)) result }
 {
-    Ok(match name {
-        Name::Boot => Command::Boot(read_boot(alloc, words)?),
-        Name::Load => Command::Load(read_load(alloc, words)?),
-        Name::LoadPanic => Command::LoadPanic(read_load_panic(alloc, words)?),
-        Name::Check => Command::Check(read_check(alloc, words)?),
-        Name::Dump => Command::Dump(read_dump(alloc, words)?),
-        Name::Exec => Command::Exec(read_exec(alloc, words)?),
-        Name::Trace => Command::Trace(read_trace(alloc, words)?),
-        Name::Migrate => Command::Migrate(read_migrate(alloc, words)?),
-        Name::Sample => Command::Sample {
-            number: read_sample(alloc, words)?,
-        },
-        Name::BootResident => Command::BootResident(read_boot_resident(alloc, words)?),
-        Name::Drill => Command::Drill(read_drill(alloc, words)?),
-        Name::Core => Command::Core(read_core(alloc, words)?),
-    })
+    match given_behind(alloc, name, words) {
+        Ok(given) => command_in(alloc, name, &given),
+        Err(fault) => Err(fault),
+    }
 }
 
 /// The command that the words after the program's name say, or the first reason to refuse them, in the order of

@@ -6,3 +6,4 @@ pub mod Transfers
 pub mod MemoryShelf
 pub mod CalmShelf
 pub mod MemorySink
+pub mod KnownFiles

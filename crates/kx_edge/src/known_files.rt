@@ -1,8 +1,10 @@
 //! Which files of the system a shelf took and put: one file may have several names.
 
-ghost use Rattle.std.specs.Prelude.{◌≤◌};
+ghost use Rattle.std.specs.Prelude.{◌≡◌, ◌<◌, ◌≤◌, ◌++◌, ◌∷◌, [], length, take};
+ghost use Rattle.kx_edge.specs.inner.KnownFiles.{is_known, most_files};
 
 use std::fs::Metadata;
+use std::marker::Model;
 use std::os::unix::fs::MetadataExt;
 
 /// How many files are known at most. No command names more than 21: a memory, a pool, a map, a kernel, an initrd, a
@@ -30,30 +32,55 @@ impl FileId {
     }
 }
 
+// What the table has where no file stands yet.
+const NO_FILE: FileId = FileId {
+    device: 0,
+    number: 0,
+};
+
 /// The regular files that were taken and put, in a table of its own: a put takes no memory. A file for which there is no
-/// place is not known.
+/// place is not known. Contracts see the files in the order in which they were added.
 #[derive(Drop)]
 pub(crate) struct KnownFiles {
-    files: [Option<FileId>; MOST],
+    files: [FileId; MOST],
     count: usize,
-    ghost within: { count ≤ 32 },
+}
+
+impl Model for KnownFiles {
+    ghost use Rattle.std.specs.Prelude.{List, ◌≤◌, take};
+    ghost use Rattle.kx_edge.specs.declared.known_files.FileId.{FileId};
+
+    ghost Value = { List FileId };
+
+    ghost view = { λ k. take k.count k.files };
+
+    ghost invariant = { λ k. k.count ≤ 32 };
 }
 
 impl KnownFiles {
-    pub(crate) fn new() -> KnownFiles {
+    pub(crate) fn new() -> KnownFiles
+        ensures { result ≡ [] }
+    {
         KnownFiles {
-            files: [None; MOST],
+            files: [NO_FILE; MOST],
             count: 0,
         }
     }
 
-    pub(crate) fn contains(&self, id: FileId) -> bool {
-        self.files[..self.count].contains(&Some(id))
+    /// Whether the file is one of those that were added.
+    pub(crate) fn contains(&self, id: FileId) -> bool
+        ensures { result ≡ is_known self.now id }
+    {
+        self.files[..self.count].contains(&id)
     }
 
-    pub(crate) fn add(&mut self, id: FileId) {
+    /// Adds the file behind the others, where there is a place.
+    pub(crate) fn add(&mut self, id: FileId)
+        ensures added { length self.old < most_files → self.new ≡ self.old ++ id ∷ [] }
+        ensures full { most_files ≤ length self.old → self.new ≡ self.old }
+    {
         if self.count < MOST {
-            self.files[self.count] = Some(id);
+            self.files[self.count] = id;
             self.count += 1;
         }
     }

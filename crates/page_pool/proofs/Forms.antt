@@ -1,9 +1,9 @@
 -- The reader takes exactly the lines of the grammar.
 use Rattle.std.proofs.Common.{◌≡◌, ℕ, List, refl, ap, ◌∙◌, Some, None, Option, inl, inr}
 use Rattle.std.specs.Prelude.{◌↔◌, unwrap_or}
-use Rattle.text_lines.specs.Lines.{cut, number}
+use Rattle.text_lines.specs.Lines.{both, cut, number}
 use Rattle.text_lines.proofs.Cutting.{cut_parts, cut_behind, cut_nowhere, number_has_no}
-use Rattle.page_pool.specs.File.{both, range_by, range_of}
+use Rattle.page_pool.specs.File.{range_by, range_of}
 use Rattle.page_pool.specs.inner.Grammar.{IsPoolLine}
 
 same_range : (x y : ℕ × ℕ) → ◌≡◌ {A = Option (ℕ × ℕ)} (Some x) (Some y) → x ≡ y

@@ -3,17 +3,11 @@
 use Rattle.std.specs.Prelude.{ℕ, ◌+◌, ◌-◌, ◌^◌, ◌++◌, List, [], ◌∷◌, length, nat_lt, nat_le, if◌then◌else◌, Option, Some, None, Result, Ok, Err}
 use Rattle.std.specs.List.{range_with_len}
 use Rattle.kx_laws.specs.Results.{◌>>=◌}
-use Rattle.text_lines.specs.Lines.{lines, cut, number}
+use Rattle.text_lines.specs.Lines.{both, cut, lines, number}
 use Rattle.page_pool.specs.Pages.{pool_page_limit}
 use Rattle.page_pool.specs.Repeats.{first_repeat}
 use Rattle.page_pool.specs.declared.fault.PoolFault.{PoolFault}
 use Rattle.page_pool.specs.declared.fault.PoolFault.TheVariants as faults
-
--- both numbers, where each is one
-abbrev pub both : Option ℕ → Option ℕ → Option (ℕ × ℕ)
-both (Some first) (Some last) = Some (first, last)
-both (Some first) None = None
-both None last = None
 
 -- the numbers of the parts of a line that is cut, or of the whole line
 abbrev pub range_by : Option (List ℕ × List ℕ) → List ℕ → Option (ℕ × ℕ)

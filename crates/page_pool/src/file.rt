@@ -6,22 +6,13 @@ ghost use Rattle.kx_laws.specs.inner.Results.{Gives};
 ghost use Rattle.text_lines.specs.Lines.{lines};
 ghost use Rattle.page_pool.specs.declared.fault.PoolFault.TheVariants as faults;
 ghost use Rattle.page_pool.specs.Pages.{pool_page_limit};
-ghost use Rattle.page_pool.specs.File.{range_of, both, checked_range, line_onto, pages_onto};
+ghost use Rattle.page_pool.specs.File.{range_of, checked_range, line_onto, pages_onto};
 
 use crate::POOL_PAGE_LIMIT;
 use crate::fault::PoolFault;
 use kx_pages::{PAGE_LIMIT, Page};
 use std::alloc::{AllocError, Global};
-use text_lines::{cut, next_line, number};
-
-fn both(first: Option<u64>, last: Option<u64>) -> Option<(u64, u64)>
-    ensures { result ≡ both first last }
-{
-    match (first, last) {
-        (Some(first), Some(last)) => Some((first, last)),
-        _ => None,
-    }
-}
+use text_lines::{both, cut, next_line, number};
 
 /// The first and the last page that a line names. None where it has not the form of a pool line.
 #[tactic(auto, unfolding(crate::specs::File::range_of))]

@@ -73,12 +73,12 @@ cut_nowhere at bytes h =
     rw (place, same) refl
 
 -- the text of a number has digits alone, and at least one
-pub number_digits : (text : List ℕ) (n : ℕ) → number text ≡ Some n → (list_all is_digit text ≡ true) × (0 < length text)
+pub number_digits : (text : List ℕ) (n : ℕ) → number text ≡ Some n → (list_all (is_digit 16) text ≡ true) × (0 < length text)
 unfolding number number_of
-number_digits text n h = go (length text == 0) (nat_lt 16 (length text)) (list_all is_digit text) refl refl h
+number_digits text n h = go (length text == 0) (nat_lt 16 (length text)) (list_all (is_digit 16) text) refl refl h
   where
-    go : (empty long all : Bool) → (length text == 0) ≡ empty → list_all is_digit text ≡ all
-        → (if empty then None else (if long then None else (if all then Some (digits_value 16 text) else None))) ≡ Some n → (list_all is_digit text ≡ true) × (0 < length text)
+    go : (empty long all : Bool) → (length text == 0) ≡ empty → list_all (is_digit 16) text ≡ all
+        → (if empty then None else (if long then None else (if all then Some (digits_value 16 text) else None))) ≡ Some n → (list_all (is_digit 16) text ≡ true) × (0 < length text)
     go true long all z e h = cc
     go false true all z e h = cc
     go false false false z e h = cc
@@ -88,19 +88,19 @@ number_digits text n h = go (length text == 0) (nat_lt 16 (length text)) (list_a
         some_length k z = grind arith
 
 -- a byte that is no digit is not in the text of a number
-no_other : (at : ℕ) (text : List ℕ) → is_digit at ≡ false → list_all is_digit text ≡ true → has_no at text ≡ true
+no_other : (at : ℕ) (text : List ℕ) → is_digit 16 at ≡ false → list_all (is_digit 16) text ≡ true → has_no at text ≡ true
 no_other at [] other all = refl
 no_other at (x ∷ xs) other all =
-    let both = and_parts (is_digit x) (list_all is_digit xs) all in
+    let both = and_parts (is_digit 16 x) (list_all (is_digit 16) xs) all in
     and_from (not (x == at)) (has_no at xs) (differ (x == at) refl both.0) (no_other at xs other both.1)
   where
-    differ : (c : Bool) → (x == at) ≡ c → is_digit x ≡ true → not c ≡ true
+    differ : (c : Bool) → (x == at) ≡ c → is_digit 16 x ≡ true → not c ≡ true
     differ false e d = refl
-    differ true e d = absurd (clash (is_digit at) (ap is_digit (sym (is_same x at e)) ∙ d) other)
+    differ true e d = absurd (clash (is_digit 16 at) (ap (is_digit 16) (sym (is_same x at e)) ∙ d) other)
       where
         clash : (b : Bool) → b ≡ true → b ≡ false → ⊥
         clash true p q = cc
         clash false p q = cc
 
-pub number_has_no : (at : ℕ) (text : List ℕ) (n : ℕ) → is_digit at ≡ false → number text ≡ Some n → has_no at text ≡ true
+pub number_has_no : (at : ℕ) (text : List ℕ) (n : ℕ) → is_digit 16 at ≡ false → number text ≡ Some n → has_no at text ≡ true
 number_has_no at text n other h = no_other at text other (number_digits text n h).0

@@ -32,3 +32,20 @@ fn numbers_have_one_to_sixteen_digits(rt: HostRuntime) {
     assert_eq!(rt; number(b"1g"), None);
     assert_eq!(rt; number(b"0x1"), None);
 }
+
+#[test]
+fn decimal_numbers_have_one_to_nine_digits(rt: HostRuntime) {
+    assert_eq!(rt; decimal(b"999999999"), Some(999_999_999));
+    assert_eq!(rt; decimal(b"000000010"), Some(10));
+    assert_eq!(rt; decimal(b"0000000001"), None);
+    assert_eq!(rt; decimal(b""), None);
+    assert_eq!(rt; decimal(b"1a"), None);
+}
+
+#[test]
+fn two_numbers_have_one_space_between(rt: HostRuntime) {
+    assert_eq!(rt; two_numbers(b"1f 2"), Some((0x1f, 2)));
+    assert_eq!(rt; two_numbers(b"1f  2"), None);
+    assert_eq!(rt; two_numbers(b"1f 2 "), None);
+    assert_eq!(rt; two_numbers(b"1f"), None);
+}

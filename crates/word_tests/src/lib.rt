@@ -5,10 +5,13 @@
 //!
 //! | Module | What it has |
 //! |---|---|
-//! | `reading_tests` | the command that words are, or why they are refused, and the help (kexec_words) |
+//! | `reading_tests` | the command that words are, or why they are refused (kexec_words), and the help (command_table) |
 //! | `sentence_tests` | the words behind a command, and the sentence about a refusal (kexec_usage) |
+//! | `agreement_tests` | that kexec_words and kexec_usage judge words alike |
 #![tactic(auto)]
 
+#[cfg(test)]
+mod agreement_tests;
 #[cfg(test)]
 mod reading_tests;
 #[cfg(test)]

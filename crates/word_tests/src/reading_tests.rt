@@ -1,6 +1,7 @@
 //! What no clause says: the meaning of the table, on words as people write them.
 
-use kexec_words::{Command, Runs, UsageWhy, Which, WordsFault, help_of, read, usage_of};
+use command_table::{UsageWhy, Which, help_of, usage_of};
+use kexec_words::{Command, Runs, WordsFault, read};
 use kx_pages::{ImageType, Page};
 use std::alloc::Global;
 use std::test::Fail;
@@ -219,7 +220,7 @@ fn usage_names_the_arguments_in_their_order(rt: HostRuntime) -> Result<(), Fail>
             "Usage: kexec boot-resident --at ADDRESS MEMORY POOL OUT KERNEL PAIRS",
         ),
     ] {
-        let said = usage_of(name).to_string(rt.alloc())?;
+        let said = usage_of("kexec", name).to_string(rt.alloc())?;
         assert!(rt; said.as_str() == want, "{said}");
     }
     Ok(())
@@ -228,7 +229,7 @@ fn usage_names_the_arguments_in_their_order(rt: HostRuntime) -> Result<(), Fail>
 #[test]
 fn help_says_what_each_argument_is(rt: HostRuntime) -> Result<(), Fail> {
     let words = split(rt.alloc(), "exec")?;
-    let said = help_of(&words).to_string(rt.alloc())?;
+    let said = help_of("kexec", &words).to_string(rt.alloc())?;
     let want = "\
 Usage: kexec exec [--twice] MEMORY RECORD OUT
 

@@ -1,9 +1,10 @@
 //! What no clause says: the sentences, on words as people write them.
 
+use command_table::UsageWhy;
 use kexec_usage::{
     Answer, Refusal, asks_for_help, asks_for_version, file_with, meant_of, read_answer,
 };
-use kexec_words::{UsageWhy, WordsFault, read};
+use kexec_words::{WordsFault, read};
 use std::alloc::Global;
 use std::test::Fail;
 

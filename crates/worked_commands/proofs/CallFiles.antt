@@ -10,12 +10,12 @@ use Rattle.page_memory.specs.File.{read_pages, pages_onto, entry_at}
 use Rattle.page_pool.specs.File.{pool_reading, pages_onto as pool_onto, line_onto, checked_range, range_of}
 use Rattle.text_lines.specs.Lines.{lines, cut, number, number_of}
 use Rattle.file_commands.specs.Taking.{and_then, reads}
-use Rattle.kexec_main.specs.Boot.{boot_files}
-use Rattle.kexec_main.specs.Exec.{exec_files}
-use Rattle.kexec_main.specs.Files.{load_by, load_files_of}
-use Rattle.kexec_main.specs.Load.{load_command_files}
-use Rattle.kexec_main.specs.Migrate.{migrate_files}
-use Rattle.kexec_main.specs.declared.status.InputFault.TheVariants as inputs
+use Rattle.load_commands.specs.Boot.{boot_files}
+use Rattle.list_commands.specs.Exec.{exec_files}
+use Rattle.list_commands.specs.Records.{load_by, load_files_of}
+use Rattle.load_commands.specs.Load.{load_command_files}
+use Rattle.list_commands.specs.Migrate.{migrate_files}
+use Rattle.command_parts.specs.declared.reason.InputFault.TheVariants as inputs
 use Rattle.load_record.specs.declared.fault.RecFault.TheVariants as records
 use Rattle.worked_commands.specs.Inputs.{each_file, each_of, short_pool, short_pool_of, spoiled, spoiled_of, three_bytes_record, unreadable}
 use Rattle.worked_commands.specs.Loads.{boot_of, load_of_few}

@@ -5,30 +5,31 @@ use Rattle.std.specs.Prelude.{◌==◌, codes}
 use Rattle.std.proofs.lemmas.Bool.Decides.{nat_tests}
 use Rattle.kx_edge.specs.Edge.{Files}
 use Rattle.kx_pages.specs.declared.image.ImageType.TheVariants.{Auto}
-use Rattle.crash_headers.specs.Notes.{lines_onto as notes_onto, line_onto as note_line, note_of}
+use Rattle.crash_headers.specs.Notes.{line_onto as note_line, note_of}
 use Rattle.image_slots.specs.Events.{Panic}
-use Rattle.image_slots.specs.Texts.{caller_in, decimal_of, event_in, events_onto, events_reading, named_event}
+use Rattle.image_slots.specs.Texts.{caller_in, event_in, events_onto, events_reading, named_event}
 use Rattle.file_commands.specs.Taking.{Take, and_then, ok, reads}
 use Rattle.file_commands.specs.Files.{from_reader, optional_file, whole_file}
 use Rattle.file_commands.proofs.Steps.{reads_ok}
 use Rattle.kx_fields.specs.Fields.{field}
 use Rattle.memory_map.specs.Maps.{is_ram, ram_pages}
-use Rattle.memory_map.specs.Text.{map_reading, lines_onto, line_onto, checked_entry, entry_of, class_of}
+use Rattle.memory_map.specs.Text.{map_reading, lines_onto as map_onto, line_onto, checked_entry, entry_of, class_of}
 use Rattle.memory_map.specs.declared.fault.MapFault.TheVariants as faults
 use Rattle.page_memory.specs.File.{read_pages, pages_onto, entry_at}
 use Rattle.page_pool.specs.File.{pool_reading, pages_onto as pool_onto, line_onto as pool_line, checked_range, range_of}
-use Rattle.text_lines.specs.Lines.{lines, cut, number, number_of}
+use Rattle.text_lines.specs.Lines.{lines, cut, number, number_of, decimal, lines_onto, two_numbers}
 use Rattle.crash_headers.specs.declared.fault.NoteFault.TheVariants as notes
 use Rattle.crash_headers.specs.declared.note.Note.{Note}
 use Rattle.image_slots.specs.declared.fault.EventsFault.TheVariants as events
-use Rattle.kexec_main.specs.CrashInputs.{CrashInputs, crash_inputs, crash_request}
-use Rattle.kexec_main.specs.Drill.{DrillInputs, drill_files}
-use Rattle.kexec_main.specs.EventFile.{events_file}
-use Rattle.kexec_main.specs.Files.{map_file, memory_file, pool_file, some_notes, text_limit, usable_below}
-use Rattle.kexec_main.specs.Inputs.{LoadInputs, kernel_files, load_inputs, request_with}
-use Rattle.kexec_main.specs.declared.status.InputFault.TheVariants as inputs
-use Rattle.kexec_main.specs.declared.status.Reason.{Reason}
-use Rattle.kexec_main.specs.declared.status.Reason.TheVariants.{Input}
+use Rattle.load_commands.specs.CrashInputs.{CrashInputs, crash_inputs, crash_request}
+use Rattle.load_commands.specs.Drill.{DrillInputs, drill_files}
+use Rattle.load_commands.specs.EventFile.{events_file}
+use Rattle.load_commands.specs.Files.{map_file, pool_file, some_notes, usable_below}
+use Rattle.command_parts.specs.Files.{memory_file, text_limit}
+use Rattle.load_commands.specs.Inputs.{LoadInputs, kernel_files, load_inputs, request_with}
+use Rattle.command_parts.specs.declared.reason.InputFault.TheVariants as inputs
+use Rattle.command_parts.specs.declared.reason.Reason.{Reason}
+use Rattle.command_parts.specs.declared.reason.Reason.TheVariants.{Input}
 use Rattle.worked_commands.specs.Inputs.{all_asked, all_ram, each_file, each_of, spoiled, spoiled_of, unreadable}
 use Rattle.worked_commands.specs.Names.{all_inputs, crash_inputs_of, drill_events}
 use Rattle.worked_commands.specs.Texts.{no_memory}
@@ -42,7 +43,7 @@ some_ram : (ram_pages all_ram == 0) ≡ false
 some_ram = grind (arith, nat_tests, one_passes (is_ram all_ram) 1 refl (2 ^ 34) (omega arith))
 
 map_is : map_reading map_text ≡ Ok all_ram
-unfolding map_reading lines_onto line_onto checked_entry entry_of class_of lines cut number number_of
+unfolding map_reading map_onto line_onto checked_entry entry_of class_of lines cut number number_of
 map_is = ap (λ b. cond b (Err faults.NoRam) (Ok all_ram)) some_ram
 
 map_read : (held : Files) → reads (whole_file {R = Reason} text_limit (codes "t")) held ≡ Ok map_text → reads (map_file (codes "t")) held ≡ Ok all_ram
@@ -91,7 +92,7 @@ abbrev crash_read : List Note → CrashInputs
 crash_read notes = record { memory = no_memory; map = all_ram; request = record all_asked { crash = true; modules = []; notes = notes } }
 
 crash_kernel : reads (after_crash_map (Some (codes "n"))) each_file ≡ Ok (crash_read (record { start = 0x200000; size = 0x400 } ∷ []))
-unfolding and_then after_crash_map notes_onto note_line note_of lines cut number number_of
+unfolding and_then after_crash_map lines_onto two_numbers note_line note_of lines cut number number_of
 crash_kernel = read_by each_of (after_crash_map (Some (codes "n")))
 
 crash_kernel_without : reads (after_crash_map None) each_file ≡ Ok (crash_read [])
@@ -112,7 +113,7 @@ without_notes = crash_inputs_read None [] crash_kernel_without
 
 -- spoiled notes, and the memory and the map before them
 spoiled_notes : reads (after_crash_map (Some (codes "n"))) (spoiled (codes "n" ∷ [])) ≡ Err (unreadable (inputs.Notes (notes.BadLine 1)))
-unfolding and_then after_crash_map notes_onto note_line note_of lines cut number number_of
+unfolding and_then after_crash_map lines_onto two_numbers note_line note_of lines cut number number_of
 spoiled_notes = read_by (spoiled_of (codes "n" ∷ [])) (after_crash_map (Some (codes "n")))
 
 abbrev other_memory : (name : List ℕ) → Type 0
@@ -135,7 +136,7 @@ after_drill_map = and_then (events_file (codes "e"))
     (λ events. ok (record { memory = no_memory; pool = 0x10 ∷ 0x11 ∷ 0x12 ∷ []; map = all_ram; events = events; out = codes "o" }))
 
 events_read : reads after_drill_map each_file ≡ Ok (record { memory = no_memory; pool = 0x10 ∷ 0x11 ∷ 0x12 ∷ []; map = all_ram; events = Panic ∷ []; out = codes "o" })
-unfolding and_then after_drill_map events_reading events_onto event_in named_event caller_in decimal_of lines cut number number_of
+unfolding and_then after_drill_map events_reading events_onto event_in named_event caller_in decimal lines cut number number_of
 events_read = read_by each_of after_drill_map
 
 pub drill_read : reads (drill_files drill_events) each_file ≡ Ok (record { memory = no_memory; pool = 0x10 ∷ 0x11 ∷ 0x12 ∷ []; map = all_ram; events = Panic ∷ []; out = codes "o" })
@@ -154,7 +155,7 @@ unfolding and_then pool_reading pool_onto pool_line checked_range range_of lines
 events_pool = read_by (spoiled_of (codes "e" ∷ [])) (pool_file (codes "p") None)
 
 events_spoiled : reads after_drill_map (spoiled (codes "e" ∷ [])) ≡ Err (unreadable (inputs.Events (events.BadLine 1)))
-unfolding and_then after_drill_map events_reading events_onto event_in named_event caller_in decimal_of lines cut number number_of
+unfolding and_then after_drill_map events_reading events_onto event_in named_event caller_in decimal lines cut number number_of
 events_spoiled = read_by (spoiled_of (codes "e" ∷ [])) after_drill_map
 
 pub drill_spoiled : reads (drill_files drill_events) (spoiled (codes "e" ∷ [])) ≡ Err (unreadable (inputs.Events (events.BadLine 1)))

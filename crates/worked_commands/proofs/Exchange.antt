@@ -13,7 +13,7 @@ use Rattle.page_memory.specs.File.{text_of}
 use Rattle.load_states.specs.Exchange.{exchange}
 use Rattle.list_checker.specs.Walk.{AcceptedKept}
 use Rattle.list_checker.proofs.Unique.{walk_same}
-use Rattle.kexec_main.specs.Outputs.{IsFileOf}
+use Rattle.command_parts.specs.Outputs.{IsFileOf}
 use Rattle.segments.specs.Values.{want}
 use Rattle.worked_commands.specs.Inputs.{three_bytes}
 use Rattle.worked_commands.specs.Kept.{exchange_memory, exchange_page, old_page, once_pages, one_exchange, twice_pages}

@@ -12,12 +12,13 @@ use Rattle.page_memory.specs.File.{read_pages, pages_onto, entry_at, reading, te
 use Rattle.file_commands.specs.Files.{from_reader, whole_file}
 use Rattle.file_commands.specs.Taking.{and_then, reads}
 use Rattle.file_commands.proofs.Steps.{reads_ok}
-use Rattle.kexec_main.specs.Exec.{exec_files, exec_of}
-use Rattle.kexec_main.specs.Files.{load_by, load_files, load_record_file, memory_file, memory_limit}
-use Rattle.kexec_main.specs.Trace.{trace_files}
-use Rattle.kexec_main.specs.declared.status.InputFault.TheVariants as inputs
-use Rattle.kexec_main.specs.declared.status.Reason.{Reason}
-use Rattle.kexec_main.specs.declared.status.Reason.TheVariants as reasons
+use Rattle.list_commands.specs.Exec.{exec_files, exec_of}
+use Rattle.list_commands.specs.Records.{load_by, load_files, load_record_file}
+use Rattle.command_parts.specs.Files.{memory_file, memory_limit}
+use Rattle.list_commands.specs.Trace.{trace_files}
+use Rattle.command_parts.specs.declared.reason.InputFault.TheVariants as inputs
+use Rattle.command_parts.specs.declared.reason.Reason.{Reason}
+use Rattle.command_parts.specs.declared.reason.Reason.TheVariants as reasons
 use Rattle.worked_commands.specs.Firsts.{loaded_files, loaded_of}
 use Rattle.worked_commands.specs.Inputs.{three_bytes_record}
 use Rattle.worked_commands.specs.Memories.{abc_page, list_page, loaded, loaded_file, loaded_pages, memory_with}

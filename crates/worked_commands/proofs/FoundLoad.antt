@@ -9,11 +9,11 @@ use Rattle.segments.specs.inner.Rules.{IsBare}
 use Rattle.load_states.specs.Ready.{Told}
 use Rattle.load_states.specs.Runs.{EndsAfter}
 use Rattle.load_states.proofs.Ready.{list_ends}
-use Rattle.kexec_main.specs.Loads.{NormalLoad}
-use Rattle.kexec_main.specs.Outputs.{IsFileOf}
-use Rattle.kexec_main.specs.Runs.{Leaves, MachineLeaves, after_runs}
-use Rattle.kexec_main.proofs.Ending.{machine_leaves}
-use Rattle.kexec_main.proofs.Leaving.{leaves_by}
+use Rattle.load_commands.specs.Loads.{NormalLoad}
+use Rattle.command_parts.specs.Outputs.{IsFileOf}
+use Rattle.command_parts.specs.Runs.{Leaves, MachineLeaves, after_runs}
+use Rattle.command_parts.proofs.Ending.{machine_leaves}
+use Rattle.command_parts.proofs.Leaving.{leaves_by}
 use Rattle.worked_commands.specs.Drawn.{found}
 use Rattle.worked_commands.specs.Inputs.{few_read, three_bytes}
 use Rattle.worked_commands.specs.Lists.{one_move}

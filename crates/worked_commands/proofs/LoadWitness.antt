@@ -19,8 +19,8 @@ use Rattle.load_states.specs.Loads.{memory_of}
 use Rattle.load_states.specs.Ready.{Told}
 use Rattle.load_states.specs.States.{Checked, Load}
 use Rattle.segments.specs.Values.{need}
-use Rattle.kexec_main.specs.Runs.{checked_with}
-use Rattle.kexec_main.specs.Loading.{IsLoaded}
+use Rattle.command_parts.specs.Runs.{checked_with}
+use Rattle.load_commands.specs.Loading.{IsLoaded}
 use Rattle.worked_commands.specs.Inputs.{few_read, three_bytes}
 use Rattle.worked_commands.specs.Loads.{few_plan}
 use Rattle.worked_commands.specs.Lists.{one_move}

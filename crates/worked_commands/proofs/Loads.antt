@@ -33,8 +33,8 @@ use Rattle.kexec_plan.specs.Requests.{Plan}
 use Rattle.kexec_plan.specs.Rules.{first_refusal, ram_runs, test_segments}
 use Rattle.kexec_plan.specs.declared.fault.PlanFault.{PlanFault}
 use Rattle.kexec_plan.specs.declared.fault.PlanFault.TheVariants as plans
-use Rattle.kexec_main.specs.Runs.{checked_with, list_text}
-use Rattle.kexec_main.specs.Texts.{load_lines}
+use Rattle.command_parts.specs.Runs.{checked_with, list_text}
+use Rattle.command_parts.specs.Texts.{load_lines}
 use Rattle.worked_commands.specs.Inputs.{few_asked, three_bytes}
 use Rattle.worked_commands.specs.Lists.{one_move}
 use Rattle.worked_commands.specs.Loads.{boot_of_unknown, few_plan}

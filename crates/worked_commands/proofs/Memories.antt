@@ -16,7 +16,7 @@ use Rattle.page_memory.specs.File.{is_stored, stored_pages, text_of}
 use Rattle.page_memory.specs.Memory.{Agree, word}
 use Rattle.page_memory.proofs.Laws.{frame_at-insert_other, frame_at-insert_same, frame_at-none}
 use Rattle.page_memory.proofs.OneFile.{file-agree}
-use Rattle.kexec_main.specs.Outputs.{IsFileOf}
+use Rattle.command_parts.specs.Outputs.{IsFileOf}
 use Rattle.segments.specs.Values.{overlay, want}
 use Rattle.worked_commands.specs.Inputs.{no_pages_file, three_bytes}
 use Rattle.worked_commands.specs.Texts.{no_memory}

@@ -13,7 +13,7 @@ use Rattle.sha2.specs.Sha256.{compress, digest_bytes, first_words, hash_after, r
 use Rattle.file_commands.specs.Answers.{FilesPut}
 use Rattle.kexec_words.specs.Values as words
 use Rattle.kexec_main.specs.Call.{HasDone}
-use Rattle.kexec_main.specs.Migrate.{MigrateInputs, segments_line}
+use Rattle.list_commands.specs.Migrate.{MigrateInputs, segments_line}
 use Rattle.worked_commands.specs.Inputs.{each_file, three_bytes_file, three_bytes_record}
 use Rattle.worked_commands.specs.Lists.{GivenBy}
 use Rattle.worked_commands.specs.Names.{migrate_record}

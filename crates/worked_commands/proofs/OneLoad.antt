@@ -15,12 +15,12 @@ use Rattle.kexec_plan.specs.Plan.{plan}
 use Rattle.kexec_plan.specs.Requests.{Plan}
 use Rattle.kexec_plan.specs.declared.fault.PlanFault.{PlanFault}
 use Rattle.kexec_plan.specs.declared.fault.PlanFault.TheVariants as plans
-use Rattle.kexec_main.specs.Load.{record_of_load}
-use Rattle.kexec_main.specs.Outputs.{IsFileOf}
-use Rattle.kexec_main.proofs.Outputs.{file_as}
-use Rattle.kexec_main.specs.Runs.{after_runs, list_text, run_text}
-use Rattle.kexec_main.specs.Startup.{planned_startup}
-use Rattle.kexec_main.specs.Texts.{ran_line}
+use Rattle.load_commands.specs.Load.{record_of_load}
+use Rattle.command_parts.specs.Outputs.{IsFileOf}
+use Rattle.command_parts.proofs.Outputs.{file_as}
+use Rattle.command_parts.specs.Runs.{after_runs, list_text, run_text}
+use Rattle.load_commands.specs.Startup.{planned_startup}
+use Rattle.command_parts.specs.Texts.{ran_line}
 use Rattle.worked_commands.specs.Inputs.{few_asked, three_bytes, three_bytes_file, three_bytes_record}
 use Rattle.worked_commands.specs.Loads.{boot_of_unknown, boot_text, few_plan, load_text}
 use Rattle.worked_commands.specs.Memories.{loaded, loaded_file, run_file}

@@ -13,7 +13,7 @@ use Rattle.page_memory.specs.Memory.{Agree}
 use Rattle.page_memory.specs.declared.fault.MemFault.{MemFault}
 use Rattle.page_memory.proofs.RoundTrip.{file_read}
 use Rattle.kx_edge.proofs.Names.{get_same}
-use Rattle.kexec_main.specs.Outputs.{IsFileOf}
+use Rattle.command_parts.specs.Outputs.{IsFileOf}
 use Rattle.worked_commands.specs.Fields.{IsPut, IsSaid}
 use Rattle.worked_commands.specs.Memories.{abc_page}
 

@@ -19,13 +19,13 @@ use Rattle.kexec_plan.proofs.Regions.{same_where_planned}
 use Rattle.kexec_words.specs.declared.commands.Runs.{Runs}
 use Rattle.purgatory_link.specs.declared.region_test.RegionTest.TheVariants.{Same}
 use Rattle.purgatory_link.specs.RegionTest.{test}
-use Rattle.kexec_main.specs.Inputs.{LoadInputs}
-use Rattle.kexec_main.specs.Loads.{NormalLoad}
-use Rattle.kexec_main.specs.Runs.{EndsAgain, IsOnce, Leaves, MachineLeaves, after_runs, run_text, wish_of}
-use Rattle.kexec_main.specs.Startup.{planned_startup}
-use Rattle.kexec_main.proofs.Ending.{ends_again, machine_leaves}
-use Rattle.kexec_main.proofs.Leaving.{has_mode, leaves_by}
-use Rattle.kexec_main.proofs.Proving.{arrives, has_wanted_of}
+use Rattle.load_commands.specs.Inputs.{LoadInputs}
+use Rattle.load_commands.specs.Loads.{NormalLoad}
+use Rattle.command_parts.specs.Runs.{EndsAgain, IsOnce, Leaves, MachineLeaves, after_runs, run_text, wish_of}
+use Rattle.load_commands.specs.Startup.{planned_startup}
+use Rattle.command_parts.proofs.Ending.{ends_again, machine_leaves}
+use Rattle.command_parts.proofs.Leaving.{has_mode, leaves_by}
+use Rattle.load_commands.proofs.Proving.{arrives, has_wanted_of}
 use Rattle.worked_commands.specs.Drawn.{found}
 use Rattle.worked_commands.specs.Inputs.{no_pages_file, three_bytes}
 use Rattle.worked_commands.specs.Loads.{boot_text, few_plan, nothing_loaded}

@@ -19,12 +19,12 @@ use Rattle.load_states.specs.Runs.{EndsAfter}
 use Rattle.load_states.specs.States.{Checked, Load}
 use Rattle.load_states.proofs.Ready.{list_ends}
 use Rattle.kexec_words.specs.Values.{ExecValue}
-use Rattle.kexec_main.specs.Exec.{load_of, runs_asked}
-use Rattle.kexec_main.specs.Files.{list_files}
-use Rattle.kexec_main.specs.Runs.{EndsAgain, Leaves, MachineLeaves, after_runs}
-use Rattle.kexec_main.proofs.Ending.{ends_again, machine_leaves}
-use Rattle.kexec_main.proofs.Executes.{runs_fit}
-use Rattle.kexec_main.proofs.Leaving.{leaves_by}
+use Rattle.list_commands.specs.Exec.{load_of, runs_asked}
+use Rattle.list_commands.specs.Records.{list_files}
+use Rattle.command_parts.specs.Runs.{EndsAgain, Leaves, MachineLeaves, after_runs}
+use Rattle.command_parts.proofs.Ending.{ends_again, machine_leaves}
+use Rattle.list_commands.proofs.Executes.{runs_fit}
+use Rattle.command_parts.proofs.Leaving.{leaves_by}
 use Rattle.worked_commands.specs.Drawn.{found}
 use Rattle.worked_commands.specs.Execs.{ran_text}
 use Rattle.worked_commands.specs.Inputs.{three_bytes}

@@ -11,7 +11,7 @@ use Rattle.kexec_plan.specs.Requests.{Plan}
 use Rattle.kexec_plan.specs.declared.fault.PlanFault.{PlanFault}
 use Rattle.kexec_plan.specs.declared.fault.PlanFault.TheVariants as plans
 use Rattle.kexec_plan.proofs.Area.{in_area, outside_all}
-use Rattle.kexec_main.specs.CrashInputs.{CrashInputs}
+use Rattle.load_commands.specs.CrashInputs.{CrashInputs}
 use Rattle.worked_commands.specs.Inputs.{three_bytes}
 use Rattle.worked_commands.specs.Loads.{few_plan}
 use Rattle.worked_commands.specs.Memories.{abc_page, loaded, loaded_pages, memory_with, run_pages}

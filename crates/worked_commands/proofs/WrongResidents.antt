@@ -32,11 +32,11 @@ use Rattle.resident_planner.specs.declared.plan.Made.{Made as ResidentList}
 use Rattle.resident_planner.proofs.Once.{IsSameMade, least_of, one_made}
 use Rattle.kexec_plan.specs.Requests.{Plan}
 use Rattle.kexec_plan.proofs.Bare.{planned_bare}
-use Rattle.kexec_main.specs.BootResident.{BootsResident, IsResident, ResidentInputs, load_with, resident_text}
-use Rattle.kexec_main.specs.Outputs.{IsFileOf}
-use Rattle.kexec_main.specs.Runs.{Leaves, MachineLeaves, after_runs, checked_with}
-use Rattle.kexec_main.proofs.Ending.{machine_leaves}
-use Rattle.kexec_main.proofs.Leaving.{leaves_by}
+use Rattle.load_commands.specs.BootResident.{BootsResident, IsResident, ResidentInputs, load_with, resident_text}
+use Rattle.command_parts.specs.Outputs.{IsFileOf}
+use Rattle.command_parts.specs.Runs.{Leaves, MachineLeaves, after_runs, checked_with}
+use Rattle.command_parts.proofs.Ending.{machine_leaves}
+use Rattle.command_parts.proofs.Leaving.{leaves_by}
 use Rattle.worked_commands.specs.Drawn.{found, told_wrongly}
 use Rattle.worked_commands.specs.Inputs.{three_bytes}
 use Rattle.worked_commands.specs.Lists.{HasList, one_move}

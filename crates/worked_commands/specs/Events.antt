@@ -6,7 +6,7 @@ use Rattle.memory_map.specs.Maps.{MapValue}
 use Rattle.segments.specs.Values.{SegmentValue}
 use Rattle.image_slots.specs.declared.event.LoadKind.TheVariants as kinds
 use Rattle.image_slots.specs.Events.{EventValue, Open, Add, Write, Install, Store, Exec}
-use Rattle.kexec_main.specs.Drill.{DrillInputs}
+use Rattle.load_commands.specs.Drill.{DrillInputs}
 use Rattle.worked_commands.specs.Texts.{no_memory}
 
 -- these bytes in the page at this address

@@ -1,6 +1,6 @@
 -- What `exec` makes of the list that moves page 12 to page 2 (this project's own).
 use Rattle.std.specs.Prelude.{ℕ, ◌++◌, List, [], ◌∷◌, None, codes}
-use Rattle.kexec_main.specs.Outputs.{Made}
+use Rattle.command_parts.specs.Outputs.{Made}
 use Rattle.worked_commands.specs.Memories.{run_file}
 
 -- what is said of the list and of its run

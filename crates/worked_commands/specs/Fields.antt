@@ -22,15 +22,15 @@ use Rattle.kexec_plan.specs.Requests.{Plan}
 use Rattle.kexec_words.specs.Values.{BootResidentValue, BootValue, ExecValue}
 use Rattle.kx_edge.specs.Edge.{Files, Said}
 use Rattle.file_commands.specs.Answers.{FilesPut}
-use Rattle.kexec_main.specs.BootResident.{IsResident, ResidentInputs, load_with, resident_text}
-use Rattle.kexec_main.specs.CrashInputs.{CrashInputs}
-use Rattle.kexec_main.specs.Exec.{files_text, load_of, runs_asked}
-use Rattle.kexec_main.specs.Files.{list_files}
-use Rattle.kexec_main.specs.Inputs.{LoadInputs}
-use Rattle.kexec_main.specs.Loads.{NormalLoad}
-use Rattle.kexec_main.specs.Outputs.{IsFileOf}
-use Rattle.kexec_main.specs.Runs.{EndsAgain, IsOnce, Leaves, MachineLeaves, after_runs, run_text, wish_of}
-use Rattle.kexec_main.specs.Startup.{planned_startup}
+use Rattle.load_commands.specs.BootResident.{IsResident, ResidentInputs, load_with, resident_text}
+use Rattle.load_commands.specs.CrashInputs.{CrashInputs}
+use Rattle.list_commands.specs.Exec.{files_text, load_of, runs_asked}
+use Rattle.list_commands.specs.Records.{list_files}
+use Rattle.load_commands.specs.Inputs.{LoadInputs}
+use Rattle.load_commands.specs.Loads.{NormalLoad}
+use Rattle.command_parts.specs.Outputs.{IsFileOf}
+use Rattle.command_parts.specs.Runs.{EndsAgain, IsOnce, Leaves, MachineLeaves, after_runs, run_text, wish_of}
+use Rattle.load_commands.specs.Startup.{planned_startup}
 use Rattle.worked_commands.specs.Shelves.{Desk, Slate}
 
 -- a shelf that holds these files, and a sink that has been said this

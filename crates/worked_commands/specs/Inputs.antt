@@ -7,10 +7,10 @@ use Rattle.memory_map.specs.Maps.{MapValue}
 use Rattle.segments.specs.Values.{SegmentValue}
 use Rattle.load_record.specs.File.{Record}
 use Rattle.kexec_plan.specs.Requests.{Asked}
-use Rattle.kexec_main.specs.declared.status.InputFault.{InputFault}
-use Rattle.kexec_main.specs.declared.status.Reason.{Reason}
-use Rattle.kexec_main.specs.declared.status.Reason.TheVariants as reasons
-use Rattle.kexec_main.specs.Inputs.{LoadInputs}
+use Rattle.command_parts.specs.declared.reason.InputFault.{InputFault}
+use Rattle.command_parts.specs.declared.reason.Reason.{Reason}
+use Rattle.command_parts.specs.declared.reason.Reason.TheVariants as reasons
+use Rattle.load_commands.specs.Inputs.{LoadInputs}
 use Rattle.file_commands.specs.Taking.{File, Refusal, by}
 use Rattle.worked_commands.specs.Shelves.{holding}
 use Rattle.worked_commands.specs.Texts.{no_memory}

@@ -8,7 +8,7 @@ use Rattle.kimage_list.specs.Laying.{in_bytes}
 use Rattle.load_record.specs.File.{Record}
 use Rattle.page_memory.specs.Contents.{Contents}
 use Rattle.page_memory.specs.File.{text_of}
-use Rattle.kexec_main.specs.Outputs.{Made}
+use Rattle.command_parts.specs.Outputs.{Made}
 use Rattle.worked_commands.specs.Inputs.{three_bytes}
 use Rattle.worked_commands.specs.Memories.{abc_page, memory_with}
 use Rattle.worked_commands.specs.Texts.{kept_image, registers}

@@ -13,7 +13,7 @@ use Rattle.load_record.specs.File.{Record}
 use Rattle.page_memory.specs.Contents.{Contents, at}
 use Rattle.page_memory.specs.Memory.{word}
 use Rattle.list_checker.specs.declared.fault.ListFault.{ListFault}
-use Rattle.kexec_main.specs.Outputs.{Made}
+use Rattle.command_parts.specs.Outputs.{Made}
 use Rattle.worked_commands.specs.Inputs.{three_bytes}
 use Rattle.worked_commands.specs.Texts.{plain_image, registers}
 

@@ -6,9 +6,9 @@ use Rattle.kx_pages.specs.declared.image.Mode.TheVariants as modes
 use Rattle.kx_pages.specs.declared.image.Wish.TheVariants.{Plain}
 use Rattle.load_states.specs.States.{Checked, no_pages}
 use Rattle.kexec_plan.specs.Requests.{Plan}
-use Rattle.kexec_main.specs.Boot.{BootInputs}
-use Rattle.kexec_main.specs.Load.{LoadCommand}
-use Rattle.kexec_main.specs.Outputs.{Made}
+use Rattle.load_commands.specs.Boot.{BootInputs}
+use Rattle.load_commands.specs.Load.{LoadCommand}
+use Rattle.command_parts.specs.Outputs.{Made}
 use Rattle.worked_commands.specs.Inputs.{few_asked, few_read, three_bytes, three_bytes_file}
 use Rattle.worked_commands.specs.Memories.{loaded_file, run_file}
 use Rattle.worked_commands.specs.Texts.{no_memory}

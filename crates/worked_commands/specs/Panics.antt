@@ -3,9 +3,9 @@ use Rattle.std.specs.Prelude.{◌≡◌, ℕ, ◌++◌, List, [], ◌∷◌, Som
 use Rattle.memory_map.specs.Maps.{reserved_area}
 use Rattle.kexec_plan.specs.Plan.{plan}
 use Rattle.load_states.specs.States.{CrashLoad}
-use Rattle.kexec_main.specs.CrashInputs.{CrashInputs}
-use Rattle.kexec_main.specs.LoadPanic.{LoadPanicCommand}
-use Rattle.kexec_main.specs.Outputs.{Made}
+use Rattle.load_commands.specs.CrashInputs.{CrashInputs}
+use Rattle.load_commands.specs.LoadPanic.{LoadPanicCommand}
+use Rattle.command_parts.specs.Outputs.{Made}
 use Rattle.worked_commands.specs.Inputs.{three_bytes, three_bytes_digest}
 use Rattle.worked_commands.specs.Loads.{few_plan}
 use Rattle.worked_commands.specs.Memories.{loaded, memory_with, run_file, run_pages}

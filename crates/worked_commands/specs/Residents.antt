@@ -1,7 +1,7 @@
 -- What `boot-resident` took, for the kernel `abc` at page 2 (this project's own).
 use Rattle.std.specs.Prelude.{ℕ, List, codes}
 use Rattle.page_memory.specs.Contents.{Contents}
-use Rattle.kexec_main.specs.BootResident.{ResidentInputs}
+use Rattle.load_commands.specs.BootResident.{ResidentInputs}
 use Rattle.worked_commands.specs.Inputs.{few_read}
 
 -- over this memory, with these pairs

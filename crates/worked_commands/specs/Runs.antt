@@ -3,9 +3,9 @@ use Rattle.std.specs.Prelude.{[], ◌∷◌}
 use Rattle.page_memory.specs.Contents.{Contents}
 use Rattle.load_record.specs.File.{Record}
 use Rattle.load_states.specs.States.{Checked}
-use Rattle.kexec_main.specs.Exec.{load_of}
-use Rattle.kexec_main.specs.Files.{list_files}
-use Rattle.kexec_main.specs.Runs.{checked_with}
+use Rattle.list_commands.specs.Exec.{load_of}
+use Rattle.list_commands.specs.Records.{list_files}
+use Rattle.command_parts.specs.Runs.{checked_with}
 use Rattle.worked_commands.specs.Inputs.{three_bytes_record}
 use Rattle.worked_commands.specs.Texts.{kept_image, registers}
 

@@ -2,10 +2,10 @@
 use Rattle.std.specs.Prelude.{ℕ, List, [], ◌∷◌, None, codes}
 use Rattle.kx_pages.specs.declared.image.Mode.{Mode}
 use Rattle.page_memory.specs.Contents.{Contents}
-use Rattle.kexec_main.specs.CoreFile.{CoreInputs}
-use Rattle.kexec_main.specs.Migrate.{MigrateInputs}
-use Rattle.kexec_main.specs.Outputs.{Made}
-use Rattle.kexec_main.specs.Trace.{TraceInputs}
+use Rattle.load_commands.specs.CoreFile.{CoreInputs}
+use Rattle.list_commands.specs.Migrate.{MigrateInputs}
+use Rattle.command_parts.specs.Outputs.{Made}
+use Rattle.list_commands.specs.Trace.{TraceInputs}
 use Rattle.worked_commands.specs.Inputs.{three_bytes_record}
 
 -- one output `o`, and a text

@@ -7,14 +7,14 @@ use Rattle.load_record.specs.File.{Record}
 use Rattle.load_states.specs.States.{Checked, CrashLoad}
 use Rattle.resident_planner.specs.declared.plan.Made.{Made as ResidentList}
 use Rattle.kx_edge.specs.Edge.{Files}
-use Rattle.kexec_main.specs.Boot.{HasBooted}
-use Rattle.kexec_main.specs.BootResident.{HasBootedResident, ResidentInputs, resident_text}
-use Rattle.kexec_main.specs.CrashInputs.{CrashInputs}
-use Rattle.kexec_main.specs.Exec.{HasExecuted, files_text, load_of}
-use Rattle.kexec_main.specs.Files.{list_files}
-use Rattle.kexec_main.specs.LoadPanic.{PanicLoad}
-use Rattle.kexec_main.specs.Runs.{run_text}
-use Rattle.kexec_main.specs.Startup.{planned_startup}
+use Rattle.load_commands.specs.Boot.{HasBooted}
+use Rattle.load_commands.specs.BootResident.{HasBootedResident, ResidentInputs, resident_text}
+use Rattle.load_commands.specs.CrashInputs.{CrashInputs}
+use Rattle.list_commands.specs.Exec.{HasExecuted, files_text, load_of}
+use Rattle.list_commands.specs.Records.{list_files}
+use Rattle.load_commands.specs.LoadPanic.{PanicLoad}
+use Rattle.command_parts.specs.Runs.{run_text}
+use Rattle.load_commands.specs.Startup.{planned_startup}
 use Rattle.worked_commands.specs.Drawn.{EachBut, found, found_with}
 use Rattle.worked_commands.specs.Fields.{desk_of, fields_of_boot, fields_of_exec, fields_of_panic, fields_of_resident, slate_of}
 use Rattle.worked_commands.specs.Inputs.{few_read}

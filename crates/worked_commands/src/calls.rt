@@ -11,11 +11,11 @@ ghost use Rattle.resident_planner.specs.declared.fault.PairsFault.TheVariants as
 ghost use Rattle.file_commands.specs.Answers.{unread};
 ghost use Rattle.file_commands.specs.Taking.{by, reads};
 ghost use Rattle.kexec_words.specs.Values as words;
-ghost use Rattle.kexec_words.specs.declared.faults.UsageWhy.TheVariants as usage;
+ghost use Rattle.command_table.specs.declared.faults.UsageWhy.TheVariants as usage;
 ghost use Rattle.kexec_main.specs.Call.{EndsWithoutFiles, HasDone, HasRefusal, IsInOrder};
 ghost use Rattle.kexec_main.specs.Commands.{Holds};
-ghost use Rattle.kexec_main.specs.declared.status.InputFault.TheVariants as inputs;
-ghost use Rattle.kexec_main.specs.declared.status.Reason.TheVariants as reasons;
+ghost use Rattle.command_parts.specs.declared.reason.InputFault.TheVariants as inputs;
+ghost use Rattle.command_parts.specs.declared.reason.Reason.TheVariants as reasons;
 ghost use Rattle.worked_commands.specs.Inputs.{each_file, short_pool, spoiled, three_bytes_file, unreadable};
 ghost use Rattle.worked_commands.specs.Lists.{Always, GivenBy, Gives, Never};
 ghost use Rattle.worked_commands.specs.Names.{boot_raw, boot_resident_raw, core_memory, drill_events, exec_record, load_panic_of, load_raw, migrate_record, of_record, trace_memory};

@@ -5,11 +5,11 @@ ghost use Rattle.kx_pages.specs.Bytes.{page_of};
 ghost use Rattle.page_memory.specs.Contents.{Contents, at};
 ghost use Rattle.list_checker.specs.declared.fault.Why.TheVariants.{HeadKind, Missing, WrongBytes};
 ghost use Rattle.file_commands.specs.Taking.{Refusal};
-ghost use Rattle.kexec_main.specs.Check.{HasCheckedLoad, IsAcceptedLoad, IsFaultIn, IsInPlace, IsPlaceFault, checks};
-ghost use Rattle.kexec_main.specs.Dump.{lines_of};
-ghost use Rattle.kexec_main.specs.Files.{crash_files, list_files, load_by};
-ghost use Rattle.kexec_main.specs.Outputs.{Made};
-ghost use Rattle.kexec_main.specs.declared.status.Reason.{Reason};
+ghost use Rattle.list_commands.specs.Check.{HasCheckedLoad, IsAcceptedLoad, IsFaultIn, IsInPlace, IsPlaceFault, checks};
+ghost use Rattle.list_commands.specs.Dump.{lines_of};
+ghost use Rattle.list_commands.specs.Records.{crash_files, list_files, load_by};
+ghost use Rattle.command_parts.specs.Outputs.{Made};
+ghost use Rattle.command_parts.specs.declared.reason.Reason.{Reason};
 ghost use Rattle.worked_commands.specs.Lists.{GivenBy, Gives, HasList, HasSource, crash_record, plain_record, told_fault};
 
 use kx_edge::{Shelf, Sink};

@@ -4,9 +4,9 @@ ghost use Rattle.std.specs.Prelude.{◌≡◌, ◌∷◌, [], Some, None, Ok, Er
 ghost use Rattle.kx_pages.specs.Bytes.{page_of};
 ghost use Rattle.image_slots.specs.declared.fault.SlotsFault.TheVariants as slots;
 ghost use Rattle.file_commands.specs.Taking.{by, too_long};
-ghost use Rattle.kexec_main.specs.Drill.{AreRam, CanDrill, HasDrilled, Meets, drill_text, drills, first_meeting, memory_after};
-ghost use Rattle.kexec_main.specs.Outputs.{Made};
-ghost use Rattle.kexec_main.specs.declared.status.Reason.TheVariants as reasons;
+ghost use Rattle.load_commands.specs.Drill.{AreRam, CanDrill, HasDrilled, Meets, drill_text, drills, first_meeting, memory_after};
+ghost use Rattle.command_parts.specs.Outputs.{Made};
+ghost use Rattle.command_parts.specs.declared.reason.Reason.TheVariants as reasons;
 ghost use Rattle.worked_commands.specs.Events.{drill_of, first_events, first_replies, reserved_ram, small_ram, small_runs};
 ghost use Rattle.worked_commands.specs.Inputs.{no_pages_file};
 ghost use Rattle.worked_commands.specs.Lists.{Gives, Never, Says};

@@ -3,10 +3,10 @@
 ghost use Rattle.std.specs.Prelude.{◌≡◌, ◌∷◌, [], Ok, Err};
 ghost use Rattle.page_memory.specs.Contents.{Contents, at};
 ghost use Rattle.file_commands.specs.Taking.{Refusal};
-ghost use Rattle.kexec_main.specs.Dump.{HasDumpedLoad, dumps, lines_of};
-ghost use Rattle.kexec_main.specs.Files.{load_by};
-ghost use Rattle.kexec_main.specs.Outputs.{Made};
-ghost use Rattle.kexec_main.specs.declared.status.Reason.{Reason};
+ghost use Rattle.list_commands.specs.Dump.{HasDumpedLoad, dumps, lines_of};
+ghost use Rattle.list_commands.specs.Records.{load_by};
+ghost use Rattle.command_parts.specs.Outputs.{Made};
+ghost use Rattle.command_parts.specs.declared.reason.Reason.{Reason};
 ghost use Rattle.worked_commands.specs.Dumps.{crash_text, list_text, round_text};
 ghost use Rattle.worked_commands.specs.Lists.{GivenBy, Gives, HasList, HasWords, crash_record, plain_record};
 

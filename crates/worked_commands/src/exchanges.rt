@@ -2,10 +2,10 @@
 
 ghost use Rattle.std.specs.Prelude.{◌≡◌, ◌∷◌, [], true, false, Ok, Err, codes};
 ghost use Rattle.file_commands.specs.Taking.{by};
-ghost use Rattle.kexec_main.specs.Exec.{CanExec, executes};
-ghost use Rattle.kexec_main.specs.Files.{load_by};
-ghost use Rattle.kexec_main.specs.Outputs.{Made};
-ghost use Rattle.kexec_main.specs.declared.status.Reason.TheVariants as reasons;
+ghost use Rattle.list_commands.specs.Exec.{CanExec, executes};
+ghost use Rattle.list_commands.specs.Records.{load_by};
+ghost use Rattle.command_parts.specs.Outputs.{Made};
+ghost use Rattle.command_parts.specs.declared.reason.Reason.TheVariants as reasons;
 ghost use Rattle.worked_commands.specs.Kept.{exchange_memory, exchange_record, once_goods, twice_goods};
 
 /// One run: page 2 has `abc`, page 13 has what page 2 had, and the swap page has `abc`. Two runs: both pages are as they

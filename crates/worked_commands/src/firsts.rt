@@ -4,7 +4,7 @@ ghost use Rattle.std.specs.Prelude.{◌∷◌, [], false, true, None, codes};
 ghost use Rattle.file_commands.specs.Taking.{by};
 ghost use Rattle.kexec_words.specs.Values as words;
 ghost use Rattle.kexec_main.specs.Call.{HasDone, HasRefusal, IsInOrder};
-ghost use Rattle.kexec_main.specs.declared.status.Reason.TheVariants as reasons;
+ghost use Rattle.command_parts.specs.declared.reason.Reason.TheVariants as reasons;
 ghost use Rattle.worked_commands.specs.Dumps.{list_text};
 ghost use Rattle.worked_commands.specs.Firsts.{loaded_files};
 ghost use Rattle.worked_commands.specs.Lists.{GivenBy, Gives};

@@ -5,11 +5,11 @@ ghost use Rattle.std.specs.Prelude.{◌≡◌, ◌∷◌, [], Some, None, Ok, Er
 ghost use Rattle.kexec_plan.specs.Plan.{plan};
 ghost use Rattle.kexec_plan.specs.declared.fault.PlanFault.TheVariants as plans;
 ghost use Rattle.file_commands.specs.Taking.{by, too_long};
-ghost use Rattle.kexec_main.specs.CrashInputs.{CrashInputs};
-ghost use Rattle.kexec_main.specs.CrashLoading.{IsCrashLoaded};
-ghost use Rattle.kexec_main.specs.LoadPanic.{CanLoadPanic, HasLoadedPanic, PanicLoad, loads_panic};
-ghost use Rattle.kexec_main.specs.Outputs.{Made};
-ghost use Rattle.kexec_main.specs.declared.status.Reason.TheVariants as reasons;
+ghost use Rattle.load_commands.specs.CrashInputs.{CrashInputs};
+ghost use Rattle.load_commands.specs.CrashLoading.{IsCrashLoaded};
+ghost use Rattle.load_commands.specs.LoadPanic.{CanLoadPanic, HasLoadedPanic, PanicLoad, loads_panic};
+ghost use Rattle.command_parts.specs.Outputs.{Made};
+ghost use Rattle.command_parts.specs.declared.reason.Reason.TheVariants as reasons;
 ghost use Rattle.memory_map.specs.Maps.{reserved_area};
 ghost use Rattle.worked_commands.specs.Inputs.{three_bytes};
 ghost use Rattle.worked_commands.specs.Lists.{Gives};

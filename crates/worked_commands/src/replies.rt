@@ -2,7 +2,7 @@
 
 ghost use Rattle.std.specs.Prelude.{◌≡◌, ◌++◌, ◌∷◌, [], codes};
 ghost use Rattle.image_slots.specs.declared.reply.Reply.TheVariants as replies;
-ghost use Rattle.kexec_main.specs.Replies.{reply_line, reply_lines, segments_fault};
+ghost use Rattle.load_commands.specs.Replies.{reply_line, reply_lines, segments_fault};
 ghost use Rattle.segments.specs.declared.fault.SegFault.TheVariants as faults;
 
 /// The line of each reply: the event's number in decimal, and then what is replied, a page in hexadecimal.

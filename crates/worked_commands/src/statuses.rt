@@ -2,7 +2,7 @@
 
 ghost use Rattle.std.specs.Prelude.{◌≡◌, codes, string_bytes};
 ghost use Rattle.kexec_plan.specs.declared.fault.PlanFault.TheVariants as plans;
-ghost use Rattle.kexec_words.specs.declared.faults.UsageWhy.TheVariants as words;
+ghost use Rattle.command_table.specs.declared.faults.UsageWhy.TheVariants as words;
 ghost use Rattle.list_checker.specs.declared.fault.Why.TheVariants as whys;
 ghost use Rattle.page_memory.specs.declared.fault.MemFault.TheVariants as mem_faults;
 ghost use Rattle.page_pool.specs.declared.fault.PoolFault.TheVariants as pool_faults;
@@ -13,8 +13,8 @@ ghost use Rattle.file_commands.specs.Answers.{done, memory, not_accepted, refuse
 ghost use Rattle.file_commands.specs.Taking.{by, too_long};
 ghost use Rattle.kexec_main.specs.ExitStatuses.{code_of};
 ghost use Rattle.kexec_main.specs.Statuses.{answer_of};
-ghost use Rattle.kexec_main.specs.declared.status.InputFault.TheVariants as inputs;
-ghost use Rattle.kexec_main.specs.declared.status.Reason.TheVariants as reasons;
+ghost use Rattle.command_parts.specs.declared.reason.InputFault.TheVariants as inputs;
+ghost use Rattle.command_parts.specs.declared.reason.Reason.TheVariants as reasons;
 ghost use Rattle.kexec_main.specs.declared.status.Status.TheVariants as status;
 
 /// How a command ended, and with which exit status.

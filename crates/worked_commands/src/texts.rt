@@ -7,12 +7,14 @@ ghost use Rattle.purgatory_link.specs.RegionTest.{test};
 ghost use Rattle.purgatory_link.specs.declared.region_test.RegionTest.TheVariants as tests;
 ghost use Rattle.relocate_machine.specs.declared.step.Outcome.TheVariants as outcomes;
 ghost use Rattle.sample_load.specs.Samples.{memory_digest};
-ghost use Rattle.kexec_main.specs.BootResident.{copied_line, resident_text};
-ghost use Rattle.kexec_main.specs.CoreFile.{core_line};
-ghost use Rattle.kexec_main.specs.Migrate.{segments_line};
-ghost use Rattle.kexec_main.specs.Startup.{planned_startup, purgatory_places};
-ghost use Rattle.kexec_main.specs.Texts.{accepted_line, crash_line, crash_lines, crash_ran_text, head_line, hexadecimal, load_lines, memory_line, purgatory_line, ran_line, regions_line, start_line};
-ghost use Rattle.kexec_main.specs.Trace.{mode_by, outcome_line};
+ghost use Rattle.load_commands.specs.BootResident.{copied_line, resident_text};
+ghost use Rattle.load_commands.specs.CoreFile.{core_line};
+ghost use Rattle.list_commands.specs.Migrate.{segments_line};
+ghost use Rattle.load_commands.specs.Startup.{planned_startup};
+ghost use Rattle.command_parts.specs.Startup.{purgatory_places};
+ghost use Rattle.command_parts.specs.Texts.{accepted_line, crash_line, crash_lines, crash_ran_text, head_line, hexadecimal, load_lines, purgatory_line, ran_line, regions_line, start_line};
+ghost use Rattle.load_commands.specs.Sample.{memory_line};
+ghost use Rattle.list_commands.specs.Trace.{mode_by, outcome_line};
 ghost use Rattle.worked_commands.specs.Texts.{core_of_five, kept_checked, kept_image, plain_image, purgatory_plan, registers};
 
 /// Hexadecimal numbers are in lower case, without leading zeros.

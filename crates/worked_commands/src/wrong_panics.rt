@@ -9,7 +9,7 @@ ghost use Rattle.load_states.specs.States.{CrashLoad};
 ghost use Rattle.kexec_plan.specs.Plan.{plan};
 ghost use Rattle.kexec_plan.specs.Requests.{Plan};
 ghost use Rattle.kexec_plan.specs.declared.fault.PlanFault.TheVariants as plans;
-ghost use Rattle.kexec_main.specs.CrashInputs.{CrashInputs};
+ghost use Rattle.load_commands.specs.CrashInputs.{CrashInputs};
 ghost use Rattle.worked_commands.specs.Loads.{few_plan};
 ghost use Rattle.worked_commands.specs.Memories.{loaded};
 ghost use Rattle.worked_commands.specs.Panics.{IsAsked, crash_load};

@@ -4,7 +4,7 @@ use Rattle.std.specs.List.{slice_split}
 use Rattle.clap.specs.Words.{Text}
 use Rattle.kexec_words.specs.Meaning.{command_of}
 use Rattle.kexec_words.specs.Values.{CommandValue}
-use Rattle.kexec_words.specs.declared.faults.UsageWhy.{UsageWhy}
+use Rattle.command_table.specs.declared.faults.UsageWhy.{UsageWhy}
 
 -- the words of a line: what stands between its spaces
 abbrev pub words : List ℕ → List Text

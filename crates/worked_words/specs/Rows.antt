@@ -1,32 +1,25 @@
--- What was found for arguments, as the examples write it (this project's own).
-use Rattle.std.specs.Prelude.{List, [], ◌∷◌, Some, None, codes}
-use Rattle.clap.specs.Words.{Row, Text}
-use Rattle.clap.specs.declared.builder.value_parser.Reading.TheVariants.{AsWritten}
-use Rattle.clap.specs.declared.parser.matches.ValueSource.TheVariants.{CommandLine}
+-- What is given for arguments, as the examples write it (this project's own).
+use Rattle.std.specs.Prelude.{List, [], ◌∷◌, codes}
+use Rattle.command_table.specs.Table.{Text}
+use Rattle.kexec_words.specs.Given.{GivenValue}
 
 -- an argument that was given these values
-abbrev pub row : Text → List Text → Row
-row id values = record {
-  id = id;
-  values = values;
-  count = None;
-  source = Some CommandLine;
-  reading = AsWritten;
-}
+abbrev pub row : Text → List Text → GivenValue
+row id values = record { id = id; texts = values }
 
 -- OUT has one value and then another row; MODULES have two; MEMORY has none, and POOL no row
-abbrev pub rows : List Row
+abbrev pub rows : List GivenValue
 rows =
     row (codes "OUT") (codes "o" ∷ []) ∷ row (codes "MODULES") (codes "x" ∷ codes "y" ∷ [])
     ∷ row (codes "MEMORY") [] ∷ row (codes "OUT") (codes "another" ∷ [])
     ∷ row (codes "twice") (codes "true" ∷ []) ∷ row (codes "kept") (codes "false" ∷ []) ∷ []
 
 -- an argument that was given one value
-abbrev pub one : Text → Text → Row
+abbrev pub one : Text → Text → GivenValue
 one id value = row id (value ∷ [])
 
 -- each argument of each command, with a value of its own
-abbrev pub all_rows : List Row
+abbrev pub all_rows : List GivenValue
 all_rows =
     one (codes "MEMORY") (codes "m") ∷ one (codes "POOL") (codes "p")
     ∷ one (codes "OUT") (codes "o") ∷ one (codes "RECORD") (codes "r")

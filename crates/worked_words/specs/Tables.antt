@@ -1,9 +1,9 @@
 -- The table of a command's arguments, column by column (this project's own).
 use Rattle.std.specs.Prelude.{List, map}
 use Rattle.clap.specs.Words.{Rule, Text}
-use Rattle.kexec_words.specs.Table.{ArgumentValue}
-use Rattle.kexec_words.specs.declared.table.Form.{Form}
-use Rattle.kexec_words.specs.declared.table.Kind.{Kind}
+use Rattle.command_table.specs.Table.{ArgumentValue}
+use Rattle.command_table.specs.declared.table.Form.{Form}
+use Rattle.command_table.specs.declared.table.Kind.{Kind}
 
 -- the names for people, in their order
 abbrev pub names_in : List ArgumentValue → List Text

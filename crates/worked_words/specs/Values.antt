@@ -2,7 +2,7 @@
 use Rattle.std.specs.Prelude.{Bool, [], ◌∷◌, Option, Some, None, Result, Ok, codes}
 use Rattle.kexec_words.specs.Values.{InputsValue, CrashInputsValue, CommandValue, boot, load, load_panic}
 use Rattle.kexec_words.specs.declared.commands.Runs.{Runs}
-use Rattle.kexec_words.specs.declared.faults.UsageWhy.{UsageWhy}
+use Rattle.command_table.specs.declared.faults.UsageWhy.{UsageWhy}
 use Rattle.kx_pages.specs.declared.image.ImageType.{ImageType}
 
 -- memory m, pool p, kernel k, and nothing else

@@ -3,13 +3,12 @@
 
 ghost use Rattle.std.specs.Prelude.{◌≡◌, ◌∷◌, ◌++◌, [], ◌+◌, Some, None, Ok, Err, codes, false};
 ghost use Rattle.clap.specs.declared.error.kind.ErrorKind.TheVariants.{UnknownArgument};
-ghost use Rattle.kexec_words.specs.Apps.{check_app};
-ghost use Rattle.kexec_words.specs.Found.{word_of};
+ghost use Rattle.kexec_words.specs.Given.{word_of};
 ghost use Rattle.kexec_words.specs.Meaning.{with_numbers, map_answer, answer_where, answer_by, command_by_name, command_of};
 ghost use Rattle.kexec_words.specs.Values.{check, dump, exec, trace, migrate, sample, boot_resident, drill, core};
-ghost use Rattle.kexec_words.specs.declared.faults.UsageWhy.TheVariants as why;
-ghost use Rattle.kexec_words.specs.declared.faults.Which.TheVariants as which;
-ghost use Rattle.kexec_words.specs.declared.naming.Name.TheVariants as name;
+ghost use Rattle.command_table.specs.declared.faults.UsageWhy.TheVariants as why;
+ghost use Rattle.command_table.specs.declared.faults.Which.TheVariants as which;
+ghost use Rattle.command_table.specs.declared.names.Name.TheVariants as name;
 ghost use Rattle.kx_pages.specs.declared.image.ImageType.TheVariants as image;
 ghost use Rattle.worked_words.specs.Lines.{words};
 ghost use Rattle.worked_words.specs.Values.{inputs, boots, loads, crash_inputs, crash_loads};
@@ -33,9 +32,9 @@ pub fn refusals_of_the_parser()
     ensures fault { answer_where (UnknownArgument ∷ []) (Ok (codes "r")) ≡ Err why.Parse }
     ensures fault_before_another { answer_where (UnknownArgument ∷ [])
         (map_answer (λ n. n + 1) (Err why.NeedsMap)) ≡ Err why.Parse }
-    ensures words { answer_by check_app (λ rows. Ok (word_of (codes "RECORD") rows))
+    ensures words { answer_by name.Check (λ given. Ok (word_of (codes "RECORD") given))
         (words (codes "m r")) ≡ Ok (codes "r") }
-    ensures too_few { answer_by check_app (λ rows. Ok (word_of (codes "RECORD") rows))
+    ensures too_few { answer_by name.Check (λ given. Ok (word_of (codes "RECORD") given))
         (words (codes "m")) ≡ Err why.Parse }
 {}
 

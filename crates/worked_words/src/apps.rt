@@ -3,9 +3,11 @@
 ghost use Rattle.std.specs.Prelude.{◌≡◌, ◌∷◌, ◌++◌, [], Some, None, codes, true, false};
 ghost use Rattle.clap.specs.Words.{is_simple_and_free};
 ghost use Rattle.clap.specs.declared.builder.action.ArgAction.TheVariants.{Set, Append, SetTrue};
-ghost use Rattle.kexec_words.specs.Apps.{rule_in, rule_by, rules_of, app_with, app_taking, flag, option, modules, exec_arguments, boot_app, load_app, load_panic_app, check_app, dump_app, exec_app, trace_app, migrate_app, sample_app, boot_resident_app, drill_app, core_app};
-ghost use Rattle.kexec_words.specs.declared.table.Form.TheVariants as form;
-ghost use Rattle.kexec_words.specs.declared.table.Kind.TheVariants as kind;
+ghost use Rattle.command_table.specs.Arguments.{flag, option, modules, exec_arguments};
+ghost use Rattle.kexec_words.specs.Apps.{rule_in, rule_by, rules_of, app_with, app_taking, app_by};
+ghost use Rattle.command_table.specs.declared.names.Name.TheVariants as name;
+ghost use Rattle.command_table.specs.declared.table.Form.TheVariants as form;
+ghost use Rattle.command_table.specs.declared.table.Kind.TheVariants as kind;
 ghost use Rattle.worked_words.specs.Lines.{words};
 ghost use Rattle.worked_words.specs.Tables.{rule_names_in};
 
@@ -56,53 +58,53 @@ pub fn command_of_the_parser()
 
 /// Each command has its own name, and a rule for each of its arguments in their order.
 pub fn commands_of_the_parser()
-    ensures boot { boot_app.top.name ≡ codes "boot" }
-    ensures boot_rules { rule_names_in boot_app.top.rules
+    ensures boot { (app_by name.Boot).top.name ≡ codes "boot" }
+    ensures boot_rules { rule_names_in (app_by name.Boot).top.rules
         ≡ words (codes "MEMORY POOL OUT KERNEL MODULES kept below map type at entry")
         ++ words (codes "command initrd purgatory") }
-    ensures load { load_app.top.name ≡ codes "load" }
-    ensures load_rules { rule_names_in load_app.top.rules
+    ensures load { (app_by name.Load).top.name ≡ codes "load" }
+    ensures load_rules { rule_names_in (app_by name.Load).top.rules
         ≡ words (codes "MEMORY POOL OUT RECORD KERNEL MODULES kept below map type at entry")
         ++ words (codes "command initrd purgatory") }
-    ensures load_panic { load_panic_app.top.name ≡ codes "load-panic" }
-    ensures load_panic_rules { rule_names_in load_panic_app.top.rules
+    ensures load_panic { (app_by name.LoadPanic).top.name ≡ codes "load-panic" }
+    ensures load_panic_rules { rule_names_in (app_by name.LoadPanic).top.rules
         ≡ words (codes "MEMORY OUT RECORD KERNEL map command initrd purgatory notes") }
-    ensures check { check_app.top.name ≡ codes "check" }
-    ensures check_rules { rule_names_in check_app.top.rules ≡ words (codes "MEMORY RECORD") }
-    ensures dump { dump_app.top.name ≡ codes "dump" }
-    ensures dump_rules { rule_names_in dump_app.top.rules ≡ words (codes "MEMORY RECORD") }
-    ensures exec { exec_app.top.name ≡ codes "exec" }
-    ensures exec_rules { rule_names_in exec_app.top.rules
+    ensures check { (app_by name.Check).top.name ≡ codes "check" }
+    ensures check_rules { rule_names_in (app_by name.Check).top.rules ≡ words (codes "MEMORY RECORD") }
+    ensures dump { (app_by name.Dump).top.name ≡ codes "dump" }
+    ensures dump_rules { rule_names_in (app_by name.Dump).top.rules ≡ words (codes "MEMORY RECORD") }
+    ensures exec { (app_by name.Exec).top.name ≡ codes "exec" }
+    ensures exec_rules { rule_names_in (app_by name.Exec).top.rules
         ≡ words (codes "MEMORY RECORD OUT twice") }
-    ensures trace { trace_app.top.name ≡ codes "trace" }
-    ensures trace_rules { rule_names_in trace_app.top.rules
+    ensures trace { (app_by name.Trace).top.name ≡ codes "trace" }
+    ensures trace_rules { rule_names_in (app_by name.Trace).top.rules
         ≡ words (codes "MEMORY OUT HEAD LIMIT swap") }
-    ensures migrate { migrate_app.top.name ≡ codes "migrate" }
-    ensures migrate_rules { rule_names_in migrate_app.top.rules ≡ words (codes "RECORD OUT") }
-    ensures sample { sample_app.top.name ≡ codes "sample" }
-    ensures sample_rules { rule_names_in sample_app.top.rules ≡ words (codes "NUMBER") }
-    ensures boot_resident { boot_resident_app.top.name ≡ codes "boot-resident" }
-    ensures boot_resident_rules { rule_names_in boot_resident_app.top.rules
+    ensures migrate { (app_by name.Migrate).top.name ≡ codes "migrate" }
+    ensures migrate_rules { rule_names_in (app_by name.Migrate).top.rules ≡ words (codes "RECORD OUT") }
+    ensures sample { (app_by name.Sample).top.name ≡ codes "sample" }
+    ensures sample_rules { rule_names_in (app_by name.Sample).top.rules ≡ words (codes "NUMBER") }
+    ensures boot_resident { (app_by name.BootResident).top.name ≡ codes "boot-resident" }
+    ensures boot_resident_rules { rule_names_in (app_by name.BootResident).top.rules
         ≡ words (codes "MEMORY POOL OUT KERNEL PAIRS at") }
-    ensures drill { drill_app.top.name ≡ codes "drill" }
-    ensures drill_rules { rule_names_in drill_app.top.rules
+    ensures drill { (app_by name.Drill).top.name ≡ codes "drill" }
+    ensures drill_rules { rule_names_in (app_by name.Drill).top.rules
         ≡ words (codes "MEMORY POOL OUT EVENTS map") }
-    ensures core { core_app.top.name ≡ codes "core" }
-    ensures core_rules { rule_names_in core_app.top.rules ≡ words (codes "MEMORY OUT ADDRESS") }
+    ensures core { (app_by name.Core).top.name ≡ codes "core" }
+    ensures core_rules { rule_names_in (app_by name.Core).top.rules ≡ words (codes "MEMORY OUT ADDRESS") }
 {}
 
 /// Each command is one of those of which the parser states which words it takes, and what it finds in them.
 pub fn commands_that_are_simple()
-    ensures boot { is_simple_and_free boot_app ≡ true }
-    ensures load { is_simple_and_free load_app ≡ true }
-    ensures load_panic { is_simple_and_free load_panic_app ≡ true }
-    ensures check { is_simple_and_free check_app ≡ true }
-    ensures dump { is_simple_and_free dump_app ≡ true }
-    ensures exec { is_simple_and_free exec_app ≡ true }
-    ensures trace { is_simple_and_free trace_app ≡ true }
-    ensures migrate { is_simple_and_free migrate_app ≡ true }
-    ensures sample { is_simple_and_free sample_app ≡ true }
-    ensures boot_resident { is_simple_and_free boot_resident_app ≡ true }
-    ensures drill { is_simple_and_free drill_app ≡ true }
-    ensures core { is_simple_and_free core_app ≡ true }
+    ensures boot { is_simple_and_free (app_by name.Boot) ≡ true }
+    ensures load { is_simple_and_free (app_by name.Load) ≡ true }
+    ensures load_panic { is_simple_and_free (app_by name.LoadPanic) ≡ true }
+    ensures check { is_simple_and_free (app_by name.Check) ≡ true }
+    ensures dump { is_simple_and_free (app_by name.Dump) ≡ true }
+    ensures exec { is_simple_and_free (app_by name.Exec) ≡ true }
+    ensures trace { is_simple_and_free (app_by name.Trace) ≡ true }
+    ensures migrate { is_simple_and_free (app_by name.Migrate) ≡ true }
+    ensures sample { is_simple_and_free (app_by name.Sample) ≡ true }
+    ensures boot_resident { is_simple_and_free (app_by name.BootResident) ≡ true }
+    ensures drill { is_simple_and_free (app_by name.Drill) ≡ true }
+    ensures core { is_simple_and_free (app_by name.Core) ≡ true }
 {}

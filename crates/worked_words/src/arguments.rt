@@ -1,9 +1,9 @@
 //! Arguments: how each kind of them is written, and which a command has.
 
 ghost use Rattle.std.specs.Prelude.{◌≡◌, ◌∷◌, ◌++◌, [], codes};
-ghost use Rattle.kexec_words.specs.Apps.{word, option, needed_option, flag, input, output, file, address, needed_map, modules, plan_options, boot_arguments, load_arguments, load_panic_arguments, loaded_arguments, exec_arguments, trace_arguments, migrate_arguments, sample_arguments, boot_resident_arguments, drill_arguments, core_arguments};
-ghost use Rattle.kexec_words.specs.declared.table.Form.TheVariants as form;
-ghost use Rattle.kexec_words.specs.declared.table.Kind.TheVariants as kind;
+ghost use Rattle.command_table.specs.Arguments.{word, option, needed_option, flag, input, output, file, address, needed_map, modules, plan_options, boot_arguments, load_arguments, load_panic_arguments, loaded_arguments, exec_arguments, trace_arguments, migrate_arguments, sample_arguments, boot_resident_arguments, drill_arguments, core_arguments};
+ghost use Rattle.command_table.specs.declared.table.Form.TheVariants as form;
+ghost use Rattle.command_table.specs.declared.table.Kind.TheVariants as kind;
 ghost use Rattle.worked_words.specs.Lines.{words};
 ghost use Rattle.worked_words.specs.Tables.{names_in, ids_in, values_in, forms_in, kinds_in};
 

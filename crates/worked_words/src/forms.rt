@@ -4,7 +4,7 @@ ghost use Rattle.std.specs.Prelude.{◌≡◌, Some, None, Ok, Err, codes};
 ghost use Rattle.kexec_words.specs.Meaning.{with_numbers, image_from, boot_with, trace_with};
 ghost use Rattle.kexec_words.specs.Numbers.{type_word_of, runs_of, in_form, some_in_form, option_in_form, hex_of, type_of, kept_of, address_of, below_of, swap_of, head_of, limit_of, plan_numbers_of, trace_numbers_of};
 ghost use Rattle.kexec_words.specs.declared.commands.Runs.TheVariants.{Once, Twice};
-ghost use Rattle.kexec_words.specs.declared.faults.Which.TheVariants as which;
+ghost use Rattle.command_table.specs.declared.faults.Which.TheVariants as which;
 ghost use Rattle.kx_pages.specs.declared.image.ImageType.TheVariants as image;
 ghost use Rattle.worked_words.specs.Values.{inputs};
 

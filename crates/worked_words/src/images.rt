@@ -3,7 +3,7 @@
 ghost use Rattle.std.specs.Prelude.{◌≡◌, Some, None, Ok, Err, codes, replicate, true, false, option_map};
 ghost use Rattle.kexec_words.specs.Meaning.{with_numbers, image_from, image_or_refusal, image_where};
 ghost use Rattle.kexec_words.specs.Numbers.{type_word_of, type_of, plan_numbers_of};
-ghost use Rattle.kexec_words.specs.declared.faults.UsageWhy.TheVariants as why;
+ghost use Rattle.command_table.specs.declared.faults.UsageWhy.TheVariants as why;
 ghost use Rattle.kx_pages.specs.declared.image.ImageType.TheVariants as image;
 ghost use Rattle.worked_words.specs.Values.{bare_inputs, inputs};
 

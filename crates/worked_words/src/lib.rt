@@ -1,7 +1,7 @@
 //! What the words of command lines mean, tried on worked examples.
 //!
 //! Nothing here is called. Each function has the name of an example, and its clauses say what the definitions of
-//! kexec_words give for it, by computing. In the examples m is a memory, p a pool, k a kernel, o an output, r a record,
+//! command_table and kexec_words give for it, by computing. In the examples m is a memory, p a pool, k a kernel, o an output, r a record,
 //! f a memory map, i an initrd, u a purgatory, n notes, q pairs, v events, c a kernel's command line, and x and y are
 //! modules.
 #![tactic(auto)]
@@ -73,4 +73,6 @@ pub use refusals::{
     lines_with_a_word_too_few, lines_with_a_word_too_many, lines_with_a_wrong_option,
     lines_with_an_option_of_another_command, lines_without_a_command,
 };
-pub use rows::{flags_in_rows, rows_of_commands, several_words_in_rows, words_in_rows};
+pub use rows::{
+    flags_in_rows, options_in_rows, rows_of_commands, several_words_in_rows, words_in_rows,
+};

@@ -4,8 +4,8 @@ ghost use Rattle.std.specs.Prelude.{◌≡◌, ◌∷◌, [], Some, None, Ok, Er
 ghost use Rattle.kexec_words.specs.Meaning.{with_numbers, plan_numbers_by, inputs_of, boot_by, boot_with, boot_in, load_by, load_with, load_in, crash_inputs_of, with_map, load_panic_with, load_panic_in};
 ghost use Rattle.kexec_words.specs.Numbers.{plan_numbers_of};
 ghost use Rattle.kexec_words.specs.declared.commands.Runs.TheVariants.{Once, Twice};
-ghost use Rattle.kexec_words.specs.declared.faults.UsageWhy.TheVariants as why;
-ghost use Rattle.kexec_words.specs.declared.faults.Which.TheVariants as which;
+ghost use Rattle.command_table.specs.declared.faults.UsageWhy.TheVariants as why;
+ghost use Rattle.command_table.specs.declared.faults.Which.TheVariants as which;
 ghost use Rattle.kx_pages.specs.declared.image.ImageType.TheVariants as image;
 ghost use Rattle.worked_words.specs.Rows.{one, all_rows};
 ghost use Rattle.worked_words.specs.Values.{bare_inputs, inputs, all_inputs, crash_inputs, all_crash_inputs};

@@ -1,8 +1,9 @@
 //! Names of files, and which of them an output may not have; names of commands.
 
 ghost use Rattle.std.specs.Prelude.{◌≡◌, [], Some, None, codes, true, false};
-ghost use Rattle.kexec_words.specs.Meaning.{is_among, has_same_name, with_name, files_of, crash_files_of, name_of};
-ghost use Rattle.kexec_words.specs.declared.naming.Name.TheVariants as name;
+ghost use Rattle.kexec_words.specs.Meaning.{is_among, has_same_name, with_name, files_of, crash_files_of};
+ghost use Rattle.command_table.specs.Names.{name_of};
+ghost use Rattle.command_table.specs.declared.names.Name.TheVariants as name;
 ghost use Rattle.worked_words.specs.Lines.{words};
 ghost use Rattle.worked_words.specs.Values.{bare_inputs, inputs, all_inputs, crash_inputs, all_crash_inputs};
 

@@ -2,7 +2,7 @@
 
 ghost use Rattle.std.specs.Prelude.{◌≡◌, Some, None, Ok, Err, codes, true, false};
 ghost use Rattle.kexec_words.specs.Numbers.{is_number, number_of, hex_of, page_address_of, is_pool_limit, pool_limit_of, first_past, steps_of, sample_of, is_headers_address, headers_address_of, core_address_of};
-ghost use Rattle.kexec_words.specs.declared.faults.Which.TheVariants as which;
+ghost use Rattle.command_table.specs.declared.faults.Which.TheVariants as which;
 
 /// A hexadecimal number has 1 to 16 digits, of either case, and the first digit is the highest.
 pub fn hexadecimal_numbers()

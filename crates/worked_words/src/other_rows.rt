@@ -2,8 +2,8 @@
 
 ghost use Rattle.std.specs.Prelude.{◌≡◌, ◌∷◌, Some, None, Ok, Err, codes, true, false};
 ghost use Rattle.kexec_words.specs.Meaning.{with_numbers, load_names_of, load_names_in, exec_of, exec_with, exec_in, trace_with, trace_numbers_by, trace_in, migrate_of, migrate_with, migrate_in, sample_by, sample_in, boot_resident_at, boot_resident_with, resident_address_by, boot_resident_in, drill_by, drill_with, drill_in, core_by, core_with, core_in};
-ghost use Rattle.kexec_words.specs.declared.faults.UsageWhy.TheVariants as why;
-ghost use Rattle.kexec_words.specs.declared.faults.Which.TheVariants as which;
+ghost use Rattle.command_table.specs.declared.faults.UsageWhy.TheVariants as why;
+ghost use Rattle.command_table.specs.declared.faults.Which.TheVariants as which;
 ghost use Rattle.worked_words.specs.Rows.{one, all_rows};
 
 /// `check` and `dump` take a memory and a record, and refuse nothing.

@@ -2,8 +2,8 @@
 #![tactic(auto, unfolding(clap::proofs::OnLiterals::clap_on_literals))]
 
 ghost use Rattle.std.specs.Prelude.{◌≡◌, Err, codes};
-ghost use Rattle.kexec_words.specs.declared.faults.UsageWhy.TheVariants as why;
-ghost use Rattle.kexec_words.specs.declared.faults.Which.TheVariants as which;
+ghost use Rattle.command_table.specs.declared.faults.UsageWhy.TheVariants as why;
+ghost use Rattle.command_table.specs.declared.faults.Which.TheVariants as which;
 ghost use Rattle.worked_words.specs.Lines.{meaning};
 
 /// A number or a type has not its form.

@@ -2,7 +2,7 @@
 #![tactic(auto, unfolding(clap::proofs::OnLiterals::clap_on_literals))]
 
 ghost use Rattle.std.specs.Prelude.{◌≡◌, Err, codes};
-ghost use Rattle.kexec_words.specs.declared.faults.UsageWhy.TheVariants as why;
+ghost use Rattle.command_table.specs.declared.faults.UsageWhy.TheVariants as why;
 ghost use Rattle.worked_words.specs.Lines.{meaning};
 
 /// The first word must be the name of a command.

@@ -18,6 +18,7 @@ use Rattle.load_states.specs.Loads.{entries_of, loading_of, memory_of}
 use Rattle.load_states.specs.inner.Runs.{after_once, after_plain}
 use Rattle.load_states.specs.declared.accepted.Accepted.{Accepted}
 use Rattle.load_states.specs.declared.accepted.Accepted.TheVariants as accepted
+use Rattle.page_pool.specs.Pages.{pool_page_limit}
 use Rattle.image_slots.specs.States.{Crash, Normal, Stage, Draft, Written, Placed, State, Underway}
 use Rattle.image_slots.specs.Pages.{all_pages, in_area}
 use Rattle.image_slots.specs.Steps.{image_pairs, wish_of}
@@ -50,7 +51,7 @@ StageHolds area M (Placed c) = IsPlacedIn area M c
 -- each page is in one place alone, and none is in the area
 pub record ArePages (area : Option Run) (pages : List ℕ) : Type 0 where
   pub once : (x : ℕ) → count x pages ≤ 1
-  pub few : length pages ≤ 262144
+  pub few : length pages ≤ pool_page_limit
   pub below : (x : ℕ) → 1 ≤ count x pages → x < 2 ^ 34
   pub outside : (x : ℕ) → 1 ≤ count x pages → in_area area x ≡ false
 

@@ -12,13 +12,13 @@ use Rattle.kexec_words.specs.declared.commands.Runs.{Runs}
 use Rattle.kexec_words.specs.declared.commands.Runs.TheVariants.{Once, Twice}
 use Rattle.kexec_words.specs.Values.{BootValue, ExecValue, LoadValue}
 use Rattle.kexec_plan.specs.Requests.{Plan}
-use Rattle.kexec_main.specs.declared.files.LoadFiles.{LoadFiles}
-use Rattle.kexec_main.specs.declared.files.TakenLoad.TheVariants.{Normal}
-use Rattle.kexec_main.specs.Exec.{HasExecuted, exec_files, exec_of, files_text}
-use Rattle.kexec_main.specs.Laid.{HasBootedLaid, HasLoadedLaid}
-use Rattle.kexec_main.specs.Load.{load_wish, record_of_load}
-use Rattle.kexec_main.specs.Runs.{run_text, wish_of}
-use Rattle.kexec_main.specs.Startup.{planned_startup}
+use Rattle.list_commands.specs.declared.records.LoadFiles.{LoadFiles}
+use Rattle.list_commands.specs.declared.records.TakenLoad.TheVariants.{Normal}
+use Rattle.list_commands.specs.Exec.{HasExecuted, exec_files, exec_of, files_text}
+use Rattle.load_commands.specs.Laid.{HasBootedLaid, HasLoadedLaid}
+use Rattle.load_commands.specs.Load.{load_wish, record_of_load}
+use Rattle.command_parts.specs.Runs.{run_text, wish_of}
+use Rattle.load_commands.specs.Startup.{planned_startup}
 
 -- whether these runs are two
 abbrev pub is_twice : Option Runs → Bool

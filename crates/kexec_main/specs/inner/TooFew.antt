@@ -15,16 +15,16 @@ use Rattle.load_states.specs.Ready.{Told}
 use Rattle.load_states.specs.States.{Checked, Load}
 use Rattle.kexec_plan.specs.Requests.{Plan}
 use Rattle.kexec_plan.specs.Plan.{plan}
-use Rattle.kexec_main.specs.Inputs.{LoadInputs}
+use Rattle.load_commands.specs.Inputs.{LoadInputs}
 use Rattle.kx_edge.specs.Edge.{Files}
 use Rattle.file_commands.specs.Taking.{by, reads}
 use Rattle.kexec_words.specs.Values.{BootValue, CommandValue, LoadValue}
-use Rattle.kexec_main.specs.declared.status.Reason.TheVariants.{NoPages}
-use Rattle.kexec_main.specs.Boot.{BootInputs, boot_files}
+use Rattle.command_parts.specs.declared.reason.Reason.TheVariants.{NoPages}
+use Rattle.load_commands.specs.Boot.{BootInputs, boot_files}
 use Rattle.kexec_main.specs.Call.{HasRefusal}
-use Rattle.kexec_main.specs.Load.{LoadCommand, load_command_files}
-use Rattle.kexec_main.specs.Loading.{IsLoaded}
-use Rattle.kexec_main.specs.Runs.{wish_of}
+use Rattle.load_commands.specs.Load.{LoadCommand, load_command_files}
+use Rattle.load_commands.specs.Loading.{IsLoaded}
+use Rattle.command_parts.specs.Runs.{wish_of}
 use Rattle.kexec_words.specs.Values as words
 
 -- The request has a plan, whose load takes more pages than the pool has usable: so many, and so many.

@@ -1,17 +1,17 @@
 -- How the words behind a command are read by the table of its arguments, up to the first that the command does not take
 -- (this project's own; the same words as clap takes of a simple command).
 -- No clause of `kexec` reaches what stands here: it serves laws, and contracts inside the crates.
-use Rattle.std.specs.Prelude.{◌≡◌, ◌⊎◌, ◌==◌, Bool, true, false, List, [], ◌∷◌, ◌++◌, Option, Some, None, codes, if◌then◌else◌, nat_lt, length, slice_index, is_some, option_map, map}
+use Rattle.std.specs.Prelude.{◌≡◌, ◌⊎◌, ◌==◌, ◌&&◌, find, Bool, true, false, List, [], ◌∷◌, ◌++◌, Option, Some, None, codes, if◌then◌else◌, nat_lt, length, slice_index, is_some, option_map, map}
 use Rattle.std.specs.Borrow.{Bor}
 use Rattle.std.specs.List.{position_or_len, before_first, after_first}
 use Rattle.std.specs.Str.{bytes_eq}
-use Rattle.kexec_words.specs.Table.{ArgumentValue}
-use Rattle.kexec_words.specs.inner.Table.{argument_value, argument_values}
-use Rattle.kexec_words.specs.inner.Texts.{first_name, arguments_of}
-use Rattle.kexec_words.specs.declared.table.Argument.{Argument}
-use Rattle.kexec_words.specs.declared.table.Form.{Form}
-use Rattle.kexec_words.specs.declared.table.Form.TheVariants as form
-use Rattle.kexec_words.specs.inner.Table as table
+use Rattle.command_table.specs.Table.{ArgumentValue}
+use Rattle.command_table.specs.inner.Table.{argument_value, argument_values}
+use Rattle.command_table.specs.inner.Texts.{first_name, arguments_of}
+use Rattle.command_table.specs.declared.table.Argument.{Argument}
+use Rattle.command_table.specs.declared.table.Form.{Form}
+use Rattle.command_table.specs.declared.table.Form.TheVariants as form
+use Rattle.command_table.specs.inner.Table as table
 use Rattle.kexec_usage.specs.inner.Words.{Text, GivenValue, given_value, text_in}
 use Rattle.kexec_usage.specs.declared.given.Answer.{Answer}
 use Rattle.kexec_usage.specs.declared.given.Reading.{Reading}
@@ -22,11 +22,7 @@ use Rattle.kexec_usage.specs.declared.mistake.Mistake.TheVariants as code
 
 -- the option of this name
 abbrev pub option_in : List ArgumentValue → Text → Option ArgumentValue
-option_in [] name = None
-option_in (a ∷ later) name =
-    if table.is_option a.form then
-    (if bytes_eq a.name name then Some a else option_in later name)
-    else option_in later name
+option_in arguments name = find (λ a. table.is_option a.form && bytes_eq a.name name) arguments
 
 -- a word that may be given several times
 abbrev pub is_repeated : Form → Bool

@@ -1,8 +1,8 @@
 -- Words that are given behind a command (this project's own).
 -- No clause of `kexec` reaches what stands here: it serves laws, and contracts inside the crates.
-use Rattle.std.specs.Prelude.{ℕ, ◌||◌, Bool, false, List, [], ◌∷◌, Option, Some, None, codes, if◌then◌else◌}
+use Rattle.std.specs.Prelude.{ℕ, ◌||◌, Bool, false, List, [], ◌∷◌, Option, codes, if◌then◌else◌, find, option_map}
 use Rattle.std.specs.Str.{bytes_eq}
-use Rattle.kexec_words.specs.declared.table.Kind.{Kind}
+use Rattle.command_table.specs.declared.table.Kind.{Kind}
 use Rattle.kexec_usage.specs.declared.given.Given.{Given}
 
 -- a text is the list of its bytes
@@ -20,8 +20,7 @@ given_value g = record { name = g.name.now; text = g.text.now; kind = g.kind }
 
 -- the text that is given under this name: the first, where there are several
 abbrev pub text_in : List GivenValue → Text → Option Text
-text_in [] name = None
-text_in (g ∷ gs) name = if bytes_eq g.name name then Some g.text else text_in gs name
+text_in given name = option_map (λ g. g.text) (find (λ g. bytes_eq g.name name) given)
 
 -- the option that asks for help
 abbrev pub is_help : Text → Bool

@@ -1,7 +1,7 @@
 -- What the words after the program's name say, and the first reason to refuse them (this project's own).
 -- No clause of `kexec` reaches what stands here: it serves laws, and contracts inside the crates.
 use Rattle.std.specs.Prelude.{◌≡◌, Result, Ok, Err}
-use Rattle.kexec_words.specs.declared.faults.UsageWhy.{UsageWhy}
+use Rattle.command_table.specs.declared.faults.UsageWhy.{UsageWhy}
 use Rattle.kexec_words.specs.declared.faults.WordsFault.{WordsFault}
 use Rattle.kexec_words.specs.declared.faults.WordsFault.TheVariants as fault
 

@@ -8,7 +8,7 @@ use Rattle.kx_edge.specs.declared.edge.Shelf.{Ghosts as Shelf}
 use Rattle.kx_edge.specs.declared.edge.Sink.{Ghosts as Sink}
 use Rattle.file_commands.proofs.Saying.{unread_never}
 use Rattle.kexec_words.specs.Meaning.{command_of}
-use Rattle.kexec_main.specs.declared.status.Reason.TheVariants.{Usage}
+use Rattle.command_parts.specs.declared.reason.Reason.TheVariants.{Usage}
 use Rattle.kexec_main.specs.Commands.{entry_of}
 use Rattle.kexec_main.proofs.calm.kexec_in_memory.Goals as goal
 

@@ -1,7 +1,7 @@
 use Rattle.std.proofs.Common.{map, string_bytes}
 use Rattle.file_commands.proofs.Saying.{said_alone, said_complete, said_done, said_gives, said_ready, said_refused, told, unread_rose, unsaid_rose, unwritten_rose}
 use Rattle.kexec_words.specs.Meaning.{command_of}
-use Rattle.kexec_main.specs.declared.status.Reason.TheVariants.{Usage}
+use Rattle.command_parts.specs.declared.reason.Reason.TheVariants.{Usage}
 use Rattle.kexec_main.specs.Commands.{entry_of}
 use Rattle.kexec_main.proofs.Commands.{keeps}
 use Rattle.kexec_main.proofs.Laid.{has_laid}

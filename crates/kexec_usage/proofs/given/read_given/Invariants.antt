@@ -1,5 +1,5 @@
 use Rattle.std.proofs.Common.{◌≡◌, drop, map, string_bytes}
-use Rattle.kexec_words.specs.inner.Table.{argument_values}
+use Rattle.command_table.specs.inner.Table.{argument_values}
 use Rattle.kexec_usage.specs.inner.Reading.{reading_value, reading_of, reading_start}
 use Rattle.kexec_usage.proofs.given.read_given.Given as goal
 

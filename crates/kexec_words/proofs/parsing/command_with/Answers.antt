@@ -2,8 +2,8 @@ use Rattle.std.proofs.Common.{◌≡◌, ◌∙◌, ◌+◌, ◌<◌, ℕ, List,
 use Rattle.std.proofs.lemmas.List.{take_more, map-append}
 use Rattle.clap.specs.Words.{App, Rule, Text, with_rule}
 use Rattle.kexec_words.specs.Apps.{rule_by, app_taking}
-use Rattle.kexec_words.specs.inner.Table.{argument_value, argument_values}
-use Rattle.kexec_words.specs.declared.table.Argument.{Argument}
+use Rattle.command_table.specs.inner.Table.{argument_value, argument_values}
+use Rattle.command_table.specs.declared.table.Argument.{Argument}
 use Rattle.kexec_words.proofs.parsing.command_with.Goals as goal
 
 step : (name : Text) (xs : List Argument) (i : ℕ) (d : Argument) (a : App) (r : Rule) → i < length xs

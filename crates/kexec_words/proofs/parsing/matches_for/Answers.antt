@@ -1,7 +1,7 @@
 use Rattle.std.proofs.Common.{◌≡◌, true, subst, sym, map, string_bytes, Ok}
 use Rattle.clap.specs.Words.{app_of, is_simple_and_free}
 use Rattle.clap.proofs.WalkLemmas.{both}
-use Rattle.kexec_words.specs.inner.Found.{Parses}
+use Rattle.kexec_words.specs.inner.Given.{Parses}
 use Rattle.kexec_words.proofs.parsing.matches_for.Goals as goal
 
 pub returns-in-Ok-try_get_matches_from : goal.returns-in-Ok-try_get_matches_from

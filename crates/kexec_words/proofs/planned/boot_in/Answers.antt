@@ -1,7 +1,7 @@
 use Rattle.std.proofs.Common.{◌≡◌, ◌∙◌, ap, subst, Ok, Result, List, Option, codes, string_bytes}
-use Rattle.clap.specs.Words.{Text, Row, first_of, rows_of, found_of}
-use Rattle.kexec_words.specs.Found.{word_of}
-use Rattle.kexec_words.specs.inner.Found.{text_in}
+use Rattle.command_table.specs.Table.{Text}
+use Rattle.kexec_words.specs.Given.{GivenValue, option_of, word_of}
+use Rattle.kexec_words.specs.inner.Given.{text_in, given_values}
 use Rattle.kexec_words.specs.Meaning.{boot_in, boot_with, inputs_of, plan_numbers_by}
 use Rattle.kexec_words.specs.inner.Meaning.{Answers}
 use Rattle.kexec_words.specs.Values.{InputsValue}
@@ -12,16 +12,16 @@ use Rattle.kexec_words.specs.declared.faults.WordsFault.{WordsFault}
 use Rattle.kexec_words.proofs.Taken.{goes_on}
 use Rattle.kexec_words.proofs.planned.boot_in.Goals as goal
 
-answers_rows : (rows : List Row) (k : Option Text) (n : PlanNumbers) (i : InputsValue) (o : Text) (r : Result Boot WordsFault)
-    → Ok n ≡ plan_numbers_by k rows → k ≡ first_of (codes "kept") rows → i ≡ inputs_of n.below rows → o ≡ word_of (codes "OUT") rows
-    → Answers boot_value (boot_with i o n) r → Answers boot_value (boot_in rows) r
-answers_rows rows k n i o r numbers kept inputs out h =
-    let first : Answers boot_value (boot_with (inputs_of n.below rows) o n) r = subst (λ x. Answers boot_value (boot_with x o n) r) inputs h in
-    let second : Answers boot_value (boot_with (inputs_of n.below rows) (word_of (codes "OUT") rows) n) r =
-    subst (λ x. Answers boot_value (boot_with (inputs_of n.below rows) x n) r) out first in
-    goes_on boot_value (λ n. boot_with (inputs_of n.below rows) (word_of (codes "OUT") rows) n) (plan_numbers_by (first_of (codes "kept") rows) rows) n r
-    (numbers ∙ ap (λ x. plan_numbers_by x rows) kept) second
+says : (given : List GivenValue) (k : Option Text) (n : PlanNumbers) (i : InputsValue) (o : Text) (r : Result Boot WordsFault)
+    → Ok n ≡ plan_numbers_by k given → k ≡ option_of (codes "kept") given → i ≡ inputs_of n.below given → o ≡ word_of (codes "OUT") given
+    → Answers boot_value (boot_with i o n) r → Answers boot_value (boot_in given) r
+says given k n i o r numbers kept inputs out h =
+    let first : Answers boot_value (boot_with (inputs_of n.below given) o n) r = subst (λ x. Answers boot_value (boot_with x o n) r) inputs h in
+    let second : Answers boot_value (boot_with (inputs_of n.below given) (word_of (codes "OUT") given) n) r =
+    subst (λ x. Answers boot_value (boot_with (inputs_of n.below given) x n) r) out first in
+    goes_on boot_value (λ n. boot_with (inputs_of n.below given) (word_of (codes "OUT") given) n) (plan_numbers_by (option_of (codes "kept") given) given) n r
+    (numbers ∙ ap (λ x. plan_numbers_by x given) kept) second
 
 pub returns : goal.returns
-returns c = answers_rows (rows_of (found_of c.args.matches.now)) (text_in c.option_in.result) c.in_ok-numbers.numbers (inputs_value c.in_ok-inputs.inputs) (string_bytes c.in_ok-out.out) c.boot_from.result
+returns c = says (given_values c.args.given.now) (text_in c.option_in.result) c.in_ok-numbers.numbers (inputs_value c.in_ok-inputs.inputs) (string_bytes c.in_ok-out.out) c.boot_from.result
     c.in_ok-numbers.ensures c.option_in.ensures c.in_ok-inputs.ensures c.in_ok-out.ensures c.boot_from.ensures

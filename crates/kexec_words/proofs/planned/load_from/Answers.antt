@@ -9,7 +9,7 @@ use Rattle.kexec_words.specs.inner.Values.{inputs_value, load_value}
 use Rattle.kexec_words.specs.declared.numbers.PlanNumbers.{PlanNumbers}
 use Rattle.kx_pages.specs.declared.image.ImageType.{ImageType}
 use Rattle.kexec_words.specs.declared.commands.Load.{Load}
-use Rattle.kexec_words.specs.declared.faults.UsageWhy.{UsageWhy}
+use Rattle.command_table.specs.declared.faults.UsageWhy.{UsageWhy}
 use Rattle.kexec_words.specs.declared.faults.WordsFault.{WordsFault}
 use Rattle.kexec_words.specs.declared.faults.WordsFault.TheVariants.{Usage}
 use Rattle.kexec_words.proofs.Taken.{exits_mapped}

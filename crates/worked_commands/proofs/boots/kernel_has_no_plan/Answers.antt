@@ -4,8 +4,8 @@ use Rattle.kexec_plan.specs.Requests.{Plan}
 use Rattle.kexec_plan.specs.declared.fault.PlanFault.{PlanFault}
 use Rattle.kexec_plan.specs.declared.fault.PlanFault.TheVariants as plans
 use Rattle.file_commands.specs.Taking.{by}
-use Rattle.kexec_main.specs.Boot.{boots}
-use Rattle.kexec_main.specs.declared.status.Reason.TheVariants as reasons
+use Rattle.load_commands.specs.Boot.{boots}
+use Rattle.command_parts.specs.declared.reason.Reason.TheVariants as reasons
 use Rattle.worked_commands.specs.Loads.{boot_of_unknown}
 use Rattle.worked_commands.proofs.Loads.{no_plan}
 use Rattle.worked_commands.proofs.OneLoad.{none}

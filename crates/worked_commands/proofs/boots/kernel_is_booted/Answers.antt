@@ -3,9 +3,9 @@ use Rattle.std.proofs.Common.{◌≡◌, ◌∙◌, [], ◌∷◌, Ok, Err, refl
 use Rattle.std.specs.Prelude.{codes}
 use Rattle.kexec_plan.specs.declared.fault.PlanFault.TheVariants as plans
 use Rattle.file_commands.specs.Taking.{by}
-use Rattle.kexec_main.specs.Boot.{boots}
-use Rattle.kexec_main.specs.Outputs.{Made}
-use Rattle.kexec_main.specs.declared.status.Reason.TheVariants as reasons
+use Rattle.load_commands.specs.Boot.{boots}
+use Rattle.command_parts.specs.Outputs.{Made}
+use Rattle.command_parts.specs.declared.reason.Reason.TheVariants as reasons
 use Rattle.worked_commands.specs.Loads.{boot_goods, boot_of, boot_text, few_plan}
 use Rattle.worked_commands.specs.Memories.{run_file}
 use Rattle.worked_commands.proofs.Loads.{plan_is, pool}

@@ -6,9 +6,9 @@ use Rattle.load_record.specs.Head.{head_text}
 use Rattle.kx_fields.specs.Fields.{field, with_field, zeros}
 use Rattle.sha2.specs.Sha256.{compress, digest_bytes, first_words, hash_after, rounds, schedule, sha256}
 use Rattle.file_commands.specs.Taking.{by}
-use Rattle.kexec_main.specs.Load.{loads, record_of_load}
-use Rattle.kexec_main.specs.Outputs.{Made}
-use Rattle.kexec_main.specs.declared.status.Reason.TheVariants as reasons
+use Rattle.load_commands.specs.Load.{loads, record_of_load}
+use Rattle.command_parts.specs.Outputs.{Made, IsReadBack}
+use Rattle.command_parts.specs.declared.reason.Reason.TheVariants as reasons
 use Rattle.worked_commands.specs.Inputs.{three_bytes_file}
 use Rattle.worked_commands.specs.Loads.{few_plan, load_goods, load_of_few, load_text}
 use Rattle.worked_commands.specs.Memories.{loaded_file}
@@ -18,7 +18,6 @@ use Rattle.worked_commands.proofs.LoadWitness.{checked1, load1, loaded1, sealed,
 use Rattle.load_record.specs.File.{read_head, read_segments, record_reading, segment_at, tested_head, tested_segments}
 use Rattle.load_record.specs.Head.{head_fault}
 use Rattle.segments.specs.Rules.{bare_refusal, shape_refusal}
-use Rattle.kexec_main.specs.Load.{IsReadBack}
 use Rattle.worked_commands.proofs.OneLoad.{load_leaves, load_says, record_is}
 use Rattle.std.specs.Fmt.{digits}
 use Rattle.worked_commands.proofs.boots.kernel_is_loaded.Goals as goal

@@ -5,7 +5,7 @@ use Rattle.kx_laws.proofs.Results.{ok_same}
 use Rattle.kx_edge.specs.Edge.{Said}
 use Rattle.kx_edge.specs.declared.edge.Shelf.{Ghosts as Shelf}
 use Rattle.kx_edge.specs.declared.edge.Sink.{Ghosts as Sink}
-use Rattle.kexec_main.specs.declared.status.Reason.{Reason}
+use Rattle.command_parts.specs.declared.reason.Reason.{Reason}
 use Rattle.kx_pages.specs.declared.image.Wish.TheVariants.{Plain}
 use Rattle.load_record.specs.File.{record_file, record_text, segment_text}
 use Rattle.load_record.specs.Head.{head_text}
@@ -13,10 +13,10 @@ use Rattle.kx_fields.specs.Fields.{field, with_field, zeros}
 use Rattle.sha2.specs.Sha256.{compress, digest_bytes, first_words, hash_after, rounds, schedule, sha256}
 use Rattle.file_commands.specs.Answers.{FilesPut}
 use Rattle.file_commands.specs.Taking.{File, Refusal, reads}
-use Rattle.kexec_main.specs.Boot.{BootInputs, HasBooted, boot_files}
-use Rattle.kexec_main.specs.Laid.{HasBootedLaid, HasLoadedLaid}
-use Rattle.kexec_main.specs.Load.{HasLoaded, LoadCommand, load_command_files, record_of_load}
-use Rattle.kexec_main.specs.Loads.{IsLaid}
+use Rattle.load_commands.specs.Boot.{BootInputs, HasBooted, boot_files}
+use Rattle.load_commands.specs.Laid.{HasBootedLaid, HasLoadedLaid}
+use Rattle.load_commands.specs.Load.{HasLoaded, LoadCommand, load_command_files, record_of_load}
+use Rattle.load_commands.specs.Loads.{IsLaid}
 use Rattle.worked_commands.specs.Inputs.{each_file, few_read, three_bytes_file}
 use Rattle.worked_commands.specs.Loads.{boot_of, boot_text, few_plan, load_of_few, load_text}
 use Rattle.worked_commands.specs.Memories.{loaded_file, run_file}
@@ -27,7 +27,7 @@ use Rattle.worked_commands.proofs.LoadWitness.{checked1, load1, loaded1, sealed,
 use Rattle.load_record.specs.File.{read_head, read_segments, record_reading, segment_at, tested_head, tested_segments}
 use Rattle.load_record.specs.Head.{head_fault}
 use Rattle.segments.specs.Rules.{bare_refusal, shape_refusal}
-use Rattle.kexec_main.specs.Load.{IsReadBack}
+use Rattle.command_parts.specs.Outputs.{IsReadBack}
 use Rattle.worked_commands.proofs.OneLoad.{boot_leaves, boot_says, load_leaves, load_says, record_is}
 use Rattle.file_commands.specs.Taking.{and_then}
 use Rattle.page_memory.specs.File.{read_pages, pages_onto, entry_at}
@@ -35,10 +35,10 @@ use Rattle.page_pool.specs.File.{pool_reading, pages_onto as pool_onto, line_ont
 use Rattle.text_lines.specs.Lines.{lines, cut, number, number_of}
 use Rattle.worked_commands.specs.Inputs.{each_of}
 use Rattle.worked_commands.proofs.Reading.{read_by}
-use Rattle.kexec_main.proofs.Loads.{normal}
-use Rattle.kexec_main.proofs.Ending.{again_of, machine_of}
-use Rattle.kexec_main.proofs.Leaving.{leaves_of}
-use Rattle.kexec_main.proofs.Proving.{proves_itself}
+use Rattle.load_commands.proofs.Loads.{normal}
+use Rattle.load_commands.proofs.Ending.{again_of, machine_of}
+use Rattle.load_commands.proofs.Leaving.{leaves_of}
+use Rattle.load_commands.proofs.Proving.{proves_itself}
 use Rattle.worked_commands.proofs.boots.loads_that_were_done.Goals as goal
 
 reads_back : IsReadBack (record_of_load load1 few_plan)

@@ -3,9 +3,9 @@ use Rattle.std.proofs.Common.{◌≡◌, ◌∙◌, ◌≤◌, ℕ, List, [], �
 use Rattle.kx_pages.specs.declared.image.Wish.TheVariants.{Plain}
 use Rattle.segments.specs.Values.{need}
 use Rattle.file_commands.specs.Taking.{by}
-use Rattle.kexec_main.specs.Boot.{boots}
-use Rattle.kexec_main.specs.Load.{loads}
-use Rattle.kexec_main.specs.declared.status.Reason.TheVariants as reasons
+use Rattle.load_commands.specs.Boot.{boots}
+use Rattle.load_commands.specs.Load.{loads}
+use Rattle.command_parts.specs.declared.reason.Reason.TheVariants as reasons
 use Rattle.worked_commands.specs.Loads.{boot_of, few_plan, load_of_few}
 use Rattle.worked_commands.proofs.Loads.{plan_is}
 use Rattle.worked_commands.proofs.OneLoad.{takes}

@@ -2,9 +2,9 @@
 use Rattle.std.proofs.Common.{◌≡◌, ◌∙◌, [], ◌∷◌, Result, Ok, Err, refl, sym}
 use Rattle.std.specs.Prelude.{codes}
 use Rattle.file_commands.specs.Taking.{Refusal, reads}
-use Rattle.kexec_main.specs.Migrate.{MigrateInputs, migrate_files}
-use Rattle.kexec_main.specs.declared.status.InputFault.TheVariants as inputs
-use Rattle.kexec_main.specs.declared.status.Reason.{Reason}
+use Rattle.list_commands.specs.Migrate.{MigrateInputs, migrate_files}
+use Rattle.command_parts.specs.declared.reason.InputFault.TheVariants as inputs
+use Rattle.command_parts.specs.declared.reason.Reason.{Reason}
 use Rattle.load_record.specs.declared.fault.RecFault.TheVariants as records
 use Rattle.worked_commands.specs.Inputs.{spoiled, unreadable}
 use Rattle.worked_commands.specs.Names.{migrate_record}

@@ -5,21 +5,20 @@ use Rattle.kx_laws.proofs.Results.{ok_same}
 use Rattle.segments.specs.Values.{need, overlay, want}
 use Rattle.page_memory.specs.Contents.{at}
 use Rattle.file_commands.specs.Taking.{Refusal}
-use Rattle.kexec_main.specs.Boot.{BootInputs}
+use Rattle.load_commands.specs.Boot.{BootInputs}
 use Rattle.kexec_main.specs.Call.{IsInOrder}
-use Rattle.kexec_main.specs.Exec.{CanExec, ExecInputs}
-use Rattle.kexec_main.specs.Files.{load_by}
-use Rattle.kexec_main.specs.Migrate.{MigrateInputs}
-use Rattle.kexec_main.specs.Outputs.{IsTooHeavy}
-use Rattle.kexec_main.specs.Loads.{CanLoad}
-use Rattle.kexec_main.specs.Runs.{after_runs, wish_of}
+use Rattle.list_commands.specs.Exec.{CanExec, ExecInputs}
+use Rattle.list_commands.specs.Records.{load_by}
+use Rattle.list_commands.specs.Migrate.{MigrateInputs}
+use Rattle.command_parts.specs.Outputs.{IsTooHeavy}
+use Rattle.load_commands.specs.Loads.{CanLoad}
+use Rattle.command_parts.specs.Runs.{after_runs, wish_of}
 use Rattle.kx_pages.specs.declared.image.Wish.TheVariants.{Plain}
-use Rattle.kexec_main.specs.declared.status.InputFault.TheVariants as inputs
-use Rattle.kexec_main.specs.declared.status.Reason.{Reason}
+use Rattle.command_parts.specs.declared.reason.InputFault.TheVariants as inputs
+use Rattle.command_parts.specs.declared.reason.Reason.{Reason}
 use Rattle.load_record.specs.declared.fault.RecFault.TheVariants as records
 use Rattle.kexec_words.specs.Values as words
-use Rattle.kexec_main.proofs.Loads.{has_file}
-use Rattle.kexec_main.proofs.Outputs.{file_as}
+use Rattle.command_parts.proofs.Outputs.{has_file, file_as}
 use Rattle.worked_commands.specs.Inputs.{each_file, short_pool, spoiled, three_bytes, three_bytes_record, unreadable}
 use Rattle.worked_commands.specs.Loads.{boot_of, few_plan, load_of_few}
 use Rattle.worked_commands.specs.Memories.{loaded, loaded_file, run_file}

@@ -6,10 +6,10 @@ use Rattle.kx_edge.specs.Edge.{Said}
 use Rattle.load_record.specs.File.{record_file}
 use Rattle.file_commands.specs.Answers.{FilesPut}
 use Rattle.file_commands.specs.Taking.{Refusal, Take, and_then, file, ok, reads, refuse}
-use Rattle.kexec_main.specs.Check.{check_entry}
-use Rattle.kexec_main.specs.Files.{load_files_of}
-use Rattle.kexec_main.specs.Migrate.{MigrateInputs, migrate_files, segments_line}
-use Rattle.kexec_main.specs.declared.status.Reason.{Reason}
+use Rattle.list_commands.specs.Check.{check_entry}
+use Rattle.list_commands.specs.Records.{load_files_of}
+use Rattle.list_commands.specs.Migrate.{MigrateInputs, migrate_files, segments_line}
+use Rattle.command_parts.specs.declared.reason.Reason.{Reason}
 use Rattle.worked_commands.specs.Inputs.{each_file}
 use Rattle.worked_commands.specs.Names.{migrate_record, of_record}
 use Rattle.worked_commands.proofs.CallFiles.{migrate_read}

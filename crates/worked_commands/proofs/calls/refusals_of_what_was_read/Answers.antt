@@ -3,14 +3,14 @@ use Rattle.std.proofs.Common.{◌≡◌, ◌∙◌, ℕ, [], ◌∷◌, true, fa
 use Rattle.std.specs.Prelude.{codes}
 use Rattle.kx_laws.proofs.Results.{ok_same}
 use Rattle.file_commands.specs.Taking.{Refusal, by}
-use Rattle.kexec_main.specs.Boot.{BootInputs, boots}
+use Rattle.load_commands.specs.Boot.{BootInputs, boots}
 use Rattle.kexec_main.specs.Call.{HasRefusal}
-use Rattle.kexec_main.specs.Exec.{ExecInputs, executes}
-use Rattle.kexec_main.specs.Files.{load_by}
-use Rattle.kexec_main.specs.Migrate.{MigrateInputs}
-use Rattle.kexec_main.specs.declared.status.InputFault.TheVariants as inputs
-use Rattle.kexec_main.specs.declared.status.Reason.{Reason}
-use Rattle.kexec_main.specs.declared.status.Reason.TheVariants as reasons
+use Rattle.list_commands.specs.Exec.{ExecInputs, executes}
+use Rattle.list_commands.specs.Records.{load_by}
+use Rattle.list_commands.specs.Migrate.{MigrateInputs}
+use Rattle.command_parts.specs.declared.reason.InputFault.TheVariants as inputs
+use Rattle.command_parts.specs.declared.reason.Reason.{Reason}
+use Rattle.command_parts.specs.declared.reason.Reason.TheVariants as reasons
 use Rattle.load_record.specs.declared.fault.RecFault.TheVariants as records
 use Rattle.kexec_words.specs.Values as words
 use Rattle.worked_commands.specs.Inputs.{each_file, short_pool, three_bytes_record, unreadable}

@@ -4,11 +4,11 @@ use Rattle.std.specs.Prelude.{codes}
 use Rattle.page_memory.specs.Contents.{Contents, at}
 use Rattle.list_checker.specs.Walk.{links, pairs}
 use Rattle.list_checker.specs.declared.fault.ListFault.{ListFault}
-use Rattle.kexec_main.specs.Check.{checks_list_as}
-use Rattle.kexec_main.specs.Dump.{lines_of}
-use Rattle.kexec_main.specs.Files.{list_files}
-use Rattle.kexec_main.specs.Outputs.{Made}
-use Rattle.kexec_main.specs.Texts.{accepted_line}
+use Rattle.list_commands.specs.Check.{checks_list_as}
+use Rattle.list_commands.specs.Dump.{lines_of}
+use Rattle.list_commands.specs.Records.{list_files}
+use Rattle.command_parts.specs.Outputs.{Made}
+use Rattle.command_parts.specs.Texts.{accepted_line}
 use Rattle.worked_commands.specs.Lists.{HasList, HasSource, one_move, plain_record}
 use Rattle.worked_commands.proofs.Lists.{accepted, only_list}
 use Rattle.std.specs.Fmt.{digits}

@@ -3,7 +3,7 @@ use Rattle.std.proofs.Common.{length, refl, subst}
 use Rattle.kx_edge.specs.Edge.{Said}
 use Rattle.page_memory.specs.Contents.{at}
 use Rattle.list_checker.specs.Walk.{links, pairs}
-use Rattle.kexec_main.specs.Texts.{accepted_line}
+use Rattle.command_parts.specs.Texts.{accepted_line}
 use Rattle.worked_commands.specs.Lists.{one_move}
 use Rattle.worked_commands.proofs.Lists.{accepted, in_place, only_list}
 use Rattle.std.specs.Fmt.{digits}

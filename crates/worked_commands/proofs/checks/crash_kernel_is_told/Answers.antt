@@ -4,8 +4,8 @@ use Rattle.std.specs.Prelude.{codes}
 use Rattle.kx_pages.specs.Bytes.{page_of}
 use Rattle.page_memory.specs.Contents.{Contents, at}
 use Rattle.list_checker.specs.declared.fault.Why.TheVariants.{Missing}
-use Rattle.kexec_main.specs.Check.{IsInPlace, IsPlaceFault}
-use Rattle.kexec_main.specs.Files.{crash_files}
+use Rattle.list_commands.specs.Check.{IsInPlace, IsPlaceFault}
+use Rattle.list_commands.specs.Records.{crash_files}
 use Rattle.worked_commands.specs.Lists.{crash_record}
 use Rattle.worked_commands.proofs.Lists.{in_place, missing, not_in_place}
 use Rattle.worked_commands.proofs.Shelves.{differ}

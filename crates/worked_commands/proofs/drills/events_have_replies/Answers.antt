@@ -6,7 +6,7 @@ use Rattle.kx_pages.specs.Bytes.{page_of}
 use Rattle.kx_pages.specs.Spans.{in_spans}
 use Rattle.memory_map.specs.Maps.{is_ram}
 use Rattle.segments.specs.Rules.{refusal, shape_refusal}
-use Rattle.kexec_main.specs.Replies.{reply_line}
+use Rattle.load_commands.specs.Replies.{reply_line}
 use Rattle.worked_commands.specs.Events.{small_ram, small_runs}
 use Rattle.worked_commands.proofs.drills.events_have_replies.Goals as goal
 

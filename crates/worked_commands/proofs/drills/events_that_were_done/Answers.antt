@@ -7,14 +7,13 @@ use Rattle.kx_pages.specs.Bytes.{page_of}
 use Rattle.kx_pages.specs.Spans.{in_spans}
 use Rattle.memory_map.specs.Maps.{is_ram}
 use Rattle.segments.specs.Rules.{refusal, shape_refusal}
-use Rattle.kexec_main.specs.Drill.{AreRam, first_meeting}
-use Rattle.kexec_main.specs.Replies.{reply_line}
+use Rattle.load_commands.specs.Drill.{AreRam, first_meeting, drill_text}
+use Rattle.load_commands.specs.Replies.{reply_line}
 use Rattle.worked_commands.specs.Events.{drill_of, reserved_ram, small_ram, small_runs}
 use Rattle.kx_edge.specs.Edge.{Said}
 use Rattle.kx_pages.specs.Spans.{Run}
 use Rattle.kx_pages.proofs.Same.{same_spans}
-use Rattle.kexec_main.specs.Drill.{drill_text}
-use Rattle.kexec_main.proofs.Loads.{has_file}
+use Rattle.command_parts.proofs.Outputs.{has_file}
 use Rattle.file_commands.specs.Answers.{FilesPut}
 use Rattle.page_memory.specs.Contents.{at}
 use Rattle.worked_commands.specs.Events.{first_events, first_replies}

@@ -3,8 +3,8 @@ use Rattle.std.proofs.Common.{◌≡◌, ℕ, [], ◌∷◌, Option, Some, None,
 use Rattle.kx_laws.proofs.Options.{some_same}
 use Rattle.image_slots.specs.declared.fault.SlotsFault.TheVariants as slots
 use Rattle.file_commands.specs.Taking.{by}
-use Rattle.kexec_main.specs.Drill.{drills, first_meeting}
-use Rattle.kexec_main.specs.declared.status.Reason.TheVariants as reasons
+use Rattle.load_commands.specs.Drill.{drills, first_meeting}
+use Rattle.command_parts.specs.declared.reason.Reason.TheVariants as reasons
 use Rattle.worked_commands.specs.Events.{drill_of, reserved_ram}
 use Rattle.worked_commands.proofs.drills.pool_meets_the_area.Goals as goal
 

@@ -4,7 +4,7 @@ use Rattle.hex.specs.Hex.{encode_with}
 use Rattle.sha2.specs.Sha256.{compress, digest_bytes, first_words, hash_after, rounds, schedule, sha256}
 use Rattle.std.proofs.Common.{◌≡◌, ◌∙◌, ◌++◌, refl, sym, ap}
 use Rattle.std.specs.List.{flat_map}
-use Rattle.kexec_main.specs.Dump.{head_text, lines_of, segment_line, word_line}
+use Rattle.list_commands.specs.Dump.{head_text, lines_of, segment_line, word_line}
 use Rattle.worked_commands.specs.Dumps.{crash_text}
 use Rattle.worked_commands.specs.Inputs.{three_bytes}
 use Rattle.worked_commands.proofs.dumped.crash_kernel_is_dumped.Goals as goal

@@ -10,7 +10,7 @@ use Rattle.page_memory.specs.Contents.{Contents, at}
 use Rattle.list_checker.specs.Reading.{IsWalk}
 use Rattle.list_checker.specs.declared.fault.ListFault.{ListFault}
 use Rattle.list_checker.proofs.Unique.{walk_same}
-use Rattle.kexec_main.specs.Dump.{head_text, segment_line, walk_text, word_line}
+use Rattle.list_commands.specs.Dump.{head_text, segment_line, walk_text, word_line}
 use Rattle.worked_commands.specs.Dumps.{crash_text, list_text}
 use Rattle.worked_commands.specs.Inputs.{three_bytes}
 use Rattle.worked_commands.specs.Lists.{HasList, one_move}

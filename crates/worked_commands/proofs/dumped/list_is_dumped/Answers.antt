@@ -13,7 +13,7 @@ use Rattle.list_checker.specs.declared.fault.ListFault.{ListFault}
 use Rattle.list_checker.specs.declared.fault.Why.TheVariants.{LinkAgain}
 use Rattle.list_checker.proofs.OneWay.{no_walk}
 use Rattle.list_checker.proofs.Unique.{walk_same}
-use Rattle.kexec_main.specs.Dump.{lines_of, segment_line, walk_text, word_line}
+use Rattle.list_commands.specs.Dump.{lines_of, segment_line, walk_text, word_line}
 use Rattle.worked_commands.specs.Dumps.{list_text, round_text}
 use Rattle.worked_commands.specs.Inputs.{three_bytes}
 use Rattle.worked_commands.specs.Lists.{HasList, HasWords, one_move}

@@ -1,7 +1,7 @@
 -- By computing.
 use Rattle.std.specs.Prelude.{refl}
 use Rattle.std.specs.Fmt.{digits}
-use Rattle.kexec_main.specs.Dump.{word_line}
+use Rattle.list_commands.specs.Dump.{word_line}
 use Rattle.worked_commands.proofs.dumps.lines_of_words.Goals as goal
 
 pub returns-clause-link : goal.returns-clause-link

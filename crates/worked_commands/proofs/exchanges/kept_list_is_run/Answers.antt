@@ -8,13 +8,13 @@ use Rattle.list_checker.specs.declared.fault.ListFault.{ListFault}
 use Rattle.load_states.specs.Ready.{Told}
 use Rattle.file_commands.specs.Taking.{File, by}
 use Rattle.kexec_words.specs.declared.commands.Runs.TheVariants.{Once, Twice}
-use Rattle.kexec_main.specs.Exec.{RunsFiles, executes, executes_as, load_of}
-use Rattle.kexec_main.specs.Files.{list_files, load_by}
-use Rattle.kexec_main.specs.Outputs.{IsFileOf, IsMemoryFile, IsTooHeavy, Made}
-use Rattle.kexec_main.specs.Runs.{after_runs, checked_with, run_text}
+use Rattle.list_commands.specs.Exec.{RunsFiles, executes, executes_as, load_of}
+use Rattle.list_commands.specs.Records.{list_files, load_by}
+use Rattle.command_parts.specs.Outputs.{IsFileOf, IsMemoryFile, IsTooHeavy, Made}
+use Rattle.command_parts.specs.Runs.{after_runs, checked_with, run_text}
 use Rattle.load_states.specs.States.{Checked}
-use Rattle.kexec_main.specs.declared.status.Reason.TheVariants as reasons
-use Rattle.kexec_main.proofs.Loads.{has_file}
+use Rattle.command_parts.specs.declared.reason.Reason.TheVariants as reasons
+use Rattle.command_parts.proofs.Outputs.{has_file}
 use Rattle.worked_commands.specs.Kept.{exchange_memory, exchange_record, once_goods, once_pages, one_exchange, twice_goods, twice_pages}
 use Rattle.worked_commands.proofs.Exchange.{accepted, once_is, only_list, twice_is}
 use Rattle.worked_commands.proofs.Memories.{one_file}

@@ -8,10 +8,10 @@ use Rattle.load_states.specs.Ready.{Told}
 use Rattle.load_states.specs.States.{Checked, Load}
 use Rattle.file_commands.specs.Answers.{FilesPut}
 use Rattle.segments.specs.Values.{overlay, want}
-use Rattle.kexec_main.specs.Exec.{load_of}
-use Rattle.kexec_main.specs.Files.{list_files}
-use Rattle.kexec_main.specs.Outputs.{IsFileOf}
-use Rattle.kexec_main.specs.Runs.{after_runs, checked_with, run_text}
+use Rattle.list_commands.specs.Exec.{load_of}
+use Rattle.list_commands.specs.Records.{list_files}
+use Rattle.command_parts.specs.Outputs.{IsFileOf}
+use Rattle.command_parts.specs.Runs.{after_runs, checked_with, run_text}
 use Rattle.worked_commands.specs.Execs.{ran_text}
 use Rattle.worked_commands.specs.Inputs.{three_bytes}
 use Rattle.worked_commands.specs.Lists.{plain_record}

@@ -3,8 +3,8 @@ use Rattle.std.proofs.Common.{refl}
 use Rattle.std.specs.Prelude.{codes}
 use Rattle.page_memory.specs.Contents.{Contents, at}
 use Rattle.list_checker.specs.declared.fault.Why.TheVariants.{WrongBytes}
-use Rattle.kexec_main.specs.Check.{IsFaultIn}
-use Rattle.kexec_main.specs.Files.{list_files}
+use Rattle.list_commands.specs.Check.{IsFaultIn}
+use Rattle.list_commands.specs.Records.{list_files}
 use Rattle.worked_commands.specs.Lists.{HasList, HasSource, plain_record}
 use Rattle.worked_commands.proofs.Lists.{faulty, none_accepted}
 use Rattle.std.specs.Fmt.{digits}

@@ -3,9 +3,9 @@ use Rattle.std.proofs.Common.{◌≡◌, true, false, Err, refl, inl, inr}
 use Rattle.std.specs.Prelude.{codes}
 use Rattle.page_memory.specs.Contents.{Contents}
 use Rattle.file_commands.specs.Taking.{by}
-use Rattle.kexec_main.specs.Exec.{executes}
-use Rattle.kexec_main.specs.Files.{load_by}
-use Rattle.kexec_main.specs.declared.status.Reason.TheVariants as reasons
+use Rattle.list_commands.specs.Exec.{executes}
+use Rattle.list_commands.specs.Records.{load_by}
+use Rattle.command_parts.specs.declared.reason.Reason.TheVariants as reasons
 use Rattle.worked_commands.specs.Lists.{plain_record}
 use Rattle.std.specs.Fmt.{digits}
 use Rattle.worked_commands.proofs.execs.plain_list_is_not_run_twice.Goals as goal

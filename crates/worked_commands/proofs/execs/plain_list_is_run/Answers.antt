@@ -8,11 +8,11 @@ use Rattle.load_states.specs.Ready.{Told}
 use Rattle.load_states.specs.States.{Load}
 use Rattle.file_commands.specs.Taking.{File}
 use Rattle.segments.specs.Values.{overlay, want}
-use Rattle.kexec_main.specs.Exec.{RunsFiles, executes_as, load_of}
-use Rattle.kexec_main.specs.Files.{list_files}
-use Rattle.kexec_main.specs.Outputs.{IsMemoryFile, IsTooHeavy, Made}
-use Rattle.kexec_main.specs.Runs.{checked_with, run_text}
-use Rattle.kexec_main.proofs.Loads.{has_file}
+use Rattle.list_commands.specs.Exec.{RunsFiles, executes_as, load_of}
+use Rattle.list_commands.specs.Records.{list_files}
+use Rattle.command_parts.specs.Outputs.{IsMemoryFile, IsTooHeavy, Made}
+use Rattle.command_parts.specs.Runs.{checked_with, run_text}
+use Rattle.command_parts.proofs.Outputs.{has_file}
 use Rattle.worked_commands.specs.Execs.{ran_text, run_goods}
 use Rattle.worked_commands.specs.Inputs.{three_bytes}
 use Rattle.worked_commands.specs.Lists.{one_move, plain_record}

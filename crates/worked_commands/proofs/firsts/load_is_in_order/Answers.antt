@@ -12,11 +12,11 @@ use Rattle.relocate_machine.specs.Run.{run_of}
 use Rattle.file_commands.specs.Taking.{Refusal}
 use Rattle.kexec_words.specs.Values as words
 use Rattle.kexec_main.specs.Call.{IsInOrder}
-use Rattle.kexec_main.specs.Exec.{CanExec, ExecInputs, exec_of}
-use Rattle.kexec_main.specs.Files.{load_by}
-use Rattle.kexec_main.specs.Outputs.{IsFileOf, IsTooHeavy}
-use Rattle.kexec_main.specs.declared.status.Reason.{Reason}
-use Rattle.kexec_main.proofs.Loads.{has_file}
+use Rattle.list_commands.specs.Exec.{CanExec, ExecInputs, exec_of}
+use Rattle.list_commands.specs.Records.{load_by}
+use Rattle.command_parts.specs.Outputs.{IsFileOf, IsTooHeavy}
+use Rattle.command_parts.specs.declared.reason.Reason.{Reason}
+use Rattle.command_parts.proofs.Outputs.{has_file}
 use Rattle.worked_commands.specs.Firsts.{loaded_files}
 use Rattle.worked_commands.specs.Inputs.{three_bytes, three_bytes_record}
 use Rattle.worked_commands.specs.Lists.{one_move}

@@ -26,15 +26,15 @@ use Rattle.file_commands.specs.Answers.{FilesPut}
 use Rattle.file_commands.specs.Taking.{File, Refusal}
 use Rattle.kexec_words.specs.Values as words
 use Rattle.kexec_main.specs.Call.{HasDone}
-use Rattle.kexec_main.specs.Check.{HasCheckedLoad}
-use Rattle.kexec_main.specs.Dump.{HasDumpedLoad, segment_line, walk_text, word_line}
-use Rattle.kexec_main.specs.Exec.{ExecInputs, HasExecutedLoad, exec_of, load_of}
-use Rattle.kexec_main.specs.Files.{list_files, load_by}
-use Rattle.kexec_main.specs.Outputs.{IsFileOf}
-use Rattle.kexec_main.specs.Runs.{after_runs, checked_with, run_text}
-use Rattle.kexec_main.specs.Texts.{accepted_line}
-use Rattle.kexec_main.specs.Trace.{HasTraced, outcome_line}
-use Rattle.kexec_main.specs.declared.status.Reason.{Reason}
+use Rattle.list_commands.specs.Check.{HasCheckedLoad}
+use Rattle.list_commands.specs.Dump.{HasDumpedLoad, segment_line, walk_text, word_line}
+use Rattle.list_commands.specs.Exec.{ExecInputs, HasExecutedLoad, exec_of, load_of}
+use Rattle.list_commands.specs.Records.{list_files, load_by}
+use Rattle.command_parts.specs.Outputs.{IsFileOf}
+use Rattle.command_parts.specs.Runs.{after_runs, checked_with, run_text}
+use Rattle.command_parts.specs.Texts.{accepted_line}
+use Rattle.list_commands.specs.Trace.{HasTraced, outcome_line}
+use Rattle.command_parts.specs.declared.reason.Reason.{Reason}
 use Rattle.worked_commands.specs.Dumps.{list_text}
 use Rattle.worked_commands.specs.Firsts.{loaded_files}
 use Rattle.worked_commands.specs.Inputs.{three_bytes, three_bytes_record}

@@ -1,14 +1,14 @@
 -- By computing.
 use Rattle.std.specs.Prelude.{Some, None, true, false, codes}
 use Rattle.kexec_words.specs.declared.commands.Runs.TheVariants.{Twice}
-use Rattle.kexec_main.specs.Boot.{boot_files}
-use Rattle.kexec_main.specs.Load.{load_command_files}
+use Rattle.load_commands.specs.Boot.{boot_files}
+use Rattle.load_commands.specs.Load.{load_command_files}
 use Rattle.worked_commands.specs.Inputs.{each_file, each_of}
 use Rattle.worked_commands.specs.Names.{all_inputs, boot_raw, load_raw}
 use Rattle.worked_commands.proofs.Reading.{read_by}
 use Rattle.kx_pages.specs.declared.image.ImageType.TheVariants.{Auto}
 use Rattle.file_commands.specs.Taking.{ok}
-use Rattle.kexec_main.specs.Inputs.{load_inputs}
+use Rattle.load_commands.specs.Inputs.{load_inputs}
 use Rattle.file_commands.proofs.Steps.{reads_ok}
 use Rattle.worked_commands.proofs.EachFile.{load_read}
 use Rattle.file_commands.specs.Taking.{and_then}

@@ -2,8 +2,8 @@
 use Rattle.std.specs.Prelude.{Some, None, codes}
 use Rattle.file_commands.specs.Taking.{ok}
 use Rattle.file_commands.proofs.Steps.{reads_ok}
-use Rattle.kexec_main.specs.CrashInputs.{crash_inputs}
-use Rattle.kexec_main.specs.LoadPanic.{load_panic_of as load_panic_command}
+use Rattle.load_commands.specs.CrashInputs.{crash_inputs}
+use Rattle.load_commands.specs.LoadPanic.{load_panic_of as load_panic_command}
 use Rattle.worked_commands.specs.Inputs.{each_file}
 use Rattle.worked_commands.specs.Names.{crash_inputs_of, load_panic_of}
 use Rattle.worked_commands.proofs.EachFile.{with_notes, without_notes}

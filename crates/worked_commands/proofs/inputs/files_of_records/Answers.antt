@@ -1,8 +1,8 @@
 -- By computing.
 use Rattle.std.specs.Prelude.{refl, true}
-use Rattle.kexec_main.specs.Exec.{exec_files}
-use Rattle.kexec_main.specs.Files.{load_files_of}
-use Rattle.kexec_main.specs.Migrate.{migrate_files}
+use Rattle.list_commands.specs.Exec.{exec_files}
+use Rattle.list_commands.specs.Records.{load_files_of}
+use Rattle.list_commands.specs.Migrate.{migrate_files}
 use Rattle.worked_commands.specs.Inputs.{each_of}
 use Rattle.worked_commands.specs.Names.{exec_record, migrate_record, of_record}
 use Rattle.worked_commands.proofs.Reading.{read_by}

@@ -11,13 +11,13 @@ use Rattle.file_commands.specs.Taking.{and_then}
 use Rattle.call_log.specs.Calls.{Call, put, said}
 use Rattle.call_log.specs.Replays.{Replays}
 use Rattle.call_log.specs.Told.{of_bytes, of_files, with_puts}
-use Rattle.kexec_main.specs.Inputs.{load_inputs}
-use Rattle.kexec_main.specs.Runs.{run_text}
-use Rattle.kexec_main.specs.Startup.{planned_startup}
-use Rattle.kexec_main.proofs.Ending.{again_of, machine_of}
-use Rattle.kexec_main.proofs.Leaving.{leaves_of}
-use Rattle.kexec_main.proofs.Loads.{normal}
-use Rattle.kexec_main.proofs.Proving.{proves_itself}
+use Rattle.load_commands.specs.Inputs.{load_inputs}
+use Rattle.command_parts.specs.Runs.{run_text}
+use Rattle.load_commands.specs.Startup.{planned_startup}
+use Rattle.load_commands.proofs.Ending.{again_of, machine_of}
+use Rattle.load_commands.proofs.Leaving.{leaves_of}
+use Rattle.load_commands.proofs.Loads.{normal}
+use Rattle.load_commands.proofs.Proving.{proves_itself}
 use Rattle.recorded_kexec.specs.Boot.{HasBootedLogged}
 use Rattle.worked_commands.specs.Inputs.{each_file, each_of, few_read}
 use Rattle.worked_commands.specs.Loads.{boot_text, few_plan}

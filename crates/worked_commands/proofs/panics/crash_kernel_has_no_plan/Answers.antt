@@ -5,9 +5,9 @@ use Rattle.kexec_plan.specs.Requests.{Plan}
 use Rattle.kexec_plan.specs.declared.fault.PlanFault.{PlanFault}
 use Rattle.kexec_plan.specs.declared.fault.PlanFault.TheVariants as plans
 use Rattle.file_commands.specs.Taking.{by}
-use Rattle.kexec_main.specs.CrashInputs.{CrashInputs}
-use Rattle.kexec_main.specs.LoadPanic.{loads_panic}
-use Rattle.kexec_main.specs.declared.status.Reason.TheVariants as reasons
+use Rattle.load_commands.specs.CrashInputs.{CrashInputs}
+use Rattle.load_commands.specs.LoadPanic.{loads_panic}
+use Rattle.command_parts.specs.declared.reason.Reason.TheVariants as reasons
 use Rattle.worked_commands.specs.Panics.{panic_of}
 use Rattle.worked_commands.proofs.panics.crash_kernel_has_no_plan.Goals as goal
 

@@ -12,13 +12,12 @@ use Rattle.kexec_plan.specs.Requests.{Plan}
 use Rattle.kexec_plan.specs.declared.fault.PlanFault.{PlanFault}
 use Rattle.kexec_plan.specs.declared.fault.PlanFault.TheVariants as plans
 use Rattle.file_commands.specs.Taking.{by}
-use Rattle.kexec_main.specs.CrashInputs.{CrashInputs}
-use Rattle.kexec_main.specs.CrashLoading.{IsCrashLoaded}
-use Rattle.kexec_main.specs.Load.{IsReadBack}
-use Rattle.kexec_main.specs.LoadPanic.{loads_panic, panic_text as text_of_panic, record_of_crash}
-use Rattle.kexec_main.specs.Outputs.{IsFileOf, Made}
-use Rattle.kexec_main.proofs.Outputs.{file_as}
-use Rattle.kexec_main.specs.declared.status.Reason.TheVariants as reasons
+use Rattle.load_commands.specs.CrashInputs.{CrashInputs}
+use Rattle.load_commands.specs.CrashLoading.{IsCrashLoaded}
+use Rattle.command_parts.specs.Outputs.{IsReadBack, IsFileOf, Made}
+use Rattle.load_commands.specs.LoadPanic.{loads_panic, panic_text as text_of_panic, record_of_crash}
+use Rattle.command_parts.proofs.Outputs.{file_as}
+use Rattle.command_parts.specs.declared.reason.Reason.TheVariants as reasons
 use Rattle.kx_fields.specs.Fields.{field, with_field, zeros}
 use Rattle.load_record.specs.File.{read_head, read_segments, record_file, record_reading, record_text, segment_at, segment_text, tested_head, tested_segments}
 use Rattle.load_record.specs.Head.{head_fault, head_text}

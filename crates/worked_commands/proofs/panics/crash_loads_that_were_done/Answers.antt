@@ -12,10 +12,10 @@ use Rattle.kexec_plan.specs.Requests.{Plan}
 use Rattle.kexec_plan.specs.declared.fault.PlanFault.{PlanFault}
 use Rattle.file_commands.specs.Answers.{FilesPut}
 use Rattle.file_commands.specs.Taking.{File}
-use Rattle.kexec_main.specs.CrashInputs.{CrashInputs}
-use Rattle.kexec_main.specs.LoadPanic.{PanicLoad, panic_text as text_of_panic, record_of_crash}
-use Rattle.kexec_main.specs.Outputs.{IsFileOf}
-use Rattle.kexec_main.proofs.Outputs.{file_as}
+use Rattle.load_commands.specs.CrashInputs.{CrashInputs}
+use Rattle.load_commands.specs.LoadPanic.{PanicLoad, panic_text as text_of_panic, record_of_crash}
+use Rattle.command_parts.specs.Outputs.{IsFileOf}
+use Rattle.command_parts.proofs.Outputs.{file_as}
 use Rattle.kx_fields.specs.Fields.{field, with_field, zeros}
 use Rattle.load_record.specs.File.{read_head, read_segments, record_file, record_reading, record_text, segment_at, segment_text, tested_head, tested_segments}
 use Rattle.load_record.specs.Head.{head_fault, head_text}

@@ -9,9 +9,8 @@ use Rattle.kexec_plan.specs.Plan.{plan}
 use Rattle.kexec_plan.specs.Requests.{Plan}
 use Rattle.kexec_plan.specs.declared.fault.PlanFault.{PlanFault}
 use Rattle.kexec_plan.specs.declared.fault.PlanFault.TheVariants as plans
-use Rattle.kexec_main.specs.CrashInputs.{CrashInputs}
-use Rattle.kexec_main.proofs.Loads.{has_file}
-use Rattle.kexec_main.proofs.Outputs.{file_as}
+use Rattle.load_commands.specs.CrashInputs.{CrashInputs}
+use Rattle.command_parts.proofs.Outputs.{has_file, file_as}
 use Rattle.worked_commands.specs.Inputs.{three_bytes}
 use Rattle.worked_commands.specs.Loads.{few_plan}
 use Rattle.worked_commands.specs.Memories.{abc_page, loaded, loaded_pages, memory_with, run_file, run_pages}

@@ -1,7 +1,7 @@
 -- By computing.
 use Rattle.std.specs.Prelude.{refl}
 use Rattle.std.specs.Fmt.{digits}
-use Rattle.kexec_main.specs.Replies.{reply_line}
+use Rattle.load_commands.specs.Replies.{reply_line}
 use Rattle.worked_commands.proofs.replies.lines_of_replies.Goals as goal
 
 pub returns-clause-memory : goal.returns-clause-memory

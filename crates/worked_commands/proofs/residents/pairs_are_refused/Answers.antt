@@ -11,8 +11,8 @@ use Rattle.resident_planner.specs.Refusals.{pairs_refusal}
 use Rattle.resident_planner.specs.declared.fault.ResidentFault.{ResidentFault}
 use Rattle.resident_planner.specs.declared.fault.ResidentFault.TheVariants as faults
 use Rattle.file_commands.specs.Taking.{by}
-use Rattle.kexec_main.specs.BootResident.{boots_resident}
-use Rattle.kexec_main.specs.declared.status.Reason.TheVariants as reasons
+use Rattle.load_commands.specs.BootResident.{boots_resident}
+use Rattle.command_parts.specs.declared.reason.Reason.TheVariants as reasons
 use Rattle.worked_commands.specs.Inputs.{few_asked, three_bytes}
 use Rattle.worked_commands.specs.Loads.{few_plan}
 use Rattle.worked_commands.specs.Residents.{resident_over}

@@ -3,8 +3,9 @@ use Rattle.std.proofs.Common.{◌++◌, ℕ, List, refl}
 use Rattle.std.specs.Prelude.{codes}
 use Rattle.std.specs.Fmt.{digits}
 use Rattle.hex.specs.Hex.{encode_lower, encode_with}
-use Rattle.kexec_main.specs.Runs.{list_text}
-use Rattle.kexec_main.specs.Texts.{memory_line, ran_line}
+use Rattle.command_parts.specs.Runs.{list_text}
+use Rattle.load_commands.specs.Sample.{memory_line}
+use Rattle.command_parts.specs.Texts.{ran_line}
 use Rattle.worked_commands.specs.Texts.{kept_checked}
 use Rattle.kx_pages.specs.declared.image.Start.{Start}
 use Rattle.worked_commands.proofs.residents.sample_is_said.Goals as goal

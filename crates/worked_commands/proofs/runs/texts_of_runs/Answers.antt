@@ -1,7 +1,7 @@
 -- By computing.
 use Rattle.std.proofs.Common.{refl, ap, ◌++◌}
-use Rattle.kexec_main.specs.Runs.{list_text}
-use Rattle.kexec_main.specs.Texts.{ran_line, regions_line}
+use Rattle.command_parts.specs.Runs.{list_text}
+use Rattle.command_parts.specs.Texts.{ran_line, regions_line}
 use Rattle.worked_commands.specs.Runs.{kept_over}
 use Rattle.worked_commands.specs.Texts.{registers}
 use Rattle.std.specs.Fmt.{digits}

@@ -7,8 +7,8 @@ use Rattle.page_memory.specs.Contents.{Contents, at}
 use Rattle.vmcore_file.specs.File.{CoreValue, core_reading}
 use Rattle.vmcore_file.specs.declared.fault.CoreFault.{CoreFault}
 use Rattle.vmcore_file.specs.declared.fault.CoreFault.TheVariants as faults
-use Rattle.kexec_main.specs.CoreFile.{core_line, cores}
-use Rattle.kexec_main.specs.Outputs.{Made}
+use Rattle.load_commands.specs.CoreFile.{core_line, cores}
+use Rattle.command_parts.specs.Outputs.{Made}
 use Rattle.worked_commands.specs.Singles.{core_over, one_output}
 use Rattle.worked_commands.specs.Texts.{core_of_five}
 use Rattle.worked_commands.proofs.singles.core_is_written.Goals as goal

@@ -8,9 +8,9 @@ use Rattle.relocate_machine.specs.declared.step.Outcome.{Outcome}
 use Rattle.relocate_machine.specs.declared.step.Outcome.TheVariants as outcomes
 use Rattle.relocate_machine.specs.Machine.{State}
 use Rattle.relocate_machine.specs.Run.{run_of}
-use Rattle.kexec_main.specs.Outputs.{IsFileOf, Made}
-use Rattle.kexec_main.specs.Trace.{outcome_line, traces}
-use Rattle.kexec_main.proofs.Loads.{has_file}
+use Rattle.command_parts.specs.Outputs.{IsFileOf, Made}
+use Rattle.list_commands.specs.Trace.{outcome_line, traces}
+use Rattle.command_parts.proofs.Outputs.{has_file}
 use Rattle.worked_commands.specs.Memories.{loaded, loaded_file, run_file}
 use Rattle.worked_commands.specs.Singles.{one_output, trace_over}
 use Rattle.worked_commands.proofs.Memories.{loaded_is, one_file, run_pages_are}

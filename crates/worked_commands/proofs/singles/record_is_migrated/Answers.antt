@@ -2,9 +2,8 @@
 use Rattle.std.proofs.Common.{◌≡◌, ◌∙◌, [], ◌∷◌, Ok, refl, sym, ap}
 use Rattle.std.specs.Prelude.{codes}
 use Rattle.std.specs.Fmt.{digits}
-use Rattle.kexec_main.specs.Load.{IsReadBack}
-use Rattle.kexec_main.specs.Migrate.{migrates, segments_line}
-use Rattle.kexec_main.specs.Outputs.{Made}
+use Rattle.command_parts.specs.Outputs.{IsReadBack, Made}
+use Rattle.list_commands.specs.Migrate.{migrates, segments_line}
 use Rattle.kx_fields.specs.Fields.{field, with_field, zeros}
 use Rattle.load_record.specs.File.{read_head, read_segments, record_file, record_reading, record_text, segment_at, segment_text, tested_head, tested_segments}
 use Rattle.load_record.specs.Head.{head_fault, head_text}

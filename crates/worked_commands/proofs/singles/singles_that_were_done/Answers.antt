@@ -13,11 +13,10 @@ use Rattle.relocate_machine.specs.Run.{run_of}
 use Rattle.vmcore_file.specs.File.{CoreValue, core_reading}
 use Rattle.vmcore_file.specs.declared.fault.CoreFault.{CoreFault}
 use Rattle.file_commands.specs.Answers.{FilesPut}
-use Rattle.kexec_main.specs.CoreFile.{core_line}
-use Rattle.kexec_main.specs.Load.{IsReadBack}
-use Rattle.kexec_main.specs.Migrate.{segments_line}
-use Rattle.kexec_main.specs.Outputs.{IsFileOf}
-use Rattle.kexec_main.specs.Trace.{outcome_line, traces}
+use Rattle.load_commands.specs.CoreFile.{core_line}
+use Rattle.command_parts.specs.Outputs.{IsReadBack, IsFileOf}
+use Rattle.list_commands.specs.Migrate.{segments_line}
+use Rattle.list_commands.specs.Trace.{outcome_line, traces}
 use Rattle.kx_fields.specs.Fields.{field, with_field, zeros}
 use Rattle.load_record.specs.File.{read_head, read_segments, record_file, record_reading, record_text, segment_at, segment_text, tested_head, tested_segments}
 use Rattle.load_record.specs.Head.{head_fault, head_text}

@@ -1,6 +1,6 @@
 -- By computing.
 use Rattle.std.proofs.Common.{refl, ap}
-use Rattle.kexec_main.specs.Texts.{regions_line}
+use Rattle.command_parts.specs.Texts.{regions_line}
 use Rattle.std.specs.Fmt.{digits}
 use Rattle.worked_commands.proofs.texts.lines_of_a_purgatory.Goals as goal
 

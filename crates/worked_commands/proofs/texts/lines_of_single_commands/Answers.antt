@@ -3,7 +3,7 @@ use Rattle.std.proofs.Common.{refl, ap, ◌++◌}
 use Rattle.std.specs.Prelude.{codes}
 use Rattle.hex.specs.Hex.{encode_lower}
 use Rattle.std.specs.Fmt.{digits}
-use Rattle.kexec_main.specs.Texts.{memory_line}
+use Rattle.load_commands.specs.Sample.{memory_line}
 use Rattle.hex.specs.Hex.{encode_with}
 use Rattle.worked_commands.proofs.texts.lines_of_single_commands.Goals as goal
 

@@ -1,0 +1,62 @@
+//! Why a command is refused.
+
+use command_table::UsageWhy;
+use crash_headers::NoteFault;
+use image_slots::{EventsFault, SlotsFault};
+use kexec_plan::PlanFault;
+use load_record::RecFault;
+use memory_map::MapFault;
+use page_memory::MemFault;
+use page_pool::PoolFault;
+use resident_planner::{PairsFault, ResidentFault};
+use thiserror::Error;
+use vmcore_file::CoreFault;
+
+/// Why an input file was refused: by its reader, with the place in it.
+#[derive(Clone, Copy, Debug, PartialEq, Eq, Error)]
+pub enum InputFault {
+    /// The memory file.
+    #[error("{fault}")]
+    Mem { fault: MemFault },
+    /// The pool file.
+    #[error("{fault}")]
+    Pool { fault: PoolFault },
+    /// The memory map.
+    #[error("{fault}")]
+    Map { fault: MapFault },
+    /// The load record.
+    #[error("{fault}")]
+    Rec { fault: RecFault },
+    /// The file of notes.
+    #[error("{fault}")]
+    Notes { fault: NoteFault },
+    /// The file of pairs.
+    #[error("{fault}")]
+    Pairs { fault: PairsFault },
+    /// The file of events.
+    #[error("{fault}")]
+    Events { fault: EventsFault },
+}
+
+/// Why a command is refused, in the order in which its work is done.
+#[derive(Clone, Copy, Debug, PartialEq, Eq)]
+pub enum Reason {
+    /// The words are refused.
+    Usage { why: UsageWhy },
+    /// The reader of an input file refused it.
+    Input { fault: InputFault },
+    /// `exec --twice` was given a record that is not in kept mode.
+    NotKept,
+    /// The request has no plan.
+    Plan { fault: PlanFault },
+    /// The pool has fewer usable pages than the load takes.
+    NoPages { pool: u64, need: u64 },
+    /// No list is made of the resident pages.
+    Resident { fault: ResidentFault },
+    /// The memory to write has more pages that are not all zeros than a memory file can have.
+    Heavy { count: u64 },
+    /// There are no slots over the pool: one of its pages lies in the reserved area.
+    Slots { fault: SlotsFault },
+    /// The memory has no core file by the headers at the address.
+    Core { fault: CoreFault },
+}

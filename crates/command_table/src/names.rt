@@ -1,0 +1,97 @@
+//! The commands by their names: what the table says of each.
+
+ghost use Rattle.std.specs.Prelude.{◌≡◌};
+ghost use Rattle.command_table.specs.Arguments.{arguments_by};
+ghost use Rattle.command_table.specs.Names.{name_text, name_of};
+ghost use Rattle.command_table.specs.inner.Table.{argument_values};
+
+use crate::table::{Argument, CommandText};
+use crate::{arguments, texts};
+
+/// A command.
+#[derive(Clone, Copy)]
+pub enum Name {
+    Boot,
+    Load,
+    LoadPanic,
+    Check,
+    Dump,
+    Exec,
+    Trace,
+    Migrate,
+    Sample,
+    BootResident,
+    Drill,
+    Core,
+}
+
+// All commands, in the order in which they are listed.
+pub(crate) const NAMES: [Name; 12] = [
+    Name::Boot,
+    Name::Load,
+    Name::LoadPanic,
+    Name::Check,
+    Name::Dump,
+    Name::Exec,
+    Name::Trace,
+    Name::Migrate,
+    Name::Sample,
+    Name::BootResident,
+    Name::Drill,
+    Name::Core,
+];
+
+impl Name {
+    /// The word that names the command, the first of its words.
+    pub fn text(self) -> &'static str
+        ensures { result.now ≡ name_text self }
+    {
+        self.said().name
+    }
+
+    /// The arguments of the command, in their order.
+    pub fn arguments(self) -> &'static [Argument]
+        ensures { argument_values result.now ≡ arguments_by self }
+    {
+        match self {
+            Name::Boot => arguments::BOOT,
+            Name::Load => arguments::LOAD,
+            Name::LoadPanic => arguments::LOAD_PANIC,
+            Name::Check | Name::Dump => arguments::LOADED,
+            Name::Exec => arguments::EXEC,
+            Name::Trace => arguments::TRACE,
+            Name::Migrate => arguments::MIGRATE,
+            Name::Sample => arguments::SAMPLE,
+            Name::BootResident => arguments::BOOT_RESIDENT,
+            Name::Drill => arguments::DRILL,
+            Name::Core => arguments::CORE,
+        }
+    }
+
+    // What is said of the command, beside its arguments.
+    pub(crate) fn said(self) -> CommandText
+        ensures { result.name.now ≡ name_text self }
+    {
+        match self {
+            Name::Boot => texts::BOOT,
+            Name::Load => texts::LOAD,
+            Name::LoadPanic => texts::LOAD_PANIC,
+            Name::Check => texts::CHECK,
+            Name::Dump => texts::DUMP,
+            Name::Exec => texts::EXEC,
+            Name::Trace => texts::TRACE,
+            Name::Migrate => texts::MIGRATE,
+            Name::Sample => texts::SAMPLE,
+            Name::BootResident => texts::BOOT_RESIDENT,
+            Name::Drill => texts::DRILL,
+            Name::Core => texts::CORE,
+        }
+    }
+}
+
+/// The command that this word names.
+pub fn name_of(word: &str) -> Option<Name>
+    ensures { result ≡ name_of word.now }
+{
+    NAMES.iter().copied().find(|name| name.text() == word)
+}

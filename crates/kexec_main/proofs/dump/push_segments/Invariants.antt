@@ -1,7 +1,0 @@
-use Rattle.std.proofs.Common.{◌≡◌, ◌++◌, drop, string_bytes}
-use Rattle.std.specs.List.{flat_map}
-use Rattle.kexec_main.specs.Dump.{segment_line}
-use Rattle.kexec_main.proofs.dump.push_segments.Given as goal
-
-abbrev pub invariant-loop-i : goal.invariant-loop-i
-invariant-loop-i l = string_bytes l.text ++ flat_map segment_line (drop l.i l.segments) ≡ string_bytes l.fn.text ++ flat_map segment_line l.segments

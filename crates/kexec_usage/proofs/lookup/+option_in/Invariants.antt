@@ -1,5 +1,0 @@
-use Rattle.std.proofs.Common.{length}
-use Rattle.kexec_usage.proofs.lookup.+option_in.Given as goal
-
-abbrev pub decreases-option_in : goal.decreases-option_in
-decreases-option_in l = length l.arguments.now

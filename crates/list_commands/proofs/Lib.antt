@@ -1,0 +1,5 @@
+pub mod Lines
+pub mod Executes
+pub mod Places
+pub mod Reread
+pub mod Commands

@@ -1,0 +1,134 @@
+//! `check`: whether the load that a record tells is accepted.
+
+ghost use Rattle.std.specs.Prelude.{◌≡◌, IfOk, IfErr};
+ghost use Rattle.list_checker.specs.declared.fault.ListFault.{ListFault as SpecFault};
+ghost use Rattle.list_checker.specs.declared.fault.CheckFault.TheVariants as faults;
+ghost use Rattle.file_commands.specs.Answers.{Meets};
+ghost use Rattle.file_commands.specs.inner.Calls.{Makes, goods_of, call_answer};
+ghost use Rattle.kexec_words.specs.inner.Values.{load_names_value};
+ghost use Rattle.list_commands.specs.Check.{IsFaultLine, checks, checks_in_place, checks_list, check_entry};
+ghost use Rattle.list_commands.specs.Records.{load_files_of};
+
+use crate::records::{CrashFiles, LoadFiles, TakenLoad, take_load_files};
+use command_parts::{Reason, accepted_line, crash_line};
+use file_commands::{Command, Goods, MakeFault, Stop, TakeFault, run};
+use kexec_words::LoadNames;
+use kx_edge::{Shelf, Sink};
+use list_checker::{CheckFault, ListFault, check, check_crash};
+use std::alloc::Global;
+
+/// The words of `check`.
+#[derive(Drop)]
+pub(crate) struct CheckWords {
+    pub(crate) words: LoadNames,
+}
+
+/// What is made of a load that is not accepted: its first fault's line alone, and the fault.
+pub(crate) fn fault_goods(
+    alloc: Global,
+    fault: ListFault,
+) -> Result<Goods<ListFault>, MakeFault<Reason>>
+    ensures line { IfOk result (λ g. IsFaultLine fault (goods_of g)) }
+    ensures memory { IfErr result (λ e. e ≡ MakeFault.Memory) }
+{
+    Ok(Goods {
+        outputs: Vec::new(alloc),
+        text: format!(in alloc; "{fault}\n")?,
+        fault: Some(fault),
+    })
+}
+
+/// The same of a list that was not found to be accepted.
+pub(crate) fn unaccepted_goods(
+    alloc: Global,
+    why: CheckFault,
+) -> Result<Goods<ListFault>, MakeFault<Reason>>
+    ensures line { IfOk result (λ g.
+        (f : SpecFault) × (why ≡ faults.List f) × IsFaultLine f (goods_of g)) }
+    ensures memory { IfErr result (λ e. e ≡ MakeFault.Memory) }
+{
+    match why {
+        CheckFault::Memory => Err(MakeFault::Memory),
+        CheckFault::List { fault } => fault_goods(alloc, fault),
+    }
+}
+
+// Checks the list of a normal load, and makes the line that tells of it.
+fn check_list(alloc: Global, files: LoadFiles) -> Result<Goods<ListFault>, MakeFault<Reason>>
+    ensures { Makes checks_list files result }
+{
+    match check(alloc, &files.memory, &files.image, &files.segments) {
+        Err(why) => unaccepted_goods(alloc, why),
+        Ok(accept) => {
+            let pairs = accept.pairs.len() as u64;
+            Ok(Goods {
+                outputs: Vec::new(alloc),
+                text: accepted_line(alloc, accept.words, accept.links, pairs)?,
+                fault: None,
+            })
+        }
+    }
+}
+
+// Checks a crash load, and makes the line that tells of it.
+fn check_in_place(alloc: Global, files: CrashFiles) -> Result<Goods<ListFault>, MakeFault<Reason>>
+    ensures { Makes checks_in_place files result }
+{
+    match check_crash(&files.memory, files.head, &files.segments) {
+        Err(fault) => fault_goods(alloc, fault),
+        Ok(()) => Ok(Goods {
+            outputs: Vec::new(alloc),
+            text: crash_line(alloc, files.segments.pages())?,
+            fault: None,
+        }),
+    }
+}
+
+// Checks the load, and makes the line that tells of it.
+fn make_check(alloc: Global, load: TakenLoad) -> Result<Goods<ListFault>, MakeFault<Reason>>
+    ensures { Makes checks load result }
+{
+    match load {
+        TakenLoad::Normal(files) => check_list(alloc, files),
+        TakenLoad::Crash(files) => check_in_place(alloc, files),
+    }
+}
+
+impl Command for CheckWords {
+    type Taken = TakenLoad;
+
+    type Fault = ListFault;
+
+    type Reason = Reason;
+
+    ghost use Rattle.list_commands.specs.declared.records.TakenLoad.{TakenLoad};
+
+    ghost Inputs = { TakenLoad };
+
+    ghost inputs = { λ f. f };
+
+    ghost takes = { λ c. load_files_of (load_names_value c.words) };
+
+    ghost makes = { checks };
+
+    fn take<S: Shelf>(self, alloc: Global, shelf: &mut S) -> Result<TakenLoad, TakeFault<Reason>> {
+        take_load_files(alloc, self.words.memory, self.words.load_record, shelf)
+    }
+
+    fn make(alloc: Global, load: TakenLoad) -> Result<Goods<ListFault>, MakeFault<Reason>> {
+        make_check(alloc, load)
+    }
+}
+
+/// Runs `check`: says whether the load that a record tells is accepted.
+pub fn run_check<S: Shelf, O: Sink>(
+    alloc: Global,
+    words: LoadNames,
+    shelf: &mut S,
+    out: &mut O,
+) -> Result<(), Stop<ListFault, Reason>>
+    ensures { Meets S.Shelf O.Sink (check_entry (load_names_value words)).command shelf.old out.old
+        (call_answer result) shelf.new out.new }
+{
+    run(alloc, CheckWords { words }, shelf, out)
+}

@@ -1,0 +1,124 @@
+//! The files of a load are taken, each with its limit, and read: its memory and its record.
+
+ghost use Rattle.std.specs.Prelude.{◌≡◌, string_bytes, IfOk};
+ghost use Rattle.file_commands.specs.inner.Calls.{Takes};
+ghost use Rattle.list_commands.specs.Records.{load_by, load_files, load_record_file};
+ghost use Rattle.load_record.specs.inner.File.{IsWritable};
+
+use command_parts::{InputFault, Reason, Startup, refusal_by, take_memory};
+use file_commands::{FileParts, TakeFault, take_apart};
+use kx_edge::Shelf;
+use kx_pages::Image;
+use load_record::{DigestedRecord, FIRST_BYTES, LoadRecord, RecFault};
+use page_memory::Memory;
+use segments::Segments;
+use std::alloc::Global;
+
+/// The most bytes of a load record: its head, the heads and digests of sixteen segments, and the bytes of 65,536 pages.
+const RECORD_LIMIT: usize = 268_436_448;
+
+/// Takes the file of a load record and reads it: what follows its front is taken into the buffer that becomes its first
+/// segment's.
+#[tactic(auto, unfolding(file_commands::specs::Taking::and_then, file_commands::specs::Taking::Took, file_commands::specs::Taking::FailedAt, file_commands::specs::Taking::WantedAt, file_commands::specs::inner::Calls::TakesNot))]
+pub(crate) fn take_record<S: Shelf>(
+    alloc: Global,
+    name: String,
+    shelf: &mut S,
+) -> Result<LoadRecord, TakeFault<Reason>>
+    ensures { Takes S.Shelf (load_record_file (string_bytes name)) (λ r. r) shelf.old result
+        shelf.new }
+{
+    let FileParts { front, rest, .. } = take_apart(alloc, name, FIRST_BYTES, RECORD_LIMIT, shelf)?;
+    match LoadRecord::from_file(alloc, &front, rest) {
+        Ok(record) => Ok(record),
+        Err(RecFault::Memory) => Err(TakeFault::Memory),
+        Err(fault) => Err(refusal_by(InputFault::Rec { fault })),
+    }
+}
+
+/// As `take_record`, with the digests of the record's segments.
+#[tactic(auto, unfolding(file_commands::specs::Taking::and_then, file_commands::specs::Taking::Took, file_commands::specs::Taking::FailedAt, file_commands::specs::Taking::WantedAt, file_commands::specs::inner::Calls::TakesNot))]
+pub(crate) fn take_digested_record<S: Shelf>(
+    alloc: Global,
+    name: String,
+    shelf: &mut S,
+) -> Result<DigestedRecord, TakeFault<Reason>>
+    ensures takes { Takes S.Shelf (load_record_file (string_bytes name)) (λ r. r) shelf.old result
+        shelf.new }
+    ensures writable { IfOk result IsWritable }
+{
+    let FileParts { front, rest, .. } = take_apart(alloc, name, FIRST_BYTES, RECORD_LIMIT, shelf)?;
+    match DigestedRecord::from_file(alloc, &front, rest) {
+        Ok(record) => Ok(record),
+        Err(RecFault::Memory) => Err(TakeFault::Memory),
+        Err(fault) => Err(refusal_by(InputFault::Rec { fault })),
+    }
+}
+
+/// The files of a normal load, as they were taken: the memory, and what the record tells of the list.
+#[derive(Drop)]
+pub struct LoadFiles {
+    pub memory: Memory,
+    pub image: Image,
+    pub segments: Segments,
+    pub startup: Startup,
+}
+
+/// The files of a crash load, as they were taken: the memory, in which the kernel lies in its place, and what the record
+/// tells of it. Its list is the head alone.
+#[derive(Drop)]
+pub struct CrashFiles {
+    pub memory: Memory,
+    pub head: u64,
+    pub segments: Segments,
+    pub startup: Startup,
+}
+
+/// A load that `check` or `exec` took, by the kind of its record. Neither looks at the kind again.
+#[derive(Drop)]
+pub enum TakenLoad {
+    Normal(LoadFiles),
+    Crash(CrashFiles),
+}
+
+// The load that the files tell.
+fn load_by(memory: Memory, load_record: LoadRecord) -> TakenLoad
+    ensures { result ≡ load_by memory load_record }
+{
+    let startup = Startup::of_record(&load_record);
+    let LoadRecord {
+        crash,
+        image,
+        segments,
+        ..
+    } = load_record;
+    if !crash {
+        return TakenLoad::Normal(LoadFiles {
+            memory,
+            image,
+            segments,
+            startup,
+        });
+    }
+    TakenLoad::Crash(CrashFiles {
+        memory,
+        head: image.head,
+        segments,
+        startup,
+    })
+}
+
+/// Takes the memory file, then the file of the load record.
+pub(crate) fn take_load_files<S: Shelf>(
+    alloc: Global,
+    memory: String,
+    load_record: String,
+    shelf: &mut S,
+) -> Result<TakenLoad, TakeFault<Reason>>
+    ensures { Takes S.Shelf (load_files (string_bytes memory) (string_bytes load_record)) (λ f. f)
+        shelf.old result shelf.new }
+{
+    let memory = take_memory(alloc, memory, shelf)?;
+    let load_record = take_record(alloc, load_record, shelf)?;
+    Ok(load_by(memory, load_record))
+}

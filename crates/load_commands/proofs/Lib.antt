@@ -1,0 +1,11 @@
+pub mod Pages
+pub mod Mapped
+pub mod EventFile
+pub mod Startups
+pub mod Drawn
+pub mod Leaving
+pub mod Ending
+pub mod Loads
+pub mod Proving
+pub mod Resident
+pub mod Commands

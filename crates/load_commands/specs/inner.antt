@@ -1,0 +1,4 @@
+-- What laws, and contracts inside the crates, speak of. No clause of `kexec` reaches it: it need not be believed.
+pub mod Views
+pub mod Told
+pub mod ShortStores

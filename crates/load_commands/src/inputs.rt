@@ -1,0 +1,197 @@
+//! What `boot`, `load` and `load-panic` take: the memory, the pool or the notes, the memory map, and the files of the
+//! kernel, which become the request for a plan.
+
+ghost use Rattle.std.specs.Prelude.{◌≡◌, ◌≤◌, ◌-◌, ℕ, length, map, option_map, is_some, string_bytes, IfOk};
+ghost use Rattle.file_commands.specs.inner.Calls.{Takes, file_of};
+ghost use Rattle.kexec_words.specs.inner.Limits.{HasParts};
+ghost use Rattle.kexec_words.specs.inner.Values.{crash_inputs_value, inputs_value};
+ghost use Rattle.kexec_plan.specs.inner.Requests.{request_of};
+ghost use Rattle.load_commands.specs.Inputs.{KernelFiles as KernelBytes, kernel_files, left_after, load_inputs, module_of, request_with};
+ghost use Rattle.load_commands.specs.inner.Views.{inputs_of, kernel_bytes, crash_inputs_of};
+ghost use Rattle.load_commands.specs.CrashInputs.{crash_inputs, crash_request};
+
+use crate::files::{take_map, take_map_file, take_notes, take_pool};
+use crate::load_inputs::{CrashInputs, LoadInputs};
+use command_parts::{Reason, take_memory};
+use crash_headers::Note;
+use file_commands::{File, TakeFault, take_all, take_file, take_optional};
+use kexec_plan::{Module, Request};
+use kexec_words::{CrashInputs as CrashNames, Inputs};
+use kx_edge::Shelf;
+use kx_pages::{ImageType, KERNEL_LIMIT};
+use std::alloc::{AllocError, Global};
+
+/// The most bytes of a purgatory.
+const PURGATORY_LIMIT: usize = 16_777_216;
+
+/// The files of a kernel, as they were taken.
+#[derive(Drop)]
+pub(crate) struct KernelFiles {
+    pub(crate) kernel: Vec<u8>,
+    pub(crate) initrd: Option<Vec<u8>>,
+    pub(crate) purgatory: Option<Vec<u8>>,
+    pub(crate) modules: Vec<File>,
+}
+
+// What is left of so many bytes after a file that may be named.
+fn left_after(left: usize, bytes: &Option<Vec<u8>>) -> usize
+    ensures { result ≡ left_after left (option_map (λ b. b.items) bytes.now) }
+{
+    match bytes {
+        Some(bytes) => left.saturating_sub(bytes.len()),
+        None => left,
+    }
+}
+
+// Takes the files of a kernel in their order.
+fn take_kernel<S: Shelf>(
+    alloc: Global,
+    kernel: String,
+    initrd: Option<String>,
+    purgatory: Option<String>,
+    modules: Vec<String>,
+    shelf: &mut S,
+) -> Result<KernelFiles, TakeFault<Reason>>
+    ensures takes { Takes S.Shelf
+        (kernel_files (string_bytes kernel) (option_map string_bytes initrd)
+        (option_map string_bytes purgatory) (map string_bytes modules.items)) kernel_bytes
+        shelf.old result shelf.new }
+    ensures named { IfOk result (λ f. is_some f.purgatory ≡ is_some purgatory) }
+{
+    let kernel = take_file(alloc, kernel, KERNEL_LIMIT, shelf)?;
+    let left = KERNEL_LIMIT - kernel.len();
+    let initrd = take_optional(alloc, initrd, left, shelf)?;
+    let purgatory = take_optional(alloc, purgatory, PURGATORY_LIMIT, shelf)?;
+    let modules = take_all(alloc, modules, left_after(left, &initrd), shelf)?;
+    Ok(KernelFiles {
+        kernel,
+        initrd,
+        purgatory,
+        modules,
+    })
+}
+
+// The modules of a request: a module's text is its file's name.
+fn modules_of(alloc: Global, files: Vec<File>) -> Result<Vec<Module>, AllocError>
+    ensures { IfOk result (λ v. v.items ≡ map module_of (map file_of files.items)) }
+{
+    let mut modules = Vec::new(alloc);
+    for file in files {
+        let File { name, bytes } = file;
+        modules.push(Module {
+            bytes,
+            text: name.into_bytes(),
+        })?;
+    }
+    Ok(modules)
+}
+
+// The request for the plan of these files.
+fn request_with(
+    alloc: Global,
+    image: ImageType,
+    command: Option<String>,
+    files: KernelFiles,
+) -> Result<Request, AllocError>
+    ensures { IfOk result
+        (λ r. request_of r
+        ≡ request_with image (option_map string_bytes command) (kernel_bytes files)) }
+{
+    let modules = modules_of(alloc, files.modules)?;
+    let command = match command {
+        Some(text) => Some(text.into_bytes()),
+        None => None,
+    };
+    Ok(Request {
+        crash: false,
+        image,
+        kernel: files.kernel,
+        initrd: files.initrd,
+        command,
+        modules,
+        purgatory: files.purgatory,
+        notes: Vec::new(alloc),
+    })
+}
+
+/// Takes what `boot` and `load` take.
+pub(crate) fn take_inputs<S: Shelf>(
+    alloc: Global,
+    image: ImageType,
+    inputs: Inputs,
+    shelf: &mut S,
+) -> Result<LoadInputs, TakeFault<Reason>>
+    requires { HasParts (inputs_value inputs) image }
+    ensures { Takes S.Shelf (load_inputs image (inputs_value inputs)) inputs_of shelf.old
+        result shelf.new }
+{
+    let Inputs {
+        memory,
+        pool,
+        below,
+        map,
+        kernel,
+        initrd,
+        purgatory,
+        modules,
+        command,
+    } = inputs;
+    let memory = take_memory(alloc, memory, shelf)?;
+    let pool = take_pool(alloc, pool, below, shelf)?;
+    let map = take_map(alloc, map, shelf)?;
+    let files = take_kernel(alloc, kernel, initrd, purgatory, modules, shelf)?;
+    let request = request_with(alloc, image, command, files)?;
+    Ok(LoadInputs {
+        memory,
+        pool,
+        map,
+        request,
+    })
+}
+
+// The request for the plan of a crash kernel of these files.
+fn crash_request(
+    alloc: Global,
+    command: Option<String>,
+    notes: Vec<Note>,
+    files: KernelFiles,
+) -> Result<Request, AllocError>
+    ensures { IfOk result (λ r. request_of r ≡
+        crash_request (option_map string_bytes command) notes.items (kernel_bytes files)) }
+{
+    let mut request = request_with(alloc, ImageType::Auto, command, files)?;
+    request.crash = true;
+    request.notes = notes;
+    Ok(request)
+}
+
+/// Takes what `load-panic` takes.
+pub(crate) fn take_crash_inputs<S: Shelf>(
+    alloc: Global,
+    inputs: CrashNames,
+    map: String,
+    shelf: &mut S,
+) -> Result<CrashInputs, TakeFault<Reason>>
+    ensures { Takes S.Shelf (crash_inputs (crash_inputs_value inputs) (string_bytes map))
+        crash_inputs_of shelf.old result shelf.new }
+{
+    let CrashNames {
+        memory,
+        notes,
+        kernel,
+        initrd,
+        purgatory,
+        command,
+    } = inputs;
+    let memory = take_memory(alloc, memory, shelf)?;
+    let map = take_map_file(alloc, map, shelf)?;
+    let notes = take_notes(alloc, notes, shelf)?;
+    let modules = Vec::new(alloc);
+    let files = take_kernel(alloc, kernel, initrd, purgatory, modules, shelf)?;
+    let request = crash_request(alloc, command, notes, files)?;
+    Ok(CrashInputs {
+        memory,
+        map,
+        request,
+    })
+}
