@@ -3,6 +3,7 @@
 The readers and writers are the companion's (scripts/companion); here is what only the checks need.
 """
 import argparse
+import re
 
 from companion import numbers, program
 from companion.maps import RAM, write_map
@@ -54,6 +55,6 @@ def run(words, folder):
 def unknown(words):
     """What the program does not know of these words: the command or an option; None where it knows all."""
     told = run([words[0], "--help"], TOP)[1]
-    if not told.startswith(f"Usage: kexec {words[0]} "):
+    if not re.match(rf"Usage: \S+ {re.escape(words[0])} ", told):
         return f"command {words[0]}"
     return next((f"option {word}" for word in words if word.startswith("--") and word not in told), None)
