@@ -337,6 +337,7 @@ def test_json(tests):
     tests.write("dump", tests.run("kexec", "dump", "lm", "lr")[1] + "3 no-pages 3 5\nword 3: Missing 2000\n")
     for words in (["plan", "--ram", "64M", "vmlinuz", "initrd"], ["plan", "--ram", "256M", "--crash", "vmlinuz", "initrd"],
                   ["plan", "--map", "small", "vmlinuz"], ["look", "pages", "m"], ["look", "differ", "m", "bad"],
+                  ["look", "bytes", "m", "1ff0", "3000"], ["look", "steps", "m", "11002"], ["look", "steps", "m", "1"],
                   ["look", "differ", "m", "bad", "r"], ["look", "record", "kr"], ["look", "record", "c1"],
                   ["look", "list", "lm", "lr"], ["look", "list", "bad", "r"], ["look", "text", "dump"],
                   ["compare", "r", "kr"], ["parameters", "kept/loaded.record", "--initrd", "initrd"]):  # fmt: skip
