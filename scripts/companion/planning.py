@@ -144,13 +144,21 @@ class Plan:
         pool = [] if self.is_crash else ["pool"]
         return [*words, "memory.kxmem", *pool, "loaded.kxmem", "loaded.record", os.path.abspath(given.kernel)]
 
+    def refusal_of(self, said):
+        """The sentence of a refusal, in which the files have the names that were given."""
+        sentence = program.sentence(said).partition(OF_PLAN)[0]
+        for name in ("initrd", "notes", "purgatory", "kernel"):
+            path = getattr(self.given, name)
+            sentence = sentence.replace(f'"{os.path.abspath(path)}"', f'"{path}"') if path else sentence
+        return sentence
+
     def load_once(self):
         with Progress("loading the kernel into an empty memory"):
             self.status, _, said = program.run(self.words(), self.folder)
         if self.status == 0:
             self.record = Record(f"{self.folder}/loaded.record")
             return
-        self.record, self.refusal = None, program.sentence(said).partition(OF_PLAN)[0]
+        self.record, self.refusal = None, self.refusal_of(said)
         is_for_places = self.status == NO_PLAN and any(text in self.refusal for text in OF_PLACES)
         if self.status != NO_PAGES and not is_for_places:
             raise Wrong(self.refusal)
