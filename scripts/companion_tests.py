@@ -289,8 +289,8 @@ def test_pictures(tests):
     status, out, _ = tests.run(KERNELYET, "picture", "load", "--map", "kept/map", "kept/loaded.record")
     letters = set("".join(re.findall(r"\|(.*)\|", out)))
     tests.same("a crash load for the terminal", (status, letters), (0, set(".xcKIHP") - (set(".xcKIHP") - letters)))
-    tests.same("its parts are named", [name in out for name in ("K  kernel", "I  initrd", "H  crash headers", "c  crash area, free")],
-               [True] * 4)
+    names = ("K  kernel", "I  initrd", "H  crash headers", "c  crash area, free")
+    tests.same("its parts are named", [name in out for name in names], [True] * 4)
     tests.run(KERNELYET, "picture", "plan", "--ram", "64M", "vmlinuz", "initrd", "--svg", "plan.svg")
     svg = tests.read("plan.svg").decode()
     tests.same("a plan as an SVG", [f">{name}</text>" in svg for name in ("kernel", "initrd", "boot parameters", "control page",

@@ -113,8 +113,8 @@ def crash_lines(plan, crash):
     guess = " (a guess)" * bool(plan.initrd and plan.initrd.is_guess)
     initrd = f", {size_text(crash.needs.unpacked)} for the unpacked initrd{guess}" * bool(plan.initrd)
     yield f"{'to run':15}  crashkernel={option_size(crash.to_run)} or more, as a rule of thumb:"
-    yield (f"{'':15}  {size_text(crash.needs.to_load(crash.start))} for the parts{initrd}, {size_text(crash.needs.room)} to work in, "
-           "and 1/64 of that")
+    yield (f"{'':15}  {size_text(crash.needs.to_load(crash.start))} for the parts{initrd}, "
+           f"{size_text(crash.needs.room)} to work in, and 1/64 of that")
     if plan.record and not crash.is_enough:
         yield f"{'':15}  the area is smaller: the kernel loads, and may run out of memory when it starts"
 
