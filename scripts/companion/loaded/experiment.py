@@ -90,11 +90,16 @@ class Story:
 
     def compare_files(self, where, what):
         """Compares the files with those that were made in the guest; whether they are the same."""
-        told, own = re.search(f"STORY {where} digests (.*)", self.guest.text()), []
+        text, own = self.guest.text(), []
+        status = re.findall(f"STORY {where} status ([0-9]+)", text)
+        if status != ["0"]:
+            # 137 is that of a reader that the kernel has killed, for want of memory
+            tell.step(f"{what}: NOT READ, status {' '.join(status) or 'unknown'}")
+            return False
         for name in ("memory.kxmem", "record", "map"):
             with open(f"{self.folder}/loaded/{name}", "rb") as file:
                 own.append(hashlib.sha256(file.read()).hexdigest())
-        is_same = bool(told) and told[1].split() == own
+        is_same = re.search(f"STORY {where} digests (.*)", text)[1].split() == own
         tell.step(f"{what}: {'the same three files, byte for byte' if is_same else 'OTHER FILES'}")
         return is_same
 

@@ -12,7 +12,7 @@ from companion.program import PLACE
 from companion.refusals import Wrong
 
 FOLDER, PROGRAM, FILE = stat.S_IFDIR | 0o755, stat.S_IFREG | 0o755, stat.S_IFREG | 0o644
-NEXT = "console=ttyS0 way=next quiet panic=-1"
+NEXT = "console=ttyS0 way=next quiet no_timer_check panic=-1"
 LOADS = {
     "load": "-c -l /next/kernel --initrd=/next/initrd --command-line=\"$next\"",
     "file": "-s -l /next/kernel --initrd=/next/initrd --command-line=\"$next\"",
