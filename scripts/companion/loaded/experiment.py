@@ -10,6 +10,7 @@ import tempfile
 from companion import program, qemu
 from companion.loaded import comparison, findings, guest_disk, many_runs, output, sources, spoils, tell
 from companion.loaded.guest_machine import Guest
+from companion.memory_files import Memory
 from companion.numbers import PAGE, address, counted
 from companion.parsers import Parser, integer
 from companion.refusals import Wrong
@@ -146,13 +147,13 @@ class Story:
 
     def run(self):
         """Lets the guest run the list up to the first instruction of the image, and compares; how many pages differ."""
-        wanted = self.found.wanted()
-        before = comparison.differing(self.guest.physical(), wanted, f"{self.folder}/out.kxmem")
+        wanted, out = self.found.wanted(), Memory(f"{self.folder}/out.kxmem")
+        before = comparison.differing(self.guest.physical(), wanted, out)
         self.guest.leave()
         moment = comparison.Moment(self) if self.given.whole else None
         self.stub.go_to(self.found.image.start, self.is_entered, self.given.seconds)
         tell.step(f"the guest is at the first instruction of the image, {address(self.found.image.start)}")
-        differ = comparison.differing(self.guest.physical(), wanted, f"{self.folder}/out.kxmem")
+        differ = comparison.differing(self.guest.physical(), wanted, out)
         tell.step(f"{counted(len(wanted), 'destination page')} compared with OUT of exec: {len(differ)} differ (before the "
                   f"run {len(before)} did)" + "".join(f"; {address(page * PAGE)}" for page in differ[:8]))
         whole = moment.compare() if moment else None
