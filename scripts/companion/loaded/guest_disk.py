@@ -37,7 +37,7 @@ for word in $(cat /proc/cmdline); do
         inside=*) inside=${word#inside=} ;;
     esac
 done
-# reads an image here, with these words for it, and says the digests of the files
+# reads an image here, with these words for it, and says the digests of the files, which take memory here
 read_here() {
     PYTHONHOME=/python PYTHONDONTWRITEBYTECODE=1 PYTHONPATH=/lib/companion \\
         /bin/python3 -S -m companion.loaded "$@" /out >/said 2>&1
@@ -45,6 +45,7 @@ read_here() {
     cat /said
     echo "STORY $where status $status"
     echo "STORY $where digests $(cd /out && sha256sum memory.kxmem record map | cut -d ' ' -f 1 | tr '\\n' ' ')"
+    rm -rf /out
 }
 next='@NEXT@'
 case $way in
