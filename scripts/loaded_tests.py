@@ -5,13 +5,11 @@ import re
 import socket
 import struct
 import threading
-from types import SimpleNamespace
 
 import made_up_machine
-from companion import program
-from companion.loaded import comparison, copying, findings, guest_machine, many_runs, output, parts, sources, spoils
+from companion import program, records
+from companion.loaded import comparison, copying, findings, guest_machine, many_runs, output, sources, spoils
 from companion.loaded.gdb_stub import Stub
-from companion.loaded.image import Segment
 from made_up_machine import COPIES, DESTINATION, EXCHANGES, PAGE, SOURCE, Machine, filled
 
 # of the list of a made-up machine: its words with the head and the done word, its list pages, its pairs
@@ -252,12 +250,14 @@ def test_names(tests):
     struct.pack_into("<Q", page, 0x250, 0x100000)
     rows = [(0x100000, bytes(48)), (0x5000000, bytes(3 * PAGE)), (0x9000000, bytes(9 * PAGE)), (0xA000000, bytes(page)),
             (0xB000000, bytes(PAGE)), (0xC000000, b"\x7fELF\2\1\1" + bytes(9) + b"\4\0")]
-    segments = [Segment(mem, -(-len(data) // PAGE) * PAGE, len(data), False) for mem, data in rows]
-    found = SimpleNamespace(segments=segments, data=[data for _, data in rows], purgatory=None)
-    tests.same("the names of segments", parts.names_of(found),
+    segments = [records.Segment(mem, -(-len(data) // PAGE) * PAGE, data) for mem, data in rows]
+    tests.same("the names of segments", records.names_of(segments, 0),
                ["setup data", "initrd", "kernel", "boot parameters", "", "crash headers"])
-    found.purgatory = SimpleNamespace(table=0xB000080)
-    tests.same("with a purgatory", parts.names_of(found)[4], "purgatory")
+    tests.same("with a purgatory", records.names_of(segments, 0xB000080)[4], "purgatory")
+    header = bytes(64) + struct.pack("<3I", 0x1BADB002, 3, -0x1BADB005 & 0xFFFFFFFF)
+    for data, wanted in ((header, "kernel"), (header[:-4] + bytes(4), ""), (bytes(8192) + header, "")):
+        told = records.names_of([records.Segment(0, PAGE, bytes(168)), records.Segment(PAGE, 3 * PAGE, data)], 0)
+        tests.same("a Multiboot kernel", told, ["", wanted])
 
 
 def raw_of(machine):
