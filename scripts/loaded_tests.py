@@ -5,11 +5,14 @@ import re
 import socket
 import struct
 import threading
+from types import SimpleNamespace
+from unittest import mock
 
 import made_up_machine
-from companion import program, records
+from companion import memory_files, program, records
 from companion.loaded import comparison, copying, findings, guest_machine, many_runs, output, sources, spoils
 from companion.loaded.gdb_stub import Stub
+from companion.refusals import Wrong
 from made_up_machine import COPIES, DESTINATION, EXCHANGES, PAGE, SOURCE, Machine, filled
 
 # of the list of a made-up machine: its words with the head and the done word, its list pages, its pairs
@@ -236,6 +239,21 @@ def test_refusals(tests):
         tests.same(f"errno {code}", sentence in sources.why_not("/proc/kcore", OSError(code, "")), True)
 
 
+def test_memory_limit(tests):
+    """More pages than a memory file may have are refused, and no file is left."""
+    path, full = f"{tests.folder}/full", SimpleNamespace(has=lambda at: True, page=lambda number: b"\1" * PAGE)
+    with mock.patch.object(memory_files, "MOST_PAGES", 3), mock.patch.object(output, "MOST_PAGES", 3):
+        tests.same("as many pages as may be", output.write_memory(path, full, range(3)), (3, 0))
+        os.remove(path)
+        try:
+            output.write_memory(path, full, range(4))
+            told = ""
+        except Wrong as wrong:
+            told = str(wrong)
+    tests.same("one page too many", "4 pages are not all zeros, and a memory file has at most" in told, True)
+    tests.same("nothing is left of it", [name for name in os.listdir(tests.folder) if name.startswith("full")], [])
+
+
 def test_copying(tests):
     """The code of a kernel says whether it runs plain lists by exchanges."""
     for code, wanted in ((EXCHANGES, True), (COPIES, False), (b"\xc3" * 99, None)):
@@ -362,5 +380,5 @@ def in_folder(test):
 
 
 ALL = [in_folder(test) for test in (test_machines, test_spoiled, test_loader, test_touched, test_in_place, test_options,
-                                    test_refusals, test_copying, test_names, test_spoils, test_guest_memory, test_stub,
-                                    test_runs)]  # fmt: skip
+                                    test_refusals, test_memory_limit, test_copying, test_names, test_spoils,
+                                    test_guest_memory, test_stub, test_runs)]  # fmt: skip
