@@ -55,13 +55,10 @@ case $way in
         if [ -e /proc/vmcore ] && [ -e /bin/python3 ]; then
             where=vmcore
             read_here --core /proc/vmcore
-            for form in -c -E; do
-                if [ -e /bin/makedumpfile ] && makedumpfile $form -d 31 --message-level 0 /proc/vmcore /dump; then
-                    where=makedumpfile$form
-                    read_here --core /dump
-                    rm /dump
-                fi
-            done
+            if [ -e /bin/makedumpfile ] && makedumpfile -c -d 31 --message-level 0 /proc/vmcore /dump; then
+                where=makedumpfile
+                read_here --core /dump
+            fi
         fi
         echo 'STORY next kernel ends'
         poweroff -f ;;
