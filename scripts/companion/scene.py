@@ -17,7 +17,7 @@ OF_MAP = {"free", "taken", "crash", "hole"}
 # a hole of more bytes than this is not drawn to scale
 BREAK = 64 << 20
 OF_NAMES = {"kernel": "kernel", "initrd": "initrd", "boot parameters": "parameters", "purgatory": "purgatory",
-            "crash headers": "headers", "": "segment"}
+            "crash headers": "headers", "setup data": "segment", "": "segment"}
 
 
 class Piece(NamedTuple):
