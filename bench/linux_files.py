@@ -5,7 +5,7 @@ import sys
 sys.path.append(f"{os.path.dirname(os.path.dirname(os.path.realpath(__file__)))}/scripts")
 from companion.kernels import write_bzimage
 
-__all__ = ["MAP", "write_bzimage", "write_map"]
+__all__ = ["MAP", "write_bzimage", "write_machine_map"]
 
 MAP = """00001000-0009ffff : System RAM
 000a0000-000fffff : Reserved
@@ -16,6 +16,6 @@ bffdf000-bfffffff : Reserved
 """
 
 
-def write_map(file):
+def write_machine_map(file):
     with open(file, "w", encoding="ascii") as out:
         out.write(MAP)

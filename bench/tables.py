@@ -34,7 +34,7 @@ def one_run(words, folder):
         child = subprocess.Popen(words, cwd=folder, stdin=subprocess.DEVNULL, stdout=said, stderr=subprocess.STDOUT)
         _, status, used = os.wait4(child.pid, 0)
         took = time.perf_counter() - start
-    child.returncode = os.waitstatus_to_exitcode(status)
+    child.returncode = os.WEXITSTATUS(status) if os.WIFEXITED(status) else -os.WTERMSIG(status)
     if child.returncode:
         with open(f"{folder}/said", encoding="utf-8", errors="replace") as said:
             sys.exit(f"bench: '{' '.join(words)}' ended with status {child.returncode}: {said.read(2000)}")

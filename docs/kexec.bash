@@ -126,11 +126,11 @@ _kernelyet() {
         'plan') options='--map --ram --crash --command --pool --notes --purgatory --below --keep --json' words=(files files) ;;
         'machine') options='--map --core --raw --ram --crash --pages --lowest --check --flags --sysfs' words=(files) ;;
         'look pages') options='--json' words=(files) ;;
-        'look bytes') options='' words=(files nothing nothing) ;;
+        'look bytes') options='--json' words=(files nothing nothing) ;;
         'look differ') options='--json' words=(files files files) ;;
         'look record') options='--json' words=(files) ;;
         'look list') options='--json' words=(files files) ;;
-        'look steps') options='--swap' words=(files nothing nothing nothing) ;;
+        'look steps') options='--swap --json' words=(files nothing nothing nothing) ;;
         'look text') options='--json' words=(files) ;;
         'look make-record') options='--head --control --swap --entry --rax --rbx --rsi' words=(files files) ;;
         'compare') options='--json' words=(files files files) ;;

@@ -13,6 +13,7 @@ import sys
 from dataclasses import dataclass, field
 
 import kexec_files as files
+from companion.kernels import setup_header
 
 EXAMPLES = f"{files.TOP}/examples"
 # KEXEC names a program that is built already; ./kexec is a script, and builds this one
@@ -20,7 +21,7 @@ PROGRAM = os.path.abspath(os.environ.get("KEXEC") or f"{files.TOP}/crates/kexec/
 # a machine of 64 MiB whose upper half is for a crash kernel
 MAP = b"00001000-0009ffff : System RAM\n00100000-03ffffff : System RAM\n  02000000-02ffffff : Crash kernel\n"
 POOL = b"1000-13ff\n"
-EMPTY = b"KXMEM001" + bytes(8)
+EMPTY = files.memory_bytes({})
 
 
 @dataclass
@@ -43,14 +44,7 @@ def example(name, *parts):
 
 def bzimage():
     """A kernel of one setup sector and 64 bytes behind it, relocatable, with the 64-bit entry."""
-    data = bytearray(2 * 512 + 64)
-    for place, form, value in [
-        (0x1F1, "B", 1), (0x1FE, "H", 0xAA55), (0x200, "H", 0x62EB), (0x202, "4s", b"HdrS"), (0x206, "H", 0x20F),
-        (0x211, "B", 1), (0x22C, "I", 0x7FFFFFFF), (0x230, "I", 0x1000), (0x234, "B", 1), (0x236, "H", 3),
-        (0x238, "I", 255), (0x258, "Q", 0x100000), (0x260, "I", 0x2000),
-    ]:
-        struct.pack_into(f"<{form}", data, place, value)
-    return bytes(data)
+    return setup_header(0x2000, 2, kernel_alignment=0x1000, cmdline_size=255, pref_address=0x100000) + bytes(64)
 
 
 def multiboot():

@@ -5,6 +5,8 @@ import lzma
 import os
 import re
 import struct
+import subprocess
+import time
 
 import kexec_files as files
 from companion import crash_sizes, initrds, kernels, machine, maps, numbers, picture_memory, pools, printed, scene
@@ -221,8 +223,10 @@ def test_plan(tests):
     status, out, _ = tests.run(KERNELYET, "plan", "--ram", "256M", "--crash", "64M", "vmlinuz", "initrd", "--command", "quiet",
                                "--keep", "kept")
     headers = files.Record(f"{tests.folder}/kept/loaded.record").named("crash headers").mem
-    wanted = f"--command 'quiet memmap=0x9e000@0x1000 memmap=4K${headers:#x}'"
+    wanted = f"command line     --command 'quiet memmap=0x9e000@0x1000 memmap=4K${headers:#x}'"
     tests.same("plan --crash", (status, out.splitlines()[-1]), (0, wanted))
+    status, out, _ = tests.run(KERNELYET, "plan", "vmlinuz", "--ram", "2G", "--below", "0x8000000")
+    tests.same("plan --below takes pages from below it", (status, " of 32512 pages used" in out), (0, True))
     tests.write("small", "00100000-0010ffff : System RAM\n")
     status, out, _ = tests.run(KERNELYET, "plan", "vmlinuz", "--map", "small")
     tests.same("plan of a small machine", (status, "wants 1 MiB" in out, "from 1 MiB to 4 GiB: 64 KiB" in out), (1, True, True))
@@ -285,8 +289,8 @@ def test_pictures(tests):
     status, out, _ = tests.run(KERNELYET, "picture", "load", "--map", "kept/map", "kept/loaded.record")
     letters = set("".join(re.findall(r"\|(.*)\|", out)))
     tests.same("a crash load for the terminal", (status, letters), (0, set(".xcKIHP") - (set(".xcKIHP") - letters)))
-    tests.same("its parts are named", [name in out for name in ("K  kernel", "I  initrd", "H  crash headers", "c  crash area")],
-               [True] * 4)
+    names = ("K  kernel", "I  initrd", "H  crash headers", "c  crash area, free")
+    tests.same("its parts are named", [name in out for name in names], [True] * 4)
     tests.run(KERNELYET, "picture", "plan", "--ram", "64M", "vmlinuz", "initrd", "--svg", "plan.svg")
     svg = tests.read("plan.svg").decode()
     tests.same("a plan as an SVG", [f">{name}</text>" in svg for name in ("kernel", "initrd", "boot parameters", "control page",
@@ -333,6 +337,7 @@ def test_json(tests):
     tests.write("dump", tests.run("kexec", "dump", "lm", "lr")[1] + "3 no-pages 3 5\nword 3: Missing 2000\n")
     for words in (["plan", "--ram", "64M", "vmlinuz", "initrd"], ["plan", "--ram", "256M", "--crash", "vmlinuz", "initrd"],
                   ["plan", "--map", "small", "vmlinuz"], ["look", "pages", "m"], ["look", "differ", "m", "bad"],
+                  ["look", "bytes", "m", "1ff0", "3000"], ["look", "steps", "m", "11002"], ["look", "steps", "m", "1"],
                   ["look", "differ", "m", "bad", "r"], ["look", "record", "kr"], ["look", "record", "c1"],
                   ["look", "list", "lm", "lr"], ["look", "list", "bad", "r"], ["look", "text", "dump"],
                   ["compare", "r", "kr"], ["parameters", "kept/loaded.record", "--initrd", "initrd"]):  # fmt: skip
@@ -348,5 +353,15 @@ def test_json(tests):
         tests.same("a line of no command", "line 1 is not one that" in str(wrong), True)
 
 
+def test_try(tests):
+    """The memory is there only when the command on the other side of the pipe has ended."""
+    words = [f"{TOP}/{KERNELYET}", "try", "late"]
+    with subprocess.Popen(words, cwd=tests.folder, stdin=subprocess.PIPE, stderr=subprocess.PIPE, text=True) as run:
+        time.sleep(1)
+        tests.write("late", "no memory file")
+        said = run.communicate("start entry 2000 rax 0 rbx 0 rsi 0\n")[1]
+    tests.same("try waits for the line", (run.returncode, "late is not a memory file" in said), (1, True))
+
+
 ALL = (test_numbers, test_maps, test_pools, test_machine, test_running_machine, test_kernel_files, test_initrds, test_lists,
-       test_plan, test_crash_sizes, test_compare, test_warnings, test_pictures, test_scale, test_json)  # fmt: skip
+       test_plan, test_crash_sizes, test_compare, test_warnings, test_pictures, test_scale, test_try, test_json)  # fmt: skip

@@ -94,7 +94,7 @@ def goals_of(text, clauses):
     many = re.compile(r"^ghost use ([^;]*);", re.M)
     lines = ["use " + " ".join(found.split()).replace("{ ", "{").replace(", }", "}").replace(" }", "}") for found in many.findall(text)]
     for name, body in clauses.items():
-        goal = f"returns-clause-{name}" if name else "returns-clause"
+        goal = f"returns-clause-{name}" if name else "returns"
         lines += ["", f"abbrev pub {goal} : Type 0", f"{goal} = Unit {{0}} → ({body})"]
     return "\n".join(lines) + "\n"
 

@@ -3,10 +3,10 @@
 The readers and writers are the companion's (scripts/companion); here is what only the checks need.
 """
 import argparse
+import re
 
 from companion import numbers, program
-from companion.maps import RAM
-from companion.maps import write_map as write_rows
+from companion.maps import RAM, write_map
 from companion.memory_files import Memory, memory_bytes, write_memory
 from companion.numbers import END, PAGE
 from companion.program import KEXEC, TOP, build, tool
@@ -15,7 +15,7 @@ from companion.refusals import Wrong, call
 
 __all__ = ["DIGESTS", "END", "KEXEC", "Memory", "NUMBERS", "PAGE", "Record", "Segment", "TOP", "Wrong", "build", "call",
            "memory_bytes", "numbers", "read_record", "run", "segments_of", "tool", "unknown", "without_digests",
-           "words_given", "write_map", "write_memory", "write_pool"]  # fmt: skip
+           "words_given", "write_ram_map", "write_memory", "write_pool"]  # fmt: skip
 
 
 def words_given(text, word=None):
@@ -29,9 +29,9 @@ def words_given(text, word=None):
     return given.words if word else []
 
 
-def write_map(file, last):
+def write_ram_map(file, last):
     """A memory map: System RAM from the first page up to the byte `last`."""
-    write_rows(file, [(PAGE, last, RAM)])
+    write_map(file, [(PAGE, last, RAM)])
 
 
 def write_pool(file, first, count):
@@ -55,6 +55,6 @@ def run(words, folder):
 def unknown(words):
     """What the program does not know of these words: the command or an option; None where it knows all."""
     told = run([words[0], "--help"], TOP)[1]
-    if not told.startswith(f"Usage: kexec {words[0]} "):
+    if not re.match(rf"Usage: \S+ {re.escape(words[0])} ", told):
         return f"command {words[0]}"
     return next((f"option {word}" for word in words if word.startswith("--") and word not in told), None)

@@ -6,12 +6,13 @@ import socket
 import struct
 import threading
 from types import SimpleNamespace
+from unittest import mock
 
 import made_up_machine
-from companion import program
-from companion.loaded import comparison, copying, findings, guest_machine, many_runs, output, parts, sources, spoils
+from companion import memory_files, program, records
+from companion.loaded import comparison, copying, findings, guest_machine, many_runs, output, sources, spoils
 from companion.loaded.gdb_stub import Stub
-from companion.loaded.image import Segment
+from companion.refusals import Wrong
 from made_up_machine import COPIES, DESTINATION, EXCHANGES, PAGE, SOURCE, Machine, filled
 
 # of the list of a made-up machine: its words with the head and the done word, its list pages, its pairs
@@ -238,6 +239,21 @@ def test_refusals(tests):
         tests.same(f"errno {code}", sentence in sources.why_not("/proc/kcore", OSError(code, "")), True)
 
 
+def test_memory_limit(tests):
+    """More pages than a memory file may have are refused, and no file is left."""
+    path, full = f"{tests.folder}/full", SimpleNamespace(has=lambda at: True, page=lambda number: b"\1" * PAGE)
+    with mock.patch.object(memory_files, "MOST_PAGES", 3), mock.patch.object(output, "MOST_PAGES", 3):
+        tests.same("as many pages as may be", output.write_memory(path, full, range(3)), (3, 0))
+        os.remove(path)
+        try:
+            output.write_memory(path, full, range(4))
+            told = ""
+        except Wrong as wrong:
+            told = str(wrong)
+    tests.same("one page too many", "4 pages are not all zeros, and a memory file has at most" in told, True)
+    tests.same("nothing is left of it", [name for name in os.listdir(tests.folder) if name.startswith("full")], [])
+
+
 def test_copying(tests):
     """The code of a kernel says whether it runs plain lists by exchanges."""
     for code, wanted in ((EXCHANGES, True), (COPIES, False), (b"\xc3" * 99, None)):
@@ -252,12 +268,14 @@ def test_names(tests):
     struct.pack_into("<Q", page, 0x250, 0x100000)
     rows = [(0x100000, bytes(48)), (0x5000000, bytes(3 * PAGE)), (0x9000000, bytes(9 * PAGE)), (0xA000000, bytes(page)),
             (0xB000000, bytes(PAGE)), (0xC000000, b"\x7fELF\2\1\1" + bytes(9) + b"\4\0")]
-    segments = [Segment(mem, -(-len(data) // PAGE) * PAGE, len(data), False) for mem, data in rows]
-    found = SimpleNamespace(segments=segments, data=[data for _, data in rows], purgatory=None)
-    tests.same("the names of segments", parts.names_of(found),
+    segments = [records.Segment(mem, -(-len(data) // PAGE) * PAGE, data) for mem, data in rows]
+    tests.same("the names of segments", records.names_of(segments, 0),
                ["setup data", "initrd", "kernel", "boot parameters", "", "crash headers"])
-    found.purgatory = SimpleNamespace(table=0xB000080)
-    tests.same("with a purgatory", parts.names_of(found)[4], "purgatory")
+    tests.same("with a purgatory", records.names_of(segments, 0xB000080)[4], "purgatory")
+    header = bytes(64) + struct.pack("<3I", 0x1BADB002, 3, -0x1BADB005 & 0xFFFFFFFF)
+    for data, wanted in ((header, "kernel"), (header[:-4] + bytes(4), ""), (bytes(8192) + header, "")):
+        told = records.names_of([records.Segment(0, PAGE, bytes(168)), records.Segment(PAGE, 3 * PAGE, data)], 0)
+        tests.same("a Multiboot kernel", told, ["", wanted])
 
 
 def raw_of(machine):
@@ -362,5 +380,5 @@ def in_folder(test):
 
 
 ALL = [in_folder(test) for test in (test_machines, test_spoiled, test_loader, test_touched, test_in_place, test_options,
-                                    test_refusals, test_copying, test_names, test_spoils, test_guest_memory, test_stub,
-                                    test_runs)]  # fmt: skip
+                                    test_refusals, test_memory_limit, test_copying, test_names, test_spoils,
+                                    test_guest_memory, test_stub, test_runs)]  # fmt: skip

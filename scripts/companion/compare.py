@@ -3,8 +3,9 @@ from companion import reports
 from companion.lists import merged, pairs_of, walk
 from companion.memory_files import Memory
 from companion.numbers import counted, size_text
-from companion.parameters import Parameters
+from companion.parameters import KINDS, Parameters
 from companion.parsers import Parser
+from companion.progress import Progress
 from companion.records import Record
 
 TEXT = """Says what differs between two load records: kind and mode, the command line,
@@ -88,7 +89,8 @@ def row_differences(one, other):
     rows = [{(start, start + size, kind) for start, size, kind in it.rows()} if it else set() for it in (one, other)]
     if rows[0] != rows[1]:
         yield "map of the kernel: rows in one alone", *(
-            ", ".join(f"{start:#x}-{end - 1:#x} kind {kind}" for start, end, kind in sorted(some - rest)[:4]) or "none"
+            ", ".join(f"{start:#x}-{end - 1:#x} {KINDS.get(kind, kind)}" for start, end, kind in sorted(some - rest)[:4])
+            or "none"
             for some, rest in (rows, rows[::-1]))
 
 
@@ -138,7 +140,8 @@ def main(arguments):
     if len(given.memory) not in (0, 2):
         words.error("give the memory files of both, or none")
     one, other = Record(given.record), Record(given.other)
-    found = list(differences(one, other, [Memory(path) for path in given.memory]))
+    with Progress(f"comparing {given.record} with {given.other}"):
+        found = list(differences(one, other, [Memory(path) for path in given.memory]))
     lines = [f"{what}:\n  {given.record}: {mine}\n  {given.other}: {theirs}" for what, mine, theirs in found]
     lines.append(counted(len(found), "difference") if found else "nothing differs")
     objects = [{"what": what, "one": mine, "other": theirs} for what, mine, theirs in found]

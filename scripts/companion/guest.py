@@ -180,9 +180,9 @@ def main(arguments):
         return experiment.main([word for word in arguments if word != "--loaded"])
     given = parser().parse_args(arguments)
     lacks = [tool for tool in (qemu.QEMU, "gcc", "ld") if not shutil.which(tool)]
-    named = [("a kernel (--kernel)", given.kernel), ("a static busybox (--busybox)", given.busybox)]
-    named += [("such vmlinux (--vmlinux)", given.vmlinux)] * bool(given.vmlinux)
-    lacks += [what for what, file in named if not os.path.isfile(file)]
+    named = [("kernel", given.kernel), ("busybox", given.busybox), ("vmlinux", given.vmlinux)]
+    lacks += [f"{what} {file or ''}".rstrip() + f" (--{what})" for what, file in named
+              if file is not None and not os.path.isfile(file)]
     if lacks:
         raise Wrong(f"there is no {', no '.join(lacks)}")
     program.ready()

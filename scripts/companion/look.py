@@ -3,6 +3,7 @@ from companion import look_lists, look_steps, look_texts, memory_files, records,
 from companion.lists import address_of, kind_of, walk
 from companion.numbers import END, PAGE, address, counted, number_of, runs, size_text
 from companion.parsers import Parser, choose
+from companion.progress import Progress
 from companion.refusals import Wrong
 
 TEXT = """Shows what stands in memory files, load records and lists.
@@ -34,7 +35,7 @@ def parsers():
     """The parser of each word behind look."""
     pages = words_for("pages", "[OPTIONS] MEMORY", "Shows the pages that are not all zeros, as runs.", show_pages)
     pages.word_of("MEMORY", "the memory file")
-    dump = words_for("bytes", "MEMORY ADDRESS [SIZE]", "Shows bytes of a memory file, as a hexdump.", show_bytes)
+    dump = words_for("bytes", "[OPTIONS] MEMORY ADDRESS [SIZE]", "Shows bytes of a memory file, as a hexdump.", show_bytes)
     dump.word_of("MEMORY", "the memory file")
     dump.word_of("ADDRESS", "where it begins, hexadecimal")
     dump.word_of("SIZE", "how many bytes, hexadecimal; 100 without it", nargs="?", default="100")
@@ -45,7 +46,7 @@ def parsers():
     record = words_for("record", "[OPTIONS] RECORD", "Shows every number of a load record, and what each segment is.",
                        show_record)
     record.word_of("RECORD", "the load record")
-    for made in (pages, differ, record):
+    for made in (pages, dump, differ, record):
         reports.option_json(made)
     return {"pages": pages, "bytes": dump, "differ": differ, "record": record, "list": look_lists.parser(),
             "steps": look_steps.parser(), "text": look_texts.parser(), "make-record": parser_of_make_record()}
@@ -80,13 +81,29 @@ def show_bytes(given):
     at, size = number_of(given.address, 16, "ADDRESS"), number_of(given.size, 16, "SIZE")
     if at + size > END:
         raise Wrong(f"ADDRESS and SIZE must end at {END:#x} or below")
-    stop = at + size
-    while at < stop:
-        end = min((at // PAGE + 1) * PAGE, stop)
-        data = memory.page(at // PAGE)[at % PAGE : at % PAGE + end - at]
-        print("\n".join(shown.hexdump(at, data)) if any(data) else f"{at:#014x}  zeros up to {end - 1:#x}")
-        at = end
+    parts = [{"start": first, "hex": data.hex()} for first, data in held_parts(memory, at, at + size)]
+    reports.show(given, "look bytes", {"start": at, "end": at + size, "parts": parts}, dump_lines(memory, at, at + size))
     return 0
+
+
+def held_parts(memory, start, end):
+    """The bytes from a start up to an end that are of pages which the memory file has: (address, bytes)."""
+    for page in memory.place:
+        first, behind = max(start, page * PAGE), min(end, (page + 1) * PAGE)
+        if first < behind:
+            yield first, memory.bytes_at(first, behind - first)
+
+
+def dump_lines(memory, start, end):
+    """A hexdump, in which zeros have one line together."""
+    at = start
+    for first, data in held_parts(memory, start, end):
+        if at < first:
+            yield f"{at:#014x}  zeros up to {first - 1:#x}"
+        yield from shown.hexdump(first, data)
+        at = first + len(data)
+    if at < end:
+        yield f"{at:#014x}  zeros up to {end - 1:#x}"
 
 
 def part_of(record, roles, page):
@@ -113,9 +130,10 @@ def show_differ(given):
     record = records.Record(given.record) if given.record else None
     roles = roles_of(one, record) if record else {}
     parts = {}
-    for page in one.place.keys() | other.place.keys():
-        if one.page(page) != other.page(page):
-            parts.setdefault(part_of(record, roles, page) if record else "", []).append(page)
+    with Progress(f"comparing {given.memory} with {given.other}"):
+        for page in one.place.keys() | other.place.keys():
+            if one.page(page) != other.page(page):
+                parts.setdefault(part_of(record, roles, page) if record else "", []).append(page)
     found = [(*run, name) for name, pages in sorted(parts.items(), key=lambda item: min(item[1])) for run in runs(pages)]
     count = sum(map(len, parts.values()))
     lines = [shown.page_run(*run) for run in found] + [f"{counted(count, 'page')} differ{'s' * (count == 1)}"]

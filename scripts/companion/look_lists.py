@@ -5,6 +5,7 @@ from companion import memory_files, program, records, reports, shown
 from companion.lists import address_of, kind_of, merged, pairs_of, walk
 from companion.numbers import PAGE, counted
 from companion.parsers import Parser
+from companion.progress import Progress
 from companion.refusals import Wrong
 
 # Faults that speak of earlier words of the same page.
@@ -24,7 +25,8 @@ def parser():
 
 def checked(memory, record):
     """The line that `check` prints, what it says of a fault, and the number of the faulty word or None."""
-    status, printed, said = program.run(["check", os.path.abspath(memory), os.path.abspath(record)])
+    with Progress(f"checking the list of {record}"):
+        status, printed, said = program.run(["check", os.path.abspath(memory), os.path.abspath(record)])
     if status not in (0, 1):
         raise Wrong(program.sentence(said))
     line = printed.splitlines()[0]

@@ -1,6 +1,7 @@
 """kernelyet look steps: what the machine does at each step of a list."""
 import struct
 
+from companion import reports
 from companion.lists import address_of
 from companion.memory_files import Memory
 from companion.numbers import END, PAGE, number_of
@@ -16,6 +17,7 @@ def parser():
     words.word_of("HEAD", "the head word, hexadecimal")
     words.word_of("FROM", "show the steps behind this one, decimal; all without it", nargs="?", default="0")
     words.word_of("COUNT", "show so many steps, decimal; 40 without it", nargs="?", default="40")
+    reports.option_json(words)
     words.set_defaults(call=show_steps)
     return words
 
@@ -68,21 +70,43 @@ class Machine:
         return f"exchange {address:#x} and {to:#x}, by {self.swap:#x}"
 
 
+def steps_of(machine, word, last):
+    """Each step up to the one of a number: its number, its word, and what the machine does; None where the run is off."""
+    did = ""
+    for step in range(1, last + 1):
+        if did in (None, "done") or word is None:
+            return
+        did = machine.step(word)
+        yield step, word, did
+        word = None if did is None else machine.word()
+
+
+def ending_of(rows, machine):
+    """How the steps end: done, off, or running where more would follow."""
+    did = rows[-1][2] if rows else ""
+    if did == "done":
+        return "done"
+    return "off" if did is None or machine.place >= END else "running"
+
+
+def lines_of(rows, ending, first, place):
+    for step, word, did in rows:
+        if step > first or did is None:
+            yield f"{step} {word:#x}: {did or 'off: it moves a page past the limit'}"
+    if ending == "running":
+        yield ".."
+    elif ending == "off" and rows[-1][2] is not None:
+        yield f"off: the word after step {rows[-1][0]} lies at {place:#x}"
+
+
 def show_steps(given):
     swap = None if given.swap is None else number_of(given.swap, 16, "--swap")
     if swap is not None and (swap % PAGE or swap >= END):
         raise Wrong(f"--swap is not a page's address: a multiple of {PAGE:#x} below {END:#x}")
     machine, word = Machine(Memory(given.memory), swap), number_of(given.head, 16, "HEAD")
     first, count = number_of(getattr(given, "from"), 10, "FROM"), number_of(given.count, 10, "COUNT")
-    for step in range(1, first + count + 1):
-        did = machine.step(word)
-        if did is None or step > first:
-            print(f"{step} {word:#x}: {did or 'off: it moves a page past the limit'}")
-        if did is None or did == "done":
-            return 0
-        word = machine.word()
-        if word is None:
-            print(f"off: the word after step {step} lies at {machine.place:#x}")
-            return 0
-    print("..")
+    rows = list(steps_of(machine, word, first + count))
+    ending = ending_of(rows, machine)
+    found = [{"step": step, "word": word, "did": did} for step, word, did in rows[first:]]
+    reports.show(given, "look steps", {"ending": ending, "steps": found}, lines_of(rows, ending, first, machine.place))
     return 0

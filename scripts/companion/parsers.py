@@ -16,6 +16,8 @@ class Parser(argparse.ArgumentParser):
                          epilog=epilog, formatter_class=Formatter, add_help=False, allow_abbrev=False)
         # what may be given, for completion and manual: each option with the name of its value, and the other arguments
         self.word, self.values, self.names, self.optional = word, {}, [], set()
+        # what stands here for an option of kexec(8)
+        self.counterparts = {}
         self._positionals.title, self._optionals.title = "Arguments", "Options"
         self.add_argument("-h", "--help", action="help", help=argparse.SUPPRESS)
 
@@ -39,8 +41,14 @@ class Parser(argparse.ArgumentParser):
         return super().format_help().replace("usage: ", "Usage: ", 1)
 
     def error(self, message):
-        print(self.format_usage() + f"{name_called()}: {sentence_of(message, self.word)}", file=sys.stderr)
+        print(self.format_usage() + f"{name_called()}: {sentence_of(message, self.word)}{self.hint(message)}", file=sys.stderr)
         sys.exit(2)
+
+    def hint(self, message):
+        """What stands here for the option of kexec(8) that is not one here."""
+        found = re.fullmatch(r"unrecognized arguments: (--?[a-z-]+)\b.*", message, re.S)
+        here = found and self.counterparts.get(found[1])
+        return f": the option of kexec(8) is here {here}" if here else ""
 
 
 class Formatter(argparse.RawDescriptionHelpFormatter):

@@ -6,6 +6,7 @@ import sys
 from companion import maps, picture_list, picture_memory, picture_text, plan, planning, program, reports
 from companion.memory_files import Memory
 from companion.parsers import Parser, choose
+from companion.progress import Progress
 from companion.records import Record
 from companion.refusals import Wrong
 from companion.scene import scene_of
@@ -97,7 +98,9 @@ def draw_plan(given):
 def draw_load(given):
     rows = maps.read_map(given.map)[1] if given.map else None
     memory = Memory(given.memory) if given.memory else None
-    draw(given, scene_of(rows, Record(given.record), memory), os.path.basename(given.record))
+    with Progress(f"reading {given.record}"):
+        pieces = scene_of(rows, Record(given.record), memory)
+    draw(given, pieces, os.path.basename(given.record))
     return 0
 
 
@@ -135,7 +138,9 @@ def draw_list(given):
         return compare_examples(given.make)
     record = Record(given.record) if given.record else None
     told = picture_list.List(reports.text_given(given.file), record.names() if record else ())
-    put(given, picture_list.draw(told, given.kept or (record is not None and record.mode == 1)))
+    with Progress("drawing the list"):
+        drawn = picture_list.draw(told, given.kept or (record is not None and record.mode == 1))
+    put(given, drawn)
     return 0
 
 

@@ -45,11 +45,12 @@ class Bar:
         before, kind = -100.0, None
         for piece, top, _ in self.places:
             if top - before >= 14 and not {kind, piece.kind} <= MANY:
-                yield svg.text(self.left - 8, top + 4, f"{piece.start:#x}", 11, colour="#666", anchor="end")
+                yield svg.text(self.left - 8, top + 4, f"{piece.start:#x}", 11, colour="#666", anchor="end", has_edge=True)
                 before = top
             kind = piece.kind
         if self.end - before >= 14:
-            yield svg.text(self.left - 8, self.end + 4, f"{self.pieces[-1].end:#x}", 11, colour="#666", anchor="end")
+            last = f"{self.pieces[-1].end:#x}"
+            yield svg.text(self.left - 8, self.end + 4, last, 11, colour="#666", anchor="end", has_edge=True)
         yield svg.rectangle(self.left, self.top, WIDTH, self.end - self.top, "none", "#555")
 
     def shapes_of(self, piece, top, high):
@@ -110,8 +111,8 @@ def label_shapes(bar, labels):
     for (middle, name, size, kind), top in zip(labels, tops):
         shapes.append(svg.path([(right, middle), (right + 26, top + LABEL / 2), (right + 44, top + LABEL / 2)], "#999"))
         shapes.append(svg.rectangle(right + 46, top + 4, 12, LABEL - 10, COLOURS[kind], "#777"))
-        shapes.append(svg.text(right + 66, top + 15, name, 13, "bold"))
-        shapes.append(svg.text(right + 66, top + 28, size, 11, colour="#555"))
+        shapes.append(svg.text(right + 66, top + 15, name, 13, "bold", has_edge=True))
+        shapes.append(svg.text(right + 66, top + 28, size, 11, colour="#555", has_edge=True))
     return shapes, max([bar.end, *(top + LABEL for top in tops)])
 
 
@@ -142,14 +143,13 @@ def as_svg(pieces, title):
     """The picture: low addresses stand above."""
     whole = Bar(pieces, LEFT, TOP, HEIGHT)
     found = magnified(whole, pieces)
-    shapes, bottom = label_shapes(whole, whole.labels(found))
-    shapes += whole.shapes()
-    top = TOP
+    labels, bottom = label_shapes(whole, whole.labels(found))
+    dashes, shapes, top = [], [*whole.shapes(), *labels], TOP
     for cluster in found:
         bar = Bar(cluster, LEFT + STEP, top, HEIGHT / len(found) - 60 * (len(found) > 1))
         # from the part in the whole to its magnified bar
         for address, place in ((cluster[0].start, bar.top), (cluster[-1].end, bar.end)):
-            shapes.append(svg.path([(LEFT + WIDTH, whole.place_of(address)), (bar.left, place)], "#bbb", dashes="4 4"))
+            dashes.append(svg.path([(LEFT + WIDTH, whole.place_of(address)), (bar.left, place)], "#bbb", dashes="4 4"))
         size = size_text(cluster[-1].end - cluster[0].start)
         shapes.append(svg.text(bar.left, bar.top - 10, f"magnified: {size}", 11, colour="#666"))
         more, end = label_shapes(bar, bar.labels())
@@ -157,4 +157,4 @@ def as_svg(pieces, title):
         bottom, top = max(bottom, end), end + 60
     head = [svg.text(20, 28, title, 15, "bold"),
             svg.text(20, 48, "to scale, but for long holes; what is too small to be seen is a thin line", 11, colour="#666")]
-    return svg.document(LEFT + STEP * (1 + bool(found)), bottom + 24, [*head, *shapes])
+    return svg.document(LEFT + STEP * (1 + bool(found)), bottom + 24, [*head, *dashes, *shapes])

@@ -65,6 +65,12 @@ def holes_of(plan):
             ("the largest hole above 4 GiB", hole(free, 1 << 32, END))]
 
 
+def half_of_ram(plan):
+    """The bytes that the parts want together, and half of the RAM, which is the most that a load takes."""
+    ram = sum(end - first for first, end in maps.free_runs(plan.machine.rows))
+    return sum(size for _, size, *_ in wanted_of(plan)), ram * PAGE // 2
+
+
 def wanted_of(plan):
     """What the parts want: (name, bytes, the multiple at which it may begin, whether below 4 GiB)."""
     size, alignment = plan.kernel.memory()
@@ -107,8 +113,8 @@ def crash_lines(plan, crash):
     guess = " (a guess)" * bool(plan.initrd and plan.initrd.is_guess)
     initrd = f", {size_text(crash.needs.unpacked)} for the unpacked initrd{guess}" * bool(plan.initrd)
     yield f"{'to run':15}  crashkernel={option_size(crash.to_run)} or more, as a rule of thumb:"
-    yield (f"{'':15}  {size_text(crash.needs.to_load(crash.start))} for the parts{initrd}, {size_text(crash.needs.room)} to work in, "
-           "and 1/64 of that")
+    yield (f"{'':15}  {size_text(crash.needs.to_load(crash.start))} for the parts{initrd}, "
+           f"{size_text(crash.needs.room)} to work in, and 1/64 of that")
     if plan.record and not crash.is_enough:
         yield f"{'':15}  the area is smaller: the kernel loads, and may run out of memory when it starts"
 
@@ -119,6 +125,9 @@ def refusal_lines(plan):
     for name, size, alignment, is_low in wanted_of(plan):
         yield (f"  the {name} wants {size_text(size)} in one piece" + f" at a multiple of {alignment:#x}" * (alignment > PAGE)
                + " below 4 GiB" * is_low)
+    together, half = half_of_ram(plan)
+    if together > half and not plan.is_crash:
+        yield f"  together they want {size_text(together)}, and a load takes at most half of the RAM: {size_text(half)}"
     for name, found in holes_of(plan):
         yield f"  {name}: " + (f"{size_text(found[1] - found[0])} at {found[0]:#x}" if found else "none")
 
@@ -136,7 +145,7 @@ def lines_of(plan, crash):
     for warning in plan.warnings():
         yield f"warning: {warning}"
     if plan.record and plan.command:
-        yield f"--command {shlex.quote(plan.command)}"
+        yield f"{'command line':15}  --command {shlex.quote(plan.command)}"
 
 
 def crash_object(plan, crash):

@@ -8,7 +8,7 @@ from companion import maps, pools, program
 from companion.initrds import Unpacked
 from companion.kernels import Kernel, front_of, kind_of
 from companion.memory_files import write_memory
-from companion.numbers import counted, number_of, size_of, size_text
+from companion.numbers import END, PAGE, common, counted, number_of, size_of, size_text
 from companion.progress import Progress
 from companion.records import Record
 from companion.refusals import Wrong
@@ -17,13 +17,22 @@ IOMEM = "/proc/iomem"
 MADE_UP = 4 << 30
 # the only memory below 1 MiB that a crash kernel is told of
 LOW_MEMORY = "memmap=0x9e000@0x1000"
+# What a refusal of the program says of this very command, and where it is one for want of a place.
+OF_PLAN = "; for a Linux kernel, kernelyet plan "
+OF_PLACES = ("there is no place for", "cannot be placed")
 # The exit statuses of the program that say: no plan, too few pages.
 NO_PLAN, NO_PAGES = 8, 9
 
 
+# What a plan has in place of options of kexec(8).
+COUNTERPARTS = {"--append": "--command", "--command-line": "--command", "--initrd": "INITRD, the file behind KERNEL",
+                "--ramdisk": "INITRD, the file behind KERNEL", "-p": "--crash", "--load-panic": "--crash"}
+
+
 def options(words):
     """The options of a plan."""
-    words.word_of("KERNEL", "the Linux kernel, a bzImage, as /boot/vmlinuz")
+    words.counterparts = COUNTERPARTS
+    words.word_of("KERNEL", "the Linux kernel, a bzImage, as /boot/vmlinuz-*")
     words.word_of("INITRD", "its initial RAM disk", nargs="?")
     words.option("map", "the map of the machine, the text of /proc/iomem read as root; this machine's without it", "FILE")
     words.option("ram", "a made-up PC with so much RAM, in place of a map", "SIZE")
@@ -90,7 +99,7 @@ def read_kernel(path):
     kind = kind_of(front_of(path))
     if kind != "bzimage":
         what = kind or "no kernel that is known"
-        more = ", and a gzipped initrd is given behind the kernel" * (kind == "compressed by gzip")
+        more = ", and an initrd is given behind the kernel" * what.startswith(("compressed by", "a cpio archive"))
         raise Wrong(f"{path} is {what}: give a bzImage for x86-64, the vmlinuz of a distribution{more}")
     return Kernel(path)
 
@@ -101,6 +110,7 @@ class Plan:
     def __init__(self, given, machine, folder):
         self.given, self.machine, self.folder = given, machine, folder
         self.is_crash, self.command = given.crash is not None, given.command
+        self.limit = number_of(given.below, 16, "--below") if given.below else END
         self.kernel = read_kernel(given.kernel)
         with Progress("unpacking the initrd, to count its bytes"):
             self.initrd = Unpacked(given.initrd) if given.initrd else None
@@ -114,9 +124,11 @@ class Plan:
         if self.is_crash:
             return
         if self.given.pool:
+            self.pool = pools.read_pool(self.given.pool)
             shutil.copyfile(self.given.pool, f"{self.folder}/pool")
-        else:
-            pools.write_pool(f"{self.folder}/pool", maps.from_1_mib(maps.free_runs(self.machine.rows)), True)
+            return
+        free = maps.from_1_mib(maps.free_runs(self.machine.rows))
+        pools.write_pool(f"{self.folder}/pool", common(free, [(0, self.limit // PAGE)]), True)
         self.pool = pools.read_pool(f"{self.folder}/pool")
 
     def words(self):
@@ -127,10 +139,18 @@ class Plan:
         for name in ("initrd", "notes", "purgatory"):
             if getattr(given, name):
                 words += [f"--{name}", os.path.abspath(getattr(given, name))]
-        words += ["--below", f"{number_of(given.below, 16, '--below'):x}"] if given.below else []
+        words += ["--below", f"{self.limit:x}"] if given.below else []
         words += [f"--command={self.command}"] if self.command else []
         pool = [] if self.is_crash else ["pool"]
         return [*words, "memory.kxmem", *pool, "loaded.kxmem", "loaded.record", os.path.abspath(given.kernel)]
+
+    def refusal_of(self, said):
+        """The sentence of a refusal, in which the files have the names that were given."""
+        sentence = program.sentence(said).partition(OF_PLAN)[0]
+        for name in ("initrd", "notes", "purgatory", "kernel"):
+            path = getattr(self.given, name)
+            sentence = sentence.replace(f'"{os.path.abspath(path)}"', f'"{path}"') if path else sentence
+        return sentence
 
     def load_once(self):
         with Progress("loading the kernel into an empty memory"):
@@ -138,8 +158,9 @@ class Plan:
         if self.status == 0:
             self.record = Record(f"{self.folder}/loaded.record")
             return
-        self.record, self.refusal = None, program.sentence(said)
-        if self.status not in (NO_PLAN, NO_PAGES):
+        self.record, self.refusal = None, self.refusal_of(said)
+        is_for_places = self.status == NO_PLAN and any(text in self.refusal for text in OF_PLACES)
+        if self.status != NO_PAGES and not is_for_places:
             raise Wrong(self.refusal)
 
     def headers_words(self):
@@ -176,8 +197,8 @@ class Plan:
         """What the load does not refuse, and is wrong all the same."""
         missing = self.kernel.missing()
         if missing:
-            yield (f"{self.kernel.path} is cut off: its header counts {self.kernel.syssize * 16} bytes behind the setup, and "
-                   f"{missing} of them are not in the file; it would load, and not run")
+            yield (f"{self.kernel.path} is cut off: its header counts {size_text(self.kernel.syssize * 16)} behind the setup, "
+                   f"and {size_text(missing)} of them are not in the file; it would load, and not run")
         if self.initrd and not self.initrd.bytes:
             yield f"{self.given.initrd} is empty: the kernel would find no initrd in it"
         elif self.initrd and not self.initrd.is_archive:
@@ -186,8 +207,10 @@ class Plan:
             yield f"the pool has {counted(last - first + 1, 'page')} {first:#x}-{last:#x} that are not free RAM: {why}"
 
     def keep(self, folder):
-        """Keeps what the load read and wrote."""
-        shutil.copytree(self.folder, folder, dirs_exist_ok=True)
+        """Keeps what the load read and wrote, in a folder with the usual rights."""
+        os.makedirs(folder, exist_ok=True)
+        for name in os.listdir(self.folder):
+            shutil.copyfile(f"{self.folder}/{name}", f"{folder}/{name}")
 
 
 def temporary_folder():

@@ -9,6 +9,10 @@ from companion.refusals import Wrong
 NUMBERS = 24
 DIGESTS = {b"KXREC001": 0, b"KXREC002": 32}
 MOST_SEGMENTS, MOST_SEGMENT_PAGES = 16, 65536
+# the first word of a Multiboot header, which is sought in so many bytes; the sum of its three words is 0
+MULTIBOOT, MULTIBOOT_PLACE = 0x1BADB002, 8192
+# in boot parameters: the address of a list of setup_data
+SETUP_DATA = slice(0x250, 0x258)
 
 
 class Segment:
@@ -26,8 +30,19 @@ class Segment:
         return self.data[place : place + size].ljust(min(size, self.memsz - place), b"\0")
 
     def is_parameters(self):
-        """Whether it has the boot parameters of Linux, as the program writes them (type_of_loader 0xd0 of hdr)."""
-        return len(self.data) > PAGE and self.data[0x202:0x206] == b"HdrS" and self.data[0x210] == 0xD0
+        """Whether it has the boot parameters of Linux, as the program, kexec-tools and Linux write them (type_of_loader 0xd.
+        of hdr)."""
+        return len(self.data) > PAGE and self.data[0x202:0x206] == b"HdrS" and self.data[0x210] >> 4 == 0xD
+
+    def has_multiboot_header(self):
+        """Whether it has a Multiboot header where a kernel of this kind has one (Multiboot 0.6.96, 3.1)."""
+        data = self.data[:MULTIBOOT_PLACE]
+        words = struct.unpack_from(f"<{len(data) // 4}I", data)
+        return any(word == MULTIBOOT and sum(words[i : i + 3]) % (1 << 32) == 0 for i, word in enumerate(words))
+
+    def is_crash_headers(self):
+        """Whether it has the headers of a core file."""
+        return self.data[:4] == b"\x7fELF" and self.data[16:18] == b"\4\0"
 
 
 def segments_of(record):
@@ -90,26 +105,46 @@ class Record:
 
     def names(self):
         """What each segment is, as far as its bytes and the other numbers show."""
-        names = [""] * len(self.segments)
-        for i, segment in enumerate(self.segments):
-            if self.regions and self.regions in segment:
-                names[i] = "purgatory"
-            elif segment.data[:4] == b"\x7fELF" and segment.data[16:18] == b"\4\0" and self.kind == 1:
-                names[i] = "crash headers"
-            elif segment.is_parameters():
-                names[i] = "boot parameters"
-                initrd = initrd_of(segment.data)[0]
-                for k, other in enumerate(self.segments):
-                    if initrd and other.mem == initrd:
-                        names[k] = "initrd"
-        for i, segment in enumerate(self.segments):
-            if not names[i] and (self.entry in segment or (i == 0 and self.regions)):
-                names[i] = "kernel"
+        names = names_of(self.segments, self.regions)
+        if "kernel" not in names:
+            # the program's own load puts the kernel first
+            for i, segment in enumerate(self.segments):
+                if not names[i] and (self.entry in segment or (i == 0 and self.regions)):
+                    names[i] = "kernel"
         return names
 
     def named(self, name):
         """The first segment of this name; None without one."""
         return next((segment for segment, own in zip(self.segments, self.names()) if own == name), None)
+
+
+def names_of(segments, regions):
+    """What each segment is, as far as the bytes show, and the address of a purgatory's table of regions: purgatory, boot
+    parameters, crash headers, a Multiboot kernel, and what the boot parameters point to. The kernel of boot parameters is
+    the largest segment that has no other name. Empty where it is not known."""
+    names, parameters = {}, None
+    for i, segment in enumerate(segments):
+        if regions and regions in segment:
+            names[i] = "purgatory"
+        elif segment.is_parameters():
+            names[i], parameters = "boot parameters", segment.data
+        elif segment.is_crash_headers():
+            names[i] = "crash headers"
+        elif segment.has_multiboot_header():
+            names[i] = "kernel"
+    if parameters:
+        name_by_parameters(segments, names, parameters)
+    return [names.get(i, "") for i in range(len(segments))]
+
+
+def name_by_parameters(segments, names, parameters):
+    """Names what boot parameters point to, and their kernel (The Linux/x86 Boot Protocol)."""
+    places = {"initrd": initrd_of(parameters)[0], "setup data": int.from_bytes(parameters[SETUP_DATA], "little")}
+    for i, segment in enumerate(segments):
+        names.update((i, what) for what, at in places.items() if at and at in segment and i not in names)
+    rest = [(segment.memsz, i) for i, segment in enumerate(segments) if i not in names]
+    if rest:
+        names[max(rest)[1]] = "kernel"
 
 
 def initrd_of(page):

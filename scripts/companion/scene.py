@@ -17,7 +17,7 @@ OF_MAP = {"free", "taken", "crash", "hole"}
 # a hole of more bytes than this is not drawn to scale
 BREAK = 64 << 20
 OF_NAMES = {"kernel": "kernel", "initrd": "initrd", "boot parameters": "parameters", "purgatory": "purgatory",
-            "crash headers": "headers", "": "segment"}
+            "crash headers": "headers", "setup data": "segment", "": "segment"}
 
 
 class Piece(NamedTuple):
@@ -95,6 +95,11 @@ def of_segments(record):
             yield Piece(segment.mem, segment.mem + segment.memsz, OF_NAMES[name], name or f"segment {i}")
 
 
+def is_left(piece, before):
+    """Whether a piece is what a load leaves of a crash area."""
+    return piece.kind == "crash" and piece not in before
+
+
 def joined(pieces):
     """The pieces, in which those of one kind and name that meet are one."""
     found = []
@@ -109,10 +114,10 @@ def joined(pieces):
 def scene_of(rows, record, memory=None):
     """All pieces, rising. Without a map only the pages of the load are known, and what lies between them is a hole."""
     overs = [*of_segments(record), *(of_list(memory, record) if memory and not record.kind else [])]
-    pieces = of_map(rows) if rows else [Piece(0, max(piece.end for piece in overs), "hole", "not known")]
-    end = pieces[-1].end
+    before = of_map(rows) if rows else [Piece(0, max(piece.end for piece in overs), "hole", "not known")]
+    pieces, end = list(before), before[-1].end
     for over in overs:
         if over.start > end:
             pieces.append(Piece(end, over.start, "hole", "no RAM"))
         pieces, end = painted(pieces, over), max(end, over.end)
-    return joined(pieces)
+    return joined(piece._replace(name=KINDS["crash"]) if is_left(piece, before) else piece for piece in pieces)

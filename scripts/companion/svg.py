@@ -4,9 +4,11 @@ from xml.sax.saxutils import escape
 FONT = "monospace"
 
 
-def text(left, top, words, size=13, weight="normal", colour="#222", anchor="start"):
+def text(left, top, words, size=13, weight="normal", colour="#222", anchor="start", has_edge=False):
+    """Words; with an edge in the colour of the ground, which covers what they stand on."""
+    edge = ' paint-order="stroke" stroke="#fff" stroke-width="4"' * has_edge
     return (f'<text x="{left:g}" y="{top:g}" font-size="{size}" font-weight="{weight}" fill="{colour}"'
-            + f' text-anchor="{anchor}"' * (anchor != "start") + f">{escape(words)}</text>")
+            + f' text-anchor="{anchor}"' * (anchor != "start") + f"{edge}>{escape(words)}</text>")
 
 
 def rectangle(left, top, width, height, fill, line="#888", radius=0, title=""):

@@ -106,14 +106,21 @@ def place_of_stub(memory, ram):
     raise Wrong("the file leaves no four pages between 1 MiB and 3 GiB free, and the stub needs them")
 
 
-def make_stub(folder, line, first):
+def start_of(given):
+    """The entry and the registers of the line `start`. It is read before the memory, which the command on the other side of
+    a pipe has only written when it ends; who types at a terminal has piped nothing in."""
+    line = given.start or ("" if sys.stdin.isatty() else sys.stdin.read())
     found = re.search(" ".join(rf"{name} (?:0x)?([0-9a-f]+)" for name in ("entry", "rax", "rbx", "rsi")), line)
     if not found:
         raise Wrong("there is no line 'start entry .. rax .. rbx .. rsi ..': give it by --start, or the command's output "
                     "on standard input")
+    return found.groups()
+
+
+def make_stub(folder, start, first):
     with open(f"{folder}/stub.S", "w", encoding="ascii") as out:
         out.write(STUB)
-    names = [f"-D{name}=0x{value}" for name, value in zip(["ENTRY", "RAX", "RBX", "RSI"], found.groups())]
+    names = [f"-D{name}=0x{value}" for name, value in zip(["ENTRY", "RAX", "RBX", "RSI"], start)]
     names.append(f"-DTABLES={(first + STUB_PAGES - 2) * PAGE:#x}")
     tool(["gcc", "-m32", *names, "-c", "-o", "stub.o", "stub.S"], folder)
     tool(["ld", "-m", "elf_i386", f"-Ttext={first * PAGE:#x}", "-z", "noexecstack", "-o", "stub", "stub.o"], folder)
@@ -171,12 +178,12 @@ def boot(machine, memory, stub, seconds):
 
 def main(arguments):
     given = parser().parse_args(arguments)
+    start = start_of(given)
     memory = Memory(given.memory)
     ram = ram_of(given, memory)
     stub = place_of_stub(memory, ram)
-    line = given.start or sys.stdin.read()
     with tempfile.TemporaryDirectory(prefix="kernelyet-try-") as folder:
-        words = make_stub(folder, line, stub)
+        words = make_stub(folder, start, stub)
         words += ["-chardev", f"socket,id=jump,path={folder}/jump,server=on,wait=off", "-serial", "chardev:jump"]
         with qemu.Machine(folder, ram, words) as machine:
             fault = boot(machine, memory, stub, given.seconds)

@@ -64,6 +64,16 @@ numbers may begin with 0x, and sizes are as 256M; the program takes hexadecimal
 numbers without 0x."""
 
 
+def refuse(first, name):
+    """Says that a word is no command, which may be missing too, and answers the status."""
+    near = difflib.get_close_matches(first, [*WORDS, *COMMANDS], 1, 0.7)
+    what = f"{first!r} is not a command" if first else "a command is missing"
+    meant = "".join(f"is {word} meant? " for word in near)
+    print(f"Usage: {name} COMMAND [OPTIONS] ARGUMENTS..\n{name}: {what}: {meant}{name} --help lists the commands",
+          file=sys.stderr)
+    return 2
+
+
 def main(argv):
     """Does what the words say, and answers the status; from a command of the program this does not come back."""
     words, name = argv[1:], name_called()
@@ -79,10 +89,9 @@ def main(argv):
     if first in ("--help", "-h") and len(words) == 1:
         print(help_text())
         return 0
-    near = difflib.get_close_matches(first, WORDS, 1, 0.7) if first not in COMMANDS else []
-    if near and not first.startswith("-"):
-        print(f"{name}: {first!r} is not a command: is {near[0]} meant? {name} --help lists the commands", file=sys.stderr)
-        return 2
+    # to options the program has an answer, also to those of kexec(8)
+    if first not in COMMANDS and not first.startswith("-"):
+        return refuse(first, name)
     from companion import program
 
     return program.become(words, name)

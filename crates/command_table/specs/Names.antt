@@ -1,5 +1,5 @@
 -- The commands by their names (this project's own).
-use Rattle.std.specs.Prelude.{List, [], ◌∷◌, Option, Some, None, codes, find}
+use Rattle.std.specs.Prelude.{List, [], ◌∷◌, Option, codes, find}
 use Rattle.std.specs.Str.{bytes_eq}
 use Rattle.command_table.specs.Table.{Text}
 use Rattle.command_table.specs.declared.names.Name.{Name}

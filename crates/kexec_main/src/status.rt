@@ -7,6 +7,7 @@ ghost use Rattle.file_commands.specs.inner.Calls.{answer_of as stop_answer};
 ghost use Rattle.kexec_main.specs.Statuses.{answer_of};
 ghost use Rattle.kexec_main.specs.ExitStatuses.{code_of};
 
+use command_parts::{InputFault, Reason};
 use command_table::UsageWhy;
 use file_commands::Stop;
 use image_slots::SlotsFault;

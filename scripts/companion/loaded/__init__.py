@@ -21,7 +21,8 @@ EPILOG = """A dump is enough by itself: symbols, types and map are read from its
 Linux before 6.14 runs each list by exchanges through a swap page, also where no
 context is to be preserved. Then the record is one with context preserved, in
 which `check` refuses what such a kernel would run wrongly, as a source that
-stands twice. Whether it is so, the kernel's code says. docs/LOADED.md has more.
+stands twice. Whether it is so, the kernel's code says. LOADED.md, one of the
+documents, has more.
 Status 0; 1 where an input is refused, nothing is loaded, or the list touches a
 page that Linux needs to run it; 2 where the words are refused."""
 

@@ -30,9 +30,8 @@ def fault_of(folder, found):
     return "exec says regions differ" if "regions differ" in told else None
 
 
-def differing(physical, pages, path):
-    """The pages that memory does not have as the memory file does."""
-    out = Memory(path)
+def differing(physical, pages, out):
+    """The pages that memory does not have as a memory file does."""
     return [page for page in pages if physical.page(page) != out.page(page)]
 
 
@@ -62,9 +61,15 @@ class Moment:
 
     def compare(self):
         """Compares all of RAM: how many pages, and how many of them differ."""
-        pages = self.pages()
-        differ = differing(self.guest.physical(), pages, f"{self.path}/out.kxmem")
-        own = self.found.image.own
+        pages, out = self.pages(), Memory(f"{self.path}/out.kxmem")
+        differ = differing(self.guest.physical(), pages, out)
         tell.step(f"{counted(len(pages), 'page')} of RAM compared with a run from that moment: {len(differ)} differ"
-                  + "".join(f"; {address(page * PAGE)} ({own.get(page, 'none of the image')})" for page in differ[:8]))
+                  + "".join(f"; {self.told(page, out)}" for page in differ[:8]))
         return len(pages), len(differ)
+
+    def told(self, page, out):
+        """A page that differs: what it is to the image, and where in it the words are that differ."""
+        found, wanted = self.guest.physical().page(page), out.page(page)
+        words = [f"{at:#x}" for at in range(0, PAGE, 8) if found[at : at + 8] != wanted[at : at + 8]]
+        what = self.found.image.own.get(page, "none of the image")
+        return f"{address(page * PAGE)} ({what}), its words at {', '.join(words[:8])}"

@@ -10,6 +10,7 @@ import tempfile
 from companion import program, qemu
 from companion.loaded import comparison, findings, guest_disk, many_runs, output, sources, spoils, tell
 from companion.loaded.guest_machine import Guest
+from companion.memory_files import Memory
 from companion.numbers import PAGE, address, counted
 from companion.parsers import Parser, integer
 from companion.refusals import Wrong
@@ -90,11 +91,16 @@ class Story:
 
     def compare_files(self, where, what):
         """Compares the files with those that were made in the guest; whether they are the same."""
-        told, own = re.search(f"STORY {where} digests (.*)", self.guest.text()), []
+        text, own = self.guest.text(), []
+        status = re.findall(f"STORY {where} status ([0-9]+)", text)
+        if status != ["0"]:
+            # 137 is that of a reader that the kernel has killed, for want of memory
+            tell.step(f"{what}: NOT READ, status {' '.join(status) or 'unknown'}")
+            return False
         for name in ("memory.kxmem", "record", "map"):
             with open(f"{self.folder}/loaded/{name}", "rb") as file:
                 own.append(hashlib.sha256(file.read()).hexdigest())
-        is_same = bool(told) and told[1].split() == own
+        is_same = re.search(f"STORY {where} digests (.*)", text)[1].split() == own
         tell.step(f"{what}: {'the same three files, byte for byte' if is_same else 'OTHER FILES'}")
         return is_same
 
@@ -121,8 +127,8 @@ class Story:
         if not self.guest.wait_for("STORY next kernel ends", self.given.seconds):
             raise Wrong(f"the crash kernel did not come up: {self.guest.text()[-400:]}")
         is_same = self.compare_files("vmcore", "read in the crash kernel from /proc/vmcore")
-        for form in ("-c", "-E") if self.given.makedumpfile else ():
-            is_same &= self.compare_files(f"makedumpfile{form}", f"read there from what makedumpfile {form} -d 31 makes of it")
+        if self.given.makedumpfile:
+            is_same &= self.compare_files("makedumpfile", "read there from what makedumpfile -c -d 31 makes of it")
         return is_same
 
     def judge(self):
@@ -141,13 +147,13 @@ class Story:
 
     def run(self):
         """Lets the guest run the list up to the first instruction of the image, and compares; how many pages differ."""
-        wanted = self.found.wanted()
-        before = comparison.differing(self.guest.physical(), wanted, f"{self.folder}/out.kxmem")
+        wanted, out = self.found.wanted(), Memory(f"{self.folder}/out.kxmem")
+        before = comparison.differing(self.guest.physical(), wanted, out)
         self.guest.leave()
         moment = comparison.Moment(self) if self.given.whole else None
         self.stub.go_to(self.found.image.start, self.is_entered, self.given.seconds)
         tell.step(f"the guest is at the first instruction of the image, {address(self.found.image.start)}")
-        differ = comparison.differing(self.guest.physical(), wanted, f"{self.folder}/out.kxmem")
+        differ = comparison.differing(self.guest.physical(), wanted, out)
         tell.step(f"{counted(len(wanted), 'destination page')} compared with OUT of exec: {len(differ)} differ (before the "
                   f"run {len(before)} did)" + "".join(f"; {address(page * PAGE)}" for page in differ[:8]))
         whole = moment.compare() if moment else None

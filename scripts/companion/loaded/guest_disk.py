@@ -12,7 +12,7 @@ from companion.program import PLACE
 from companion.refusals import Wrong
 
 FOLDER, PROGRAM, FILE = stat.S_IFDIR | 0o755, stat.S_IFREG | 0o755, stat.S_IFREG | 0o644
-NEXT = "console=ttyS0 way=next quiet panic=-1"
+NEXT = "console=ttyS0 way=next quiet no_timer_check panic=-1"
 LOADS = {
     "load": "-c -l /next/kernel --initrd=/next/initrd --command-line=\"$next\"",
     "file": "-s -l /next/kernel --initrd=/next/initrd --command-line=\"$next\"",
@@ -37,7 +37,7 @@ for word in $(cat /proc/cmdline); do
         inside=*) inside=${word#inside=} ;;
     esac
 done
-# reads an image here, with these words for it, and says the digests of the files
+# reads an image here, with these words for it, and says the digests of the files, which take memory here
 read_here() {
     PYTHONHOME=/python PYTHONDONTWRITEBYTECODE=1 PYTHONPATH=/lib/companion \\
         /bin/python3 -S -m companion.loaded "$@" /out >/said 2>&1
@@ -45,6 +45,7 @@ read_here() {
     cat /said
     echo "STORY $where status $status"
     echo "STORY $where digests $(cd /out && sha256sum memory.kxmem record map | cut -d ' ' -f 1 | tr '\\n' ' ')"
+    rm -rf /out
 }
 next='@NEXT@'
 case $way in
@@ -54,13 +55,10 @@ case $way in
         if [ -e /proc/vmcore ] && [ -e /bin/python3 ]; then
             where=vmcore
             read_here --core /proc/vmcore
-            for form in -c -E; do
-                if [ -e /bin/makedumpfile ] && makedumpfile $form -d 31 --message-level 0 /proc/vmcore /dump; then
-                    where=makedumpfile$form
-                    read_here --core /dump
-                    rm /dump
-                fi
-            done
+            if [ -e /bin/makedumpfile ] && makedumpfile -c -d 31 --message-level 0 /proc/vmcore /dump; then
+                where=makedumpfile
+                read_here --core /dump
+            fi
         fi
         echo 'STORY next kernel ends'
         poweroff -f ;;

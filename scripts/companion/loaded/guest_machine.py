@@ -9,6 +9,8 @@ from companion.loaded.physical import Physical
 
 # the ways of loading that need an area for a crash kernel
 CRASHES = ("crash", "crash-file", "vmcore")
+# Where QEMU gets too little time, Linux finds that the timer "doesn't work", and panics; a guest that panics ends at once.
+STEADY = ("no_timer_check", "panic=-1")
 
 
 class Cpu(NamedTuple):
@@ -63,6 +65,6 @@ def physical(path):
 
 def command_line(given):
     """The command line of the guest's kernel."""
-    words = ["console=ttyS0", "quiet", f"way={given.way}", "panic=0"]
+    words = ["console=ttyS0", "quiet", f"way={given.way}", *STEADY]
     words += ["inside=yes"] * given.inside + [f"crashkernel={given.area}M"] * (given.way in CRASHES)
     return " ".join(words + ["nokaslr"] * given.nokaslr + given.append.split())

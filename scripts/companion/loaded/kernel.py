@@ -10,7 +10,7 @@ KERNEL_MAP = 0xFFFFFFFF80000000
 # Where struct pages and the direct map begin without CONFIG_RANDOMIZE_MEMORY, by the levels of the page tables.
 VMEMMAP = {4: 0xFFFFEA0000000000, 5: 0xFFD4000000000000}
 # The kernels, by their first two numbers, whose lists were read: docs/LOADED.md.
-TRIED = ("6.1", "6.12", "6.16", "6.18", "7.1")
+TRIED = ("6.1", "6.12", "6.16", "6.17", "6.18", "6.19", "7.1", "7.3")
 
 
 class Kernel:

@@ -1,7 +1,8 @@
 """What is said of an image that was read."""
 import time
 
-from companion.loaded import copying, findings as found_words, parts, purgatory
+from companion import records
+from companion.loaded import copying, findings as found_words, purgatory
 from companion.numbers import PAGE, address, counted, size_text
 
 STARTED = time.monotonic()
@@ -30,7 +31,8 @@ def _image(found):
     way = "kexec_file_load (kexec -s)" if image.is_by_file else "kexec_load (kexec -c)"
     print(f"{'crash' if image.is_crash else 'next'} kernel, loaded by {way}: entry {address(image.start)}, "
           f"{counted(len(image.segments), 'segment')}")
-    for row, name in zip(found.segments, parts.names_of(found)):
+    segments = [records.Segment(row.mem, row.memsz, data) for row, data in zip(found.segments, found.data)]
+    for row, name in zip(found.segments, records.names_of(segments, found.purgatory and found.purgatory.table)):
         print(f"  segment {address(row.mem)} memsz {size_text(row.memsz)} bufsz {counted(row.bufsz, 'byte')} {name}".rstrip())
     for row in image.segments:
         if row.is_in_place:
