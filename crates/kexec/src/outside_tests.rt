@@ -31,6 +31,7 @@ fn the_first_page_that_is_not_ram_is_told(rt: HostRuntime) -> Result<(), Fail> {
         assert!(rt; page_outside_ram(&rt, &words, &status) == wanted);
     }
     let details = Details {
+        program: "kexec",
         cause: None,
         hint: None,
         page: Some(0x10),
