@@ -2,11 +2,13 @@
 
 ghost use Rattle.std.specs.Prelude.{◌≡◌, string_bytes, IfOk};
 ghost use Rattle.file_commands.specs.inner.Calls.{Takes};
-ghost use Rattle.list_commands.specs.Records.{load_by, load_files, load_record_file};
+ghost use Rattle.kexec_words.specs.inner.Values.{load_names_value};
+ghost use Rattle.list_commands.specs.Records.{load_by, load_files_of, load_record_file};
 ghost use Rattle.load_record.specs.inner.File.{IsWritable};
 
 use command_parts::{InputFault, Reason, Startup, refusal_by, take_memory};
 use file_commands::{FileParts, TakeFault, take_apart};
+use kexec_words::LoadNames;
 use kx_edge::Shelf;
 use kx_pages::Image;
 use load_record::{DigestedRecord, FIRST_BYTES, LoadRecord, RecFault};
@@ -74,7 +76,7 @@ pub struct CrashFiles {
     pub startup: Startup,
 }
 
-/// A load that `check` or `exec` took, by the kind of its record. Neither looks at the kind again.
+/// A load that was taken, by the kind of its record. No command looks at the kind again.
 #[derive(Drop)]
 pub enum TakenLoad {
     Normal(LoadFiles),
@@ -111,14 +113,13 @@ fn load_by(memory: Memory, load_record: LoadRecord) -> TakenLoad
 /// Takes the memory file, then the file of the load record.
 pub(crate) fn take_load_files<S: Shelf>(
     alloc: Global,
-    memory: String,
-    load_record: String,
+    names: LoadNames,
     shelf: &mut S,
 ) -> Result<TakenLoad, TakeFault<Reason>>
-    ensures { Takes S.Shelf (load_files (string_bytes memory) (string_bytes load_record)) (λ f. f)
-        shelf.old result shelf.new }
+    ensures { Takes S.Shelf (load_files_of (load_names_value names)) (λ f. f) shelf.old result
+        shelf.new }
 {
-    let memory = take_memory(alloc, memory, shelf)?;
-    let load_record = take_record(alloc, load_record, shelf)?;
+    let memory = take_memory(alloc, names.memory, shelf)?;
+    let load_record = take_record(alloc, names.load_record, shelf)?;
     Ok(load_by(memory, load_record))
 }
