@@ -5,7 +5,8 @@ ghost use Rattle.page_memory.specs.Contents.{at};
 ghost use Rattle.file_commands.specs.Answers.{Meets};
 ghost use Rattle.file_commands.specs.inner.Calls.{Makes, call_answer};
 ghost use Rattle.command_parts.specs.inner.Ran.{ran_text};
-ghost use Rattle.load_commands.specs.Sample.{memory_line, sample_files, samples, sample_entry};
+ghost use Rattle.file_commands.specs.Taking.{ok};
+ghost use Rattle.load_commands.specs.Sample.{memory_line, samples, sample_entry};
 ghost use Rattle.load_commands.specs.inner.Views.{start_alone};
 
 use command_parts::{Ran, Reason, Startup, ran_text, run_loaded};
@@ -17,9 +18,9 @@ use page_memory::Memory;
 use sample_load::{digest_of, load_sample, start_of};
 use std::alloc::{AllocError, Global};
 
-/// The words of `sample`: a number below 10^18.
+/// `sample`: the number, which is below 10^18.
 #[derive(Drop)]
-pub(crate) struct SampleWords {
+pub(crate) struct SampleCommand {
     pub(crate) number: u64,
 }
 
@@ -50,7 +51,7 @@ fn sample_text(alloc: Global, ran: &Ran, start: &Start) -> Result<String, AllocE
 
 // Loads the sample of the number, runs its list, and makes the text that tells of both.
 fn make_sample(alloc: Global, number: u64) -> Result<Goods<ListFault>, MakeFault<Reason>>
-    ensures { Makes samples number result }
+    ensures { Makes (samples number) tt result }
 {
     let loaded = load_sample(alloc, number)?;
     let start = start_of(loaded.segments());
@@ -63,30 +64,30 @@ fn make_sample(alloc: Global, number: u64) -> Result<Goods<ListFault>, MakeFault
     })
 }
 
-impl Command for SampleWords {
-    type Taken = u64;
+impl Command for SampleCommand {
+    type Names = ();
+
+    type Taken = ();
 
     type Fault = ListFault;
 
     type Reason = Reason;
 
-    ghost use Rattle.std.specs.Prelude.{ℕ};
+    ghost Inputs = { Unit {0} };
 
-    ghost Inputs = { ℕ };
+    ghost inputs = { λ t. tt };
 
-    ghost inputs = { λ n. n };
+    ghost takes = { λ n. ok tt };
 
-    ghost takes = { λ s. sample_files s.number };
-
-    ghost makes = { samples };
+    ghost makes = { λ s. samples s.number };
 
     #[tactic(auto, unfolding(file_commands::specs::Taking::Took))]
-    fn take<S: Shelf>(self, _: Global, _: &mut S) -> Result<u64, TakeFault<Reason>> {
-        Ok(self.number)
+    fn take<S: Shelf>(_: Global, _: (), _: &mut S) -> Result<(), TakeFault<Reason>> {
+        Ok(())
     }
 
-    fn make(alloc: Global, number: u64) -> Result<Goods<ListFault>, MakeFault<Reason>> {
-        make_sample(alloc, number)
+    fn make(self, alloc: Global, _: ()) -> Result<Goods<ListFault>, MakeFault<Reason>> {
+        make_sample(alloc, self.number)
     }
 }
 
@@ -100,5 +101,5 @@ pub fn run_sample<S: Shelf, O: Sink>(
     ensures { Meets S.Shelf O.Sink (sample_entry number).command shelf.old out.old
         (call_answer result) shelf.new out.new }
 {
-    run(alloc, SampleWords { number }, shelf, out)
+    run(alloc, (), SampleCommand { number }, shelf, out)
 }

@@ -1,4 +1,4 @@
-use Rattle.std.proofs.Common.{rules, ◌≡◌, ◌∙◌, refl, Ok, Err, None, inl, inr}
+use Rattle.std.proofs.Common.{rules, string_bytes, ◌≡◌, ◌∙◌, refl, Ok, Err, None, inl, inr}
 use Rattle.page_memory.specs.Contents.{at}
 use Rattle.file_commands.specs.Taking.{by}
 use Rattle.file_commands.specs.inner.Calls.{goods_of}
@@ -13,34 +13,34 @@ use Rattle.load_commands.proofs.boot_resident.make_resident.Goals as goal
 
 pub run_loaded-requires-clause-accepted : goal.run_loaded-requires-clause-accepted
 run_loaded-requires-clause-accepted c =
-    let x = resident_inputs c.args.boot in
+    let x = resident_inputs c.args.taken in
     kernel_accepted x.load x.pairs c.in_ok-kernel.kernel (rw c.deref.ensures.value at c.in_ok-kernel.ensures)
 
 pub run_loaded-requires-clause-mode : goal.run_loaded-requires-clause-mode
 run_loaded-requires-clause-mode c =
-    let x = resident_inputs c.args.boot in
+    let x = resident_inputs c.args.taken in
     kernel_mode x.load x.pairs c.in_ok-kernel.kernel (rw c.deref.ensures.value at c.in_ok-kernel.ensures)
 
 pub returns-in_err-kernel : goal.returns-in_err-kernel
 returns-in_err-kernel c =
-    let x = resident_inputs c.args.boot in
+    let x = resident_inputs c.args.taken in
     let e : c.from_residual.result ≡ Err c.in_err-kernel.field-0.0 = search rules in
-    handed_on_as (λ g. boots_resident x (Ok (goods_of g))) (λ why. boots_resident x (Err (by why))) (RefusesResident x.load x.pairs) _ _ e (λ why r. inl r) (rw c.deref.ensures.value at c.in_err-kernel.ensures)
+    handed_on_as (λ g. boots_resident (string_bytes c.args.boot.out) x (Ok (goods_of g))) (λ why. boots_resident (string_bytes c.args.boot.out) x (Err (by why))) (RefusesResident x.load x.pairs) _ _ e (λ why r. inl r) (rw c.deref.ensures.value at c.in_err-kernel.ensures)
 
 pub returns-in_err-outputs : goal.returns-in_err-outputs
 returns-in_err-outputs c =
-    let x = resident_inputs c.args.boot in
+    let x = resident_inputs c.args.taken in
     let e : c.from_residual-in_err-outputs.result ≡ Err c.in_err-outputs.field-0.0 = search rules in
     let l = rw c.deref.ensures.value at c.in_ok-kernel.ensures in
     let r = c.in_ok-ran.ensures in
     let k = checked_with c.in_ok-kernel.kernel.loaded r.0 r.1 r.2 in
     let N = at c.in_ok-ran.ran.memory in
-    handed_on_as (λ g. boots_resident x (Ok (goods_of g))) (λ why. boots_resident x (Err (by why))) (HasNoFile N) _ _ e
+    handed_on_as (λ g. boots_resident (string_bytes c.args.boot.out) x (Ok (goods_of g))) (λ why. boots_resident (string_bytes c.args.boot.out) x (Err (by why))) (HasNoFile N) _ _ e
     (λ why h. inr (l.p, l.m, k, (l.resident, l.load, r.3), no_file_as N (after_runs None k) why r.4.memory h)) c.in_err-outputs.ensures
 
 pub returns : goal.returns
 returns c =
-    let x = resident_inputs c.args.boot in
+    let x = resident_inputs c.args.taken in
     let l = rw c.deref.ensures.value at c.in_ok-kernel.ensures in
     let r = c.in_ok-ran.ensures in
     let kernel = c.in_ok-kernel.kernel in
@@ -51,5 +51,5 @@ returns c =
       (l.resident, l.load, r.3),
       c.in_ok-text.ensures ∙ resident_text_of k c.in_ok-ran.ran kernel.start l.p.start kernel.copied l.m.copied r.4 l.start l.copied,
       refl,
-      output_as (at c.in_ok-ran.ran.memory) (after_runs None k) _ x.out r.4.memory c.in_ok-outputs.ensures,
+      output_as (at c.in_ok-ran.ran.memory) (after_runs None k) _ (string_bytes c.args.boot.out) r.4.memory c.in_ok-outputs.ensures,
     )

@@ -1,5 +1,5 @@
--- What is promised of the load of a kernel (this project's own).
-use Rattle.std.specs.Prelude.{◌≡◌, ℕ, ◌≤◌, List, length, take, Ok, Some}
+-- What is promised of the load of a kernel, and when it is refused (this project's own).
+use Rattle.std.specs.Prelude.{◌≡◌, ◌⊎◌, ℕ, ◌≤◌, List, length, take, Ok, Some}
 use Rattle.std.specs.List.{AllByRecursion}
 use Rattle.kx_pages.specs.Bytes.{Mem}
 use Rattle.kx_pages.specs.Lists.{Has, count}
@@ -16,8 +16,9 @@ use Rattle.load_states.specs.Runs.{EndsAfter}
 use Rattle.kexec_plan.specs.Requests.{Plan}
 use Rattle.kexec_plan.specs.Plan.{plan}
 use Rattle.load_commands.specs.Inputs.{LoadInputs}
-use Rattle.load_commands.specs.Loading.{IsLoaded}
-use Rattle.command_parts.specs.Outputs.{IsTooHeavy}
+use Rattle.load_commands.specs.Loading.{IsLoaded, RefusesLoad}
+use Rattle.command_parts.specs.declared.reason.Reason.{Reason}
+use Rattle.command_parts.specs.Outputs.{HasNoFile, IsTooHeavy}
 
 -- the pages that a load of the plan draws: the first usable ones of the pool, as many as it takes
 abbrev pub drawn_pages : Wish → LoadInputs → Plan → List ℕ
@@ -50,6 +51,16 @@ pub record NormalLoad (wish : Wish) (i : LoadInputs) (p : Plan) (c : Checked) : 
 -- its list, control page and sources are those that the rules of taking pages and laying a list give
 abbrev pub IsLaid : Wish → LoadInputs → Plan → Checked → Type 0
 IsLaid wish i p c = IsSealed (at i.memory) i.usable wish p.segments c.load
+
+-- the kernel is loaded by this plan, and so much is told of its accepted list
+abbrev pub IsToldLoad : Wish → LoadInputs → Plan → Checked → Type 0
+IsToldLoad wish i p c = IsLoaded wish i p c.load × Told c.load c.words c.links c.pairs
+
+-- the plan or the load refuses, or the memory that it leaves has no file
+abbrev pub CannotLoad : Wish → LoadInputs → (leaves : Checked → Mem) → Reason → Type 0
+CannotLoad wish i leaves why =
+    RefusesLoad wish i why
+    ⊎ ((p : Plan) × (c : Checked) × IsToldLoad wish i p c × HasNoFile (leaves c) why)
 
 -- Nothing refuses the load of what was taken: the request has a plan, the pool has as many usable pages as the load
 -- takes, and each memory that it may leave, by what is told of its accepted list, has a file.

@@ -1,5 +1,5 @@
 -- The loads of kernels: what is promised of them, and why they are refused.
-use Rattle.std.specs.Prelude.{◌⊎◌, unwrap_or}
+use Rattle.std.specs.Prelude.{unwrap_or}
 use Rattle.std.proofs.Common.{◌≡◌, ◌∙◌, ℕ, ◌<◌, ◌≤◌, List, length, Result, Ok, Err, refl, sym, ap, subst, arith, inl, inr}
 use Rattle.kx_laws.proofs.Results.{ok_same}
 use Rattle.kx_pages.specs.Bytes.{Mem}
@@ -24,13 +24,13 @@ use Rattle.kexec_plan.specs.Plan.{plan}
 use Rattle.kexec_plan.specs.declared.fault.PlanFault.{PlanFault}
 use Rattle.load_commands.specs.Inputs.{LoadInputs}
 use Rattle.load_commands.specs.Loading.{IsLoaded, RefusesLoad}
-use Rattle.load_commands.specs.Loads.{CanLoad, NormalLoad}
+use Rattle.load_commands.specs.NormalLoad.{CanLoad, CannotLoad, NormalLoad}
 use Rattle.load_commands.proofs.Drawn.{control_drawn, links_drawn, sources_drawn, swap_drawn}
 use Rattle.load_commands.proofs.Ending.{loaded_bare}
 use Rattle.kx_laws.proofs.Options.{some_same}
 use Rattle.load_states.specs.Fillings.{IsSealed}
 use Rattle.load_states.specs.Loads.{memory_of}
-use Rattle.command_parts.proofs.Outputs.{file_none, has_file, one_weight}
+use Rattle.command_parts.proofs.Outputs.{file_none, has_file, heavy, one_weight}
 
 -- a load of segments over a pool is one
 pub sealed_alike : (M : Mem) (pool : List ℕ) (wish : Wish) (ss : List SegmentValue) (r s : Load) → IsSealed M pool wish ss r → IsSealed M pool wish ss s → IsSameLoad r s
@@ -73,14 +73,18 @@ too_few : (pool need left n : ℕ) → need ≤ pool → left ≡ pool → n ≡
 too_few pool need left n enough a b less = omega arith
 
 -- nothing refuses a load that can be made
-pub loads_not : (wish : Wish) (i : LoadInputs) (leaves : Checked → Mem) (why : Reason) → CanLoad wish i leaves → RefusesLoad wish i why → ⊥
+loads_not : (wish : Wish) (i : LoadInputs) (leaves : Checked → Mem) (why : Reason) → CanLoad wish i leaves → RefusesLoad wish i why → ⊥
 loads_not wish i leaves (reasons.NoPages left n) can (q, planned, few) =
     too_few (length i.usable) (need wish can.p.segments) left n can.enough few.0 (few.1 ∙ ap (λ (p : Plan). need wish p.segments) (one_plan i q can.p planned can.planned)) few.2
 loads_not wish i leaves (reasons.Plan f) can h = no_fault can.p f (sym can.planned ∙ h)
 loads_not wish i leaves other can h = h
 
-pub loaded_as : (wish : Wish) (i : LoadInputs) (leaves : Checked → Mem) (p : Plan) (c : Checked) → (can : CanLoad wish i leaves) → IsLoaded wish i p c.load → IsLoaded wish i can.p c.load
+loaded_as : (wish : Wish) (i : LoadInputs) (leaves : Checked → Mem) (p : Plan) (c : Checked) → (can : CanLoad wish i leaves) → IsLoaded wish i p c.load → IsLoaded wish i can.p c.load
 loaded_as wish i leaves p c can l = subst (λ p. IsLoaded wish i p c.load) (one_plan i p can.p l.planned can.planned) l
+
+pub can_not_both : (wish : Wish) (i : LoadInputs) (leaves : Checked → Mem) (why : Reason) → CanLoad wish i leaves → CannotLoad wish i leaves why → ⊥
+can_not_both wish i leaves why can (inl r) = loads_not wish i leaves why can r
+can_not_both wish i leaves why can (inr (p, c, l, f)) = heavy (leaves c) why (λ n h. can.light c n (loaded_as wish i leaves p c can l.0) l.1 h) f
 
 -- a load that lacks pages is refused for nothing else
 few_reason : (wish : Wish) (i : LoadInputs) (p : Plan) (pool n : ℕ) → plan i.request i.map ≡ Ok p → pool ≡ length i.usable → n ≡ need wish p.segments → (why : Reason) → RefusesLoad wish i why → why ≡ reasons.NoPages pool n
@@ -93,7 +97,7 @@ pub same_fault : (f g : PlanFault) → ◌≡◌ {A = Result Plan PlanFault} (Er
 same_fault f g e = cc
 
 -- a load is refused for one reason
-pub one_refusal : (wish : Wish) (i : LoadInputs) (why w : Reason) → RefusesLoad wish i why → RefusesLoad wish i w → w ≡ why
+one_refusal : (wish : Wish) (i : LoadInputs) (why w : Reason) → RefusesLoad wish i why → RefusesLoad wish i w → w ≡ why
 one_refusal wish i (reasons.NoPages left n) w (p, planned, few) r = few_reason wish i p left n planned few.0 few.1 w r
 one_refusal wish i (reasons.Plan f) (reasons.Plan g) h r = ap reasons.Plan (same_fault f g (sym r ∙ h))
 one_refusal wish i (reasons.Plan f) (reasons.NoPages left n) h (q, planned, few) = absurd (no_fault q f (sym planned ∙ h))
@@ -101,7 +105,7 @@ one_refusal wish i (reasons.Plan f) other h r = absurd r
 one_refusal wish i other w h r = absurd h
 
 -- and what is refused is not loaded
-pub not_loaded : (wish : Wish) (i : LoadInputs) (why : Reason) (q : Plan) (load : Load) → RefusesLoad wish i why → IsLoaded wish i q load → ⊥
+not_loaded : (wish : Wish) (i : LoadInputs) (why : Reason) (q : Plan) (load : Load) → RefusesLoad wish i why → IsLoaded wish i q load → ⊥
 not_loaded wish i (reasons.NoPages left n) q load (p, planned, few) l =
     too_few (length i.usable) (need wish q.segments) left n l.enough few.0 (few.1 ∙ ap (λ (p : Plan). need wish p.segments) (one_plan i p q planned l.planned)) few.2
 not_loaded wish i (reasons.Plan f) q load h l = no_fault q f (sym l.planned ∙ h)
@@ -121,20 +125,17 @@ can_load wish i p c leaves bytes l f same = record {
 -- Of a load that is refused, or whose memory has no file, nothing else comes. The loads of one request leave the same.
 module _ (wish : Wish) (i : LoadInputs) (leaves : Checked → Mem)
     (same : (c d : Checked) → IsSameLoad c.load d.load → Told c.load c.words c.links c.pairs → Told d.load d.words d.links d.pairs → leaves d ≡ leaves c) where
-  abbrev pub Refuses : Reason → Type 0
-  Refuses why = RefusesLoad wish i why ⊎ ((p : Plan) × (c : Checked) × (IsLoaded wish i p c.load × Told c.load c.words c.links c.pairs) × HasNoFile (leaves c) why)
-
   same_memory : (p q : Plan) (c d : Checked) → IsLoaded wish i p c.load → Told c.load c.words c.links c.pairs → IsLoaded wish i q d.load → Told d.load d.words d.links d.pairs → leaves d ≡ leaves c
   same_memory p q c d l t k u =
       let m = subst (λ p. IsLoaded wish i p d.load) (one_plan i q p k.planned l.planned) k in
       same c d (sealed_alike (at i.memory) i.usable wish p.segments c.load d.load l.laid m.laid) t u
 
-  pub only_refusal : (why w : Reason) → Refuses why → Refuses w → w ≡ why
+  pub only_refusal : (why w : Reason) → CannotLoad wish i leaves why → CannotLoad wish i leaves w → w ≡ why
   only_refusal why w (inl r) (inl s) = one_refusal wish i why w r s
   only_refusal why w (inl r) (inr (q, d, k, g)) = absurd (not_loaded wish i why q d.load r k.0)
   only_refusal why w (inr (p, c, l, f)) (inl s) = absurd (not_loaded wish i w p c.load s l.0)
   only_refusal why w (inr (p, c, l, f)) (inr (q, d, k, g)) = one_weight (leaves c) why w f (subst (λ N. HasNoFile N w) (same_memory p q c d l.0 l.1 k.0 k.1) g)
 
-  pub not_made : (why : Reason) (q : Plan) (d : Checked) (bytes : List ℕ) → Refuses why → IsLoaded wish i q d.load → Told d.load d.words d.links d.pairs → IsFileOf (leaves d) bytes → ⊥
+  pub not_made : (why : Reason) (q : Plan) (d : Checked) (bytes : List ℕ) → CannotLoad wish i leaves why → IsLoaded wish i q d.load → Told d.load d.words d.links d.pairs → IsFileOf (leaves d) bytes → ⊥
   not_made why q d bytes (inl r) k u file = not_loaded wish i why q d.load r k
   not_made why q d bytes (inr (p, c, l, f)) k u file = file_none (leaves c) bytes why (subst (λ N. IsFileOf N bytes) (same_memory p q c d l.0 l.1 k u) file) f
