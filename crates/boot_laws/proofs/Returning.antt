@@ -16,7 +16,7 @@ use Rattle.kexec_words.specs.declared.commands.Runs.{Runs}
 use Rattle.kexec_words.specs.declared.commands.Runs.TheVariants.{Once, Twice}
 use Rattle.kexec_plan.specs.Requests.{Plan}
 use Rattle.load_commands.specs.Inputs.{LoadInputs}
-use Rattle.load_commands.specs.Loads.{NormalLoad, drawn_pages}
+use Rattle.load_commands.specs.NormalLoad.{NormalLoad, drawn_pages}
 use Rattle.command_parts.specs.Runs.{Leaves, after_runs, wish_of}
 use Rattle.plan_laws.specs.Memory.{HasArrived}
 use Rattle.boot_laws.specs.Returned.{BootedMemoryReturns, ReadsBesides}

@@ -14,7 +14,7 @@ use Rattle.kexec_words.specs.declared.commands.Runs.TheVariants.{Once, Twice}
 use Rattle.load_commands.specs.Boot.{HasBooted}
 use Rattle.kexec_main.specs.Call.{HasDone}
 use Rattle.load_commands.specs.Inputs.{LoadInputs, load_inputs}
-use Rattle.load_commands.specs.Loads.{drawn_pages}
+use Rattle.load_commands.specs.NormalLoad.{drawn_pages}
 use Rattle.command_parts.specs.Outputs.{IsFileOf}
 use Rattle.command_parts.specs.Runs.{after_runs}
 use Rattle.boot_laws.specs.Booted.{MemoryStarts}

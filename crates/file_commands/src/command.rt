@@ -78,17 +78,17 @@ pub fn run<C: Command, S: Shelf, O: Sink>(
     out: &mut O,
 ) -> Result<(), Stop<C::Fault, C::Reason>>
     // Each answer has its cause, and says what stands after it.
-    ensures meets { Meets S.Shelf O.Sink (command_of (C.takes names) (C.makes command)) shelf.old out.old
-        (call_answer result) shelf.new out.new }
+    ensures meets { Meets S.Shelf O.Sink (command_of (C.takes names) (C.makes command))
+        shelf.old out.old (call_answer result) shelf.new out.new }
 
     // Over files that are told it is so by what is read of them.
     ensures told { IfSome (S.files shelf.old)
-        (λ held. MeetsTold S.Shelf O.Sink (command_of (C.takes names) (C.makes command)) held shelf.old
-        out.old (call_answer result) shelf.new out.new) }
+        (λ held. MeetsTold S.Shelf O.Sink (command_of (C.takes names) (C.makes command)) held
+        shelf.old out.old (call_answer result) shelf.new out.new) }
 
     // What is in order is done where no device fails, or memory is wanted.
-    ensures completes { Completes S.Shelf O.Sink (command_of (C.takes names) (C.makes command)) shelf.old
-        out.old (call_answer result) shelf.new out.new }
+    ensures completes { Completes S.Shelf O.Sink (command_of (C.takes names) (C.makes command))
+        shelf.old out.old (call_answer result) shelf.new out.new }
 {
     take_make_deliver(alloc, names, command, shelf, out)
 }

@@ -32,14 +32,14 @@ use Rattle.list_commands.specs.Exec.{HasExecuted, files_text, runs_asked, runs_o
 use Rattle.list_commands.specs.Records.{list_files, load_files}
 use Rattle.load_commands.specs.Inputs.{LoadInputs, load_inputs}
 use Rattle.load_commands.specs.Load.{HasLoaded, load_wish, record_of_load}
-use Rattle.load_commands.specs.Loads.{IsLaid, NormalLoad}
+use Rattle.load_commands.specs.NormalLoad.{IsLaid, NormalLoad}
 use Rattle.command_parts.specs.Outputs.{IsFileOf}
 use Rattle.command_parts.specs.Runs.{after_runs, run_text, wish_of}
 use Rattle.load_commands.specs.Startup.{planned_startup}
 use Rattle.kexec_main.specs.inner.Together.{AskTogether, LoadThenExecIsBoot, booted_text, is_twice}
 use Rattle.list_commands.proofs.Reread.{IsReadAs, exec_read, record_found}
 use Rattle.command_parts.proofs.Found.{memory_found}
-use Rattle.load_commands.proofs.Loads.{sealed_alike}
+use Rattle.load_commands.proofs.NormalLoad.{sealed_alike}
 use Rattle.command_parts.proofs.Alike.{same_after, same_text}
 use Rattle.command_parts.proofs.Outputs.{file_agrees, one_file}
 

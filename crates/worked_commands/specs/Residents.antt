@@ -14,4 +14,5 @@ resident_over m pairs = record { load = record few_read { memory = m }; pairs = 
 
 -- what boot-resident --at 2000 m p o k l makes of it
 abbrev pub resident_makes : Contents → List (ℕ × ℕ) → Result Made (Refusal Reason) → Type 0
-resident_makes m pairs = (boot_resident_entry boot_resident_raw).command.makes (resident_over m pairs)
+resident_makes m pairs =
+    (boot_resident_entry boot_resident_raw).command.makes (resident_over m pairs)

@@ -14,8 +14,13 @@ ghost use Rattle.worked_commands.specs.Kept.{exchange_memory, exchange_record, o
 pub fn kept_list_is_run()
     ensures once { exec_makes false (load_by exchange_memory exchange_record) (Ok once_goods) }
     ensures twice { exec_makes true (load_by exchange_memory exchange_record) (Ok twice_goods) }
-    ensures nothing_else_once { (goods : Made) → exec_makes false (load_by exchange_memory exchange_record) (Ok goods) → goods ≡ once_goods }
-    ensures nothing_else_twice { (goods : Made) → exec_makes true (load_by exchange_memory exchange_record) (Ok goods) → goods ≡ twice_goods }
-    ensures kept { exec_makes true (load_by exchange_memory exchange_record) (Err (by reasons.NotKept)) → ⊥ }
+    ensures nothing_else_once { (goods : Made)
+        → exec_makes false (load_by exchange_memory exchange_record) (Ok goods)
+        → goods ≡ once_goods }
+    ensures nothing_else_twice { (goods : Made)
+        → exec_makes true (load_by exchange_memory exchange_record) (Ok goods)
+        → goods ≡ twice_goods }
+    ensures kept { exec_makes true (load_by exchange_memory exchange_record)
+        (Err (by reasons.NotKept)) → ⊥ }
     ensures can { CanExec (load_by exchange_memory exchange_record) true }
 {}

@@ -18,10 +18,9 @@ use kx_edge::{Shelf, Sink};
 
 /// The list is run, which leaves `abc` in page 2 too: the output is the file of that memory, and nothing else is made.
 pub fn plain_list_is_run()
-    ensures made { exec_makes false (load_by loaded plain_record)
-        (Ok run_goods) }
-    ensures nothing_else { (goods : Made) → exec_makes false (load_by loaded plain_record) (Ok goods)
-        → goods ≡ run_goods }
+    ensures made { exec_makes false (load_by loaded plain_record) (Ok run_goods) }
+    ensures nothing_else { (goods : Made)
+        → exec_makes false (load_by loaded plain_record) (Ok goods) → goods ≡ run_goods }
     ensures can { CanExec (load_by loaded plain_record) false }
 {}
 
@@ -29,7 +28,8 @@ pub fn plain_list_is_run()
 pub fn plain_list_is_not_run_twice()
     ensures refused { (m : Contents) → exec_makes true (load_by m plain_record)
         (Err (by reasons.NotKept)) }
-    ensures not_made { (m : Contents) (goods : Made) → exec_makes true (load_by m plain_record) (Ok goods) → ⊥ }
+    ensures not_made { (m : Contents) (goods : Made)
+        → exec_makes true (load_by m plain_record) (Ok goods) → ⊥ }
     ensures not_of_one_run { (m : Contents) → exec_makes false (load_by m plain_record)
         (Err (by reasons.NotKept)) → ⊥ }
     ensures not_heavy { (m : Contents) → exec_makes true (load_by m plain_record)
@@ -41,10 +41,11 @@ pub fn plain_list_is_not_run_twice()
 
 /// A list with a fault is not run: the fault's line is all that is made.
 pub fn faulty_list_is_not_run()
-    ensures told { (m : Contents) → HasList m → HasSource m (codes "abd") → exec_makes false (load_by m plain_record)
+    ensures told { (m : Contents) → HasList m → HasSource m (codes "abd")
+        → exec_makes false (load_by m plain_record)
         (Ok (told_fault (record { word = 2; why = WrongBytes }) (codes "word 2: WrongBytes\n"))) }
-    ensures not_run { (m : Contents) → HasList m → HasSource m (codes "abd") → exec_makes false (load_by m plain_record) (Ok run_goods)
-        → ⊥ }
+    ensures not_run { (m : Contents) → HasList m → HasSource m (codes "abd")
+        → exec_makes false (load_by m plain_record) (Ok run_goods) → ⊥ }
     ensures cannot { (m : Contents) → HasList m → HasSource m (codes "abd")
         → CanExec (load_by m plain_record) false → ⊥ }
 {}
@@ -61,9 +62,10 @@ pub fn crash_kernel_is_run()
         })) }
     ensures twice { (m : Contents) → exec_makes true (load_by m (crash_record 4))
         (Err (by reasons.NotKept)) }
-    ensures not_made_twice { (m : Contents) (goods : Made) → exec_makes true (load_by m (crash_record 4)) (Ok goods)
-        → ⊥ }
-    ensures other_bytes { (m : Contents) → at m 2 ≡ page_of (codes "abd") → exec_makes false (load_by m (crash_record 4))
+    ensures not_made_twice { (m : Contents) (goods : Made)
+        → exec_makes true (load_by m (crash_record 4)) (Ok goods) → ⊥ }
+    ensures other_bytes { (m : Contents) → at m 2 ≡ page_of (codes "abd")
+        → exec_makes false (load_by m (crash_record 4))
         (Ok (told_fault (record { word = 0; why = Missing 2 }) (codes "word 0: Missing 2000\n"))) }
     ensures cannot_twice { (m : Contents) → CanExec (load_by m (crash_record 4)) true → ⊥ }
     ensures never_too_long { (m : Contents) → exec_makes false (load_by m (crash_record 4))

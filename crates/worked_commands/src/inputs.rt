@@ -68,7 +68,8 @@ pub fn files_of_boots_and_loads()
           request = all_asked;
         }) }
     ensures boot_twice { (i : LoadInputs) (r : Result Made (Refusal Reason))
-        → (boot_entry (boot_raw (Some Twice))).command.makes i r → boots (Some Twice) (codes "o") i r }
+        → (boot_entry (boot_raw (Some Twice))).command.makes i r
+        → boots (Some Twice) (codes "o") i r }
     ensures load { reads (load_entry (load_raw false)).command.takes each_file ≡ Ok few_read }
     ensures load_plain { load_wish (load_raw false) ≡ wish.Plain }
     ensures load_kept { load_wish (load_raw true) ≡ wish.Kept }
@@ -144,7 +145,8 @@ pub fn first_of_spoiled_files()
     ensures boot_memory { reads (boot_entry boot_all).command.takes
         (spoiled (codes "m" ∷ codes "p" ∷ codes "t" ∷ []))
         ≡ Err (unreadable (inputs.Mem memories.BadMagic)) }
-    ensures boot_pool { reads (boot_entry boot_all).command.takes (spoiled (codes "p" ∷ codes "t" ∷ []))
+    ensures boot_pool { reads (boot_entry boot_all).command.takes
+        (spoiled (codes "p" ∷ codes "t" ∷ []))
         ≡ Err (unreadable (inputs.Pool (pools.BadLine 1))) }
     ensures boot_map { reads (boot_entry boot_all).command.takes (spoiled (codes "t" ∷ []))
         ≡ Err (unreadable (inputs.Map (maps.BadLine 1))) }
@@ -155,7 +157,8 @@ pub fn first_of_spoiled_files()
         (spoiled (codes "t" ∷ codes "n" ∷ [])) ≡ Err (unreadable (inputs.Map (maps.BadLine 1))) }
     ensures panic_notes { reads (load_panic_entry (load_panic_of (Some (codes "n")))).command.takes
         (spoiled (codes "n" ∷ [])) ≡ Err (unreadable (inputs.Notes (notes.BadLine 1))) }
-    ensures check_memory { reads (check_entry of_record).command.takes (spoiled (codes "m" ∷ codes "r" ∷ []))
+    ensures check_memory { reads (check_entry of_record).command.takes
+        (spoiled (codes "m" ∷ codes "r" ∷ []))
         ≡ Err (unreadable (inputs.Mem memories.BadMagic)) }
     ensures check_record { reads (check_entry of_record).command.takes (spoiled (codes "r" ∷ []))
         ≡ Err (unreadable (inputs.Rec records.BadMagic)) }
@@ -171,7 +174,8 @@ pub fn first_of_more_spoiled_files()
     ensures resident_pool { reads (boot_resident_entry boot_resident_raw).command.takes
         (spoiled (codes "p" ∷ codes "l" ∷ []))
         ≡ Err (unreadable (inputs.Pool (pools.BadLine 1))) }
-    ensures resident_pairs { reads (boot_resident_entry boot_resident_raw).command.takes (spoiled (codes "l" ∷ []))
+    ensures resident_pairs { reads (boot_resident_entry boot_resident_raw).command.takes
+        (spoiled (codes "l" ∷ []))
         ≡ Err (unreadable (inputs.Pairs (pairs.BadLine 1))) }
     ensures drill_memory { reads (drill_entry drill_events).command.takes
         (spoiled (codes "m" ∷ codes "p" ∷ codes "t" ∷ codes "e" ∷ []))
@@ -179,7 +183,8 @@ pub fn first_of_more_spoiled_files()
     ensures drill_pool { reads (drill_entry drill_events).command.takes
         (spoiled (codes "p" ∷ codes "t" ∷ codes "e" ∷ []))
         ≡ Err (unreadable (inputs.Pool (pools.BadLine 1))) }
-    ensures drill_map { reads (drill_entry drill_events).command.takes (spoiled (codes "t" ∷ codes "e" ∷ []))
+    ensures drill_map { reads (drill_entry drill_events).command.takes
+        (spoiled (codes "t" ∷ codes "e" ∷ []))
         ≡ Err (unreadable (inputs.Map (maps.BadLine 1))) }
     ensures drill_events { reads (drill_entry drill_events).command.takes (spoiled (codes "e" ∷ []))
         ≡ Err (unreadable (inputs.Events (events.BadLine 1))) }

@@ -16,7 +16,7 @@ use Rattle.list_commands.specs.declared.records.LoadFiles.{LoadFiles}
 use Rattle.list_commands.specs.declared.records.TakenLoad.TheVariants.{Normal}
 use Rattle.list_commands.specs.Exec.{HasExecuted, files_text}
 use Rattle.list_commands.specs.Records.{load_files}
-use Rattle.load_commands.specs.Laid.{HasBootedLaid, HasLoadedLaid}
+use Rattle.load_commands.specs.ByRules.{HasBootedLaid, HasLoadedLaid}
 use Rattle.load_commands.specs.Load.{load_wish, record_of_load}
 use Rattle.command_parts.specs.Runs.{run_text, wish_of}
 use Rattle.load_commands.specs.Startup.{planned_startup}

@@ -14,9 +14,9 @@ use Rattle.sha2.specs.Sha256.{compress, digest_bytes, first_words, hash_after, r
 use Rattle.file_commands.specs.Answers.{FilesPut}
 use Rattle.file_commands.specs.Taking.{File, Refusal}
 use Rattle.load_commands.specs.Boot.{HasBooted}
-use Rattle.load_commands.specs.Laid.{HasBootedLaid, HasLoadedLaid}
+use Rattle.load_commands.specs.ByRules.{HasBootedLaid, HasLoadedLaid}
 use Rattle.load_commands.specs.Load.{HasLoaded, record_of_load}
-use Rattle.load_commands.specs.Loads.{IsLaid}
+use Rattle.load_commands.specs.NormalLoad.{IsLaid}
 use Rattle.worked_commands.specs.Inputs.{each_file, few_read, three_bytes_file}
 use Rattle.worked_commands.specs.Loads.{boot_text, few_plan, load_text}
 use Rattle.worked_commands.specs.Memories.{loaded_file, run_file}
@@ -30,7 +30,7 @@ use Rattle.load_record.specs.Head.{head_fault}
 use Rattle.segments.specs.Rules.{bare_refusal, shape_refusal}
 use Rattle.command_parts.specs.Outputs.{IsReadBack}
 use Rattle.worked_commands.proofs.OneLoad.{boot_leaves, boot_says, load_leaves, load_says, record_is}
-use Rattle.load_commands.proofs.Loads.{normal}
+use Rattle.load_commands.proofs.NormalLoad.{normal}
 use Rattle.load_commands.proofs.Ending.{again_of, machine_of}
 use Rattle.load_commands.proofs.Leaving.{leaves_of}
 use Rattle.load_commands.proofs.Proving.{proves_itself}

@@ -10,7 +10,7 @@ use Rattle.list_commands.specs.Exec.{CanExec}
 use Rattle.list_commands.specs.Records.{load_by}
 use Rattle.load_record.specs.File.{Record}
 use Rattle.command_parts.specs.Outputs.{IsTooHeavy}
-use Rattle.load_commands.specs.Loads.{CanLoad}
+use Rattle.load_commands.specs.NormalLoad.{CanLoad}
 use Rattle.command_parts.specs.Runs.{after_runs}
 use Rattle.kx_pages.specs.declared.image.Wish.TheVariants.{Plain}
 use Rattle.command_parts.specs.declared.reason.InputFault.TheVariants as inputs

@@ -1,5 +1,5 @@
 -- By computing.
-use Rattle.std.specs.Prelude.{[], ◌∷◌, None, codes}
+use Rattle.std.specs.Prelude.{[], ◌∷◌, codes}
 use Rattle.load_commands.specs.BootResident.{resident_files}
 use Rattle.command_parts.specs.Files.{memory_file}
 use Rattle.load_commands.specs.Drill.{drill_files}
