@@ -1,4 +1,5 @@
 //! The files of a load are taken, each with its limit, and read: its memory and its record.
+#![tactic(auto, unfolding(file_commands::specs::Taking::and_then, file_commands::specs::Taking::Took, file_commands::specs::Taking::FailedAt, file_commands::specs::Taking::WantedAt, file_commands::specs::inner::Calls::TakesNot))]
 
 ghost use Rattle.std.specs.Prelude.{◌≡◌, string_bytes, IfOk};
 ghost use Rattle.file_commands.specs.inner.Calls.{Takes};
@@ -21,7 +22,6 @@ const RECORD_LIMIT: usize = 268_436_448;
 
 /// Takes the file of a load record and reads it: what follows its front is taken into the buffer that becomes its first
 /// segment's.
-#[tactic(auto, unfolding(file_commands::specs::Taking::and_then, file_commands::specs::Taking::Took, file_commands::specs::Taking::FailedAt, file_commands::specs::Taking::WantedAt, file_commands::specs::inner::Calls::TakesNot))]
 pub(crate) fn take_record<S: Shelf>(
     alloc: Global,
     name: String,
@@ -39,7 +39,6 @@ pub(crate) fn take_record<S: Shelf>(
 }
 
 /// As `take_record`, with the digests of the record's segments.
-#[tactic(auto, unfolding(file_commands::specs::Taking::and_then, file_commands::specs::Taking::Took, file_commands::specs::Taking::FailedAt, file_commands::specs::Taking::WantedAt, file_commands::specs::inner::Calls::TakesNot))]
 pub(crate) fn take_digested_record<S: Shelf>(
     alloc: Global,
     name: String,
