@@ -2,7 +2,7 @@
 
 ghost use Rattle.std.specs.Prelude.{◌≡◌, string_bytes};
 ghost use Rattle.file_commands.specs.Answers.{Meets};
-ghost use Rattle.file_commands.specs.inner.Calls.{Makes, call_answer};
+ghost use Rattle.file_commands.specs.inner.Calls.{call_answer};
 ghost use Rattle.load_commands.specs.Boot.{boots, boot_entry};
 ghost use Rattle.load_commands.specs.Inputs.{LoadInputs as Inputs, load_inputs};
 ghost use Rattle.load_commands.specs.inner.Views.{inputs_of};
@@ -21,9 +21,9 @@ use kx_pages::Wish;
 use list_checker::ListFault;
 use std::alloc::Global;
 
-/// `boot`: how often the list is to run, and the name of the output.
+/// How `boot` is done: how often the list is to run, and the name of the output.
 #[derive(Drop)]
-pub(crate) struct BootCommand {
+pub(crate) struct BootKernel {
     pub(crate) runs: Option<Runs>,
     pub(crate) out: String,
 }
@@ -38,26 +38,7 @@ fn wish_of(runs: Option<Runs>) -> Wish
     }
 }
 
-// Loads the kernel and runs its list, and makes the file of the memory after the last run.
-fn make_boot(
-    alloc: Global,
-    boot: BootCommand,
-    load: LoadInputs,
-) -> Result<Goods<ListFault>, MakeFault<Reason>>
-    ensures { Makes (boots boot.runs (string_bytes boot.out)) (inputs_of load) result }
-{
-    let kernel = load_request(alloc, load, wish_of(boot.runs))?;
-    let ran = run_loaded(alloc, kernel.loaded, boot.runs)?;
-    let text = ran_text(alloc, &ran, kernel.startup)?;
-    let outputs = memory_output(alloc, ran.memory, boot.out)?;
-    Ok(Goods {
-        outputs,
-        text,
-        fault: None,
-    })
-}
-
-impl Command for BootCommand {
+impl Command for BootKernel {
     type Names = InputNames;
 
     type Taken = LoadInputs;
@@ -82,8 +63,17 @@ impl Command for BootCommand {
         take_inputs(alloc, names, shelf)
     }
 
+    // Loads the kernel and runs its list, and makes the file of the memory after the last run.
     fn make(self, alloc: Global, load: LoadInputs) -> Result<Goods<ListFault>, MakeFault<Reason>> {
-        make_boot(alloc, self, load)
+        let kernel = load_request(alloc, load, wish_of(self.runs))?;
+        let ran = run_loaded(alloc, kernel.loaded, self.runs)?;
+        let text = ran_text(alloc, &ran, kernel.startup)?;
+        let outputs = memory_output(alloc, ran.memory, self.out)?;
+        Ok(Goods {
+            outputs,
+            text,
+            fault: None,
+        })
     }
 }
 
@@ -105,5 +95,5 @@ pub fn run_boot<S: Shelf, O: Sink>(
         image,
     } = words;
     let names = InputNames { image, inputs };
-    run(alloc, names, BootCommand { runs, out: name }, shelf, out)
+    run(alloc, names, BootKernel { runs, out: name }, shelf, out)
 }

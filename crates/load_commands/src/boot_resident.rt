@@ -8,7 +8,7 @@ ghost use Rattle.page_pool.specs.Pages.{usable_of};
 ghost use Rattle.list_checker.specs.Checked.{as_pair};
 ghost use Rattle.resident_planner.specs.Made.{IsMade};
 ghost use Rattle.file_commands.specs.Answers.{Meets};
-ghost use Rattle.file_commands.specs.inner.Calls.{Makes, MakesOr, Takes, call_answer};
+ghost use Rattle.file_commands.specs.inner.Calls.{MakesOr, call_answer};
 ghost use Rattle.kexec_words.specs.inner.Values.{boot_resident_value, inputs_value};
 ghost use Rattle.load_commands.specs.inner.Views.{inputs_of, IsKernel, resident_inputs};
 ghost use Rattle.load_commands.specs.BootResident.{HasNoList, RefusesResident, ResidentInputs as Inputs, boots_resident, copied_line, inputs_with_pairs, raw_inputs, boot_resident_entry};
@@ -32,9 +32,9 @@ use resident_planner::{Made, ResidentFault, plan_resident};
 use segments::Segments;
 use std::alloc::{AllocError, Global};
 
-/// `boot-resident`: the name of the output.
+/// How `boot-resident` is done: the name of the output.
 #[derive(Drop)]
-pub(crate) struct BootResidentCommand {
+pub(crate) struct BootByPairs {
     pub(crate) out: String,
 }
 
@@ -73,21 +73,6 @@ fn raw_names(alloc: Global, memory: String, pool: String, kernel: String, at: u6
         image: ImageType::Raw { at, entry: at },
         inputs,
     }
-}
-
-// Takes what the load is made of, and then the pairs.
-fn take_resident<S: Shelf>(
-    alloc: Global,
-    names: ResidentNames,
-    shelf: &mut S,
-) -> Result<ResidentInputs, TakeFault<Reason>>
-    ensures { Takes S.Shelf
-        (inputs_with_pairs names.load.image (inputs_value names.load.inputs)
-        (string_bytes names.pairs)) resident_inputs shelf.old result shelf.new }
-{
-    let load = take_inputs(alloc, names.load, shelf)?;
-    let pairs = take_pairs(alloc, names.pairs, shelf)?;
-    Ok(ResidentInputs { load, pairs })
 }
 
 // The pages of a pool that can be drawn, in this order.
@@ -182,27 +167,7 @@ fn resident_text(alloc: Global, ran: &Ran, start: &Start, copied: u64) -> Result
     Ok(text)
 }
 
-// Makes the list and runs it, and makes the file of the memory after the run.
-fn make_resident(
-    alloc: Global,
-    boot: BootResidentCommand,
-    taken: ResidentInputs,
-) -> Result<Goods<ListFault>, MakeFault<Reason>>
-    ensures { Makes (boots_resident (string_bytes boot.out)) (resident_inputs taken) result }
-{
-    let ResidentInputs { load, pairs } = taken;
-    let kernel = load_resident(alloc, load, &pairs)?;
-    let ran = run_loaded(alloc, kernel.loaded, None)?;
-    let text = resident_text(alloc, &ran, &kernel.start, kernel.copied)?;
-    let outputs = memory_output(alloc, ran.memory, boot.out)?;
-    Ok(Goods {
-        outputs,
-        text,
-        fault: None,
-    })
-}
-
-impl Command for BootResidentCommand {
+impl Command for BootByPairs {
     type Names = ResidentNames;
 
     type Taken = ResidentInputs;
@@ -220,20 +185,33 @@ impl Command for BootResidentCommand {
 
     ghost makes = { λ b. boots_resident (string_bytes b.out) };
 
+    // Takes what the load is made of, and then the pairs.
     fn take<S: Shelf>(
         alloc: Global,
         names: ResidentNames,
         shelf: &mut S,
     ) -> Result<ResidentInputs, TakeFault<Reason>> {
-        take_resident(alloc, names, shelf)
+        let load = take_inputs(alloc, names.load, shelf)?;
+        let pairs = take_pairs(alloc, names.pairs, shelf)?;
+        Ok(ResidentInputs { load, pairs })
     }
 
+    // Makes the list and runs it, and makes the file of the memory after the run.
     fn make(
         self,
         alloc: Global,
         taken: ResidentInputs,
     ) -> Result<Goods<ListFault>, MakeFault<Reason>> {
-        make_resident(alloc, self, taken)
+        let ResidentInputs { load, pairs } = taken;
+        let kernel = load_resident(alloc, load, &pairs)?;
+        let ran = run_loaded(alloc, kernel.loaded, None)?;
+        let text = resident_text(alloc, &ran, &kernel.start, kernel.copied)?;
+        let outputs = memory_output(alloc, ran.memory, self.out)?;
+        Ok(Goods {
+            outputs,
+            text,
+            fault: None,
+        })
     }
 }
 
@@ -260,5 +238,5 @@ pub fn run_boot_resident<S: Shelf, O: Sink>(
         load: raw_names(alloc, memory, pool, kernel, at),
         pairs,
     };
-    run(alloc, names, BootResidentCommand { out: name }, shelf, out)
+    run(alloc, names, BootByPairs { out: name }, shelf, out)
 }

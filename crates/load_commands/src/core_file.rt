@@ -5,7 +5,7 @@ ghost use Rattle.page_memory.specs.Contents.{Contents, at};
 ghost use Rattle.vmcore_file.specs.File.{core_reading};
 ghost use Rattle.vmcore_file.specs.inner.File.{value_of};
 ghost use Rattle.file_commands.specs.Answers.{Meets};
-ghost use Rattle.file_commands.specs.inner.Calls.{Makes, MakesOr, call_answer};
+ghost use Rattle.file_commands.specs.inner.Calls.{MakesOr, call_answer};
 ghost use Rattle.kexec_words.specs.inner.Values.{core_value};
 ghost use Rattle.command_parts.specs.Files.{memory_file};
 ghost use Rattle.load_commands.specs.CoreFile.{RefusesCore, core_line, cores, core_entry};
@@ -19,9 +19,9 @@ use page_memory::Memory;
 use std::alloc::{AllocError, Global};
 use vmcore_file::{Core, CoreFault, make};
 
-/// `core`: the address of the crash headers, and the name of the output.
+/// How `core` is done: the address of the crash headers, and the name of the output.
 #[derive(Drop)]
-pub(crate) struct CoreCommand {
+pub(crate) struct WriteCore {
     pub(crate) address: u64,
     pub(crate) out: String,
     /// The headers' address is one.
@@ -53,31 +53,7 @@ fn core_of(alloc: Global, memory: &Memory, address: u64) -> Result<Core, MakeFau
     }
 }
 
-// Makes the core file, and the line that tells its size.
-fn make_core(
-    alloc: Global,
-    command: CoreCommand,
-    memory: Memory,
-) -> Result<Goods<ListFault>, MakeFault<Reason>>
-    ensures { Makes (cores command.address (string_bytes command.out)) memory result }
-{
-    let core = core_of(alloc, &memory, command.address)?;
-    let text = core_line(alloc, &core)?;
-    let outputs = one(
-        alloc,
-        File {
-            name: command.out,
-            bytes: core.bytes,
-        },
-    )?;
-    Ok(Goods {
-        outputs,
-        text,
-        fault: None,
-    })
-}
-
-impl Command for CoreCommand {
+impl Command for WriteCore {
     type Names = String;
 
     type Taken = Memory;
@@ -102,8 +78,19 @@ impl Command for CoreCommand {
         take_memory(alloc, name, shelf)
     }
 
+    // Makes the core file, and the line that tells its size.
     fn make(self, alloc: Global, memory: Memory) -> Result<Goods<ListFault>, MakeFault<Reason>> {
-        make_core(alloc, self, memory)
+        let core = core_of(alloc, &memory, self.address)?;
+        let text = core_line(alloc, &core)?;
+        let file = File {
+            name: self.out,
+            bytes: core.bytes,
+        };
+        Ok(Goods {
+            outputs: one(alloc, file)?,
+            text,
+            fault: None,
+        })
     }
 }
 
@@ -123,11 +110,5 @@ pub fn run_core<S: Shelf, O: Sink>(
         out: name,
         address,
     } = words;
-    run(
-        alloc,
-        memory,
-        CoreCommand { address, out: name },
-        shelf,
-        out,
-    )
+    run(alloc, memory, WriteCore { address, out: name }, shelf, out)
 }

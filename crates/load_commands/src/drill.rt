@@ -10,7 +10,7 @@ ghost use Rattle.image_slots.specs.Pages.{in_area};
 ghost use Rattle.image_slots.specs.Sequences.{fresh};
 ghost use Rattle.image_slots.specs.inner.States.{state_of};
 ghost use Rattle.file_commands.specs.Answers.{Meets as MeetsCommand};
-ghost use Rattle.file_commands.specs.inner.Calls.{Makes, MakesOr, Takes, call_answer};
+ghost use Rattle.file_commands.specs.inner.Calls.{MakesOr, call_answer};
 ghost use Rattle.kexec_words.specs.inner.Values.{drill_value};
 ghost use Rattle.load_commands.specs.Drill.{AreRam, DrillInputs as Inputs, Meets, drill_files, drills, drill_entry};
 ghost use Rattle.load_commands.specs.inner.Views.{drill_inputs};
@@ -29,33 +29,10 @@ use page_memory::Memory;
 use page_pool::Pool;
 use std::alloc::Global;
 
-/// `drill`: the name of the output.
+/// How `drill` is done: the name of the output.
 #[derive(Drop)]
-pub(crate) struct DrillCommand {
+pub(crate) struct ApplyEvents {
     pub(crate) out: String,
-}
-
-// Takes the memory, the pool, the memory map and the events.
-#[tactic(auto, using(crate::proofs::EventFile::all_short))]
-fn take_drill<S: Shelf>(
-    alloc: Global,
-    names: DrillNames,
-    shelf: &mut S,
-) -> Result<DrillInputs, TakeFault<Reason>>
-    ensures { Takes S.Shelf
-        (drill_files (string_bytes names.memory) (string_bytes names.pool) (string_bytes names.map)
-        (string_bytes names.events)) drill_inputs shelf.old result shelf.new }
-{
-    let memory = take_memory(alloc, names.memory, shelf)?;
-    let pool = take_pool(alloc, names.pool, None, shelf)?;
-    let map = take_map_file(alloc, names.map, shelf)?;
-    let events = take_events(alloc, names.events, shelf)?;
-    Ok(DrillInputs {
-        memory,
-        pool,
-        map,
-        events,
-    })
 }
 
 // The slots over a memory, a pool and a memory map.
@@ -83,33 +60,7 @@ fn slots_over(
     }
 }
 
-// Applies the events, and makes the file of the memory after them and the lines of the replies.
-#[tactic(auto, using(crate::proofs::EventFile::all_few))]
-fn make_drill(
-    alloc: Global,
-    drill: DrillCommand,
-    taken: DrillInputs,
-) -> Result<Goods<ListFault>, MakeFault<Reason>>
-    ensures { Makes (drills (string_bytes drill.out)) (drill_inputs taken) result }
-{
-    let DrillInputs {
-        memory,
-        pool,
-        map,
-        events,
-    } = taken;
-    let mut slots = slots_over(alloc, memory, pool, &map)?;
-    let replies = slots.apply_each(alloc, events)?;
-    let text = reply_lines(alloc, &replies)?;
-    let outputs = memory_output(alloc, slots.into_memory(), drill.out)?;
-    Ok(Goods {
-        outputs,
-        text,
-        fault: None,
-    })
-}
-
-impl Command for DrillCommand {
+impl Command for ApplyEvents {
     type Names = DrillNames;
 
     type Taken = DrillInputs;
@@ -127,20 +78,47 @@ impl Command for DrillCommand {
 
     ghost makes = { λ d. drills (string_bytes d.out) };
 
+    // Takes the memory, the pool, the memory map and the events.
+    #[tactic(auto, using(crate::proofs::EventFile::all_short))]
     fn take<S: Shelf>(
         alloc: Global,
         names: DrillNames,
         shelf: &mut S,
     ) -> Result<DrillInputs, TakeFault<Reason>> {
-        take_drill(alloc, names, shelf)
+        let memory = take_memory(alloc, names.memory, shelf)?;
+        let pool = take_pool(alloc, names.pool, None, shelf)?;
+        let map = take_map_file(alloc, names.map, shelf)?;
+        let events = take_events(alloc, names.events, shelf)?;
+        Ok(DrillInputs {
+            memory,
+            pool,
+            map,
+            events,
+        })
     }
 
+    // Applies the events, and makes the file of the memory after them and the lines of the replies.
+    #[tactic(auto, using(crate::proofs::EventFile::all_few))]
     fn make(
         self,
         alloc: Global,
         taken: DrillInputs,
     ) -> Result<Goods<ListFault>, MakeFault<Reason>> {
-        make_drill(alloc, self, taken)
+        let DrillInputs {
+            memory,
+            pool,
+            map,
+            events,
+        } = taken;
+        let mut slots = slots_over(alloc, memory, pool, &map)?;
+        let replies = slots.apply_each(alloc, events)?;
+        let text = reply_lines(alloc, &replies)?;
+        let outputs = memory_output(alloc, slots.into_memory(), self.out)?;
+        Ok(Goods {
+            outputs,
+            text,
+            fault: None,
+        })
     }
 }
 
@@ -168,5 +146,5 @@ pub fn run_drill<S: Shelf, O: Sink>(
         map,
         events,
     };
-    run(alloc, names, DrillCommand { out: name }, shelf, out)
+    run(alloc, names, ApplyEvents { out: name }, shelf, out)
 }

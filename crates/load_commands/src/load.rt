@@ -9,7 +9,7 @@ ghost use Rattle.kx_pages.specs.Modes.{swap_page};
 ghost use Rattle.list_checker.specs.Walk.{IsAccepted};
 ghost use Rattle.load_record.specs.File.{record_file};
 ghost use Rattle.file_commands.specs.Answers.{Meets};
-ghost use Rattle.file_commands.specs.inner.Calls.{Makes, file_of, call_answer};
+ghost use Rattle.file_commands.specs.inner.Calls.{file_of, call_answer};
 ghost use Rattle.kexec_words.specs.inner.Limits.{HasParts};
 ghost use Rattle.kexec_words.specs.inner.Values.{inputs_value, load_value};
 ghost use Rattle.command_parts.specs.Outputs.{IsReadBack};
@@ -31,9 +31,9 @@ use load_states::Loaded;
 use page_memory::Memory;
 use std::alloc::{AllocError, Global};
 
-/// `load`: whether context is to be preserved, and the names of the outputs.
+/// How `load` is done: whether context is to be preserved, and the names of the outputs.
 #[derive(Drop)]
-pub(crate) struct LoadCommand {
+pub(crate) struct RecordLoad {
     pub(crate) wish: Wish,
     pub(crate) out: String,
     pub(crate) load_record: String,
@@ -78,29 +78,7 @@ fn record_output(
     Ok((memory, File { name, bytes }))
 }
 
-// Loads the kernel, and makes the file of the memory after the load and its record.
-fn make_load(
-    alloc: Global,
-    command: LoadCommand,
-    load: LoadInputs,
-) -> Result<Goods<ListFault>, MakeFault<Reason>>
-    ensures { Makes
-        (loads command.wish (string_bytes command.out) (string_bytes command.load_record))
-        (inputs_of load) result }
-{
-    let kernel = load_request(alloc, load, command.wish)?;
-    let text = loaded_text(alloc, &kernel.loaded, &kernel.startup.start)?;
-    let (memory, output) = record_output(alloc, kernel, command.load_record)?;
-    let mut outputs = memory_output(alloc, memory, command.out)?;
-    outputs.push(output)?;
-    Ok(Goods {
-        outputs,
-        text,
-        fault: None,
-    })
-}
-
-impl Command for LoadCommand {
+impl Command for RecordLoad {
     type Names = InputNames;
 
     type Taken = LoadInputs;
@@ -125,8 +103,18 @@ impl Command for LoadCommand {
         take_inputs(alloc, names, shelf)
     }
 
+    // Loads the kernel, and makes the file of the memory after the load and its record.
     fn make(self, alloc: Global, load: LoadInputs) -> Result<Goods<ListFault>, MakeFault<Reason>> {
-        make_load(alloc, self, load)
+        let kernel = load_request(alloc, load, self.wish)?;
+        let text = loaded_text(alloc, &kernel.loaded, &kernel.startup.start)?;
+        let (memory, output) = record_output(alloc, kernel, self.load_record)?;
+        let mut outputs = memory_output(alloc, memory, self.out)?;
+        outputs.push(output)?;
+        Ok(Goods {
+            outputs,
+            text,
+            fault: None,
+        })
     }
 }
 
@@ -149,7 +137,7 @@ pub fn run_load<S: Shelf, O: Sink>(
         image,
     } = words;
     let names = InputNames { image, inputs };
-    let command = LoadCommand {
+    let command = RecordLoad {
         wish: kept_wish(kept),
         out: name,
         load_record,

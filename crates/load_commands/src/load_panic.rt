@@ -4,7 +4,7 @@ ghost use Rattle.std.specs.Prelude.{◌≡◌, length, string_bytes, IfOk};
 ghost use Rattle.segments.specs.Values.{pages};
 ghost use Rattle.load_record.specs.File.{record_file};
 ghost use Rattle.file_commands.specs.Answers.{Meets};
-ghost use Rattle.file_commands.specs.inner.Calls.{Makes, file_of, call_answer};
+ghost use Rattle.file_commands.specs.inner.Calls.{file_of, call_answer};
 ghost use Rattle.kexec_words.specs.inner.Values.{crash_inputs_value, load_panic_value};
 ghost use Rattle.load_commands.specs.inner.Views.{crash_inputs_of, crash_record};
 ghost use Rattle.command_parts.specs.Outputs.{IsReadBack};
@@ -24,9 +24,9 @@ use list_checker::ListFault;
 use page_memory::Memory;
 use std::alloc::{AllocError, Global};
 
-/// `load-panic`: the names of the outputs.
+/// How `load-panic` is done: the names of the outputs.
 #[derive(Drop)]
-pub(crate) struct LoadPanicCommand {
+pub(crate) struct RecordCrashLoad {
     pub(crate) out: String,
     pub(crate) load_record: String,
 }
@@ -56,27 +56,7 @@ fn record_output(
     Ok((memory, text, File { name, bytes }))
 }
 
-// Puts the kernel in its place, and makes the file of the memory after the load and its record.
-fn make_load_panic(
-    alloc: Global,
-    command: LoadPanicCommand,
-    load: CrashInputs,
-) -> Result<Goods<ListFault>, MakeFault<Reason>>
-    ensures { Makes (loads_panic (string_bytes command.out) (string_bytes command.load_record))
-        (crash_inputs_of load) result }
-{
-    let kernel = load_in_place(alloc, load)?;
-    let (memory, text, output) = record_output(alloc, kernel, command.load_record)?;
-    let mut outputs = memory_output(alloc, memory, command.out)?;
-    outputs.push(output)?;
-    Ok(Goods {
-        outputs,
-        text,
-        fault: None,
-    })
-}
-
-impl Command for LoadPanicCommand {
+impl Command for RecordCrashLoad {
     type Names = CrashNames;
 
     type Taken = CrashInputs;
@@ -101,8 +81,17 @@ impl Command for LoadPanicCommand {
         take_crash_inputs(alloc, names, shelf)
     }
 
+    // Puts the kernel in its place, and makes the file of the memory after the load and its record.
     fn make(self, alloc: Global, load: CrashInputs) -> Result<Goods<ListFault>, MakeFault<Reason>> {
-        make_load_panic(alloc, self, load)
+        let kernel = load_in_place(alloc, load)?;
+        let (memory, text, output) = record_output(alloc, kernel, self.load_record)?;
+        let mut outputs = memory_output(alloc, memory, self.out)?;
+        outputs.push(output)?;
+        Ok(Goods {
+            outputs,
+            text,
+            fault: None,
+        })
     }
 }
 
@@ -124,7 +113,7 @@ pub fn run_load_panic<S: Shelf, O: Sink>(
         load_record,
     } = words;
     let names = CrashNames { inputs, map };
-    let command = LoadPanicCommand {
+    let command = RecordCrashLoad {
         out: name,
         load_record,
     };

@@ -3,7 +3,7 @@
 ghost use Rattle.std.specs.Prelude.{◌≡◌, ◌++◌, IfOk, OnOk, string_bytes};
 ghost use Rattle.page_memory.specs.Contents.{at};
 ghost use Rattle.file_commands.specs.Answers.{Meets};
-ghost use Rattle.file_commands.specs.inner.Calls.{Makes, call_answer};
+ghost use Rattle.file_commands.specs.inner.Calls.{call_answer};
 ghost use Rattle.command_parts.specs.inner.Ran.{ran_text};
 ghost use Rattle.file_commands.specs.Taking.{ok};
 ghost use Rattle.load_commands.specs.Sample.{memory_line, samples, sample_entry};
@@ -18,9 +18,9 @@ use page_memory::Memory;
 use sample_load::{digest_of, load_sample, start_of};
 use std::alloc::{AllocError, Global};
 
-/// `sample`: the number, which is below 10^18.
+/// How `sample` is done: its number, which is below 10^18.
 #[derive(Drop)]
-pub(crate) struct SampleCommand {
+pub(crate) struct RunSample {
     pub(crate) number: u64,
 }
 
@@ -49,22 +49,7 @@ fn sample_text(alloc: Global, ran: &Ran, start: &Start) -> Result<String, AllocE
     Ok(text)
 }
 
-// Loads the sample of the number, runs its list, and makes the text that tells of both.
-fn make_sample(alloc: Global, number: u64) -> Result<Goods<ListFault>, MakeFault<Reason>>
-    ensures { Makes (samples number) tt result }
-{
-    let loaded = load_sample(alloc, number)?;
-    let start = start_of(loaded.segments());
-    let ran = run_loaded(alloc, loaded, None)?;
-    let text = sample_text(alloc, &ran, &start)?;
-    Ok(Goods {
-        outputs: Vec::new(alloc),
-        text,
-        fault: None,
-    })
-}
-
-impl Command for SampleCommand {
+impl Command for RunSample {
     type Names = ();
 
     type Taken = ();
@@ -86,8 +71,17 @@ impl Command for SampleCommand {
         Ok(())
     }
 
+    // Loads the sample of the number, runs its list, and makes the text that tells of both.
     fn make(self, alloc: Global, _: ()) -> Result<Goods<ListFault>, MakeFault<Reason>> {
-        make_sample(alloc, self.number)
+        let loaded = load_sample(alloc, self.number)?;
+        let start = start_of(loaded.segments());
+        let ran = run_loaded(alloc, loaded, None)?;
+        let text = sample_text(alloc, &ran, &start)?;
+        Ok(Goods {
+            outputs: Vec::new(alloc),
+            text,
+            fault: None,
+        })
     }
 }
 
@@ -101,5 +95,5 @@ pub fn run_sample<S: Shelf, O: Sink>(
     ensures { Meets S.Shelf O.Sink (sample_entry number).command shelf.old out.old
         (call_answer result) shelf.new out.new }
 {
-    run(alloc, (), SampleCommand { number }, shelf, out)
+    run(alloc, (), RunSample { number }, shelf, out)
 }

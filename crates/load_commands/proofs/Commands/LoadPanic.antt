@@ -1,6 +1,6 @@
 -- What is proved of `load-panic`.
 use Rattle.std.proofs.Common.{◌≡◌, ◌∙◌, ℕ, List, [], ◌∷◌, true, Some, Ok, Err, sym, ap, subst, inl, inr}
-use Rattle.std.specs.Prelude.{map, unwrap_or}
+use Rattle.std.specs.Prelude.{unwrap_or}
 use Rattle.kx_laws.proofs.Results.{ok_same}
 use Rattle.kx_edge.specs.Edge.{Files}
 use Rattle.kx_edge.specs.declared.edge.Shelf.{Ghosts as Shelf}
@@ -8,7 +8,7 @@ use Rattle.kx_edge.specs.declared.edge.Sink.{Ghosts as Sink}
 use Rattle.page_memory.specs.Contents.{at}
 use Rattle.load_record.specs.File.{record_file}
 use Rattle.load_states.specs.States.{CrashLoad}
-use Rattle.file_commands.specs.Taking.{Refusal, by, too_long, ok, reads, ◌>>=◌}
+use Rattle.file_commands.specs.Taking.{Refusal, by, too_long, reads}
 use Rattle.file_commands.specs.Answers.{MeetsTold, done}
 use Rattle.file_commands.specs.inner.Order.{Stands}
 use Rattle.file_commands.proofs.Meeting.{RefusesFor}
@@ -20,7 +20,7 @@ use Rattle.command_parts.specs.Outputs.{Made, IsTooHeavy, HasNoFile, IsFileOf}
 use Rattle.kexec_words.specs.Values.{CrashInputsValue, LoadPanicValue}
 use Rattle.kexec_plan.specs.declared.fault.PlanFault.{PlanFault}
 use Rattle.kexec_plan.proofs.Area.{in_area, outside_all}
-use Rattle.load_commands.specs.CrashInputs.{CrashInputs, crash_inputs, crash_request}
+use Rattle.load_commands.specs.CrashInputs.{CrashInputs, crash_inputs}
 use Rattle.load_commands.specs.CrashLoading.{IsCrashLoaded}
 use Rattle.load_commands.specs.Files.{map_file, some_notes}
 use Rattle.command_parts.specs.Files.{memory_file}
@@ -49,10 +49,10 @@ panic i p c crash l =
 -- what `load-panic` takes is the request of a crash kernel
 crash_asked : (i : CrashInputsValue) (map : List ℕ) (held : Files) (x : CrashInputs) → reads (crash_inputs i map) held ≡ Ok x → x.request.crash ≡ true
 crash_asked i map held x read =
-    let m = reads_cases (memory_file i.memory) (λ m. map_file map >>= λ ram. some_notes i.notes >>= λ notes. kernel_files i.kernel i.initrd i.purgatory [] >>= λ files. ok (record { memory = m; map = ram; request = crash_request i.command notes files })) held x read in
-    let r = reads_cases (map_file map) (λ ram. some_notes i.notes >>= λ notes. kernel_files i.kernel i.initrd i.purgatory [] >>= λ files. ok (record { memory = m.0; map = ram; request = crash_request i.command notes files })) held x m.2 in
-    let n = reads_cases (some_notes i.notes) (λ notes. kernel_files i.kernel i.initrd i.purgatory [] >>= λ files. ok (record { memory = m.0; map = r.0; request = crash_request i.command notes files })) held x r.2 in
-    let f = reads_cases (kernel_files i.kernel i.initrd i.purgatory []) (λ files. ok (record { memory = m.0; map = r.0; request = crash_request i.command n.0 files })) held x n.2 in
+    let m = reads_cases (memory_file i.memory) _ held x read in
+    let r = reads_cases (map_file map) _ held x m.2 in
+    let n = reads_cases (some_notes i.notes) _ held x r.2 in
+    let f = reads_cases (kernel_files i.kernel i.initrd i.purgatory []) _ held x n.2 in
     ap (λ (x : CrashInputs). x.request.crash) (sym (ok_same {F = Refusal Reason} _ x f.2))
 
 module _ {S O : Type 0} (D : Shelf S) (E : Sink O) (held : Files) (s : S) (o : O) (s' : S) (o' : O) where

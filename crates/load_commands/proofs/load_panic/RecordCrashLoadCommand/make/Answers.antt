@@ -11,20 +11,20 @@ use Rattle.command_parts.specs.Outputs.{IsReadBack, HasNoFile}
 use Rattle.load_commands.specs.Loading.{HasNoPlan}
 use Rattle.command_parts.proofs.Outputs.{file_as, no_file_as}
 use Rattle.load_commands.proofs.Startups.{crash_recorded, panic_said}
-use Rattle.load_commands.proofs.load_panic.make_load_panic.Goals as goal
+use Rattle.load_commands.proofs.load_panic.RecordCrashLoadCommand.make.Goals as goal
 
 pub returns-in_err-kernel : goal.returns-in_err-kernel
 returns-in_err-kernel c =
-    let out = string_bytes c.args.command.out in
-    let name = string_bytes c.args.command.load_record in
+    let out = string_bytes c.args.self.out in
+    let name = string_bytes c.args.self.load_record in
     let i = crash_inputs_of c.args.load in
     let e : c.from_residual.result ≡ Err c.in_err-kernel.field-0.0 = search rules in
     handed_on_as (λ g. loads_panic out name i (Ok (goods_of g))) (λ why. loads_panic out name i (Err (by why))) (HasNoPlan i.request (Some i.map)) _ _ e (λ why r. inl r) c.in_err-kernel.ensures
 
 pub returns-in_err-outputs : goal.returns-in_err-outputs
 returns-in_err-outputs c =
-    let out = string_bytes c.args.command.out in
-    let name = string_bytes c.args.command.load_record in
+    let out = string_bytes c.args.self.out in
+    let name = string_bytes c.args.self.load_record in
     let i = crash_inputs_of c.args.load in
     let e : c.from_residual-in_err-outputs.result ≡ Err c.in_err-outputs.field-0.0 = search rules in
     let kernel = c.in_ok-kernel.kernel in
@@ -35,8 +35,8 @@ returns-in_err-outputs c =
 
 pub returns : goal.returns
 returns c =
-    let out = string_bytes c.args.command.out in
-    let name = string_bytes c.args.command.load_record in
+    let out = string_bytes c.args.self.out in
+    let name = string_bytes c.args.self.load_record in
     let i = crash_inputs_of c.args.load in
     let kernel = c.in_ok-kernel.kernel in
     let l = c.in_ok-kernel.ensures in

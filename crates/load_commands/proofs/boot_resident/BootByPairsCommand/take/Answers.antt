@@ -3,7 +3,7 @@ use Rattle.file_commands.proofs.Steps.{start, next, stopped, finished}
 use Rattle.kexec_words.specs.inner.Values.{inputs_value}
 use Rattle.load_commands.specs.BootResident.{inputs_with_pairs}
 use Rattle.load_commands.specs.inner.Views.{resident_inputs}
-use Rattle.load_commands.proofs.boot_resident.take_resident.Goals as goal
+use Rattle.load_commands.proofs.boot_resident.BootByPairsCommand.take.Goals as goal
 
 pub returns-in_err-load : goal.returns-in_err-load
 returns-in_err-load g c =

@@ -2,7 +2,7 @@ use Rattle.std.proofs.Common.{rules, string_bytes}
 use Rattle.file_commands.proofs.Steps.{start, next, stopped, finished}
 use Rattle.load_commands.specs.Drill.{drill_files}
 use Rattle.load_commands.specs.inner.Views.{drill_inputs}
-use Rattle.load_commands.proofs.drill.take_drill.Goals as goal
+use Rattle.load_commands.proofs.drill.ApplyEventsCommand.take.Goals as goal
 
 pub returns-in_err-memory : goal.returns-in_err-memory
 returns-in_err-memory g c =

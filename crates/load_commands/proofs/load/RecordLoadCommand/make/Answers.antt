@@ -13,22 +13,22 @@ use Rattle.load_commands.specs.Loading.{RefusesLoad}
 use Rattle.command_parts.specs.Runs.{checked_with, list_text}
 use Rattle.command_parts.proofs.Outputs.{file_as, no_file_as}
 use Rattle.load_commands.proofs.Startups.{kernel_recorded}
-use Rattle.load_commands.proofs.load.make_load.Goals as goal
+use Rattle.load_commands.proofs.load.RecordLoadCommand.make.Goals as goal
 
 pub returns-in_err-kernel : goal.returns-in_err-kernel
 returns-in_err-kernel c =
-    let wish = c.args.command.wish in
-    let out = string_bytes c.args.command.out in
-    let name = string_bytes c.args.command.load_record in
+    let wish = c.args.self.wish in
+    let out = string_bytes c.args.self.out in
+    let name = string_bytes c.args.self.load_record in
     let i = inputs_of c.args.load in
     let e : c.from_residual.result ≡ Err c.in_err-kernel.field-0.0 = search rules in
     handed_on_as (λ g. loads wish out name i (Ok (goods_of g))) (λ why. loads wish out name i (Err (by why))) (RefusesLoad wish i) _ _ e (λ why r. inl r) c.in_err-kernel.ensures
 
 pub returns-in_err-outputs : goal.returns-in_err-outputs
 returns-in_err-outputs c =
-    let wish = c.args.command.wish in
-    let out = string_bytes c.args.command.out in
-    let name = string_bytes c.args.command.load_record in
+    let wish = c.args.self.wish in
+    let out = string_bytes c.args.self.out in
+    let name = string_bytes c.args.self.load_record in
     let i = inputs_of c.args.load in
     let e : c.from_residual-in_err-outputs.result ≡ Err c.in_err-outputs.field-0.0 = search rules in
     let t = c.in_ok-text.ensures in
@@ -40,9 +40,9 @@ returns-in_err-outputs c =
 
 pub returns : goal.returns
 returns c =
-    let wish = c.args.command.wish in
-    let out = string_bytes c.args.command.out in
-    let name = string_bytes c.args.command.load_record in
+    let wish = c.args.self.wish in
+    let out = string_bytes c.args.self.out in
+    let name = string_bytes c.args.self.load_record in
     let i = inputs_of c.args.load in
     let t = c.in_ok-text.ensures in
     let kernel = c.in_ok-kernel.kernel in

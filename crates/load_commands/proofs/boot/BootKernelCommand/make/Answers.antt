@@ -10,12 +10,12 @@ use Rattle.command_parts.specs.Outputs.{HasNoFile}
 use Rattle.command_parts.specs.Runs.{after_runs, checked_with, run_text, wish_of}
 use Rattle.command_parts.proofs.Outputs.{no_file_as, output_as}
 use Rattle.command_parts.proofs.Told.{text_of}
-use Rattle.load_commands.proofs.boot.make_boot.Goals as goal
+use Rattle.load_commands.proofs.boot.BootKernelCommand.make.Goals as goal
 
 pub returns-in_err-kernel : goal.returns-in_err-kernel
 returns-in_err-kernel c =
-    let runs = c.args.boot.runs in
-    let out = string_bytes c.args.boot.out in
+    let runs = c.args.self.runs in
+    let out = string_bytes c.args.self.out in
     let i = inputs_of c.args.load in
     let e : c.from_residual.result ≡ Err c.in_err-kernel.field-0.0 = search rules in
     let h = rw c.wish_of.ensures at c.in_err-kernel.ensures in
@@ -23,8 +23,8 @@ returns-in_err-kernel c =
 
 pub returns-in_err-outputs : goal.returns-in_err-outputs
 returns-in_err-outputs c =
-    let runs = c.args.boot.runs in
-    let out = string_bytes c.args.boot.out in
+    let runs = c.args.self.runs in
+    let out = string_bytes c.args.self.out in
     let i = inputs_of c.args.load in
     let e : c.from_residual-in_err-outputs.result ≡ Err c.in_err-outputs.field-0.0 = search rules in
     let l = rw c.wish_of.ensures at c.in_ok-kernel.ensures in
@@ -36,8 +36,8 @@ returns-in_err-outputs c =
 
 pub returns : goal.returns
 returns c =
-    let runs = c.args.boot.runs in
-    let out = string_bytes c.args.boot.out in
+    let runs = c.args.self.runs in
+    let out = string_bytes c.args.self.out in
     let i = inputs_of c.args.load in
     let l = rw c.wish_of.ensures at c.in_ok-kernel.ensures in
     let r = c.in_ok-ran.ensures in
