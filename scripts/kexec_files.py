@@ -15,7 +15,7 @@ from companion.refusals import Wrong, call
 
 __all__ = ["DIGESTS", "END", "KEXEC", "Memory", "NUMBERS", "PAGE", "Record", "Segment", "TOP", "Wrong", "build", "call",
            "memory_bytes", "numbers", "read_record", "run", "segments_of", "tool", "unknown", "without_digests",
-           "words_given", "write_ram_map", "write_memory", "write_pool"]  # fmt: skip
+           "words_given", "write_ram_map", "write_memory", "write_pool"]
 
 
 def words_given(text, word=None):
