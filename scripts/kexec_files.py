@@ -15,7 +15,7 @@ from companion.refusals import Wrong, call
 
 __all__ = ["DIGESTS", "END", "KEXEC", "Memory", "NUMBERS", "PAGE", "Record", "Segment", "TOP", "Wrong", "build", "call",
            "memory_bytes", "numbers", "read_record", "run", "segments_of", "tool", "unknown", "without_digests",
-           "words_given", "write_ram_map", "write_memory", "write_pool"]  # fmt: skip
+           "words_given", "write_ram_map", "write_memory", "write_pool"]
 
 
 def words_given(text, word=None):
@@ -54,7 +54,8 @@ def run(words, folder):
 
 def unknown(words):
     """What the program does not know of these words: the command or an option; None where it knows all."""
-    told = run([words[0], "--help"], TOP)[1]
+    _, printed, said = program.run([words[0], "--help"], TOP)
+    told = printed + said
     if not re.match(rf"Usage: \S+ {re.escape(words[0])} ", told):
         return f"command {words[0]}"
     return next((f"option {word}" for word in words if word.startswith("--") and word not in told), None)
