@@ -3,6 +3,7 @@
 The readers and writers are the companion's (scripts/companion); here is what only the checks need.
 """
 import argparse
+import os
 import re
 import sys
 
@@ -13,10 +14,10 @@ from companion.numbers import END, PAGE
 from companion.parsers import integer, sentence_of
 from companion.program import KEXEC, TOP, build, tool
 from companion.records import DIGESTS, NUMBERS, Record, Segment, segments_of, without_digests
-from companion.refusals import Wrong, call
+from companion.refusals import Wrong, WrongWords, call
 
-__all__ = ["DIGESTS", "END", "KEXEC", "Memory", "NUMBERS", "PAGE", "Parser", "Record", "Segment", "TOP", "Wrong", "build",
-           "call", "integer", "memory_bytes", "numbers", "read_record", "run", "segments_of", "tool", "unknown", "without_digests",
+__all__ = ["DIGESTS", "END", "KEXEC", "Memory", "NUMBERS", "PAGE", "Parser", "Record", "Segment", "TOP", "Wrong",
+           "WrongWords", "build", "call", "integer", "memory_bytes", "numbers", "program_given", "read_record", "run", "segments_of", "tool", "unknown", "without_digests",
            "words_given", "write_ram_map", "write_memory", "write_pool"]  # fmt: skip
 
 
@@ -29,7 +30,7 @@ class Parser(argparse.ArgumentParser):
                          allow_abbrev=False)
 
     def error(self, message):
-        print(f"{self.prog}: {sentence_of(message, self.prog)}; {self.prog} --help says what it takes", file=sys.stderr)
+        print(f"{self.prog}: {sentence_of(message)}; --help says what may be given", file=sys.stderr)
         sys.exit(2)
 
 
@@ -41,6 +42,14 @@ def words_given(text, word=None):
         parser.add_argument("words", nargs="*", metavar=word)
     given = parser.parse_args()
     return given.words if word else []
+
+
+def program_given(word):
+    """The program that a script is given, by a name that holds in every folder."""
+    path = os.path.abspath(word)
+    if not (os.path.isfile(path) and os.access(path, os.X_OK)):
+        raise WrongWords(f"{word} is not a program")
+    return path
 
 
 def write_ram_map(file, last):
