@@ -1,8 +1,7 @@
-"""Reads the definitions of the repository: what the clauses of the calls and laws that people rely on reach.
+"""Reads the definitions of the repository: the spec files, and the types of the program that they speak of.
 
-What is reached is read off the text: the names that a definition uses, through the `use` lines of its file.
+What a definition uses is read off its text: the names in it, through the `use` lines of its file.
 """
-import collections
 import re
 from pathlib import Path
 
@@ -20,15 +19,16 @@ class Definition:
     def __init__(self, module, name, path, at, is_type=False):
         self.module, self.name, self.path, self.at, self.is_type = module, name, path, at, is_type
         self.lines, self.comment, self.made_by, self.head = [], [], [], []
+        crate, _part, *rest = path.relative_to(CRATES).with_suffix("").parts
+        # both are asked for in each look-up of each name
+        self._crate = crate
+        self._title = f"{crate} type {name}" if is_type else f"{crate} {'.'.join(rest)}.{name}"
 
     def crate(self):
-        return self.path.relative_to(CRATES).parts[0]
+        return self._crate
 
     def title(self):
-        if self.is_type:
-            return f"{self.crate()} type {self.name}"
-        _crate, _part, *rest = self.path.relative_to(CRATES).with_suffix("").parts
-        return f"{self.crate()} {'.'.join(rest)}.{self.name}"
+        return self._title
 
     def place(self):
         return f"{self.path.relative_to(TOP)}:{self.at}"
@@ -118,12 +118,23 @@ class Library:
     """All spec files of the repository, and the types of the program that they speak of."""
 
     def __init__(self):
-        self.files, self.uses, self.types, self.read = {}, {}, {}, {}
+        self.files, self.uses, self.types, self.read, self.known = {}, {}, {}, {}, None
         self.crates = {it.name for it in CRATES.iterdir() if it.is_dir()}
         for path in sorted(CRATES.glob("*/specs/**/*.antt")):
             crate, part, *rest = path.relative_to(CRATES).with_suffix("").parts
             module = ".".join(["Rattle", crate, part, *rest])
             self.files[module], self.uses[module] = SpecReader(path, module).read()
+
+    def named_so(self, name):
+        """The definitions of this name: `HasBooted`, `Boot.HasBooted`, or with the crate in front of these."""
+        if self.known is None:
+            self.known = {}
+            for module, its in self.files.items():
+                for key, it in its.items() if ".specs." in module else []:
+                    title = f"{it.title().rsplit('.', 1)[0]}.{key}"
+                    for one in (key, title, title.partition(" ")[2]):
+                        self.known.setdefault(one, []).append(it)
+        return self.known.get(name, [])
 
     def type_of(self, crate, where, name):
         """A struct, enum or trait of the program."""
@@ -196,42 +207,3 @@ def bound_in(text):
     for names in re.findall(r"λ ([^.]*)\.", text) + re.findall(r"[({]([^(){}:]+?) : ", text):
         bound.update(names.split())
     return bound
-
-
-class Reached:
-    """What some definitions or clauses reach, in breadth: each with the one that named it first."""
-
-    def __init__(self, library, starts, stop):
-        self.by, self.elsewhere, self.known = {}, {}, []
-        waiting = collections.deque((it, None) for it in starts)
-        while waiting:
-            it, by = waiting.popleft()
-            if isinstance(it, str):
-                self.elsewhere.setdefault(it, by)
-            elif it not in self.by:
-                self.by[it] = by
-                if it in stop:
-                    self.known.append(it)
-                else:
-                    waiting.extend((next_one, it) for next_one in library.used(it))
-
-    def definitions(self):
-        return [it for it in self.by if not it.is_type]
-
-    def by_file(self):
-        """The files in the order in which they are first reached, each with its definitions by their lines."""
-        files = collections.OrderedDict()
-        for it in self.by:
-            files.setdefault(it.path, []).append(it)
-        return [(path, sorted(its, key=lambda it: it.at)) for path, its in files.items()]
-
-    def path_to(self, it):
-        way = [it]
-        while self.by[way[-1]] is not None:
-            way.append(self.by[way[-1]])
-        return way[::-1]
-
-    def counts(self):
-        its = self.definitions()
-        types = [it for it in self.by if it.is_type]
-        return len(its), sum(it.length() for it in its), len({it.path for it in its}), len(types)

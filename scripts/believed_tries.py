@@ -4,7 +4,8 @@ import collections
 import hashlib
 import re
 
-from believed_definitions import Definition, Reached
+from believed_definitions import Definition
+from believed_reach import Reached
 
 ROW = re.compile(r"^\w+ (\S+): (\S+) ([0-9a-f]{8})$", re.M)
 

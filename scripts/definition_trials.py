@@ -5,7 +5,8 @@ import importlib.util
 import os
 import re
 
-from believed_definitions import TOP, Library, Reached
+from believed_definitions import TOP, Library
+from believed_reach import Reached, clauses_in, examples
 from crate_table import below
 from definition_changes import applied, changes_of, chosen
 from definition_copies import Copies, Sources
@@ -23,13 +24,10 @@ def module_of(script):
     return module
 
 
-BELIEVED = module_of("believed")
-
-
 def clauses_of(path, function):
     """The clauses of an example: their names, and what stands between their braces."""
     found = {}
-    for name, lines in BELIEVED.clauses_in(path.read_text(encoding="utf8"), function).items():
+    for name, lines in clauses_in(path.read_text(encoding="utf8"), function).items():
         text = " ".join(line.strip() for line in lines if not line.strip().startswith("//"))
         found[name] = text[text.index("{") + 1 : text.rindex("}")].strip()
     return found
@@ -91,7 +89,7 @@ class Trial:
     def __init__(self, checker):
         self.checker, self.sources, self.library = checker, Sources(clauses_of), Library()
         self.reaching = collections.defaultdict(list)
-        for name, starts in BELIEVED.examples(self.library):
+        for name, starts in examples(self.library):
             its = Reached(self.library, starts, set()).definitions()
             for it in its:
                 self.reaching[it].append((len(its), name))

@@ -1,0 +1,168 @@
+"""The documents that are made of what is reached: docs/BELIEVED.list, the quotes, counts and times of docs/BELIEVED.md, and the
+marks of docs/DEFINITIONS.md."""
+import math
+import re
+import sys
+
+from believed_definitions import TOP, Definition
+from believed_reach import INNER, TOP_CALL, Reached, clauses, definitions_named, examples, misplaced, reached_from, starts_of
+from believed_tries import reached_by, refused_by, row_of_list, table_of_tries
+
+LIST = TOP / "docs" / "BELIEVED.list"
+GUIDE = TOP / "docs" / "BELIEVED.md"
+ENTRIES = TOP / "docs" / "DEFINITIONS.md"
+README = TOP / "README.md"
+WORDS_A_MINUTE = 150  # read aloud, the words of a quote too
+
+ENTRY = re.compile(r"^(- |\| )(?:† )?(?=(\w+) ((?:`[^`\n]+`[,;]?\s+)*`[^`\n]+`))", re.M)
+
+
+def tried(library, reached, news=None):
+    """Each definition with an example that reaches it, and each with the example that refused a change of it, or None."""
+    its, known = reached.definitions(), list(examples(library))
+    return reached_by(library, its, known), refused_by(its, known, LIST.read_text(encoding="utf8"), news or {})
+
+
+def list_of_names(library, refused):
+    """The names of what is reached, a section for each root, each name with the example that refused a change of it."""
+    for root, its in reached_from(library).items():
+        added = "and the exit status of an answer" if root == TOP_CALL else "besides"
+        yield f"{'' if root == TOP_CALL else chr(10)}# {root}: what its clauses reach, {added}\n\n"
+        for it in sorted(its, key=Definition.title):
+            yield row_of_list(it, refused) + "\n"
+
+
+def row_of(what, its):
+    """A row of counts of these definitions and types."""
+    made = [it for it in its if not it.is_type]
+    counts = [len(made), sum(it.length() for it in made), len({it.path for it in made}), len(its) - len(made)]
+    return f"| {what} | " + " | ".join(str(count) for count in counts) + " |"
+
+
+def table_of_numbers(library):
+    """The table of counts in the guide."""
+    plan = ["kexec_plan Plan.plan"]
+    yield "| What | Definitions | Lines | Spec files | Types |"
+    yield "|---|---|---|---|---|"
+    for root, its in reached_from(library).items():
+        added = "and `code_of`" if root == TOP_CALL else "besides"
+        yield row_of(f"**all clauses of `{root}`**, {added}", its)
+    rows = [(f"`{name}`, a clause of `kexec`", [f"clause {name}"], []) for name, it in clauses().items() if it[0] == TOP_CALL]
+    rows += [("`HasBooted`", ["Boot.HasBooted"], []), ("`HasBooted`, `plan` taken as known", ["Boot.HasBooted"], plan)]
+    rows += [("`boot_files`, what `boot` reads of its files", ["Boot.boot_files"], []), ("`plan`", plan, [])]
+    rows += [("`MemoryStarts`, `plan` taken as known", ["Booted.MemoryStarts"], plan)]
+    for what, names, stop in rows:
+        stops = {it for name in stop for it in definitions_named(library, name)}
+        yield row_of(what, list(Reached(library, starts_of(library, names), stops).by))
+
+
+def quoted(library, found):
+    """A definition, or a clause with the comment above it, as it stands now."""
+    kind, name = found[1], found[2]
+    if kind == "quote":
+        (it,) = definitions_named(library, name)[:1]
+        path, text = it.path, it.quote()
+    else:
+        _root, path, lines = clauses()[name]
+        text = "\n".join(line[4:].rstrip() for line in lines).rstrip()
+    return f"<!-- {kind} {name} -->\n`{path.relative_to(TOP)}`\n\n```\n{text}\n```\n<!-- end -->"
+
+
+def minutes_of(text):
+    """How long it takes to read this aloud, quotes and all, to the next five minutes; tables that are counted are left out."""
+    text = re.sub(r"<!-- (numbers|tries) -->\n.*?<!-- end -->", "", text, flags=re.S)
+    words = len(re.findall(r"[^\s|`]*\w[^\s|`]*|[×→≡⊎]", re.sub(r"<!--.*?-->", "", text, flags=re.S)))
+    return 5 * math.ceil(words / WORDS_A_MINUTE / 5)
+
+
+def timed(text):
+    """The guide with the time that it takes up to its second half, and whole."""
+    first = text[: text.index("<!-- half -->")]
+    for name, part in (("first", first), ("whole", text)):
+        text = re.sub(rf"<!-- {name} -->\d+<!-- end -->", f"<!-- {name} -->{minutes_of(part)}<!-- end -->", text)
+    return text
+
+
+def filled(library, tries, text):
+    """The guide with its quotes, places, counts and times as they are now."""
+    text = re.sub(r"<!-- (quote|clause) (.*?) -->\n.*?<!-- end -->", lambda found: quoted(library, found), text, flags=re.S)
+    for name, rows in (("numbers", table_of_numbers(library)), ("tries", table_of_tries(*tries))):
+        rows = "\n".join(rows)
+        text = re.sub(rf"<!-- {name} -->\n.*?<!-- end -->", f"<!-- {name} -->\n{rows}\n<!-- end -->", text, flags=re.S)
+    return timed(text)
+
+
+def marked(reached, text):
+    """The entries of the definitions, those that are reached with a dagger. A name without its file is in that of the name
+    before it; a name that begins with a capital and has no other behind it may be that of a whole file."""
+    titles = {it.title().replace("◌", "") for it in reached.by}
+    files = {title.rsplit(".", 1)[0] for title in titles}
+
+    def mark(found):
+        part, is_reached = "", False
+        for name in re.findall(r"`([^`]+)`", found[3]):
+            if "." in name:
+                part = name.rsplit(".", 1)[0]
+            title = f"{found[2]} {name}" if "." in name else f"{found[2]} {part}.{name}"
+            is_reached = is_reached or title in titles or f"{found[2]} {name}" in files
+        return found[1] + ("† " if is_reached else "")
+
+    return ENTRY.sub(mark, text)
+
+
+def files_as_they_must_be(library, reached, news=None):
+    """The files that this script writes, each with its text."""
+    tries = tried(library, reached, news)
+    guide = filled(library, tries, GUIDE.read_text(encoding="utf8"))
+    whole = re.search(r"<!-- whole -->(\d+)<!-- end -->", guide)[1]
+    return {
+        LIST: "".join(list_of_names(library, tries[1])),
+        GUIDE: guide,
+        ENTRIES: marked(reached, ENTRIES.read_text(encoding="utf8")),
+        README: re.sub(r"(docs/BELIEVED.md \|[^|\n]*?)\d+ minutes", rf"\g<1>{whole} minutes", README.read_text(encoding="utf8")),
+    }
+
+
+def unexplained(library, guide):
+    """The definitions that a quote of the guide uses, and that it neither quotes nor names outside quotes."""
+    prose = re.sub(r"<!-- (quote|clause|numbers|tries).*?<!-- end -->", "", guide, flags=re.S)
+    said = set(re.findall(r"[\w'>=]+", " ".join(re.findall(r"`([^`]+)`", prose))))
+    quotes = [definitions_named(library, name)[0] for name in re.findall(r"<!-- quote (.*?) -->", guide)]
+    for it in quotes:
+        for used in library.used(it):
+            if not isinstance(used, str) and used not in quotes and used.name.strip("◌") not in said:
+                yield used, it
+
+
+def faults_of(library, reached, guide):
+    """What no writing mends: names in the guide that are not reached or not explained, and definitions in the wrong folder."""
+    for used, it in unexplained(library, guide):
+        yield f"{GUIDE.relative_to(TOP)} quotes {it.title()}, and says nothing of {used.title()}"
+    names = {it.title() for it in reached.by}
+    for name in re.findall(r"`(\w+ \w+\.\w+)`", guide):
+        if name not in names:
+            yield f"{GUIDE.relative_to(TOP)} names {name}, which is not reached"
+    for it in misplaced(library, reached):
+        yield f"{it.place()}: {it.name} belongs into {'specs/' if it in reached.by else f'specs/{INNER}/'}"
+
+
+def write_tried(library, news):
+    """Writes the files with what was refused now, each definition with an example."""
+    return write_or_check(library, Reached(library, starts_of(library, []), set()), True, news)
+
+
+def write_or_check(library, reached, writes, news=None):
+    """Writes the files, or says what differs; 1 where something does, or a fault is left."""
+    wanted = files_as_they_must_be(library, reached, news)
+    faults = list(faults_of(library, reached, wanted[GUIDE]))
+    for path, text in wanted.items():
+        old = path.read_text(encoding="utf8") if path.exists() else ""
+        if writes:
+            path.write_text(text, encoding="utf8")
+        elif old != text:
+            faults.append(f"{path.relative_to(TOP)} is not as it must be; scripts/believed --write writes it")
+            gone, new = set(old.split("\n")) - set(text.split("\n")), set(text.split("\n")) - set(old.split("\n"))
+            faults += [f"  {sign} {line}" for sign, lines in (("-", gone), ("+", new)) for line in sorted(lines)[:20]]
+    for fault in faults:
+        print(fault if fault.startswith("  ") else f"believed: {fault}", file=sys.stderr)
+    return 1 if faults else 0
