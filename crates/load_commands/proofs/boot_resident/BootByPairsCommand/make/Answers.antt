@@ -1,9 +1,7 @@
-use Rattle.std.proofs.Common.{rules, string_bytes, ◌≡◌, ◌∙◌, refl, Ok, Err, None, inl, inr}
+use Rattle.std.proofs.Common.{rules, string_bytes, ◌≡◌, ◌∙◌, refl, Err, None, inl, inr}
 use Rattle.page_memory.specs.Contents.{at}
-use Rattle.file_commands.specs.Taking.{by}
-use Rattle.file_commands.specs.inner.Calls.{goods_of}
 use Rattle.file_commands.proofs.Made.{handed_on_as}
-use Rattle.load_commands.specs.BootResident.{RefusesResident, boots_resident}
+use Rattle.load_commands.specs.BootResident.{RefusesResident}
 use Rattle.load_commands.specs.inner.Views.{resident_inputs}
 use Rattle.command_parts.specs.Outputs.{HasNoFile}
 use Rattle.command_parts.specs.Runs.{after_runs, checked_with}
@@ -25,22 +23,20 @@ pub returns-in_err-kernel : goal.returns-in_err-kernel
 returns-in_err-kernel c =
     let x = resident_inputs c.args.taken in
     let e : c.from_residual.result ≡ Err c.in_err-kernel.field-0.0 = search rules in
-    handed_on_as (λ g. boots_resident (string_bytes c.args.self.out) x (Ok (goods_of g))) (λ why. boots_resident (string_bytes c.args.self.out) x (Err (by why))) (RefusesResident x.load x.pairs) _ _ e (λ why r. inl r) (rw c.deref.ensures.value at c.in_err-kernel.ensures)
+    handed_on_as _ _ (RefusesResident x.load x.pairs) _ _ e (λ why r. inl r) (rw c.deref.ensures.value at c.in_err-kernel.ensures)
 
 pub returns-in_err-outputs : goal.returns-in_err-outputs
 returns-in_err-outputs c =
-    let x = resident_inputs c.args.taken in
     let e : c.from_residual-in_err-outputs.result ≡ Err c.in_err-outputs.field-0.0 = search rules in
     let l = rw c.deref.ensures.value at c.in_ok-kernel.ensures in
     let r = c.in_ok-ran.ensures in
     let k = checked_with c.in_ok-kernel.kernel.loaded r.0 r.1 r.2 in
     let N = at c.in_ok-ran.ran.memory in
-    handed_on_as (λ g. boots_resident (string_bytes c.args.self.out) x (Ok (goods_of g))) (λ why. boots_resident (string_bytes c.args.self.out) x (Err (by why))) (HasNoFile N) _ _ e
+    handed_on_as _ _ (HasNoFile N) _ _ e
     (λ why h. inr (l.p, l.m, k, (l.resident, l.load, r.3), no_file_as N (after_runs None k) why r.4.memory h)) c.in_err-outputs.ensures
 
 pub returns : goal.returns
 returns c =
-    let x = resident_inputs c.args.taken in
     let l = rw c.deref.ensures.value at c.in_ok-kernel.ensures in
     let r = c.in_ok-ran.ensures in
     let kernel = c.in_ok-kernel.kernel in

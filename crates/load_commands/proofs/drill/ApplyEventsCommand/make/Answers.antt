@@ -1,13 +1,11 @@
-use Rattle.std.proofs.Common.{rules, string_bytes, ◌≡◌, ◌∙◌, Ok, Err, ap, inl, inr, refl, subst, append-nil}
+use Rattle.std.proofs.Common.{rules, ◌≡◌, ◌∙◌, Err, ap, inl, inr, refl, subst, append-nil}
 use Rattle.kx_pages.specs.Bytes.{Mem}
 use Rattle.page_memory.specs.Contents.{at}
 use Rattle.image_slots.specs.Pages.{all_pages}
 use Rattle.image_slots.specs.Sequences.{AreKept, after_events, replies_to}
 use Rattle.image_slots.specs.States.{State}
-use Rattle.file_commands.specs.Taking.{by}
-use Rattle.file_commands.specs.inner.Calls.{goods_of}
 use Rattle.file_commands.proofs.Made.{handed_on_as}
-use Rattle.load_commands.specs.Drill.{Meets, drills, first_meeting, start}
+use Rattle.load_commands.specs.Drill.{Meets, first_meeting, start}
 use Rattle.load_commands.specs.inner.Views.{drill_inputs}
 use Rattle.command_parts.specs.Outputs.{HasNoFile}
 use Rattle.load_commands.specs.Replies.{reply_lines}
@@ -18,7 +16,7 @@ pub returns-in_err-slots : goal.returns-in_err-slots
 returns-in_err-slots c =
     let x = drill_inputs c.args.taken in
     let e : c.from_residual.result ≡ Err c.in_err-slots.field-0.0 = search rules in
-    handed_on_as (λ g. drills (string_bytes c.args.self.out) x (Ok (goods_of g))) (λ why. drills (string_bytes c.args.self.out) x (Err (by why))) (Meets (first_meeting x)) _ _ e (λ why r. inl r) c.in_err-slots.ensures
+    handed_on_as _ _ (Meets (first_meeting x)) _ _ e (λ why r. inl r) c.in_err-slots.ensures
 
 pub returns-in_err-outputs : goal.returns-in_err-outputs
 returns-in_err-outputs c =
@@ -27,7 +25,7 @@ returns-in_err-outputs c =
     let made = c.in_ok-slots.ensures in
     let s = c.apply_each.new.self in
     let end : at s.memory ≡ (after_events (start x made.0) x.events).memory = ap (λ (s : State). s.memory) (c.in_ok-replies.ensures.after ∙ ap (λ (s : State). after_events s x.events) made.3) in
-    handed_on_as (λ g. drills (string_bytes c.args.self.out) x (Ok (goods_of g))) (λ why. drills (string_bytes c.args.self.out) x (Err (by why))) (HasNoFile (at c.into_memory.result)) _ _ e
+    handed_on_as _ _ (HasNoFile (at c.into_memory.result)) _ _ e
     (λ why h. inr (made.0, made.1, made.2, no_file_as (at c.into_memory.result) (after_events (start x made.0) x.events).memory why (λ p. ap (λ m. at m p) c.into_memory.ensures ∙ ap (λ (M : Mem). M p) end) h)) c.in_err-outputs.ensures
 
 pub returns : goal.returns
