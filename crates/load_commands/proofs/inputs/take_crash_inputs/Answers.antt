@@ -19,26 +19,26 @@ returns-in_err-notes g c =
 
 pub returns-in_err-files : goal.returns-in_err-files
 returns-in_err-files g c =
+    let none : c.new-modules.result.items ≡ [] = search rules in
     let memory = next g.S.Shelf _ _ (start g.S.Shelf _ c.args.shelf.now) c.in_ok-memory.ensures in
     let map = next g.S.Shelf _ _ memory c.in_ok-map.ensures in
     let notes = next g.S.Shelf _ _ map c.in_ok-notes.ensures in
-    let none : c.new-modules.result.items ≡ [] = search rules in
     stopped g.S.Shelf _ _ _ _ _ (search rules) notes (rw none at c.in_err-files.ensures.takes)
 
 pub returns-in_err-request : goal.returns-in_err-request
 returns-in_err-request g c =
+    let none : c.new-modules.result.items ≡ [] = search rules in
     let memory = next g.S.Shelf _ _ (start g.S.Shelf _ c.args.shelf.now) c.in_ok-memory.ensures in
     let map = next g.S.Shelf _ _ memory c.in_ok-map.ensures in
     let notes = next g.S.Shelf _ _ map c.in_ok-notes.ensures in
-    let none : c.new-modules.result.items ≡ [] = search rules in
     let files = next g.S.Shelf _ _ notes (rw none at c.in_ok-files.ensures.takes) in
     wanting g.S.Shelf _ _ (search rules) files
 
 pub returns : goal.returns
 returns g c =
+    let none : c.new-modules.result.items ≡ [] = search rules in
     let memory = next g.S.Shelf _ _ (start g.S.Shelf _ c.args.shelf.now) c.in_ok-memory.ensures in
     let map = next g.S.Shelf _ _ memory c.in_ok-map.ensures in
     let notes = next g.S.Shelf _ _ map c.in_ok-notes.ensures in
-    let none : c.new-modules.result.items ≡ [] = search rules in
     let files = next g.S.Shelf _ _ notes (rw none at c.in_ok-files.ensures.takes) in
     rw c.in_ok-request.ensures (finished g.S.Shelf files)
