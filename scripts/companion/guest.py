@@ -20,6 +20,7 @@ from companion.progress import Progress, growth
 from companion.records import Record
 from companion.refusals import Wrong
 from companion.words import name_called
+from companion.written import to_write
 
 # On a busy machine the timer of an emulated one may come late, which is no fault of its interrupt controller.
 COMMAND = "console=ttyS0 no_timer_check"
@@ -93,7 +94,7 @@ class Story:
                     self.say(f"the guest did not panic: {guest.said[-300:].decode(errors='replace')}", False)
                     return False
                 for name in ("map", "notes"):
-                    with open(f"{self.folder}/guest-{name}", "w", encoding="utf-8") as out:
+                    with to_write(f"{self.folder}/guest-{name}", True) as out:
                         out.write(said_between(guest.said, name))
                 self.console = guest.said.decode(errors="replace").replace("\r", "")
                 guest.ask("stop")

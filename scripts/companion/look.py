@@ -5,6 +5,7 @@ from companion.numbers import END, PAGE, address, counted, number_of, runs, size
 from companion.parsers import Parser, choose
 from companion.progress import Progress
 from companion.refusals import Wrong
+from companion.written import write_bytes
 
 TEXT = """Shows what stands in memory files, load records and lists.
 
@@ -169,8 +170,7 @@ def make_record(given):
     if len(segments) > records.MOST_SEGMENTS or any(at % PAGE for at, _ in segments):
         raise Wrong(f"a load has at most {records.MOST_SEGMENTS} segments, each at a multiple of {address(PAGE)}")
     made = records.record_bytes(numbers.pop("head"), numbers.pop("control"), segments, **numbers)
-    with open(given.record, "wb") as out:
-        out.write(made)
+    write_bytes(given.record, made)
     print(f"{given.record}: {counted(len(segments), 'segment')}, {size_text(len(made))}")
     return 0
 

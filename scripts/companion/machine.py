@@ -8,6 +8,7 @@ from companion.numbers import PAGE, common, counted, number_of, size_of, size_te
 from companion.parsers import Parser
 from companion.progress import Progress, bar
 from companion.refusals import Wrong
+from companion.written import write_text
 
 # KPF_BUDDY, KPF_HWPOISON, KPF_OFFLINE of linux/kernel-page-flags.h
 BUDDY, POISON, OFFLINE = 1 << 10, 1 << 19, 1 << 23
@@ -140,11 +141,6 @@ def check(pool_path, map_path):
     pages, wrong = (sum(last - first + 1 for first, last, *_ in runs) for runs in (pool, found))
     print(f"{wrong} of {counted(pages, 'page')} of the pool are not free RAM")
     return 1 if wrong else 0
-
-
-def write_text(path, text):
-    with open(path, "w", encoding="utf-8", errors="surrogateescape") as out:
-        out.write(text)
 
 
 def make_memory(given, free):

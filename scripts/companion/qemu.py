@@ -9,6 +9,7 @@ import time
 
 from companion.numbers import PAGE, runs, span
 from companion.refusals import Wrong
+from companion.written import to_write
 
 QEMU = "qemu-system-x86_64"
 # This machine has no RAM between 3 and 4 GiB, and none that can be laid between 640 KiB and 1 MiB.
@@ -39,7 +40,7 @@ class Machine:
     def __init__(self, folder, ram, words, is_told=True):
         self.folder, self.ram, self.is_told, self.said = folder, ram, is_told, b""
         self.memory, self.reason = f"{folder}/ram", None
-        with open(self.memory, "wb") as file:
+        with to_write(self.memory) as file:
             file.truncate(ram * MIB)
         words = [
             QEMU, "-cpu", "max", "-m", str(ram), "-machine", "pc,memory-backend=ram,max-ram-below-4g=3G",
@@ -89,15 +90,18 @@ class Machine:
 
     def ask(self, command, **arguments):
         """Gives the monitor a command, and waits for its answer."""
-        json.dump({"execute": command, "arguments": arguments}, self.answers)
-        self.answers.flush()
-        for line in self.answers:
-            answer = json.loads(line)
-            if "error" in answer:
-                raise Wrong(f"QEMU's {command}: {answer['error']['desc']}")
-            if "return" in answer:
-                return answer["return"]
-            self.events.append(answer)
+        try:
+            json.dump({"execute": command, "arguments": arguments}, self.answers)
+            self.answers.flush()
+            for line in self.answers:
+                answer = json.loads(line)
+                if "error" in answer:
+                    raise Wrong(f"QEMU's {command}: {answer['error']['desc']}")
+                if "return" in answer:
+                    return answer["return"]
+                self.events.append(answer)
+        except ConnectionError:
+            pass
         raise Wrong(f"QEMU went away in {command}")
 
     def wait_for(self, text, seconds):

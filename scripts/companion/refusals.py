@@ -1,6 +1,8 @@
 """How a script refuses: one sentence on standard error, and the status."""
+import errno
 import os
 import signal
+import subprocess
 import sys
 
 
@@ -30,11 +32,28 @@ def _end_by_signals():
         signal.signal(number, end)
 
 
+# The faults of a device that takes no more.
+FULL = (errno.ENOSPC, errno.EDQUOT, errno.EFBIG, errno.EIO)
+
+
+def _sentence_of_fault(error):
+    """The sentence of a fault of the system: the file, and what is with it. Of a copy that finds no room, the second file is
+    the one that is written; where none is named, it is what is printed."""
+    if error.errno in FULL:
+        return f"{error.filename2 or error.filename or 'standard output'}: {error.strerror}"
+    return f"{error.filename}: {error.strerror}" if error.filename else str(error)
+
+
+def _leave_output():
+    """Lets nothing more be written to standard output."""
+    os.dup2(os.open(os.devnull, os.O_WRONLY), 1)
+
+
 def call(main, name=None):
     """Runs a script's main and ends with its status.
 
-    A wrong input or a file that cannot be read is one sentence behind the script's name, and status 1. A reader of its
-    output that went away ends it as well.
+    A wrong input, a file that cannot be read or written, or a tool that fails is one sentence behind the script's name, and
+    status 1. A reader of its output that went away ends it as well.
     """
     name = name or os.path.basename(sys.argv[0])
     _end_by_signals()
@@ -42,11 +61,17 @@ def call(main, name=None):
         status = main()
         sys.stdout.flush()
     except BrokenPipeError:
-        os.dup2(os.open(os.devnull, os.O_WRONLY), 1)
+        _leave_output()
         status = 0
     except Wrong as wrong:
         print(f"{name}: {wrong}", file=sys.stderr)
         status = wrong.status
     except OSError as error:
-        sys.exit(f"{name}: {error.filename}: {error.strerror}" if error.filename else f"{name}: {error}")
+        if error.errno in FULL and not error.filename:
+            _leave_output()
+        print(f"{name}: {_sentence_of_fault(error)}", file=sys.stderr)
+        status = 1
+    except subprocess.CalledProcessError as error:
+        print(f"{name}: '{' '.join(map(str, error.cmd))}' ended with status {error.returncode}", file=sys.stderr)
+        status = 1
     sys.exit(status)

@@ -11,6 +11,7 @@ from companion.program import tool
 from companion.progress import Progress
 from companion.refusals import Wrong
 from companion.words import name_called
+from companion.written import write_text
 
 TEXT = """Boots a memory file that `boot`, `exec` or `load-panic` wrote in a virtual
 machine, and shows what its serial line says.
@@ -118,8 +119,7 @@ def start_of(given):
 
 
 def make_stub(folder, start, first):
-    with open(f"{folder}/stub.S", "w", encoding="ascii") as out:
-        out.write(STUB)
+    write_text(f"{folder}/stub.S", STUB)
     names = [f"-D{name}=0x{value}" for name, value in zip(["ENTRY", "RAX", "RBX", "RSI"], start)]
     names.append(f"-DTABLES={(first + STUB_PAGES - 2) * PAGE:#x}")
     tool(["gcc", "-m32", *names, "-c", "-o", "stub.o", "stub.S"], folder)

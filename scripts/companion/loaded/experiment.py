@@ -14,6 +14,7 @@ from companion.memory_files import Memory
 from companion.numbers import PAGE, address, counted
 from companion.parsers import Parser, integer
 from companion.refusals import Wrong
+from companion.written import to_write
 
 TEXT = """Boots a guest in QEMU, which loads a next kernel by kexec. The guest stands
 still; its memory is dumped, and `loaded` reads the image from the dump; `check`
@@ -181,13 +182,13 @@ class Story:
 def tell_story(given, folder):
     """Follows one guest; whether all was as it must be."""
     inner = guest_disk.next_initrd(given)
-    with open(f"{folder}/initrd", "wb") as out:
+    with to_write(f"{folder}/initrd") as out:
         out.write(guest_disk.initrd(given, inner))
     with Guest(folder, given, f"{folder}/initrd") as guest:
         try:
             return follow(Story(given, folder, guest), given)
         finally:
-            with open(f"{folder}/console", "w", encoding="utf-8") as out:
+            with to_write(f"{folder}/console", True) as out:
                 out.write(guest.text())
 
 
