@@ -115,7 +115,13 @@ def test_running_machine(tests):
         tests.write(f"{folder}/crash_notes_size", "360\n")
     os.makedirs(f"{tests.folder}/sys/kernel", exist_ok=True)
     tests.write("sys/kernel/vmcoreinfo", "0x000000000004f000 1024\n")
-    tests.same("notes", machine.note_lines(f"{tests.folder}/sys"), ["1f00 168\n", "2f00 168\n", "3f00 168\n", "4f000 1024\n"])
+    lines = ["1f00 168\n", "2f00 168\n", "3f00 168\n", "4f000 1024\n"]
+    tests.same("notes", machine.note_lines(f"{tests.folder}/sys"), (lines, []))
+    for number in (0, 10, 2):
+        os.remove(f"{tests.folder}/sys/devices/system/cpu/cpu{number}/crash_notes")
+    found, lacking = machine.note_lines(f"{tests.folder}/sys")
+    tests.same("notes that are missing", (found, len(lacking), "no crash_notes of any processor (No such" in lacking[0]),
+               (lines[3:], 1, True))
     tests.same("free pages", machine.buddy_runs([(0x100, 0x2000), (0x3002, 0x4000)], f"{tests.folder}/flags"),
                [(0x101, 0x103), (0x3003, 0x3004)])
 

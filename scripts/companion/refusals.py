@@ -18,6 +18,12 @@ class WrongWords(Wrong):
     status = 2
 
 
+class NothingTried(Wrong):
+    """Tools or files that are not there, without which nothing can be tried."""
+
+    status = 2
+
+
 def _end_by_signals():
     """Lets a signal end the script as an exit does, so that its temporary folders go."""
     signals = (signal.SIGTERM, signal.SIGHUP, signal.SIGINT)
