@@ -1,6 +1,7 @@
 """How a script refuses: one sentence on standard error, and the status."""
 import errno
 import os
+import select
 import signal
 import subprocess
 import sys
@@ -50,6 +51,13 @@ def _sentence_of_fault(error):
     return f"{error.filename}: {error.strerror}" if error.filename else str(error)
 
 
+def _has_lost_its_reader():
+    """Whether standard output is a pipe that nobody reads any more."""
+    output = select.poll()
+    output.register(1, 0)
+    return any(events & select.POLLERR for _, events in output.poll(0))
+
+
 def _leave_output():
     """Lets nothing more be written to standard output."""
     os.dup2(os.open(os.devnull, os.O_WRONLY), 1)
@@ -66,17 +74,16 @@ def call(main, name=None):
     try:
         status = main()
         sys.stdout.flush()
-    except BrokenPipeError:
-        _leave_output()
-        status = 0
     except Wrong as wrong:
         print(f"{name}: {wrong}", file=sys.stderr)
         status = wrong.status
     except OSError as error:
-        if error.errno in FULL and not error.filename:
+        is_unread = isinstance(error, BrokenPipeError) and _has_lost_its_reader()
+        if is_unread or (error.errno in FULL and not error.filename):
             _leave_output()
-        print(f"{name}: {_sentence_of_fault(error)}", file=sys.stderr)
-        status = 1
+        if not is_unread:
+            print(f"{name}: {_sentence_of_fault(error)}", file=sys.stderr)
+        status = 0 if is_unread else 1
     except subprocess.CalledProcessError as error:
         print(f"{name}: '{' '.join(map(str, error.cmd))}' ended with status {error.returncode}", file=sys.stderr)
         status = 1

@@ -13,7 +13,7 @@ from companion.loaded.guest_machine import Guest
 from companion.memory_files import Memory
 from companion.numbers import PAGE, address, counted
 from companion.parsers import Parser, integer
-from companion.refusals import Wrong
+from companion.refusals import NothingTried, Wrong
 from companion.written import to_write
 
 TEXT = """Boots a guest in QEMU, which loads a next kernel by kexec. The guest stands
@@ -217,7 +217,7 @@ def main(arguments):
              ("static busybox (--busybox)", given.busybox)]
     lacks = [qemu.QEMU] * (not shutil.which(qemu.QEMU)) + [what for what, path in files if not os.path.isfile(path)]
     if lacks:
-        raise Wrong(f"there is no {', no '.join(lacks)}")
+        raise NothingTried(f"nothing was tried: there is no {', no '.join(lacks)}")
     program.ready()
     with tempfile.TemporaryDirectory(prefix="kernelyet-loaded-") as folder:
         try:
