@@ -3,8 +3,10 @@ import errno
 import os
 import select
 import signal
+import stat
 import subprocess
 import sys
+import tempfile
 
 
 class Wrong(Exception):
@@ -43,11 +45,18 @@ def _end_by_signals():
 FULL = (errno.ENOSPC, errno.EDQUOT, errno.EFBIG, errno.EIO)
 
 
+def _unnamed():
+    """What found no room, where the fault names no file: standard output, where that is a file or a device; a terminal or a
+    pipe is never full."""
+    is_file = not stat.S_ISFIFO(os.fstat(1).st_mode) and not os.isatty(1)
+    return "standard output" if is_file else f"a file, perhaps in {tempfile.gettempdir()}"
+
+
 def _sentence_of_fault(error):
     """The sentence of a fault of the system: the file, and what is with it. Of a copy that finds no room, the second file is
-    the one that is written; where none is named, it is what is printed."""
+    the one that is written."""
     if error.errno in FULL:
-        return f"{error.filename2 or error.filename or 'standard output'}: {error.strerror}"
+        return f"{error.filename2 or error.filename or _unnamed()}: {error.strerror}"
     return f"{error.filename}: {error.strerror}" if error.filename else str(error)
 
 
