@@ -8,6 +8,9 @@ import subprocess
 import sys
 import tempfile
 
+# The faults of a device that takes no more.
+FULL = (errno.ENOSPC, errno.EDQUOT, errno.EFBIG, errno.EIO)
+
 
 class Wrong(Exception):
     """An input that is refused: the one sentence that is said."""
@@ -41,15 +44,12 @@ def _end_by_signals():
         signal.signal(number, end)
 
 
-# The faults of a device that takes no more.
-FULL = (errno.ENOSPC, errno.EDQUOT, errno.EFBIG, errno.EIO)
-
-
 def _unnamed():
-    """What found no room, where the fault names no file: standard output, where that is a file or a device; a terminal or a
-    pipe is never full."""
-    is_file = not stat.S_ISFIFO(os.fstat(1).st_mode) and not os.isatty(1)
-    return "standard output" if is_file else f"a file, perhaps in {tempfile.gettempdir()}"
+    """What found no room, where the fault names no file: standard output, where that is a file or a device; a terminal, a pipe
+    or a socket is never full."""
+    mode = os.fstat(1).st_mode
+    can_be_full = stat.S_ISREG(mode) or (stat.S_ISCHR(mode) and not os.isatty(1))
+    return "standard output" if can_be_full else f"a file, perhaps in {tempfile.gettempdir()}"
 
 
 def _sentence_of_fault(error):
@@ -88,10 +88,10 @@ def call(main, name=None):
         status = wrong.status
     except OSError as error:
         is_unread = isinstance(error, BrokenPipeError) and _has_lost_its_reader()
-        if is_unread or (error.errno in FULL and not error.filename):
-            _leave_output()
         if not is_unread:
             print(f"{name}: {_sentence_of_fault(error)}", file=sys.stderr)
+        if is_unread or (error.errno in FULL and not error.filename):
+            _leave_output()
         status = 0 if is_unread else 1
     except subprocess.CalledProcessError as error:
         print(f"{name}: '{' '.join(map(str, error.cmd))}' ended with status {error.returncode}", file=sys.stderr)
