@@ -236,6 +236,9 @@ def test_plan(tests):
     tests.write("small", "00100000-0010ffff : System RAM\n")
     status, out, _ = tests.run(KERNELYET, "plan", "vmlinuz", "--map", "small")
     tests.same("plan of a small machine", (status, "wants 1 MiB" in out, "from 1 MiB to 4 GiB: 64 KiB" in out), (1, True, True))
+    tests.write("two-pages", "1-2\n")
+    status, out, _ = tests.run(KERNELYET, "plan", "vmlinuz", "--map", "iomem", "--pool", "two-pages")
+    tests.same("a refusal has the names that were given", (status, 'POOL "two-pages": the pool has too few' in out), (1, True))
     tests.write("narrow", "00100000-03ffffff : System RAM\n  01000000-0100ffff : Crash kernel\n")
     status, out, _ = tests.run(KERNELYET, "plan", "--crash", "vmlinuz", "initrd", "--map", "narrow")
     tests.same("plan of a small crash area", (status, "the crash area: 64 KiB at 0x1000000" in out, "crashkernel=16M" in out),
