@@ -15,10 +15,11 @@ from companion.parsers import integer, sentence_of
 from companion.program import KEXEC, TOP, build, tool
 from companion.records import DIGESTS, NUMBERS, Record, Segment, segments_of, without_digests
 from companion.refusals import Wrong, WrongWords, call
+from companion.written import to_write
 
 __all__ = ["DIGESTS", "END", "KEXEC", "Memory", "NUMBERS", "PAGE", "Parser", "Record", "Segment", "TOP", "Wrong",
            "WrongWords", "build", "call", "integer", "memory_bytes", "numbers", "program_given", "read_record", "run",
-           "segments_of", "tool", "unknown", "without_digests", "words_given", "write_memory", "write_pool",
+           "segments_of", "to_write", "tool", "unknown", "without_digests", "words_given", "write_memory", "write_pool",
            "write_ram_map"]
 
 
@@ -60,7 +61,7 @@ def write_ram_map(file, last):
 
 def write_pool(file, first, count):
     """A pool of so many pages from the first on."""
-    with open(file, "w", encoding="ascii") as out:
+    with to_write(file, True) as out:
         out.write(f"{first:x}-{first + count - 1:x}\n")
 
 
