@@ -15,7 +15,7 @@ ROOTS = {  # what people rely on, in the order of reading: a call with its file,
 }
 TOP_CALL = "kexec"  # its clauses are named without it
 EXAMPLES = "worked_*"  # the crates of examples: nothing stands on them
-STATUS = "kexec_main ExitStatuses.code_of"  # what `main` ends with, by what `kexec` answers
+STATUS = "command_parts ExitStatuses.code_of"  # what `main` ends with, by what `kexec` answers
 INNER = "inner"  # the folder of specs/ for what no root reaches
 
 

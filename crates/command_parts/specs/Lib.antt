@@ -4,4 +4,6 @@ pub mod Outputs
 pub mod Texts
 pub mod Runs
 pub mod Entry
+pub mod Statuses
+pub mod ExitStatuses
 pub mod inner

@@ -1,9 +1,10 @@
-//! What commands share: the memory file, how a kernel starts, the runs of an accepted list, outputs and texts, and why a command
-//! is refused.
+//! What commands share: the memory file, how a kernel starts, the runs of an accepted list, outputs and texts, why a command
+//! is refused, and how it ended.
 //!
 //! | Module | What it has |
 //! |---|---|
 //! | `reason` | why a command may be refused |
+//! | `status` | how a command ended |
 //! | `files` | the memory file, and the limits of the others |
 //! | `startup` | how a kernel starts, as a plan or a record tells it |
 //! | `running` | runs of an accepted list |
@@ -15,6 +16,7 @@ mod output;
 mod reason;
 mod running;
 mod startup;
+mod status;
 mod text;
 
 pub use files::{TEXT_LIMIT, refusal_by, take_memory};
@@ -22,6 +24,7 @@ pub use output::{memory_output, one};
 pub use reason::{InputFault, Reason};
 pub use running::{Ran, run_accepted, run_loaded};
 pub use startup::{PurgatoryPlaces, Startup, purgatory_places};
+pub use status::Status;
 pub use text::{
     accepted_line, crash_line, crash_lines, crash_ran_text, load_lines, push_ran_line, ran_text,
 };

@@ -3,6 +3,7 @@
 ghost use Rattle.std.specs.Prelude.{◌≡◌};
 ghost use Rattle.command_table.specs.inner.Texts.{which_text};
 
+use crate::names::CommandNames;
 use crate::options::{RUNS_WORDS, TYPE_WORDS};
 use std::fmt::{self, Display, Formatter, Write};
 use thiserror::Error;
@@ -36,7 +37,7 @@ pub enum Which {
 #[derive(Clone, Copy, Debug, PartialEq, Eq, Error)]
 pub enum UsageWhy {
     /// There is no word, or the first one names no command.
-    #[error("the first argument must be a command: boot, load, load-panic, check, dump, exec, trace, migrate, sample, boot-resident, drill or core")]
+    #[error("the first argument must be a command: {}", CommandNames)]
     Command,
     /// The command does not take the words after it; asking for help is such a refusal.
     #[error("the command does not take the arguments after it")]

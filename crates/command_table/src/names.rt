@@ -7,6 +7,7 @@ ghost use Rattle.command_table.specs.inner.Table.{argument_values};
 
 use crate::table::{Argument, CommandText};
 use crate::{arguments, texts};
+use std::fmt::{self, Display, Formatter, Write};
 
 /// A command.
 #[derive(Clone, Copy)]
@@ -40,6 +41,30 @@ pub(crate) const NAMES: [Name; 12] = [
     Name::Drill,
     Name::Core,
 ];
+
+/// The names of all commands, as a sentence lists them.
+pub(crate) struct CommandNames;
+
+// What stands before the name at this place.
+fn separator(at: usize) -> &'static str {
+    if at == 0 {
+        ""
+    } else if at < NAMES.len() - 1 {
+        ", "
+    } else {
+        " or "
+    }
+}
+
+impl Display for CommandNames {
+    fn fmt<W: Write>(&self, f: &mut Formatter<W>) -> fmt::Result {
+        for (at, name) in NAMES.iter().enumerate() {
+            f.write_str(separator(at))?;
+            f.write_str(name.text())?;
+        }
+        Ok(())
+    }
+}
 
 impl Name {
     /// The word that names the command, the first of its words.

@@ -120,5 +120,7 @@ pub(crate) const CORE: CommandText = CommandText {
     name: "core",
     brief: "write the core file of a stopped machine's memory",
     about: "Writes the memory of a stopped machine as one ELF core file, by the crash headers in that memory: the notes of all processors, and a PT_LOAD for each range of memory.",
-    notes: &[],
+    notes: &[
+        "The rows of the crash headers hold at most 512 MiB together, pages of zeros included: the memory of a machine of 8 GiB cannot be written whole.",
+    ],
 };

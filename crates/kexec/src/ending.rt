@@ -1,7 +1,7 @@
 //! How the program ends: its exit status, and what it says on standard error.
 
 ghost use Rattle.std.specs.Prelude.{◌≡◌, IsSome, IsNone};
-ghost use Rattle.kexec_main.specs.ExitStatuses.{code_of};
+ghost use Rattle.command_parts.specs.ExitStatuses.{code_of};
 
 use crate::causes::Cause;
 use crate::report::Report;

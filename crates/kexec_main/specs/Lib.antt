@@ -1,5 +1,3 @@
-pub mod Statuses
-pub mod ExitStatuses
 pub mod Commands
 pub mod Call
 pub mod inner

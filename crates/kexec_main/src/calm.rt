@@ -6,14 +6,14 @@ ghost use Rattle.file_commands.specs.Answers.{Meets, MeetsTold, done, memory, re
 ghost use Rattle.file_commands.specs.Taking.{Refusal};
 ghost use Rattle.kexec_words.specs.Meaning.{command_of};
 ghost use Rattle.kexec_words.specs.Values.{CommandValue};
-ghost use Rattle.kexec_main.specs.Statuses.{answer_of};
+ghost use Rattle.command_parts.specs.Statuses.{answer_of};
 ghost use Rattle.kexec_main.specs.Call.{EndsWithoutFiles, HasDone, HasRefusal, IsInOrder};
 ghost use Rattle.kexec_main.specs.Commands.{Holds};
 ghost use Rattle.load_commands.specs.Laid.{HasLaid};
 ghost use Rattle.command_parts.specs.declared.reason.Reason.{Reason};
 
 use crate::run::kexec;
-use crate::status::Status;
+use command_parts::Status;
 use kx_edge::{CalmShelf, MemorySink, Shelf, Sink};
 use std::alloc::Global;
 

@@ -7,16 +7,13 @@
 //! | Module | What it has |
 //! |---|---|
 //! | `laws` | what commands do together, where they are refused for pages, and how many pages a load uses |
-//! | `status` | how a command ended |
 //! | `run`, `calm` | the top call, and the same over files in memory |
 #![tactic(auto)]
 
 mod calm;
 pub mod laws;
 mod run;
-mod status;
 
 pub use calm::kexec_in_memory;
-pub use command_parts::{InputFault, Reason};
+pub use command_parts::{InputFault, Reason, Status};
 pub use run::kexec;
-pub use status::Status;

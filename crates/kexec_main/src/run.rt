@@ -9,14 +9,13 @@ ghost use Rattle.kexec_words.specs.inner.Limits.{IsWithinLimits};
 ghost use Rattle.kexec_words.specs.Meaning.{command_of};
 ghost use Rattle.kexec_words.specs.Values.{CommandValue};
 ghost use Rattle.kexec_words.specs.inner.Values.{command_value};
-ghost use Rattle.kexec_main.specs.Statuses.{answer_of};
+ghost use Rattle.command_parts.specs.Statuses.{answer_of};
 ghost use Rattle.kexec_main.specs.Call.{EndsWithoutFiles, HasDone, HasRefusal, IsInOrder};
 ghost use Rattle.kexec_main.specs.Commands.{Holds};
 ghost use Rattle.load_commands.specs.Laid.{HasLaid};
 ghost use Rattle.command_parts.specs.declared.reason.Reason.{Reason};
 
-use crate::status::Status;
-use command_parts::Reason;
+use command_parts::{Reason, Status};
 use file_commands::Stop;
 use kexec_words::{Command, WordsFault, read};
 use kx_edge::{Shelf, Sink};

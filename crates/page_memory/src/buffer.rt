@@ -5,7 +5,6 @@ ghost use Rattle.std.specs.FinMap as finite;
 ghost use Rattle.std.specs.Ordering.{nat_cmp};
 ghost use Rattle.std.specs.BTreeMap as tree;
 ghost use Rattle.std.specs.Vec.{vec_capacity};
-ghost use Rattle.kx_fields.specs.Fields.{IsBlock};
 ghost use Rattle.kx_pages.specs.Bytes.{page_of};
 ghost use Rattle.page_memory.specs.inner.Contents.{page_with_word};
 ghost use Rattle.page_memory.specs.inner.Frames.{frame_in, put_frame, put_word_in, pages_in, AreExchanged, HaveSamePages, IsAdded, IsCopied, IsSet, IsTable, IsWordSet};
@@ -13,7 +12,7 @@ ghost use Rattle.page_memory.specs.inner.Frames.{frame_in, put_frame, put_word_i
 use crate::layout::{FIRST_FRAME, FRAME_SIZE, SLOT};
 use crate::table::Table;
 use byteorder::{ByteOrder, LittleEndian};
-use kx_pages::Page;
+use kx_pages::{Page, ZERO_PAGE};
 use std::alloc::AllocError;
 
 /// The frame that begins at a place of the buffer.
@@ -131,7 +130,8 @@ pub(crate) fn copy_frame(frames: &mut Vec<u8>, table: &Table, d: Page, s: Page)
 // What a slot, and the buffer's head before the first slot, have in front of a frame until a file is made in the buffer.
 static HEADS: [u8; FIRST_FRAME] = [0; FIRST_FRAME];
 
-/// Adds a page, in a slot of its own behind the others. Room is made first, so that a refusal leaves both as they were.
+/// Adds a page, which becomes these at most 4,096 bytes, then zeros, in a slot of its own behind the others. Room is made
+/// first, so that a refusal leaves both as they were.
 pub(crate) fn add_frame(
     frames: &mut Vec<u8>,
     table: &mut Table,
@@ -140,9 +140,9 @@ pub(crate) fn add_frame(
 ) -> Result<(), AllocError>
     requires old { IsTable frames.old.items table.old.places }
     requires absent { finite.get (pages_in frames.old.items table.old.places) p ≡ None }
-    requires bytes { IsBlock 4096 bytes.now }
-    ensures ok { OnOk result
-        (IsAdded frames.old.items table.old.places frames.new.items table.new.places p bytes.now) }
+    requires fits { length bytes.now ≤ 4096 }
+    ensures ok { OnOk result (IsAdded frames.old.items table.old.places
+        frames.new.items table.new.places p (page_of bytes.now)) }
     ensures err { OnErr result
         (HaveSamePages frames.old.items table.old.places frames.new.items table.new.places) }
     ensures table { IsTable frames.new.items table.new.places }
@@ -155,6 +155,7 @@ pub(crate) fn add_frame(
     table.insert(p, place)?;
     append(frames, heads);
     append(frames, bytes);
+    append(frames, &ZERO_PAGE[bytes.len()..]);
     Ok(())
 }
 

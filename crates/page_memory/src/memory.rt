@@ -1,6 +1,6 @@
 //! A memory: its pages, and how they change.
 
-ghost use Rattle.std.specs.Prelude.{◌≡◌, ℕ, ◌+◌, ◌*◌, ◌/◌, ◌%◌, ◌<◌, ◌≤◌, ◌^◌, ◌≢◌, ◌⊎◌, ◌↔◌, length, slice_index, IsTrue, IfSome, IsSome, All, OnOk, IfOk, IfErr};
+ghost use Rattle.std.specs.Prelude.{◌≡◌, ℕ, ◌+◌, ◌*◌, ◌/◌, ◌%◌, ◌<◌, ◌≤◌, ◌^◌, ◌≢◌, ◌⊎◌, ◌↔◌, length, slice_index, IsTrue, IfSome, IsSome, All, OnOk, OnErr, IfOk, IfErr};
 ghost use Rattle.std.specs.FinMap as finite;
 ghost use Rattle.std.specs.Option.{option_map};
 ghost use Rattle.kx_fields.specs.Fields.{IsBlock};
@@ -63,7 +63,8 @@ impl Memory {
         }
     }
 
-    /// How often `set` and `set_word` were called, up to 2^64 - 1, where the number stops. Running a list leaves it.
+    /// How often `set`, `put` and `set_word` changed a page, up to 2^64 - 1, where the number stops. Running a list leaves
+    /// it.
     pub fn sets(&self) -> u64
         ensures value { result ≡ self.now.sets }
         ensures valid { IsMemory self.now }
@@ -101,7 +102,7 @@ impl Memory {
     {
         match self.table.get(p) {
             Some(_) => (),
-            None => add_frame(&mut self.frames, &mut self.table, p, &ZERO_PAGE)?,
+            None => add_frame(&mut self.frames, &mut self.table, p, &[])?,
         }
         Ok(())
     }
@@ -159,6 +160,21 @@ impl Memory {
     {
         write_frame(&mut self.frames, &self.table, p, bytes);
         self.sets = self.sets.saturating_add(1);
+    }
+
+    /// The page is held, and becomes these at most 4,096 bytes, then zeros. After want of memory all is as before. This
+    /// project's own.
+    pub fn put(&mut self, p: Page, bytes: &[u8]) -> Result<(), AllocError>
+        requires fits { length bytes.now ≤ 4096 }
+        ensures value { OnOk result (self.new ≡ after_set self.old p (page_of bytes.now)) }
+        ensures same { OnErr result (self.new ≡ self.old) }
+    {
+        match self.table.get(p) {
+            Some(_) => write_frame(&mut self.frames, &self.table, p, bytes),
+            None => add_frame(&mut self.frames, &mut self.table, p, bytes)?,
+        }
+        self.sets = self.sets.saturating_add(1);
+        Ok(())
     }
 
     /// The eight bytes at address `a`, a multiple of 8 in a page that is held, become the little-endian number `v`.

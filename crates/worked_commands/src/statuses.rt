@@ -11,11 +11,11 @@ ghost use Rattle.resident_planner.specs.declared.fault.ResidentFault.TheVariants
 ghost use Rattle.vmcore_file.specs.declared.fault.CoreFault.TheVariants as cores;
 ghost use Rattle.file_commands.specs.Answers.{done, memory, not_accepted, refused, unread, unsaid, unwritten};
 ghost use Rattle.file_commands.specs.Taking.{by, too_long};
-ghost use Rattle.kexec_main.specs.ExitStatuses.{code_of};
-ghost use Rattle.kexec_main.specs.Statuses.{answer_of};
+ghost use Rattle.command_parts.specs.ExitStatuses.{code_of};
+ghost use Rattle.command_parts.specs.Statuses.{answer_of};
 ghost use Rattle.command_parts.specs.declared.reason.InputFault.TheVariants as inputs;
 ghost use Rattle.command_parts.specs.declared.reason.Reason.TheVariants as reasons;
-ghost use Rattle.kexec_main.specs.declared.status.Status.TheVariants as status;
+ghost use Rattle.command_parts.specs.declared.status.Status.TheVariants as status;
 
 /// How a command ended, and with which exit status.
 pub fn commands_that_ended()

@@ -1,20 +1,16 @@
 use Rattle.std.proofs.Common.{ap, sym, ◌∙◌, subst, ◌≡◌, ◌⊎◌}
 use Rattle.std.specs.Prelude.{IsSome, is_some}
 use Rattle.std.specs.FinMap as finite
-use Rattle.page_memory.specs.Contents.{frame_at, zero_page}
+use Rattle.page_memory.specs.Contents.{frame_at}
 use Rattle.page_memory.specs.inner.Contents.{IsHeld}
 use Rattle.page_memory.proofs.Laws.{held-insert, held-insert_same, held-insert_only, frame_at-insert_zeros}
 use Rattle.page_memory.specs.inner.Frames.{frame_in}
-use Rattle.page_memory.proofs.Bytes.{IsBlock-zero_page}
+use Rattle.page_memory.proofs.Moves.{page_of-nothing}
 use Rattle.page_memory.proofs.Tables.{none_held, some_held}
 use Rattle.page_memory.proofs.memory.Memory.hold.Goals as goal
 
 pub add_frame-requires-clause-absent : goal.add_frame-requires-clause-absent
 add_frame-requires-clause-absent c = none_held (frame_in c.self.inside.frames.items) c.self.inside.table.places c.args.p c.in-None.ensures.value
-
-pub add_frame-requires-clause-bytes : goal.add_frame-requires-clause-bytes
-unfolding zero_page
-add_frame-requires-clause-bytes c = IsBlock-zero_page
 
 pub returns-in-Some-clause-held : goal.returns-in-Some-clause-held
 returns-in-Some-clause-held c = ap is_some (ap (λ m. finite.get m.pages c.args.p) (sym c.self.view_is) ∙ some_held (frame_in c.self.inside.frames.items) c.self.inside.table.places c.args.p c.in-Some.field-0 c.in-Some.ensures.value)
@@ -23,9 +19,8 @@ pub returns-in_ok-add_frame-in-None-clause-held : goal.returns-in_ok-add_frame-i
 returns-in_ok-add_frame-in-None-clause-held c = rw c.in_ok-add_frame-in-None.ensures.ok (held-insert_same _ _ _)
 
 pub returns-in_ok-add_frame-in-None-clause-same : goal.returns-in_ok-add_frame-in-None-clause-same
-unfolding zero_page
 returns-in_ok-add_frame-in-None-clause-same c = λ q.
-    rw c.in_ok-add_frame-in-None.ensures.ok
+    rw (c.in_ok-add_frame-in-None.ensures.ok, page_of-nothing)
     (frame_at-insert_zeros _ c.args.p q (ap is_some (none_held (frame_in c.self.inside.frames.items) c.self.inside.table.places c.args.p c.in-None.ensures.value))
     ∙ ap (λ m. frame_at m.pages q) c.self.view_is)
 

@@ -1,7 +1,7 @@
 -- The exit status of each status (this project's own).
 use Rattle.std.specs.Prelude.{ℕ}
-use Rattle.kexec_main.specs.declared.status.Status.{Status}
-use Rattle.kexec_main.specs.declared.status.Status.TheVariants as status
+use Rattle.command_parts.specs.declared.status.Status.{Status}
+use Rattle.command_parts.specs.declared.status.Status.TheVariants as status
 
 -- the exit status of each
 abbrev pub code_of : Status → ℕ

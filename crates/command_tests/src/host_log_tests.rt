@@ -1,8 +1,8 @@
 //! The top call over the host's files, with its log.
 
-use crate::kexec_recorded;
 use call_log::{Call, Logging};
 use kx_edge::{HostShelf, StdSink};
+use recorded_kexec::kexec_recorded;
 use std::test::Fail;
 
 #[test]

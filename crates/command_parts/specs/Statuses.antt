@@ -5,8 +5,8 @@ use Rattle.file_commands.specs.Taking.{too_long, by}
 use Rattle.file_commands.specs.Answers.{Answer, done, not_accepted, unread, unwritten, unsaid, memory, refused}
 use Rattle.command_parts.specs.declared.reason.Reason.{Reason}
 use Rattle.command_parts.specs.declared.reason.Reason.TheVariants as reasons
-use Rattle.kexec_main.specs.declared.status.Status.{Status}
-use Rattle.kexec_main.specs.declared.status.Status.TheVariants as status
+use Rattle.command_parts.specs.declared.status.Status.{Status}
+use Rattle.command_parts.specs.declared.status.Status.TheVariants as status
 
 -- how a command ended, by its status: names are the bytes of the names
 abbrev pub answer_of : Status → Answer ListFault Reason

@@ -4,10 +4,10 @@ ghost use Rattle.std.specs.Prelude.{◌≡◌};
 ghost use Rattle.file_commands.specs.Answers.{refused};
 ghost use Rattle.file_commands.specs.Taking.{by};
 ghost use Rattle.file_commands.specs.inner.Calls.{answer_of as stop_answer};
-ghost use Rattle.kexec_main.specs.Statuses.{answer_of};
-ghost use Rattle.kexec_main.specs.ExitStatuses.{code_of};
+ghost use Rattle.command_parts.specs.Statuses.{answer_of};
+ghost use Rattle.command_parts.specs.ExitStatuses.{code_of};
 
-use command_parts::{InputFault, Reason};
+use crate::reason::{InputFault, Reason};
 use command_table::UsageWhy;
 use file_commands::Stop;
 use image_slots::SlotsFault;
