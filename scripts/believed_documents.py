@@ -138,12 +138,14 @@ def files_as_they_must_be(library, reached, news=None):
     """The files that this script writes, each with its text."""
     tries = tried(library, reached, news)
     guide = filled(library, tries, GUIDE.read_text(encoding="utf8"))
-    whole = re.search(r"<!-- whole -->(\d+)<!-- end -->", guide)[1]
+    first, whole = (re.search(rf"<!-- {name} -->(\d+)<!-- end -->", guide)[1] for name in ("first", "whole"))
+    times = rf"\g<1>{first} minutes for the shortest boot, {whole} for all"
     return {
         LIST: "".join(list_of_names(library, tries[1])),
         GUIDE: guide,
         ENTRIES: marked(reached, ENTRIES.read_text(encoding="utf8")),
-        README: re.sub(r"(docs/BELIEVED.md \|[^|\n]*?)\d+ minutes", rf"\g<1>{whole} minutes", README.read_text(encoding="utf8")),
+        README: re.sub(r"(docs/BELIEVED.md \|[^|\n]*?)\d+ minutes for the shortest boot, \d+ for all", times,
+                       README.read_text(encoding="utf8")),
     }
 
 
