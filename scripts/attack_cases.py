@@ -9,10 +9,10 @@ import os
 import shutil
 import struct
 import subprocess
-import sys
 from dataclasses import dataclass, field
 
 import kexec_files as files
+import kexec_table
 from companion.kernels import setup_header
 
 EXAMPLES = f"{files.TOP}/examples"
@@ -108,6 +108,8 @@ def load_cases(object_file):
     cases.append(Case("load-panic", ["load-panic", "--map", "map", "--initrd", "initrd", "--notes", "notes",
                                      "memory.kxmem", "out", "record", "kernel"],
                       panic | {"notes": b"200000 168\n201000 168\n"}, ["out", "record"]))
+    resident = example("resident", "memory.kxmem", "pool", "kernel", "pairs")
+    cases.append(Case("boot-resident", ["boot-resident", "--at", "2000", *four, "pairs"], resident, ["out"]))
     core = example("core", "memory.kxmem", "map", "notes", "kernel")
     cases.append(Case("load-core", ["load-panic", "--map", "map", "--notes", "notes", "memory.kxmem", "out", "record", "kernel"],
                       core, ["out", "record"]))
@@ -142,18 +144,18 @@ def case_after(name, words, load, outputs, folder):
 
 
 def cases(folder, names):
-    """The cases of these names; all where none is given."""
+    """The cases of these names; all where none is given. Each command of the program's table has one."""
     by_name = {case.name: case for case in load_cases(purgatory(folder))}
     words = {name: case.words for name, case in by_name.items()} | {row[0]: row[1] for row in AFTER}
+    without = [command for command in kexec_table.read_commands() if command not in {its[0] for its in words.values()}]
+    if without:
+        raise files.Wrong(f"no case is of {', '.join(without)}: add one to scripts/attack_cases.py")
     rows = {name: row for name, *row in AFTER}
     chosen = []
     for name in names or words:
         if name not in words:
-            sys.exit(f"there is no case {name}: {', '.join(words)}")
-        lacking = files.unknown(words[name])
-        if lacking:
-            print(f"{name}: left out, the program has no {lacking}", flush=True)
-        elif name in by_name:
+            raise files.Wrong(f"there is no case {name}: {', '.join(words)}")
+        if name in by_name:
             chosen.append(by_name[name])
         else:
             told, load, outputs = rows[name]

@@ -49,7 +49,7 @@ def test_maps(tests):
     tests.same("crash area", maps.crash_area(rows), CRASH)
     pool = [(0x9E, 0x102), (0x1FFF, 0x2000), (0x3000, 0x3002), (0x5000, 0x5000)]
     wanted = [(0x9F, 0xFF, "taken by Reserved"), (0x2000, 0x2000, "taken by Crash kernel"),
-              (0x3000, 0x3001, "taken by Reserved"), (0x5000, 0x5000, "no System RAM")]  # fmt: skip
+              (0x3000, 0x3001, "taken by Reserved"), (0x5000, 0x5000, "no System RAM")]
     tests.same("pool pages that are not free RAM", pools.check_pool(pool, rows), wanted)
     tests.same("each free page is none of them", pools.check_pool([(a, b - 1) for a, b in FREE], rows), [])
     eight = maps.rows_of(maps.made_up(8 << 30, 256 << 20), "made up")
@@ -340,7 +340,7 @@ def test_json(tests):
                   ["look", "bytes", "m", "1ff0", "3000"], ["look", "steps", "m", "11002"], ["look", "steps", "m", "1"],
                   ["look", "differ", "m", "bad", "r"], ["look", "record", "kr"], ["look", "record", "c1"],
                   ["look", "list", "lm", "lr"], ["look", "list", "bad", "r"], ["look", "text", "dump"],
-                  ["compare", "r", "kr"], ["parameters", "kept/loaded.record", "--initrd", "initrd"]):  # fmt: skip
+                  ["compare", "r", "kr"], ["parameters", "kept/loaded.record", "--initrd", "initrd"]):
         _, out, said = tests.run(KERNELYET, *words, "--json")
         tests.same(f"{' '.join(words)} --json", (is_of(schema, json.loads(out or "0"), schema), said), (True, ""))
     tests.same("a number that is none", is_of(schema["$defs"]["number"], -1, schema), False)
@@ -364,4 +364,4 @@ def test_try(tests):
 
 
 ALL = (test_numbers, test_maps, test_pools, test_machine, test_running_machine, test_kernel_files, test_initrds, test_lists,
-       test_plan, test_crash_sizes, test_compare, test_warnings, test_pictures, test_scale, test_try, test_json)  # fmt: skip
+       test_plan, test_crash_sizes, test_compare, test_warnings, test_pictures, test_scale, test_try, test_json)

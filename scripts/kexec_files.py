@@ -3,30 +3,54 @@
 The readers and writers are the companion's (scripts/companion); here is what only the checks need.
 """
 import argparse
+import os
 import re
+import sys
 
 from companion import numbers, program
 from companion.maps import RAM, write_map
 from companion.memory_files import Memory, memory_bytes, write_memory
 from companion.numbers import END, PAGE
+from companion.parsers import integer, sentence_of
 from companion.program import KEXEC, TOP, build, tool
 from companion.records import DIGESTS, NUMBERS, Record, Segment, segments_of, without_digests
-from companion.refusals import Wrong, call
+from companion.refusals import Wrong, WrongWords, call
 
-__all__ = ["DIGESTS", "END", "KEXEC", "Memory", "NUMBERS", "PAGE", "Record", "Segment", "TOP", "Wrong", "build", "call",
-           "memory_bytes", "numbers", "read_record", "run", "segments_of", "tool", "unknown", "without_digests",
-           "words_given", "write_ram_map", "write_memory", "write_pool"]  # fmt: skip
+__all__ = ["DIGESTS", "END", "KEXEC", "Memory", "NUMBERS", "PAGE", "Parser", "Record", "Segment", "TOP", "Wrong",
+           "WrongWords", "build", "call", "integer", "memory_bytes", "numbers", "program_given", "read_record", "run",
+           "segments_of", "tool", "unknown", "without_digests", "words_given", "write_memory", "write_pool",
+           "write_ram_map"]
+
+
+class Parser(argparse.ArgumentParser):
+    """The words of a script whose text says how it is called: --help prints the text, and words that are refused are told in
+    one sentence, with status 2."""
+
+    def __init__(self, text):
+        super().__init__(description=text, formatter_class=argparse.RawDescriptionHelpFormatter, usage=argparse.SUPPRESS,
+                         allow_abbrev=False)
+
+    def error(self, message):
+        print(f"{self.prog}: {sentence_of(message)}; --help says what may be given", file=sys.stderr)
+        sys.exit(2)
 
 
 def words_given(text, word=None):
     """The words of a script's command line, of which each is such a WORD, and none is taken without it; --help prints the
     script's text and ends it."""
-    parser = argparse.ArgumentParser(description=text, formatter_class=argparse.RawDescriptionHelpFormatter,
-                                     usage=argparse.SUPPRESS)
+    parser = Parser(text)
     if word:
         parser.add_argument("words", nargs="*", metavar=word)
     given = parser.parse_args()
     return given.words if word else []
+
+
+def program_given(word):
+    """The program that a script is given, by a name that holds in every folder."""
+    path = os.path.abspath(word)
+    if not (os.path.isfile(path) and os.access(path, os.X_OK)):
+        raise WrongWords(f"{word} is not a program")
+    return path
 
 
 def write_ram_map(file, last):
@@ -54,7 +78,8 @@ def run(words, folder):
 
 def unknown(words):
     """What the program does not know of these words: the command or an option; None where it knows all."""
-    told = run([words[0], "--help"], TOP)[1]
+    _, printed, said = program.run([words[0], "--help"], TOP)
+    told = printed + said
     if not re.match(rf"Usage: \S+ {re.escape(words[0])} ", told):
         return f"command {words[0]}"
     return next((f"option {word}" for word in words if word.startswith("--") and word not in told), None)

@@ -81,7 +81,7 @@ def test_machines(tests):
     for way, is_apart, levels, code in (
         ("load", False, 4, EXCHANGES), ("file", False, 5, EXCHANGES), ("load", True, 5, COPIES),
         ("file", True, 4, EXCHANGES), ("crash", False, 4, EXCHANGES),
-    ):  # fmt: skip
+    ):
         machine = Machine(way, is_apart, code, levels)
         laid_out(tests, "one", machine)
         words = ["--crash"] * (way == "crash")
@@ -381,4 +381,4 @@ def in_folder(test):
 
 ALL = [in_folder(test) for test in (test_machines, test_spoiled, test_loader, test_touched, test_in_place, test_options,
                                     test_refusals, test_memory_limit, test_copying, test_names, test_spoils,
-                                    test_guest_memory, test_stub, test_runs)]  # fmt: skip
+                                    test_guest_memory, test_stub, test_runs)]

@@ -12,7 +12,7 @@ OTHERS = {
     b"DISKDUMP": "a dump in kdump's compressed format", b"\x1f\x8b": "compressed by gzip", b"\xfd7zXZ": "compressed by xz",
     b"\x28\xb5\x2f\xfd": "compressed by zstd", b"BZh": "compressed by bzip2", b"QFI\xfb": "a disk image (qcow2)",
     b"LibvirtQemudSave": "a saved machine of libvirt (virsh dump --memory-only makes a core file)",
-}  # fmt: skip
+}
 # /proc/kcore has the parts of the kernel that are at no place of memory at addresses above this
 MOST_ADDRESS = 1 << 52
 

@@ -17,7 +17,7 @@ FRONTS = [
     (0, b"07070", "a cpio archive, as an initrd is"),
     (4, b"zimg", "an EFI image with a compressed kernel in it"),
     (0, b"\x7fELF", "an ELF file"),
-]  # fmt: skip
+]
 # e_machine of ELF files that are not for x86-64 (62) or i386 (3)
 MACHINES = {40: "arm", 183: "arm64", 243: "RISC-V", 21: "POWER", 22: "S/390"}
 
@@ -45,7 +45,7 @@ class Kernel:
     FIELDS = {"setup_sects": ("<B", 0x1F1), "syssize": ("<I", 0x1F4), "version": ("<H", 0x206), "loadflags": ("<B", 0x211),
               "initrd_addr_max": ("<I", 0x22C), "kernel_alignment": ("<I", 0x230), "relocatable_kernel": ("<B", 0x234),
               "xloadflags": ("<H", 0x236), "cmdline_size": ("<I", 0x238), "payload_offset": ("<I", 0x248),
-              "payload_length": ("<I", 0x24C), "pref_address": ("<Q", 0x258), "init_size": ("<I", 0x260)}  # fmt: skip
+              "payload_length": ("<I", 0x24C), "pref_address": ("<Q", 0x258), "init_size": ("<I", 0x260)}
 
     def __init__(self, path):
         front = front_of(path)

@@ -58,15 +58,16 @@ class Formatter(argparse.RawDescriptionHelpFormatter):
         super().__init__(prog, max_help_position=22, width=81)
 
 
-def sentence_of(message, word):
-    """What argparse says, in this project's form."""
+def sentence_of(message, word=""):
+    """What argparse says of the words behind a word, or of a script's, in this project's form."""
     found = re.fullmatch(r"the following arguments are required: (.*)", message)
     if found:
         return f"{found[1]} {'are' if ',' in found[1] else 'is'} missing"
     found = re.fullmatch(r"unrecognized arguments: (\S+).*", message, re.S)
     if found:
         is_option = found[1].startswith("-")
-        return f"{found[1]!r} is " + (f"not an option of {word}" if is_option else f"one argument too many for {word}")
+        of, behind = (f" of {word}", f" for {word}") if word else ("", "")
+        return f"{found[1]!r} is " + (f"not an option{of}" if is_option else f"one argument too many{behind}")
     found = re.fullmatch(r"argument (\S+): invalid choice: (.*) \(choose from (.*)\)", message)
     if found:
         return f"{found[1]} cannot be {found[2]}: choose one of {found[3]}"

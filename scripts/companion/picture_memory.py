@@ -8,7 +8,7 @@ COLOURS = {
     "free": "#e8f3e4", "taken": "#c9c9c9", "crash": "#fbe6c8", "hole": "#f4f4f4", "kernel": "#4f86c6",
     "initrd": "#8e6bbf", "parameters": "#d24d57", "purgatory": "#a0724a", "headers": "#d97fb0", "segment": "#5aa6a6",
     "link": "#e3b505", "control": "#222222", "swap": "#7a7a00", "source": "#a9cdf0",
-}  # fmt: skip
+}
 # Of these there are many runs, which have one label together.
 MANY = {"source", "link"}
 # Parts of a load that lie no further from each other than this are magnified together.

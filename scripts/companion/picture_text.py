@@ -4,7 +4,7 @@ from companion.scene import OF_MAP
 
 LETTERS = {"free": ".", "taken": "x", "crash": "c", "hole": " ", "kernel": "K", "initrd": "I", "parameters": "P",
            "purgatory": "U", "headers": "H", "segment": "S", "link": "L", "control": "C", "swap": "W",
-           "source": "s"}  # fmt: skip
+           "source": "s"}
 # These are shown before all else: they are single pages, or few.
 FEW = ("control", "swap", "parameters", "headers", "purgatory")
 

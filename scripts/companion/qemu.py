@@ -47,7 +47,7 @@ class Machine:
             "-display", "none", "-monitor", "none", "-nic", "none", "-no-reboot",
             "-chardev", "stdio,id=console,signal=off", "-serial", "chardev:console",
             "-qmp", f"unix:{folder}/qmp,server=on,wait=off", *words,
-        ]  # fmt: skip
+        ]
         try:
             self.run = subprocess.Popen(words, stdin=subprocess.DEVNULL, stdout=subprocess.PIPE, stderr=subprocess.PIPE)
         except OSError:

@@ -7,6 +7,14 @@ import sys
 class Wrong(Exception):
     """An input that is refused: the one sentence that is said."""
 
+    status = 1
+
+
+class WrongWords(Wrong):
+    """Words of the command line that are refused."""
+
+    status = 2
+
 
 def _end_by_signals():
     """Lets a signal end the script as an exit does, so that its temporary folders go."""
@@ -37,7 +45,8 @@ def call(main, name=None):
         os.dup2(os.open(os.devnull, os.O_WRONLY), 1)
         status = 0
     except Wrong as wrong:
-        sys.exit(f"{name}: {wrong}")
+        print(f"{name}: {wrong}", file=sys.stderr)
+        status = wrong.status
     except OSError as error:
         sys.exit(f"{name}: {error.filename}: {error.strerror}" if error.filename else f"{name}: {error}")
     sys.exit(status)

@@ -11,7 +11,7 @@ KINDS = {
     "kernel": "kernel", "initrd": "initrd", "parameters": "boot parameters", "purgatory": "purgatory",
     "headers": "crash headers", "segment": "segment", "link": "link pages", "control": "control page",
     "swap": "swap page", "source": "sources of the list",
-}  # fmt: skip
+}
 # the kinds that the map has, without a load
 OF_MAP = {"free", "taken", "crash", "hole"}
 # a hole of more bytes than this is not drawn to scale

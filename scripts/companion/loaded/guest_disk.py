@@ -22,7 +22,7 @@ LOADS = {
     "crash-file": "-s -p /next/kernel --initrd=/next/initrd --command-line=\"$next\"",
     "multiboot": "-c -l --type=multiboot-x86 /next/kernel --command-line=\"console=com1 com1=115200,8n1\" "
                  "--module=\"/next/module console=hvc0 way=next quiet panic=-1\" --module=/next/initrd",
-}  # fmt: skip
+}
 INIT = """#!/bin/busybox sh
 /bin/busybox --install -s /bin
 mount -t proc proc /proc

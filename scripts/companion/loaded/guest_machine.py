@@ -30,7 +30,7 @@ class Guest(qemu.Machine):
             "-cpu", given.cpu, "-smp", str(given.processors), "-kernel", given.kernel, "-initrd", initrd,
             "-append", command_line(given), "-gdb", f"unix:{folder}/gdb,server=on,wait=off",
             "-chardev", f"socket,id=go,path={folder}/go,server=on,wait=off", "-serial", "chardev:go",
-        ]  # fmt: skip
+        ]
         super().__init__(folder, given.ram, words, False)
         self.line = self.connect("go")
 

@@ -9,7 +9,7 @@ from companion.numbers import counted
 from companion.refusals import Wrong
 
 HEAD = ("Linux", "Loaded by", "RAM", "KASLR", "Levels", "Segments, bytes", "Runs lists by", "Words", "Differed before",
-        "Compared", "Differ", "All of RAM: compared, differ")  # fmt: skip
+        "Compared", "Differ", "All of RAM: compared, differ")
 
 
 def lines_of(path):
