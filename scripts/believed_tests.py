@@ -92,7 +92,8 @@ FAULTS = [
     (BOOT, "boot_files n = plan n", "boot_files n = plan (hidden n)", "hidden belongs into specs/"),
     (BOOT, "-- The files", "-- Of no use.\npub idle : ℕ → ℕ\nidle n = n\n\n-- The files", "idle belongs into specs/inner/"),
     ("docs/BELIEVED.md", "`boot_files`, ", "files, ", "quotes small Boot.HasBooted, and says nothing of small Boot.boot_files"),
-    ("docs/BELIEVED.md", "`small Booted.MemoryStarts`", "`MemoryStarts`, `small Boot.none`", "names small Boot.none, which is not reached"),
+    ("docs/BELIEVED.md", "`small Booted.MemoryStarts`", "`MemoryStarts`, `small Boot.none`",
+     "names small Boot.none, which is not reached"),
     ("docs/DEFINITIONS.md", "† ", "", "docs/DEFINITIONS.md is not as it must be"),
     ("docs/DEFINITIONS.md", "- small `inner", "- † small `inner", "docs/DEFINITIONS.md is not as it must be"),
     ("README.md", "5 minutes", "10 minutes", "README.md is not as it must be"),
@@ -122,14 +123,15 @@ def test_believed(tests):
     tests.same("what the clauses reach", [line for line in listed if line and not line.startswith("#")], names)
     tests.same("by which names", [" ".join(line.split()[:2]) for line in call("--path", "Plan.plan")[1].splitlines()],
                ["small Boot.boot_files", "kexec_plan Plan.plan"])
-    tests.same("the quote", "HasBooted n = MemoryStarts (boot_files n)\n```" in tests.read("believed/docs/BELIEVED.md").decode(), True)
+    guide = tests.read("believed/docs/BELIEVED.md").decode()
+    tests.same("the quote", "HasBooted n = MemoryStarts (boot_files n)\n```" in guide, True)
     for name, old, new, wanted in FAULTS:
         text = tests.read(f"believed/{name}").decode()
         tests.same(f"{name} has it", old in text, True)
         tests.write(f"believed/{name}", text.replace(old, new, 1))
         status, _, said = call("--check")
-        tests.same(f"believed --check with {new!r}", (status, wanted in said, "Traceback" in said, "" if wanted in said else said),
-                   (1 if wanted else 0, True, False, ""))
+        found = status, wanted in said, "Traceback" in said, "" if wanted in said else said
+        tests.same(f"believed --check with {new!r}", found, (1 if wanted else 0, True, False, ""))
         # an import stands for the next change, and changes nothing by itself
         if wanted:
             tests.write(f"believed/{name}", text)
