@@ -3,6 +3,8 @@
 The readers and writers are the companion's (scripts/companion); here is what only the checks need.
 """
 import argparse
+import importlib.machinery
+import importlib.util
 import os
 import re
 import sys
@@ -17,7 +19,7 @@ from companion.records import DIGESTS, NUMBERS, Record, Segment, segments_of, wi
 from companion.refusals import Wrong, WrongWords, call
 
 __all__ = ["DIGESTS", "END", "KEXEC", "Memory", "NUMBERS", "PAGE", "Parser", "Record", "Segment", "TOP", "Wrong",
-           "WrongWords", "build", "call", "integer", "memory_bytes", "numbers", "program_given", "read_record", "run",
+           "WrongWords", "build", "call", "integer", "memory_bytes", "module_of", "numbers", "program_given", "read_record", "run",
            "segments_of", "tool", "unknown", "without_digests", "words_given", "write_memory", "write_pool",
            "write_ram_map"]
 
@@ -51,6 +53,15 @@ def program_given(word):
     if not (os.path.isfile(path) and os.access(path, os.X_OK)):
         raise WrongWords(f"{word} is not a program")
     return path
+
+
+def module_of(script):
+    """A script of this folder as a module."""
+    sys.dont_write_bytecode = True
+    loader = importlib.machinery.SourceFileLoader(script.replace("-", "_"), f"{TOP}/scripts/{script}")
+    module = importlib.util.module_from_spec(importlib.util.spec_from_loader(loader.name, loader))
+    loader.exec_module(module)
+    return module
 
 
 def write_ram_map(file, last):
