@@ -22,7 +22,7 @@ pub fn kexec(words: u8) -> u8
     words
 }
 """,
-    "crates/kexec_main/specs/ExitStatuses.antt": """-- The status.
+    "crates/command_parts/specs/ExitStatuses.antt": """-- The status.
 pub code_of : ℕ → ℕ
 code_of n = n
 """,
@@ -64,7 +64,10 @@ hidden n = n
 <!-- quote Boot.HasBooted -->
 <!-- end -->
 
-It speaks of `boot_files`, the files, and of `small Booted.MemoryStarts`.
+It speaks of `boot_files`, the files, and of `small Booted.MemoryStarts`:
+
+<!-- lines small Booted: MemoryStarts -->
+<!-- end -->
 
 <!-- half -->
 
@@ -81,7 +84,7 @@ Some <!-- first -->0<!-- end --> and <!-- whole -->0<!-- end --> minutes.
 """,
     "docs/BELIEVED.list": "",
     "docs/DEFINITIONS.md": "- small `Boot.HasBooted`: it is done.\n- small `inner.Hidden.hidden`: a law speaks of it.\n",
-    "README.md": "| docs/BELIEVED.md | what must be believed; some 0 minutes |\n",
+    "README.md": "| docs/BELIEVED.md | what must be believed; some 0 minutes for the shortest boot, 0 for all |\n",
 }
 BOOT = "crates/small/specs/Boot.antt"
 # What is changed in which file, and what --check then says.
@@ -96,7 +99,10 @@ FAULTS = [
      "names small Boot.none, which is not reached"),
     ("docs/DEFINITIONS.md", "† ", "", "docs/DEFINITIONS.md is not as it must be"),
     ("docs/DEFINITIONS.md", "- small `inner", "- † small `inner", "docs/DEFINITIONS.md is not as it must be"),
+    ("crates/small/specs/Booted.antt", "n ≡ n", "n ≡ 0", "docs/BELIEVED.md is not as it must be"),
+    ("docs/BELIEVED.md", ": MemoryStarts --", ": MemoryStarts/zero --", "has no line that begins with MemoryStarts zero"),
     ("README.md", "5 minutes", "10 minutes", "README.md is not as it must be"),
+    ("README.md", "5 for all", "10 for all", "README.md is not as it must be"),
     ("docs/BELIEVED.list", "small Boot.HasBooted\n", "", "docs/BELIEVED.list is not as it must be"),
 ]
 
@@ -118,13 +124,14 @@ def test_believed(tests):
     tests.same("believed --write", call("--write"), (0, "", ""))
     tests.same("what it wrote stands", call("--check"), (0, "", ""))
     listed = tests.read("believed/docs/BELIEVED.list").decode().split("\n")
-    names = ["kexec_main ExitStatuses.code_of", "kexec_plan Plan.plan", "small Boot.HasBooted", "small Boot.boot_files",
+    names = ["command_parts ExitStatuses.code_of", "kexec_plan Plan.plan", "small Boot.HasBooted", "small Boot.boot_files",
              "small Booted.MemoryStarts"]
     tests.same("what the clauses reach", [line for line in listed if line and not line.startswith("#")], names)
     tests.same("by which names", [" ".join(line.split()[:2]) for line in call("--path", "Plan.plan")[1].splitlines()],
                ["small Boot.boot_files", "kexec_plan Plan.plan"])
     guide = tests.read("believed/docs/BELIEVED.md").decode()
     tests.same("the quote", "HasBooted n = MemoryStarts (boot_files n)\n```" in guide, True)
+    tests.same("the lines alone", "```\nMemoryStarts n = n ≡ n\n```" in guide, True)
     for name, old, new, wanted in FAULTS:
         text = tests.read(f"believed/{name}").decode()
         tests.same(f"{name} has it", old in text, True)

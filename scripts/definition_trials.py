@@ -12,8 +12,8 @@ from kexec_files import module_of
 
 MOST_CHANGES = 9  # of a definition; most of the others are no definitions
 GROUPS = 100  # changes in one check
-EXAMPLES = (2, 4, 24)  # how many examples are tried at first, then, and then
-LIMIT = 1800  # seconds of a check
+EXAMPLES = (1, 3, 8, 18)  # how many examples are tried at first, then, and so on: the first one refuses most
+LIMIT = 900  # seconds of a processor that a check may take
 
 
 def clauses_of(path, function):
