@@ -20,8 +20,8 @@ from companion.refusals import Wrong, WrongWords, call
 from companion.written import to_write
 
 __all__ = ["DIGESTS", "END", "KEXEC", "Memory", "NUMBERS", "PAGE", "Parser", "Record", "Segment", "TOP", "Wrong",
-           "WrongWords", "build", "call", "integer", "memory_bytes", "module_of", "numbers", "program_given", "read_record",
-           "run", "segments_of", "to_write", "tool", "unknown", "without_digests", "words_given", "write_memory", "write_pool",
+           "WrongWords", "build", "call", "integer", "memory_bytes", "module_of", "numbers", "program_given", "random_bytes",
+           "read_record", "run", "segments_of", "to_write", "tool", "unknown", "without_digests", "words_given", "write_memory", "write_pool",
            "write_ram_map"]
 
 
@@ -63,6 +63,11 @@ def module_of(script):
     module = importlib.util.module_from_spec(importlib.util.spec_from_loader(loader.name, loader))
     loader.exec_module(module)
     return module
+
+
+def random_bytes(chance, count):
+    """So many bytes that are drawn; random.randbytes is not in Python 3.8."""
+    return chance.getrandbits(8 * count).to_bytes(count, "little") if count else b""
 
 
 def write_ram_map(file, last):

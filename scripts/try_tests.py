@@ -56,8 +56,8 @@ def test_small_kernels(tests):
     for text, end, wanted in ((b"[    1.2] reboot: System halted\r\n", STOP, "the kernel halted the machine"),
                               (b"up\r\n", RESET, "the machine reset itself"), (PANIC, STOP, "the kernel panicked: no init found")):
         code = b"".join(SAY % byte for byte in text) + end
-        tests.write("small", memory_bytes({FIRST + i: code[PAGE * i :][:PAGE] for i in range(-(-len(code) // PAGE))}))
-        status, out, said = tests.run(KERNELYET, "try", "--seconds", "200", "--start", start, "small")
+        tests.write("ending", memory_bytes({FIRST + i: code[PAGE * i :][:PAGE] for i in range(-(-len(code) // PAGE))}))
+        status, out, said = tests.run(KERNELYET, "try", "--seconds", "200", "--start", start, "ending")
         tests.same(f"a kernel that ends so: {wanted}", (status, out, f"kernelyet: {wanted}" in said.splitlines()[-1]),
                    (1, text.decode().replace("\r\n", "\n"), True))
 

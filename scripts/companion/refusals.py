@@ -1,7 +1,9 @@
 """How a script refuses: one sentence on standard error, and the status."""
 import errno
 import os
+import re
 import select
+import shutil
 import signal
 import stat
 import subprocess
@@ -54,7 +56,10 @@ def _unnamed():
 
 def _sentence_of_fault(error):
     """The sentence of a fault of the system: the file, and what is with it. Of a copy that finds no room, the second file is
-    the one that is written."""
+    the one that is written; of a folder that was copied, the first file is told that was not."""
+    if isinstance(error, shutil.Error):
+        _, path, why = error.args[0][0]
+        return f"{path}: " + re.sub(r"^\[Errno \d+\] |: '.*", "", why)
     if error.errno in FULL:
         return f"{error.filename2 or error.filename or _unnamed()}: {error.strerror}"
     return f"{error.filename}: {error.strerror}" if error.filename else str(error)
