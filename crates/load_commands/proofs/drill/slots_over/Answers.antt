@@ -1,4 +1,4 @@
-use Rattle.std.proofs.Common.{◌≡◌, ◌∙◌, ℕ, List, Option, None, ap, sym, subst}
+use Rattle.std.proofs.Common.{◌≡◌, ◌∙◌, List, Option, None, ap, sym, subst}
 use Rattle.std.specs.List.{find}
 use Rattle.kx_pages.specs.Spans.{AreApart, Run, in_spans}
 use Rattle.page_memory.specs.Contents.{at}

@@ -1,60 +1,44 @@
 use Rattle.std.proofs.Common.{rules, ◌≡◌, []}
-use Rattle.std.specs.Prelude.{string_bytes}
 use Rattle.file_commands.proofs.Steps.{start, next, stopped, wanting, finished}
-use Rattle.kexec_words.specs.inner.Values.{crash_inputs_value}
-use Rattle.load_commands.specs.CrashInputs.{crash_inputs}
-use Rattle.load_commands.specs.inner.Views.{crash_inputs_of}
 use Rattle.load_commands.proofs.inputs.take_crash_inputs.Goals as goal
 
 pub returns-in_err-memory : goal.returns-in_err-memory
 returns-in_err-memory g c =
-    let takes = crash_inputs (crash_inputs_value c.args.inputs) (string_bytes c.args.map) in
-    let begun = start g.S.Shelf takes c.args.shelf.now in
-    stopped g.S.Shelf _ _ _ crash_inputs_of _ (search rules) begun c.in_err-memory.ensures
+    stopped g.S.Shelf _ _ _ _ _ (search rules) (start g.S.Shelf _ c.args.shelf.now) c.in_err-memory.ensures
 
 pub returns-in_err-map : goal.returns-in_err-map
 returns-in_err-map g c =
-    let takes = crash_inputs (crash_inputs_value c.args.inputs) (string_bytes c.args.map) in
-    let begun = start g.S.Shelf takes c.args.shelf.now in
-    let memory = next g.S.Shelf _ _ begun c.in_ok-memory.ensures in
-    stopped g.S.Shelf _ _ _ crash_inputs_of _ (search rules) memory c.in_err-map.ensures
+    let memory = next g.S.Shelf _ _ (start g.S.Shelf _ c.args.shelf.now) c.in_ok-memory.ensures in
+    stopped g.S.Shelf _ _ _ _ _ (search rules) memory c.in_err-map.ensures
 
 pub returns-in_err-notes : goal.returns-in_err-notes
 returns-in_err-notes g c =
-    let takes = crash_inputs (crash_inputs_value c.args.inputs) (string_bytes c.args.map) in
-    let begun = start g.S.Shelf takes c.args.shelf.now in
-    let memory = next g.S.Shelf _ _ begun c.in_ok-memory.ensures in
+    let memory = next g.S.Shelf _ _ (start g.S.Shelf _ c.args.shelf.now) c.in_ok-memory.ensures in
     let map = next g.S.Shelf _ _ memory c.in_ok-map.ensures in
-    stopped g.S.Shelf _ _ _ crash_inputs_of _ (search rules) map c.in_err-notes.ensures
+    stopped g.S.Shelf _ _ _ _ _ (search rules) map c.in_err-notes.ensures
 
 pub returns-in_err-files : goal.returns-in_err-files
 returns-in_err-files g c =
-    let takes = crash_inputs (crash_inputs_value c.args.inputs) (string_bytes c.args.map) in
-    let begun = start g.S.Shelf takes c.args.shelf.now in
-    let memory = next g.S.Shelf _ _ begun c.in_ok-memory.ensures in
+    let none : c.new-modules.result.items ≡ [] = search rules in
+    let memory = next g.S.Shelf _ _ (start g.S.Shelf _ c.args.shelf.now) c.in_ok-memory.ensures in
     let map = next g.S.Shelf _ _ memory c.in_ok-map.ensures in
     let notes = next g.S.Shelf _ _ map c.in_ok-notes.ensures in
-    let none : c.new-modules.result.items ≡ [] = search rules in
-    stopped g.S.Shelf _ _ _ crash_inputs_of _ (search rules) notes (rw none at c.in_err-files.ensures.takes)
+    stopped g.S.Shelf _ _ _ _ _ (search rules) notes (rw none at c.in_err-files.ensures.takes)
 
 pub returns-in_err-request : goal.returns-in_err-request
 returns-in_err-request g c =
-    let takes = crash_inputs (crash_inputs_value c.args.inputs) (string_bytes c.args.map) in
-    let begun = start g.S.Shelf takes c.args.shelf.now in
-    let memory = next g.S.Shelf _ _ begun c.in_ok-memory.ensures in
+    let none : c.new-modules.result.items ≡ [] = search rules in
+    let memory = next g.S.Shelf _ _ (start g.S.Shelf _ c.args.shelf.now) c.in_ok-memory.ensures in
     let map = next g.S.Shelf _ _ memory c.in_ok-map.ensures in
     let notes = next g.S.Shelf _ _ map c.in_ok-notes.ensures in
-    let none : c.new-modules.result.items ≡ [] = search rules in
     let files = next g.S.Shelf _ _ notes (rw none at c.in_ok-files.ensures.takes) in
-    wanting g.S.Shelf crash_inputs_of _ (search rules) files
+    wanting g.S.Shelf _ _ (search rules) files
 
 pub returns : goal.returns
 returns g c =
-    let takes = crash_inputs (crash_inputs_value c.args.inputs) (string_bytes c.args.map) in
-    let begun = start g.S.Shelf takes c.args.shelf.now in
-    let memory = next g.S.Shelf _ _ begun c.in_ok-memory.ensures in
+    let none : c.new-modules.result.items ≡ [] = search rules in
+    let memory = next g.S.Shelf _ _ (start g.S.Shelf _ c.args.shelf.now) c.in_ok-memory.ensures in
     let map = next g.S.Shelf _ _ memory c.in_ok-map.ensures in
     let notes = next g.S.Shelf _ _ map c.in_ok-notes.ensures in
-    let none : c.new-modules.result.items ≡ [] = search rules in
     let files = next g.S.Shelf _ _ notes (rw none at c.in_ok-files.ensures.takes) in
     rw c.in_ok-request.ensures (finished g.S.Shelf files)
