@@ -1,6 +1,6 @@
 //! What the front of a refused file shows that it is, where its reader cannot say it: a file of another kind.
 
-use bzimage::BzFault;
+use bzimage::{BzFault, is_bzimage};
 use command_parts::{InputFault, Status};
 use elf_image::ElfFault;
 use kexec_plan::PlanFault;
@@ -34,6 +34,8 @@ pub(crate) enum Front {
     Memory,
     /// A load record.
     Record,
+    /// A Linux kernel.
+    Bzimage,
     /// An archive of cpio, as an initrd is.
     Initrd,
     /// A kernel for arm64.
@@ -62,6 +64,7 @@ impl Display for Front {
             ),
             Front::Memory => f.write_str("it is a memory file"),
             Front::Record => f.write_str("it is a load record"),
+            Front::Bzimage => f.write_str("it is a bzImage, which is a kernel"),
             Front::Initrd => {
                 f.write_str(
                     "it looks like an initrd, since it is a cpio archive: --initrd gives one",
@@ -109,6 +112,14 @@ fn own_kind(front: &[u8]) -> Option<Front> {
     None
 }
 
+// The same, or a Linux kernel.
+fn known_kind(front: &[u8]) -> Option<Front> {
+    if is_bzimage(front) {
+        return Some(Front::Bzimage);
+    }
+    own_kind(front)
+}
+
 // A file that stands beside kernels: an archive of cpio, by its magic number in initramfs(5) form (Linux,
 // Documentation/driver-api/early-userspace/buffer-format.rst), or a kernel for arm64.
 fn kernel_kind(front: &[u8]) -> Option<Front> {
@@ -151,12 +162,12 @@ fn memory_front(front: &[u8]) -> Option<Front> {
     if is_text(front) {
         return Some(Front::Text);
     }
-    own_kind(front).or(Some(Front::RawDump))
+    known_kind(front).or(Some(Front::RawDump))
 }
 
 // What is given as a load record.
 fn record_front(front: &[u8]) -> Option<Front> {
-    match own_kind(front) {
+    match known_kind(front) {
         Some(Front::Record) => None,
         Some(kind) => Some(kind),
         None if is_text(front) => Some(Front::Text),
@@ -170,7 +181,7 @@ fn text_front(front: &[u8]) -> Option<Front> {
     if has_such_a_line && !front.contains(&0) {
         return Some(Front::CarriageReturns);
     }
-    own_kind(front)
+    known_kind(front)
 }
 
 // What the front of a file that was taken for this word shows. That it is compressed is asked first: its bytes may look like

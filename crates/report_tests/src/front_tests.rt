@@ -44,14 +44,24 @@ fn arm_image() -> [u8; 64] {
     image
 }
 
+// The signature of a bzImage: Linux, Documentation/arch/x86/boot.rst.
+fn bzimage() -> [u8; 1024] {
+    let mut image = [0; 1024];
+    image[0x1fe..0x200].copy_from_slice(&[0x55, 0xaa]);
+    image[0x202..0x206].copy_from_slice(b"HdrS");
+    image
+}
+
 // Magic numbers of RFC 1952, the .xz file format and RFC 8878.
 #[test]
 fn what_is_given_as_a_memory_file_is_told(rt: HostRuntime) -> Result<(), Fail> {
+    let kernel = bzimage();
     let status = input(InputFault::Mem {
         fault: MemFault::BadMagic,
     });
     let sentence = "MEMORY \"m\": the memory file does not begin with KXMEM001";
-    let rows: [(&[u8], &str); 10] = [
+    let rows: [(&[u8], &str); 11] = [
+        (&kernel, "; it is a bzImage, which is a kernel"),
         (
             &[0x1f, 0x8b, 8],
             "; it is compressed: decompress it first, with gzip -dc",
