@@ -33,7 +33,7 @@ record IsRawOf (b : BootResidentValue) (x : LoadInputs) : Type 0 where
   image : x.request.image ≡ Raw b.at b.at
   purgatory : x.request.purgatory ≡ None
 
-raw_taken : (b : BootResidentValue) (held : Files) (x : LoadInputs) → reads (load_inputs (Raw b.at b.at) (raw_inputs b)) held ≡ Ok x → IsRawOf b x
+raw_taken : (b : BootResidentValue) (held : Files) (x : LoadInputs) → reads (load_inputs (Raw b.at b.at) (raw_inputs b.memory b.pool b.kernel)) held ≡ Ok x → IsRawOf b x
 raw_taken b held x e =
     let m = reads_cases (memory_file b.memory) _ held x e in
     let p = reads_cases (pool_file b.pool None) _ held x m.2 in
@@ -47,9 +47,9 @@ record Taken (b : BootResidentValue) (x : ResidentInputs) : Type 0 where
 
 taken : (b : BootResidentValue) (held : Files) (x : ResidentInputs) → reads (resident_files b) held ≡ Ok x → Taken b x
 taken b held x e =
-    let a = reads_cases (load_inputs (Raw b.at b.at) (raw_inputs b)) _ held x e in
+    let a = reads_cases (load_inputs (Raw b.at b.at) (raw_inputs b.memory b.pool b.kernel)) _ held x e in
     let rs = reads_cases (pairs_file b.pairs) _ held x a.2 in
-    subst (Taken b) (ok_is _ x held rs.2) (record { raw = raw_taken b held a.0 a.1; map = inputs_read (Raw b.at b.at) (raw_inputs b) held a.0 a.1 })
+    subst (Taken b) (ok_is _ x held rs.2) (record { raw = raw_taken b held a.0 a.1; map = inputs_read (Raw b.at b.at) (raw_inputs b.memory b.pool b.kernel) held a.0 a.1 })
 
 module _ {S O : Type 0} (D : Shelf S) (E : Sink O) where
   pub resident_memory_starts : ResidentMemoryStarts D E

@@ -16,11 +16,11 @@ use Rattle.kexec_words.specs.declared.commands.Runs.{Runs}
 use Rattle.kexec_words.specs.declared.commands.Runs.TheVariants.{Once, Twice}
 use Rattle.kexec_plan.specs.Requests.{Plan}
 use Rattle.load_commands.specs.Inputs.{LoadInputs}
-use Rattle.load_commands.specs.Loads.{NormalLoad, drawn_pages}
+use Rattle.load_commands.specs.NormalLoad.{NormalLoad, drawn_pages}
 use Rattle.command_parts.specs.Runs.{Leaves, after_runs, wish_of}
 use Rattle.plan_laws.specs.Memory.{HasArrived}
 use Rattle.boot_laws.specs.Returned.{BootedMemoryReturns, ReadsBesides}
-use Rattle.boot_laws.proofs.Booting.{boot_read, starts}
+use Rattle.boot_laws.proofs.Booting.{inputs_read, starts}
 
 -- no page of the list is one that does not stand in it
 others : (q : ℕ) (xs : List ℕ) → (Has q xs → ⊥) → AllByRecursion (λ x. x ≢ q) xs
@@ -49,11 +49,11 @@ returns (Some Twice) i p c N e l left = record { between_runs = between i p c l;
 module _ {S O : Type 0} (D : Shelf S) (E : Sink O) where
   pub booted_memory_returns : BootedMemoryReturns D E
   booted_memory_returns held s o s' o' b (x, e, h) twice =
-      let r = returns b.kept x.load h.planned h.checked (after_runs b.kept h.checked) twice h.load h.leaves in (
+      let r = returns b.kept x h.planned h.checked (after_runs b.kept h.checked) twice h.load h.leaves in (
         x,
         e,
         h,
-        starts (after_runs (Some Once) h.checked) x.load.request x.load.map h.planned h.load.planned r.between_runs (boot_read b held x e),
+        starts (after_runs (Some Once) h.checked) x.request x.map h.planned h.load.planned r.between_runs (inputs_read b.image b.inputs held x e),
         h.is_memory,
         r.behind_them,
       )

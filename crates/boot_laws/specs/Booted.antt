@@ -12,9 +12,11 @@ use Rattle.segments.specs.Values.{SegmentValue}
 use Rattle.file_commands.specs.Taking.{reads}
 use Rattle.kexec_words.specs.Values.{BootValue, LoadPanicValue, boot, load_panic}
 use Rattle.kexec_plan.specs.Requests.{Asked, Plan}
-use Rattle.load_commands.specs.Boot.{BootInputs, HasBooted, boot_files}
+use Rattle.load_commands.specs.Boot.{HasBooted}
+use Rattle.load_commands.specs.CrashInputs.{CrashInputs, crash_inputs}
+use Rattle.load_commands.specs.Inputs.{LoadInputs, load_inputs}
 use Rattle.kexec_main.specs.Call.{HasDone}
-use Rattle.load_commands.specs.LoadPanic.{HasLoadedPanic, LoadPanicCommand, load_panic_files}
+use Rattle.load_commands.specs.LoadPanic.{HasLoadedPanic}
 use Rattle.command_parts.specs.Outputs.{IsFileOf}
 use Rattle.command_parts.specs.Runs.{IsOnce, after_runs}
 use Rattle.plan_laws.specs.Kernels.{KernelFinds}
@@ -35,17 +37,17 @@ module _ {S O : Type 0} (D : Shelf S) (E : Sink O) where
   BootedMemoryStarts =
       (held : Files) (s : S) (o : O) (s' : S) (o' : O) (b : BootValue)
       → HasDone D E held s o s' o' (boot b) → IsOnce b.kept
-      → (x : BootInputs) × (reads (boot_files b) held ≡ Ok x)
-      × (h : HasBooted D E s o s' o' b x.load)
+      → (i : LoadInputs) × (reads (load_inputs b.image b.inputs) held ≡ Ok i)
+      × (h : HasBooted D E s o s' o' b i)
       × IsFileOf (after_runs b.kept h.checked) h.output
-      × MemoryStarts (after_runs b.kept h.checked) x.load.request x.load.map h.planned
+      × MemoryStarts (after_runs b.kept h.checked) i.request i.map h.planned
 
   -- After a `load-panic` that was done, OUT is the file of a memory that starts the crash kernel.
   abbrev pub PanicMemoryStarts : Type 0
   PanicMemoryStarts =
       (held : Files) (s : S) (o : O) (s' : S) (o' : O) (l : LoadPanicValue)
       → HasDone D E held s o s' o' (load_panic l)
-      → (x : LoadPanicCommand) × (reads (load_panic_files l) held ≡ Ok x)
-      × (h : HasLoadedPanic D E s o s' o' l x.load)
+      → (i : CrashInputs) × (reads (crash_inputs l.inputs l.map) held ≡ Ok i)
+      × (h : HasLoadedPanic D E s o s' o' l i)
       × IsFileOf (at h.loaded.memory) h.output
-      × MemoryStarts (at h.loaded.memory) x.load.request (Some x.load.map) h.planned
+      × MemoryStarts (at h.loaded.memory) i.request (Some i.map) h.planned

@@ -11,9 +11,10 @@ use Rattle.page_memory.specs.Contents.{at}
 use Rattle.file_commands.specs.Taking.{reads}
 use Rattle.kexec_words.specs.Values.{BootValue, boot}
 use Rattle.kexec_words.specs.declared.commands.Runs.TheVariants.{Once, Twice}
-use Rattle.load_commands.specs.Boot.{BootInputs, HasBooted, boot_files}
+use Rattle.load_commands.specs.Boot.{HasBooted}
 use Rattle.kexec_main.specs.Call.{HasDone}
-use Rattle.load_commands.specs.Loads.{drawn_pages}
+use Rattle.load_commands.specs.Inputs.{LoadInputs, load_inputs}
+use Rattle.load_commands.specs.NormalLoad.{drawn_pages}
 use Rattle.command_parts.specs.Outputs.{IsFileOf}
 use Rattle.command_parts.specs.Runs.{after_runs}
 use Rattle.boot_laws.specs.Booted.{MemoryStarts}
@@ -29,9 +30,8 @@ module _ {S O : Type 0} (D : Shelf S) (E : Sink O) where
   BootedMemoryReturns =
       (held : Files) (s : S) (o : O) (s' : S) (o' : O) (b : BootValue)
       → HasDone D E held s o s' o' (boot b) → b.kept ≡ Some Twice
-      → (x : BootInputs) × (reads (boot_files b) held ≡ Ok x)
-      × (h : HasBooted D E s o s' o' b x.load)
-      × MemoryStarts (after_runs (Some Once) h.checked) x.load.request x.load.map h.planned
+      → (i : LoadInputs) × (reads (load_inputs b.image b.inputs) held ≡ Ok i)
+      × (h : HasBooted D E s o s' o' b i)
+      × MemoryStarts (after_runs (Some Once) h.checked) i.request i.map h.planned
       × IsFileOf (after_runs b.kept h.checked) h.output
-      × ReadsBesides (drawn_pages Kept x.load h.planned) (after_runs b.kept h.checked)
-      (at x.load.memory)
+      × ReadsBesides (drawn_pages Kept i h.planned) (after_runs b.kept h.checked) (at i.memory)

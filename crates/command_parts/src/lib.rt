@@ -7,10 +7,12 @@
 //! | `status` | how a command ended |
 //! | `files` | the memory file, and the limits of the others |
 //! | `startup` | how a kernel starts, as a plan or a record tells it |
+//! | `counts` | what is told of an accepted list |
 //! | `running` | runs of an accepted list |
 //! | `output`, `text` | the file of a memory, and the lines that commands say |
 #![tactic(auto)]
 
+mod counts;
 mod files;
 mod output;
 mod reason;
@@ -19,6 +21,7 @@ mod startup;
 mod status;
 mod text;
 
+pub use counts::ListCounts;
 pub use files::{TEXT_LIMIT, refusal_by, take_memory};
 pub use output::{memory_output, one};
 pub use reason::{InputFault, Reason};

@@ -1,18 +1,18 @@
 //! Accepted lists are run. Running takes no memory; what is said of it is made afterwards, in `text`.
 
-ghost use Rattle.std.specs.Prelude.{◌≡◌, List, length, IfOk, Some, None};
+ghost use Rattle.std.specs.Prelude.{◌≡◌, List, IfOk, Some, None};
 ghost use Rattle.kx_pages.specs.declared.item.Item.{Item};
 ghost use Rattle.page_memory.specs.Contents.{at};
 ghost use Rattle.page_memory.specs.Memory.{Agree};
 ghost use Rattle.segments.specs.Values.{want};
 ghost use Rattle.kx_pages.specs.Modes.{swap_page};
 ghost use Rattle.list_checker.specs.Walk.{IsAccepted};
-ghost use Rattle.list_checker.specs.Checked.{as_pair};
 ghost use Rattle.load_states.specs.inner.Answers.{IsAcceptedAs};
 ghost use Rattle.load_states.specs.Exchange.{exchange};
 ghost use Rattle.load_states.specs.States.{Load, swap_of};
-ghost use Rattle.command_parts.specs.inner.Ran.{HasMode, HasRun, RunsLoaded};
+ghost use Rattle.command_parts.specs.inner.Ran.{HasMode, HasRun, RunsLoaded, runs_in};
 
+use crate::counts::ListCounts;
 use kexec_words::Runs;
 use kx_pages::Image;
 use list_checker::CheckFault;
@@ -25,9 +25,7 @@ use std::alloc::{AllocError, Global};
 pub struct Ran {
     pub memory: Memory,
     pub image: Image,
-    pub words: u64,
-    pub links: u64,
-    pub pairs: u64,
+    pub counts: ListCounts,
     /// The steps of the first run.
     pub steps: u64,
     /// The steps of the second run, where there was one.
@@ -40,15 +38,13 @@ fn run_plain(accepted: AcceptedPlain) -> Ran
 {
     let image = accepted.image();
     let accept = accepted.accept_data();
-    let (words, links, pairs) = (accept.words, accept.links, accept.pairs.len() as u64);
+    let counts = ListCounts::of_accept(accept);
     let ran = accepted.exec();
     let steps = ran.steps();
     Ran {
         memory: ran.into_memory(),
         image,
-        words,
-        links,
-        pairs,
+        counts,
         steps,
         back: None,
     }
@@ -72,16 +68,14 @@ fn run_kept(accepted: AcceptedKept, runs: Runs) -> Ran
 {
     let image = accepted.image();
     let accept = accepted.accept_data();
-    let (words, links, pairs) = (accept.words, accept.links, accept.pairs.len() as u64);
+    let counts = ListCounts::of_accept(accept);
     let ran = accepted.exec();
     let steps = ran.steps();
     match runs {
         Runs::Once => Ran {
             memory: ran.into_memory(),
             image,
-            words,
-            links,
-            pairs,
+            counts,
             steps,
             back: None,
         },
@@ -90,9 +84,7 @@ fn run_kept(accepted: AcceptedKept, runs: Runs) -> Ran
             Ran {
                 memory,
                 image,
-                words,
-                links,
-                pairs,
+                counts,
                 steps,
                 back: Some(second),
             }
@@ -101,14 +93,13 @@ fn run_kept(accepted: AcceptedKept, runs: Runs) -> Ran
 }
 
 /// Runs an accepted list: a plain one once, and one with context preserved as often as is asked.
-pub fn run_accepted(accepted: Accepted, runs: Option<Runs>) -> Ran
-    requires { (s : Load) × IsAcceptedAs s accepted × HasMode runs s.image.mode }
-    ensures { (s : Load) → IsAcceptedAs s accepted → RunsLoaded runs s result }
+pub fn run_accepted(accepted: Accepted, runs: Runs) -> Ran
+    ensures { (s : Load) → IsAcceptedAs s accepted
+        → RunsLoaded (runs_in s.image.mode runs) s result }
 {
-    match (accepted, runs) {
-        (Accepted::Plain(plain), None) => run_plain(plain),
-        (Accepted::Kept(kept), Some(runs)) => run_kept(kept, runs),
-        _ => unreachable!(),
+    match accepted {
+        Accepted::Plain(plain) => run_plain(plain),
+        Accepted::Kept(kept) => run_kept(kept, runs),
     }
 }
 
@@ -137,5 +128,5 @@ pub fn run_loaded(alloc: Global, loaded: Loaded, runs: Option<Runs>) -> Result<R
     ensures { IfOk result (λ r. RunsLoaded runs loaded r) }
 {
     let accepted = accept(alloc, loaded)?;
-    Ok(run_accepted(accepted, runs))
+    Ok(run_accepted(accepted, runs.unwrap_or(Runs::Once)))
 }

@@ -6,6 +6,7 @@ ghost use Rattle.command_parts.specs.inner.Ran.{ran_text};
 ghost use Rattle.page_memory.specs.Contents.{at};
 ghost use Rattle.command_parts.specs.Texts.{accepted_line, crash_line, crash_lines, crash_ran_text, head_line, load_lines, purgatory_line, ran_line, regions_line, start_line};
 
+use crate::counts::ListCounts;
 use crate::running::Ran;
 use crate::startup::{PurgatoryPlaces, Startup};
 use kx_pages::{Image, Mode, Start};
@@ -14,15 +15,16 @@ use page_memory::Memory;
 use purgatory_link::{RegionTest, test_regions};
 use std::alloc::{AllocError, Global};
 
-/// How many words the walk of an accepted list has, how many link pages, and how many pairs.
-pub fn accepted_line(
-    alloc: Global,
-    words: u64,
-    links: u64,
-    pairs: u64,
-) -> Result<String, AllocError>
-    ensures { IfOk result (λ s. string_bytes s ≡ accepted_line words links pairs) }
+/// What is told of an accepted list.
+pub fn accepted_line(alloc: Global, counts: ListCounts) -> Result<String, AllocError>
+    ensures { IfOk result
+        (λ s. string_bytes s ≡ accepted_line counts.words counts.links counts.pairs) }
 {
+    let ListCounts {
+        words,
+        links,
+        pairs,
+    } = counts;
     format!(in alloc; "accepted words {words} links {links} pairs {pairs}\n")
 }
 
@@ -57,15 +59,14 @@ fn start_line(alloc: Global, start: &Start) -> Result<String, AllocError>
 /// What a load says: of its list, of what running it takes, and of the new kernel's start.
 pub fn load_lines(
     alloc: Global,
-    words: u64,
-    links: u64,
-    pairs: u64,
+    counts: ListCounts,
     image: &Image,
     start: &Start,
 ) -> Result<String, AllocError>
-    ensures { IfOk result (λ s. string_bytes s ≡ load_lines words links pairs image.now start.now) }
+    ensures { IfOk result (λ s. string_bytes s
+        ≡ load_lines counts.words counts.links counts.pairs image.now start.now) }
 {
-    let mut text = accepted_line(alloc, words, links, pairs)?;
+    let mut text = accepted_line(alloc, counts)?;
     text.push_str(&head_line(alloc, image)?)?;
     text.push_str(&start_line(alloc, start)?)?;
     Ok(text)
@@ -110,7 +111,7 @@ pub fn ran_text(alloc: Global, ran: &Ran, startup: Startup) -> Result<String, Al
     ensures { IfOk result (λ s. string_bytes s ≡ ran_text ran.now startup) }
 {
     let Startup { start, purgatory } = startup;
-    let mut text = load_lines(alloc, ran.words, ran.links, ran.pairs, &ran.image, &start)?;
+    let mut text = load_lines(alloc, ran.counts, &ran.image, &start)?;
     push_ran_line(alloc, &mut text, ran.steps)?;
     match ran.back {
         Some(steps) => push_ran_line(alloc, &mut text, steps)?,

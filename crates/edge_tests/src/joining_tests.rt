@@ -12,9 +12,15 @@ use kx_edge::{MemoryShelf, MemorySink, Shelf, ShelfFault};
 use std::alloc::{AllocError, Global};
 use std::test::Fail;
 
-// A head, which may be named, and parts that have 9 bytes together, by the names of their files.
+// Files are joined to one of this name.
 #[derive(Drop)]
 struct Join {
+    out: String,
+}
+
+// The names of a head, where there is one, and of parts that have 9 bytes together.
+#[derive(Drop)]
+struct JoinNames {
     head: Option<String>,
     parts: Vec<String>,
 }
@@ -34,6 +40,8 @@ struct Empty;
 struct HeadAlone;
 
 impl Command for Join {
+    type Names = JoinNames;
+
     type Taken = Joined;
 
     type Fault = HeadAlone;
@@ -44,19 +52,23 @@ impl Command for Join {
 
     ghost inputs = { λ t. (option_map (λ b. b.items) t.head, map file_of t.parts.items) };
 
-    ghost takes = { λ j. optional_file (whole_file 9) (option_map string_bytes j.head)
-        >>= λ head. all_files 9 (map string_bytes j.parts.items) >>= λ parts. ok (head, parts) };
+    ghost takes = { λ n. optional_file (whole_file 9) (option_map string_bytes n.head)
+        >>= λ head. all_files 9 (map string_bytes n.parts.items) >>= λ parts. ok (head, parts) };
 
-    ghost makes = { λ _ _. Unit {0} };
+    ghost makes = { λ _ _ _. Unit {0} };
 
-    fn take<S: Shelf>(self, alloc: Global, shelf: &mut S) -> Result<Joined, TakeFault<Empty>> {
-        let Join { head, parts } = self;
+    fn take<S: Shelf>(
+        alloc: Global,
+        names: JoinNames,
+        shelf: &mut S,
+    ) -> Result<Joined, TakeFault<Empty>> {
+        let JoinNames { head, parts } = names;
         let head = take_optional(alloc, head, 9, shelf)?;
         let parts = take_all(alloc, parts, 9, shelf)?;
         Ok(Joined { head, parts })
     }
 
-    fn make(alloc: Global, joined: Joined) -> Result<Goods<HeadAlone>, MakeFault<Empty>> {
+    fn make(self, alloc: Global, joined: Joined) -> Result<Goods<HeadAlone>, MakeFault<Empty>> {
         let Joined { head, parts } = joined;
         let fault = if parts.is_empty() {
             Some(HeadAlone)
@@ -71,8 +83,12 @@ impl Command for Join {
             return Err(MakeFault::Refused { why: Empty });
         }
         let text = format!(in alloc; "parts {}\n", parts.len())?;
-        let name = String::from_str(alloc, "out")?;
-        let outputs = vec![in alloc; File { name, bytes }]?;
+        let outputs = vec![in alloc;
+            File {
+                name: self.out,
+                bytes
+            },
+        ]?;
         Ok(Goods {
             outputs,
             text,
@@ -219,7 +235,10 @@ fn each_answer_leaves_what_it_says(rt: HostRuntime) -> Result<(), Fail> {
             Some(String::from_str(alloc, head)?)
         };
         let parts = names(alloc, parts)?;
-        let answer = run(alloc, Join { head, parts }, &mut shelf, &mut out);
+        let join = Join {
+            out: String::from_str(alloc, "out")?,
+        };
+        let answer = run(alloc, JoinNames { head, parts }, join, &mut shelf, &mut out);
         assert!(rt; kind(&answer) == ended, "{}", ended.0);
         assert_eq!(rt; out.said(), text.as_bytes());
         match output {

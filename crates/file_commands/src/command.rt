@@ -11,8 +11,11 @@ use crate::stop::{MakeFault, Stop, TakeFault};
 use kx_edge::{Shelf, Sink};
 use std::alloc::Global;
 
-/// A command over files: its words, which say what it takes and what it makes of that.
-pub trait Command {
+/// A command over files: how it is to be done. What it takes has names of its own.
+pub trait Command: Drop {
+    /// The names of what it takes.
+    type Names;
+
     /// What it takes.
     type Taken;
 
@@ -28,61 +31,64 @@ pub trait Command {
     ghost inputs: { Self.Taken → Inputs };
 
     /// The files that it takes, and what is read of them.
-    ghost takes: { Self → Take Self.Reason Inputs };
+    ghost takes: { Self.Names → Take Self.Reason Inputs };
 
     /// What it makes of that.
-    ghost makes: { Inputs → Result (GoodsOf Self.Fault) (Refusal Self.Reason) → Type 0 };
+    ghost makes: { Self → Inputs → Result (GoodsOf Self.Fault) (Refusal Self.Reason) → Type 0 };
 
     /// Takes its files.
     fn take<S: Shelf>(
-        self,
         alloc: Global,
+        names: Self::Names,
         shelf: &mut S,
     ) -> Result<Self::Taken, TakeFault<Self::Reason>>
-        ensures { Takes S.Shelf (takes self) inputs shelf.old result shelf.new };
+        ensures { Takes S.Shelf (takes names) inputs shelf.old result shelf.new };
 
     /// Makes its goods of what was taken.
     fn make(
+        self,
         alloc: Global,
         taken: Self::Taken,
     ) -> Result<Goods<Self::Fault>, MakeFault<Self::Reason>>
-        ensures { Makes makes (inputs taken) result };
+        ensures { Makes (makes self) (inputs taken) result };
 }
 
 // What each answer says, in one clause.
 fn take_make_deliver<C: Command, S: Shelf, O: Sink>(
     alloc: Global,
+    names: C::Names,
     command: C,
     shelf: &mut S,
     out: &mut O,
 ) -> Result<(), Stop<C::Fault, C::Reason>>
-    ensures { Meets S.Shelf O.Sink (command_of (C.takes command) C.makes) shelf.old out.old
+    ensures { Meets S.Shelf O.Sink (command_of (C.takes names) (C.makes command)) shelf.old out.old
         (call_answer result) shelf.new out.new }
 {
-    let taken = command.take(alloc, shelf)?;
-    let goods = C::make(alloc, taken)?;
+    let taken = C::take(alloc, names, shelf)?;
+    let goods = command.make(alloc, taken)?;
     deliver(goods, shelf, out)
 }
 
 /// Runs a command: takes its files, makes its goods in memory, and puts and says them.
 pub fn run<C: Command, S: Shelf, O: Sink>(
     alloc: Global,
+    names: C::Names,
     command: C,
     shelf: &mut S,
     out: &mut O,
 ) -> Result<(), Stop<C::Fault, C::Reason>>
     // Each answer has its cause, and says what stands after it.
-    ensures meets { Meets S.Shelf O.Sink (command_of (C.takes command) C.makes) shelf.old out.old
-        (call_answer result) shelf.new out.new }
+    ensures meets { Meets S.Shelf O.Sink (command_of (C.takes names) (C.makes command))
+        shelf.old out.old (call_answer result) shelf.new out.new }
 
     // Over files that are told it is so by what is read of them.
     ensures told { IfSome (S.files shelf.old)
-        (λ held. MeetsTold S.Shelf O.Sink (command_of (C.takes command) C.makes) held shelf.old
-        out.old (call_answer result) shelf.new out.new) }
+        (λ held. MeetsTold S.Shelf O.Sink (command_of (C.takes names) (C.makes command)) held
+        shelf.old out.old (call_answer result) shelf.new out.new) }
 
     // What is in order is done where no device fails, or memory is wanted.
-    ensures completes { Completes S.Shelf O.Sink (command_of (C.takes command) C.makes) shelf.old
-        out.old (call_answer result) shelf.new out.new }
+    ensures completes { Completes S.Shelf O.Sink (command_of (C.takes names) (C.makes command))
+        shelf.old out.old (call_answer result) shelf.new out.new }
 {
-    take_make_deliver(alloc, command, shelf, out)
+    take_make_deliver(alloc, names, command, shelf, out)
 }

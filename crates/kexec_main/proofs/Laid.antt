@@ -6,7 +6,7 @@ use Rattle.file_commands.specs.Answers.{MeetsTold, done}
 use Rattle.kexec_words.specs.Values.{CommandValue}
 use Rattle.kexec_words.specs.Values as words
 use Rattle.kexec_main.specs.Commands.{entry_of}
-use Rattle.load_commands.specs.Laid.{HasLaid}
+use Rattle.load_commands.specs.ByRules.{HasLaid}
 use Rattle.load_commands.proofs.Commands.Boot.{booted_laid}
 use Rattle.load_commands.proofs.Commands.Load.{loaded_laid}
 

@@ -16,9 +16,8 @@ use Rattle.load_states.specs.Fillings.{IsSealed}
 use Rattle.load_states.specs.inner.Runs.{IsSameCheck, IsSameLoad}
 use Rattle.load_states.specs.States.{Checked, Load}
 use Rattle.load_states.proofs.Alike.{tells_alike}
-use Rattle.file_commands.specs.Taking.{Refusal, ok, reads}
+use Rattle.file_commands.specs.Taking.{Refusal, reads}
 use Rattle.file_commands.specs.inner.Taking.{file_at}
-use Rattle.file_commands.proofs.Steps.{reads_cases}
 use Rattle.kexec_words.specs.declared.commands.Runs.{Runs}
 use Rattle.kexec_words.specs.declared.commands.Runs.TheVariants.{Once, Twice}
 use Rattle.kexec_words.specs.Values.{BootValue, ExecValue, LoadValue}
@@ -28,19 +27,19 @@ use Rattle.kexec_plan.specs.declared.fault.PlanFault.{PlanFault}
 use Rattle.list_commands.specs.declared.records.LoadFiles.{LoadFiles}
 use Rattle.list_commands.specs.declared.records.TakenLoad.TheVariants.{Normal}
 use Rattle.command_parts.specs.declared.reason.Reason.{Reason}
-use Rattle.load_commands.specs.Boot.{BootInputs, HasBooted, boot_files}
-use Rattle.list_commands.specs.Exec.{HasExecuted, exec_files, exec_of, files_text, runs_asked, runs_of}
-use Rattle.list_commands.specs.Records.{list_files}
+use Rattle.load_commands.specs.Boot.{HasBooted}
+use Rattle.list_commands.specs.Exec.{HasExecuted, files_text, runs_asked, runs_of}
+use Rattle.list_commands.specs.Records.{list_files, load_files}
 use Rattle.load_commands.specs.Inputs.{LoadInputs, load_inputs}
-use Rattle.load_commands.specs.Load.{HasLoaded, LoadCommand, load_command_files, load_wish, record_of_load}
-use Rattle.load_commands.specs.Loads.{IsLaid, NormalLoad}
+use Rattle.load_commands.specs.Load.{HasLoaded, load_wish, record_of_load}
+use Rattle.load_commands.specs.NormalLoad.{IsLaid, NormalLoad}
 use Rattle.command_parts.specs.Outputs.{IsFileOf}
 use Rattle.command_parts.specs.Runs.{after_runs, run_text, wish_of}
 use Rattle.load_commands.specs.Startup.{planned_startup}
 use Rattle.kexec_main.specs.inner.Together.{AskTogether, LoadThenExecIsBoot, booted_text, is_twice}
 use Rattle.list_commands.proofs.Reread.{IsReadAs, exec_read, record_found}
 use Rattle.command_parts.proofs.Found.{memory_found}
-use Rattle.load_commands.proofs.Loads.{sealed_alike}
+use Rattle.load_commands.proofs.NormalLoad.{sealed_alike}
 use Rattle.command_parts.proofs.Alike.{same_after, same_text}
 use Rattle.command_parts.proofs.Outputs.{file_agrees, one_file}
 
@@ -66,22 +65,19 @@ same_runs (Some Twice) swap twice mode e m = ap (runs_of twice) m ∙ ap (λ t. 
 
 module _ {S O : Type 0} (D : Shelf S) (E : Sink O) (held after : Files) (s t u s' t' u' : S) (o p q o' p' q' : O) (b : BootValue) (l : LoadValue) (e : ExecValue)
     (ask : AskTogether b l e)
-    (x : BootInputs) (boot_read : reads (boot_files b) held ≡ Ok x) (boot : HasBooted D E s o s' o' b x.load) (boot_laid : IsLaid (wish_of b.kept) x.load boot.planned boot.checked)
-    (y : LoadCommand) (load_read : reads (load_command_files l) held ≡ Ok y) (load : HasLoaded D E t p t' p' l y.load) (load_laid : IsLaid (load_wish l) y.load load.planned load.checked)
-    (files : LoadFiles) (files_read : reads (exec_files e) after ≡ Ok (exec_of e (Normal files))) (exec : HasExecuted D E u q u' q' e files)
+    (x : LoadInputs) (boot_read : reads (load_inputs b.image b.inputs) held ≡ Ok x) (boot : HasBooted D E s o s' o' b x) (boot_laid : IsLaid (wish_of b.kept) x boot.planned boot.checked)
+    (y : LoadInputs) (load_read : reads (load_inputs l.image l.inputs) held ≡ Ok y) (load : HasLoaded D E t p t' p' l y) (load_laid : IsLaid (load_wish l) y load.planned load.checked)
+    (files : LoadFiles) (files_read : reads (load_files e.memory e.load_record) after ≡ Ok (Normal files)) (exec : HasExecuted D E u q u' q' e files)
     (memory_put : file_at after l.out ≡ load.output) (record_put : file_at after l.load_record ≡ record_file (record_of_load load.checked.load load.planned)) where
   -- both loads are of the same inputs
-  same_inputs : y.load ≡ x.load
+  same_inputs : y ≡ x
   same_inputs =
-      let i = reads_cases (load_inputs b.image b.inputs) (λ i. ok (record { load = i; runs = b.kept; out = b.out })) held x boot_read in
-      let j = reads_cases (load_inputs l.image l.inputs) (λ i. ok (record { load = i; wish = load_wish l; out = l.out; load_record = l.load_record })) held y load_read in
       let read : reads (load_inputs l.image l.inputs) held ≡ reads (load_inputs b.image b.inputs) held =
       ap (λ image. reads (load_inputs image l.inputs) held) ask.image ∙ ap (λ i. reads (load_inputs b.image i) held) ask.inputs in
-      let one : j.0 ≡ i.0 = ok_same {F = Refusal Reason} j.0 i.0 (sym j.1 ∙ read ∙ i.1) in
-      ap (λ (x : LoadCommand). x.load) (sym (ok_same {F = Refusal Reason} _ y j.2)) ∙ one ∙ ap (λ (x : BootInputs). x.load) (ok_same {F = Refusal Reason} _ x i.2)
+      ok_same {F = Refusal Reason} y x (sym load_read ∙ read ∙ boot_read)
 
   alike : (load.planned ≡ boot.planned) × IsSameLoad boot.checked.load load.checked.load
-  alike = loads_alike (wish_of b.kept) (load_wish l) x.load y.load boot.planned load.planned boot.checked load.checked ask.wish same_inputs boot.load load.load boot_laid load_laid
+  alike = loads_alike (wish_of b.kept) (load_wish l) x y boot.planned load.planned boot.checked load.checked ask.wish same_inputs boot.load load.load boot_laid load_laid
 
   -- the record and the memory that `exec` read are those that `load` put
   read_as : IsReadAs e after files

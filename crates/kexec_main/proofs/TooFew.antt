@@ -14,11 +14,9 @@ use Rattle.kexec_words.specs.Values as words
 use Rattle.command_parts.specs.declared.reason.InputFault.TheVariants as inputs
 use Rattle.command_parts.specs.declared.reason.Reason.{Reason}
 use Rattle.command_parts.specs.declared.reason.Reason.TheVariants.{Input, NoPages}
-use Rattle.load_commands.specs.Boot.{boot_files}
 use Rattle.load_commands.specs.Files.{map_file, pages_file, pool_file, usable_below}
 use Rattle.command_parts.specs.Files.{memory_file, memory_limit, text_limit}
 use Rattle.load_commands.specs.Inputs.{kernel_files, left_after, load_inputs, purgatory_limit, request_with}
-use Rattle.load_commands.specs.Load.{load_command_files, load_wish}
 use Rattle.kexec_main.specs.inner.TooFew.{BootLacksPages, BootRefusesForPages, IsRefusedForPages, LoadLacksPages, LoadRefusesForPages}
 
 abbrev IsInput : Reason → Type 0
@@ -60,21 +58,13 @@ module _ (held : Files) where
       only_then IsInput held (kernel_files i.kernel i.initrd i.purgatory i.modules) _ (only_kernel i.kernel i.initrd i.purgatory i.modules) (λ files.
       only_ok IsInput held (record { memory = m; usable = p; map = ram; request = request_with image i.command files })))))
 
-  only_boot : (b : BootValue) → Only IsInput held (boot_files b)
-  only_boot b = only_then IsInput held (load_inputs b.image b.inputs) (λ x. ok (record { load = x; runs = b.kept; out = b.out })) (only_inputs b.image b.inputs) (λ x. only_ok IsInput held (record { load = x; runs = b.kept; out = b.out }))
-
-  only_load : (l : LoadValue) → Only IsInput held (load_command_files l)
-  only_load l =
-      only_then IsInput held (load_inputs l.image l.inputs) (λ x. ok (record { load = x; wish = load_wish l; out = l.out; load_record = l.load_record })) (only_inputs l.image l.inputs)
-      (λ x. only_ok IsInput held (record { load = x; wish = load_wish l; out = l.out; load_record = l.load_record }))
-
   boot_lacks : (b : BootValue) (pool n : ℕ) → IsRefusedForPages (words.boot b) held pool n → BootLacksPages b held pool n
-  boot_lacks b pool n (inl r) = absurd (only_boot b (by (NoPages pool n)) r)
+  boot_lacks b pool n (inl r) = absurd (only_inputs b.image b.inputs (by (NoPages pool n)) r)
   boot_lacks b pool n (inr (x, read, inl (p, planned, few))) = (x, read, (p, planned, few.0, few.1, few.2))
   boot_lacks b pool n (inr (x, read, inr (p, c, l, f))) = absurd f
 
   load_lacks : (l : LoadValue) (pool n : ℕ) → IsRefusedForPages (words.load l) held pool n → LoadLacksPages l held pool n
-  load_lacks l pool n (inl r) = absurd (only_load l (by (NoPages pool n)) r)
+  load_lacks l pool n (inl r) = absurd (only_inputs l.image l.inputs (by (NoPages pool n)) r)
   load_lacks l pool n (inr (x, read, inl (p, planned, few))) = (x, read, (p, planned, few.0, few.1, few.2))
   load_lacks l pool n (inr (x, read, inr (p, c, k, f))) = absurd f
 

@@ -12,7 +12,7 @@ ghost use Rattle.kexec_words.specs.inner.Values.{command_value};
 ghost use Rattle.command_parts.specs.Statuses.{answer_of};
 ghost use Rattle.kexec_main.specs.Call.{EndsWithoutFiles, HasDone, HasRefusal, IsInOrder};
 ghost use Rattle.kexec_main.specs.Commands.{Holds};
-ghost use Rattle.load_commands.specs.Laid.{HasLaid};
+ghost use Rattle.load_commands.specs.ByRules.{HasLaid};
 ghost use Rattle.command_parts.specs.declared.reason.Reason.{Reason};
 
 use command_parts::{Reason, Status};

@@ -16,7 +16,7 @@ use Rattle.command_parts.specs.Outputs.{HasNoFile}
 -- what runs the crash load of the files is what `exec` makes
 pub ran_in_place : (x : CrashFiles) (twice : Bool) (out : List ℕ) (result : Result (MadeGoods ListFault) (MakeFault Reason)) → twice ≡ false → IsInPlace x
     → MakesOr (λ g. RunsInPlace (at x.memory) (length (pages x.segments)) x.startup out (goods_of g)) (HasNoFile (at x.memory)) result
-    → Makes (λ x. executes_in_place x twice out) x result
+    → Makes (executes_in_place twice out) x result
 ran_in_place x twice out (Ok g) e p m = (e, subst (λ fault. executes_place_as x out (goods_of g) fault) (sym m.fault) (p, m))
 ran_in_place x twice out (Err (makes.Refused why)) e p m = inr (e, p, m)
 ran_in_place x twice out (Err makes.Memory) e p m = tt

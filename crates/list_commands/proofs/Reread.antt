@@ -20,7 +20,6 @@ use Rattle.list_commands.specs.declared.records.TakenLoad.TheVariants.{Crash, No
 use Rattle.command_parts.specs.declared.reason.InputFault.TheVariants as inputs
 use Rattle.command_parts.specs.declared.reason.Reason.{Reason}
 use Rattle.command_parts.specs.declared.reason.Reason.TheVariants.{Input}
-use Rattle.list_commands.specs.Exec.{ExecInputs, exec_files, exec_of}
 use Rattle.list_commands.specs.Records.{crash_files, list_files, load_by, load_files, load_record_file, record_limit}
 use Rattle.command_parts.specs.Files.{memory_file}
 use Rattle.command_parts.proofs.Found.{reader_found, whole_found}
@@ -55,18 +54,16 @@ pub record IsReadAs (e : ExecValue) (held : Files) (x : LoadFiles) : Type 0 wher
   pub load_record : reads (load_record_file e.load_record) held ≡ Ok r
   pub same : list_files m r ≡ x
 
-pub exec_read : (e : ExecValue) (held : Files) (x : LoadFiles) → reads (exec_files e) held ≡ Ok (exec_of e (Normal x)) → IsReadAs e held x
+pub exec_read : (e : ExecValue) (held : Files) (x : LoadFiles) → reads (load_files e.memory e.load_record) held ≡ Ok (Normal x) → IsReadAs e held x
 exec_read e held x h =
-    let k = reads_cases (load_files e.memory e.load_record) (λ load. ok (exec_of e load)) held (exec_of e (Normal x)) h in
-    let m = reads_cases (memory_file e.memory) (λ m. load_record_file e.load_record >>= (λ r. ok (load_by m r))) held k.0 k.1 in
-    let r = reads_cases (load_record_file e.load_record) (λ r. ok (load_by m.0 r)) held k.0 m.2 in
-    let load : k.0 ≡ Normal x = ap (λ (i : ExecInputs). i.load) (ok_same {F = Refusal Reason} (exec_of e k.0) (exec_of e (Normal x)) k.2) in
+    let m = reads_cases (memory_file e.memory) (λ m. load_record_file e.load_record >>= (λ r. ok (load_by m r))) held (Normal x) h in
+    let r = reads_cases (load_record_file e.load_record) (λ r. ok (load_by m.0 r)) held (Normal x) m.2 in
     record {
       m = m.0;
       r = r.0;
       memory = m.1;
       load_record = r.1;
-      same = normal_by m.0 r.0 x r.0.crash refl (ok_same {F = Refusal Reason} (load_by m.0 r.0) k.0 r.2 ∙ load);
+      same = normal_by m.0 r.0 x r.0.crash refl (ok_same {F = Refusal Reason} (load_by m.0 r.0) (Normal x) r.2);
     }
 
 -- the segments of a record that was read break no rule
@@ -81,7 +78,7 @@ record_bare bytes r h =
     let list = bind_ok (tested_segments (version_of bytes) (length bytes) head.0.segments (drop 96 bytes)) _ r head.2 in
     ruled_bare head.0 list.0 (bare_refusal list.0) r refl list.2
 
-pub exec_bare : (e : ExecValue) (held : Files) (x : LoadFiles) → reads (exec_files e) held ≡ Ok (exec_of e (Normal x)) → IsBare x.segments
+pub exec_bare : (e : ExecValue) (held : Files) (x : LoadFiles) → reads (load_files e.memory e.load_record) held ≡ Ok (Normal x) → IsBare x.segments
 exec_bare e held x h =
     let k = exec_read e held x h in
     subst (λ (x : LoadFiles). IsBare x.segments) k.same (record_bare (file_at held e.load_record) k.r (record_found e.load_record held k.r k.load_record))

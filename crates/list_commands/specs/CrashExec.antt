@@ -36,10 +36,10 @@ executes_place_as x out goods (Some f) = IsPlaceFault x f × IsFaultLine f goods
 
 -- A crash load is not run twice: this is refused before it is looked at. Its memory may have no
 -- file.
-abbrev pub executes_in_place : CrashFiles → Bool → List ℕ → Result Made (Refusal Reason) → Type 0
-executes_in_place x twice out (Ok goods) =
+abbrev pub executes_in_place : Bool → List ℕ → CrashFiles → Result Made (Refusal Reason) → Type 0
+executes_in_place twice out x (Ok goods) =
     (twice ≡ false) × executes_place_as x out goods goods.fault
-executes_in_place x twice out (Err (by why)) =
+executes_in_place twice out x (Err (by why)) =
     ((why ≡ NotKept) × (twice ≡ true))
     ⊎ ((twice ≡ false) × IsInPlace x × HasNoFile (at x.memory) why)
-executes_in_place x twice out (Err (too_long name limit)) = ⊥
+executes_in_place twice out x (Err (too_long name limit)) = ⊥

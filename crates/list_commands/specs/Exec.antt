@@ -1,11 +1,11 @@
--- What `exec` takes and makes (this project's own).
+-- What `exec` makes (this project's own).
 use Rattle.std.specs.Prelude.{◌≡◌, ℕ, Bool, true, false, List, Option, Some, None, Result, Ok, Err, ◌⊎◌, [], ◌∷◌}
 use Rattle.kx_pages.specs.declared.image.Mode.{Mode}
 use Rattle.kx_pages.specs.declared.image.Mode.TheVariants.{Plain, Kept}
 use Rattle.list_checker.specs.declared.fault.ListFault.{ListFault}
 use Rattle.load_states.specs.States.{Load, no_pages, Checked}
 use Rattle.load_states.specs.Ready.{Told}
-use Rattle.file_commands.specs.Taking.{Refusal, Take, ok, too_long, by, ◌>>=◌}
+use Rattle.file_commands.specs.Taking.{Refusal, too_long, by}
 use Rattle.kexec_words.specs.Values.{ExecValue}
 use Rattle.kexec_words.specs.declared.commands.Runs.{Runs}
 use Rattle.kexec_words.specs.declared.commands.Runs.TheVariants.{Once, Twice}
@@ -29,21 +29,6 @@ use Rattle.file_commands.specs.Answers.{FilesPut, command_of}
 use Rattle.list_commands.specs.declared.records.CrashFiles.{CrashFiles}
 use Rattle.command_parts.specs.declared.startup.Startup.{Startup}
 use Rattle.command_parts.specs.Entry.{ProgramEntry}
-
--- what `exec` took, whether the list is to run twice, and the name of its output
-pub record ExecInputs : Type 0 where
-  pub load : TakenLoad
-  pub twice : Bool
-  pub out : List ℕ
-
--- what the words ask of a load
-abbrev pub exec_of : ExecValue → TakenLoad → ExecInputs
-exec_of e load = record { load = load; twice = e.twice; out = e.out }
-
-abbrev pub exec_files : ExecValue → Take Reason ExecInputs
-exec_files e = do
-  load ← load_files e.memory e.load_record
-  ok (exec_of e load)
 
 -- a second run is asked for, and there is no swap page to run the list again with
 abbrev pub lacks_swap_page : Bool → Mode → Bool
@@ -101,21 +86,18 @@ executes_as x twice out goods (Some f) = IsFaultIn x f × IsFaultLine f goods
 
 -- A plain list is not run twice: this is refused before the list is looked at. After the runs memory
 -- may have no file.
-abbrev pub executes_list : LoadFiles → Bool → List ℕ → Result Made (Refusal Reason) → Type 0
-executes_list x twice out (Ok goods) =
+abbrev pub executes_list : Bool → List ℕ → LoadFiles → Result Made (Refusal Reason) → Type 0
+executes_list twice out x (Ok goods) =
     (is_not_kept twice x ≡ false) × executes_as x twice out goods goods.fault
-executes_list x twice out (Err (by why)) =
+executes_list twice out x (Err (by why)) =
     ((why ≡ NotKept) × (is_not_kept twice x ≡ true))
     ⊎ ((is_not_kept twice x ≡ false) × RefusesFiles x twice why)
-executes_list x twice out (Err (too_long name limit)) = ⊥
+executes_list twice out x (Err (too_long name limit)) = ⊥
 
 -- by the record's kind
-abbrev pub executes_by : TakenLoad → Bool → List ℕ → Result Made (Refusal Reason) → Type 0
-executes_by (kinds.Normal x) twice out r = executes_list x twice out r
-executes_by (kinds.Crash x) twice out r = executes_in_place x twice out r
-
-abbrev pub executes : ExecInputs → Result Made (Refusal Reason) → Type 0
-executes x r = executes_by x.load x.twice x.out r
+abbrev pub executes : Bool → List ℕ → TakenLoad → Result Made (Refusal Reason) → Type 0
+executes twice out (kinds.Normal x) r = executes_list twice out x r
+executes twice out (kinds.Crash x) r = executes_in_place twice out x r
 
 -- what `exec` says of a list that it ran, by what was taken
 abbrev pub files_text : Bool → LoadFiles → Checked → List ℕ
@@ -177,8 +159,8 @@ CanExec (kinds.Crash x) twice = CanRunInPlace x twice
 
 abbrev pub exec_entry : ExecValue → ProgramEntry
 exec_entry e = record {
-  Inputs = ExecInputs;
-  command = command_of (exec_files e) executes;
-  did = λ D E x s o s' o'. HasExecutedLoad D E s o s' o' e x.load;
-  can = λ x. CanExec x.load x.twice;
+  Inputs = TakenLoad;
+  command = command_of (load_files e.memory e.load_record) (executes e.twice e.out);
+  did = λ D E x s o s' o'. HasExecutedLoad D E s o s' o' e x;
+  can = λ x. CanExec x e.twice;
 }

@@ -1,7 +1,7 @@
--- What `migrate` takes and makes (this project's own).
+-- What `migrate` makes (this project's own).
 use Rattle.std.specs.Prelude.{◌≡◌, ℕ, List, [], ◌∷◌, ◌++◌, codes, decimal, length, None, Result, Ok, Err}
 use Rattle.load_record.specs.File.{Record, record_file}
-use Rattle.file_commands.specs.Taking.{Refusal, Take, ok, ◌>>=◌}
+use Rattle.file_commands.specs.Taking.{Refusal}
 use Rattle.kexec_words.specs.Values.{MigrateValue}
 use Rattle.command_parts.specs.declared.reason.Reason.{Reason}
 use Rattle.list_commands.specs.Records.{load_record_file}
@@ -17,22 +17,12 @@ use Rattle.command_parts.specs.Entry.{ProgramEntry}
 abbrev pub segments_line : ℕ → List ℕ
 segments_line count = codes "record segments " ++ (decimal count ++ codes "\n")
 
--- the record that `migrate` took, and the name of its output
-pub record MigrateInputs : Type 0 where
-  pub load_record : Record
-  pub out : List ℕ
-
-abbrev pub migrate_files : MigrateValue → Take Reason MigrateInputs
-migrate_files m = do
-  r ← load_record_file m.load_record
-  ok (record { load_record = r; out = m.out })
-
 -- the file of the record, which reads back, and the line of its segments; nothing is refused
-abbrev pub migrates : MigrateInputs → Result Made (Refusal Reason) → Type 0
-migrates x (Ok goods) =
-    (goods.text ≡ segments_line (length x.load_record.segments)) × (goods.fault ≡ None)
-    × (goods.outputs ≡ (x.out, record_file x.load_record) ∷ []) × IsReadBack x.load_record
-migrates x (Err other) = ⊥
+abbrev pub migrates : List ℕ → Record → Result Made (Refusal Reason) → Type 0
+migrates out r (Ok goods) =
+    (goods.text ≡ segments_line (length r.segments)) × (goods.fault ≡ None)
+    × (goods.outputs ≡ (out, record_file r) ∷ []) × IsReadBack r
+migrates out r (Err other) = ⊥
 
 module _ {S O : Type 0} (D : Shelf S) (E : Sink O) (s : S) (o : O) (s' : S) (o' : O) where
   -- After `migrate`: OUT is the file of the record that was read, as the second version spells it, and reads back as this
@@ -44,8 +34,8 @@ module _ {S O : Type 0} (D : Shelf S) (E : Sink O) (s : S) (o : O) (s' : S) (o' 
 
 abbrev pub migrate_entry : MigrateValue → ProgramEntry
 migrate_entry m = record {
-  Inputs = MigrateInputs;
-  command = command_of (migrate_files m) migrates;
-  did = λ D E x s o s' o'. HasMigrated D E s o s' o' m x.load_record;
+  Inputs = Record;
+  command = command_of (load_record_file m.load_record) (migrates m.out);
+  did = λ D E x s o s' o'. HasMigrated D E s o s' o' m x;
   can = always;
 }

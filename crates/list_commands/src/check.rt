@@ -10,18 +10,16 @@ ghost use Rattle.list_commands.specs.Check.{IsFaultLine, checks, checks_in_place
 ghost use Rattle.list_commands.specs.Records.{load_files_of};
 
 use crate::records::{CrashFiles, LoadFiles, TakenLoad, take_load_files};
-use command_parts::{Reason, accepted_line, crash_line};
+use command_parts::{ListCounts, Reason, accepted_line, crash_line};
 use file_commands::{Command, Goods, MakeFault, Stop, TakeFault, run};
 use kexec_words::LoadNames;
 use kx_edge::{Shelf, Sink};
 use list_checker::{CheckFault, ListFault, check, check_crash};
 use std::alloc::Global;
 
-/// The words of `check`.
+/// How `check` is done: its words say nothing of it.
 #[derive(Drop)]
-pub(crate) struct CheckWords {
-    pub(crate) words: LoadNames,
-}
+pub(crate) struct CheckCommand;
 
 /// What is made of a load that is not accepted: its first fault's line alone, and the fault.
 pub(crate) fn fault_goods(
@@ -60,10 +58,9 @@ fn check_list(alloc: Global, files: LoadFiles) -> Result<Goods<ListFault>, MakeF
     match check(alloc, &files.memory, &files.image, &files.segments) {
         Err(why) => unaccepted_goods(alloc, why),
         Ok(accept) => {
-            let pairs = accept.pairs.len() as u64;
             Ok(Goods {
                 outputs: Vec::new(alloc),
-                text: accepted_line(alloc, accept.words, accept.links, pairs)?,
+                text: accepted_line(alloc, ListCounts::of_accept(&accept))?,
                 fault: None,
             })
         }
@@ -94,7 +91,9 @@ fn make_check(alloc: Global, load: TakenLoad) -> Result<Goods<ListFault>, MakeFa
     }
 }
 
-impl Command for CheckWords {
+impl Command for CheckCommand {
+    type Names = LoadNames;
+
     type Taken = TakenLoad;
 
     type Fault = ListFault;
@@ -107,15 +106,19 @@ impl Command for CheckWords {
 
     ghost inputs = { λ f. f };
 
-    ghost takes = { λ c. load_files_of (load_names_value c.words) };
+    ghost takes = { λ names. load_files_of (load_names_value names) };
 
-    ghost makes = { checks };
+    ghost makes = { λ _. checks };
 
-    fn take<S: Shelf>(self, alloc: Global, shelf: &mut S) -> Result<TakenLoad, TakeFault<Reason>> {
-        take_load_files(alloc, self.words.memory, self.words.load_record, shelf)
+    fn take<S: Shelf>(
+        alloc: Global,
+        names: LoadNames,
+        shelf: &mut S,
+    ) -> Result<TakenLoad, TakeFault<Reason>> {
+        take_load_files(alloc, names, shelf)
     }
 
-    fn make(alloc: Global, load: TakenLoad) -> Result<Goods<ListFault>, MakeFault<Reason>> {
+    fn make(self, alloc: Global, load: TakenLoad) -> Result<Goods<ListFault>, MakeFault<Reason>> {
         make_check(alloc, load)
     }
 }
@@ -130,5 +133,5 @@ pub fn run_check<S: Shelf, O: Sink>(
     ensures { Meets S.Shelf O.Sink (check_entry (load_names_value words)).command shelf.old out.old
         (call_answer result) shelf.new out.new }
 {
-    run(alloc, CheckWords { words }, shelf, out)
+    run(alloc, words, CheckCommand, shelf, out)
 }

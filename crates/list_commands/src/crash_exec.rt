@@ -43,7 +43,7 @@ pub(crate) fn exec_in_place(
     twice: bool,
     out: String,
 ) -> Result<Goods<ListFault>, MakeFault<Reason>>
-    ensures { Makes (λ x. executes_in_place x twice (string_bytes out)) files result }
+    ensures { Makes (executes_in_place twice (string_bytes out)) files result }
 {
     let CrashFiles {
         memory,

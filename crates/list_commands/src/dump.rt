@@ -22,11 +22,9 @@ use page_memory::Memory;
 use segments::Segment;
 use std::alloc::{AllocError, Global};
 
-/// The words of `dump`.
+/// How `dump` is done: its words say nothing of it.
 #[derive(Drop)]
-pub(crate) struct DumpWords {
-    pub(crate) words: LoadNames,
-}
+pub(crate) struct DumpCommand;
 
 /// What `dump` took: the memory, and the record with the digests that are printed.
 #[derive(Drop)]
@@ -150,15 +148,21 @@ fn take_dump<S: Shelf>(
     })
 }
 
-// Makes the lines of the list and of the segments of a normal load.
-fn dump_list(alloc: Global, dump: &DumpInputs) -> Result<Goods<ListFault>, MakeFault<Reason>>
-    requires { dump.now.load_record.crash ≡ false }
-    ensures { Makes dumps (dump_inputs dump.now) result }
+// Makes the lines of the list and of the segments of a normal load. The lines of many words take as much as their memory
+// does, which is given up before they are made.
+fn dump_list(alloc: Global, dump: DumpInputs) -> Result<Goods<ListFault>, MakeFault<Reason>>
+    requires { dump.load_record.crash ≡ false }
+    ensures { Makes dumps (dump_inputs dump) result }
 {
-    let walk = walk(alloc, &dump.memory, dump.load_record.record().image.head)?;
+    let DumpInputs {
+        memory,
+        load_record,
+    } = dump;
+    let walk = walk(alloc, &memory, load_record.record().image.head)?;
+    drop(memory);
     let mut text = String::new(alloc);
     push_walk(alloc, &mut text, walk)?;
-    push_segments(alloc, &mut text, &dump.load_record)?;
+    push_segments(alloc, &mut text, &load_record)?;
     Ok(lines(alloc, text))
 }
 
@@ -179,11 +183,13 @@ fn make_dump(alloc: Global, dump: DumpInputs) -> Result<Goods<ListFault>, MakeFa
     if dump.load_record.record().crash {
         dump_in_place(alloc, &dump)
     } else {
-        dump_list(alloc, &dump)
+        dump_list(alloc, dump)
     }
 }
 
-impl Command for DumpWords {
+impl Command for DumpCommand {
+    type Names = LoadNames;
+
     type Taken = DumpInputs;
 
     type Fault = ListFault;
@@ -196,15 +202,19 @@ impl Command for DumpWords {
 
     ghost inputs = { dump_inputs };
 
-    ghost takes = { λ d. load_files_of (load_names_value d.words) };
+    ghost takes = { λ names. load_files_of (load_names_value names) };
 
-    ghost makes = { dumps };
+    ghost makes = { λ _. dumps };
 
-    fn take<S: Shelf>(self, alloc: Global, shelf: &mut S) -> Result<DumpInputs, TakeFault<Reason>> {
-        take_dump(alloc, self.words, shelf)
+    fn take<S: Shelf>(
+        alloc: Global,
+        names: LoadNames,
+        shelf: &mut S,
+    ) -> Result<DumpInputs, TakeFault<Reason>> {
+        take_dump(alloc, names, shelf)
     }
 
-    fn make(alloc: Global, dump: DumpInputs) -> Result<Goods<ListFault>, MakeFault<Reason>> {
+    fn make(self, alloc: Global, dump: DumpInputs) -> Result<Goods<ListFault>, MakeFault<Reason>> {
         make_dump(alloc, dump)
     }
 }
@@ -219,5 +229,5 @@ pub fn run_dump<S: Shelf, O: Sink>(
     ensures { Meets S.Shelf O.Sink (dump_entry (load_names_value words)).command shelf.old out.old
         (call_answer result) shelf.new out.new }
 {
-    run(alloc, DumpWords { words }, shelf, out)
+    run(alloc, words, DumpCommand, shelf, out)
 }

@@ -1,57 +1,32 @@
 //! `exec`: runs the load that a record tells where it is accepted.
 
-ghost use Rattle.std.specs.Prelude.{◌≡◌, string_bytes};
+ghost use Rattle.std.specs.Prelude.{◌≡◌, if◌then◌else◌, string_bytes};
 ghost use Rattle.load_states.specs.inner.Answers.{IsAcceptedAs};
 ghost use Rattle.load_states.specs.States.{Load as LoadOf};
 ghost use Rattle.file_commands.specs.Answers.{Meets};
-ghost use Rattle.file_commands.specs.inner.Calls.{Makes, MakesOr, Takes, goods_of, call_answer};
-ghost use Rattle.kexec_words.specs.inner.Values.{exec_value};
-ghost use Rattle.list_commands.specs.Exec.{ExecInputs as Inputs, RunsList, RefusesRun, exec_files, executes, executes_list, lacks_swap_page, runs_of, exec_entry};
-ghost use Rattle.list_commands.specs.inner.Views.{exec_inputs};
-ghost use Rattle.command_parts.specs.inner.Ran.{HasMode};
+ghost use Rattle.file_commands.specs.inner.Calls.{Makes, MakesOr, goods_of, call_answer};
+ghost use Rattle.kexec_words.specs.declared.commands.Runs.TheVariants.{Once, Twice};
+ghost use Rattle.kexec_words.specs.inner.Values.{exec_value, load_names_value};
+ghost use Rattle.list_commands.specs.Exec.{RunsList, RefusesRun, executes, executes_list, lacks_swap_page, runs_of, exec_entry};
+ghost use Rattle.list_commands.specs.Records.{load_files_of};
 
 use crate::check::unaccepted_goods;
 use crate::crash_exec::exec_in_place;
 use crate::records::{LoadFiles, TakenLoad, take_load_files};
 use command_parts::{Reason, Startup, memory_output, ran_text, run_accepted};
 use file_commands::{Command, Goods, MakeFault, Stop, TakeFault, run};
-use kexec_words::{Exec, Runs};
+use kexec_words::{Exec, LoadNames, Runs};
 use kx_edge::{Shelf, Sink};
 use kx_pages::Mode;
 use list_checker::ListFault;
 use load_states::{Accepted, Loaded};
 use std::alloc::Global;
 
-/// The words of `exec`.
+/// How `exec` is done: whether the list is to run twice, and the name of the output.
 #[derive(Drop)]
-pub(crate) struct ExecWords {
-    pub(crate) words: Exec,
-}
-
-/// What `exec` took, whether the list is to run twice, and the name of its output.
-#[derive(Drop)]
-pub(crate) struct ExecInputs {
-    pub(crate) load: TakenLoad,
+pub(crate) struct ExecCommand {
     pub(crate) twice: bool,
     pub(crate) out: String,
-}
-
-// Takes what is to be run.
-fn take_exec<S: Shelf>(
-    alloc: Global,
-    exec: Exec,
-    shelf: &mut S,
-) -> Result<ExecInputs, TakeFault<Reason>>
-    ensures { Takes S.Shelf (exec_files (exec_value exec)) exec_inputs shelf.old result shelf.new }
-{
-    let Exec {
-        memory,
-        load_record,
-        out,
-        twice,
-    } = exec;
-    let load = take_load_files(alloc, memory, load_record, shelf)?;
-    Ok(ExecInputs { load, twice, out })
 }
 
 // A second run is asked for, and the record is in plain mode.
@@ -64,31 +39,27 @@ fn lacks_swap_page(twice: bool, mode: Mode) -> bool
     }
 }
 
-// The runs of a list in this mode.
-fn runs_of(twice: bool, mode: Mode) -> Option<Runs>
-    ensures { result ≡ runs_of twice mode }
+// How often a list is to run that can run more than once.
+fn runs_by(twice: bool) -> Runs
+    ensures { result ≡ (if twice then Twice else Once) }
 {
-    match (mode, twice) {
-        (Mode::Plain, _) => None,
-        (Mode::Kept { swap: _ }, false) => Some(Runs::Once),
-        (Mode::Kept { swap: _ }, true) => Some(Runs::Twice),
-    }
+    if twice { Runs::Twice } else { Runs::Once }
 }
 
 // Runs an accepted list, and makes the file of the memory after the last run.
 fn run_goods(
     alloc: Global,
     accepted: Accepted,
-    runs: Option<Runs>,
+    twice: bool,
     startup: Startup,
     out: String,
 ) -> Result<Goods<ListFault>, MakeFault<Reason>>
-    requires { (s : LoadOf) × IsAcceptedAs s accepted × HasMode runs s.image.mode }
     ensures { (s : LoadOf) → IsAcceptedAs s accepted
-        → MakesOr (λ g. RunsList runs s startup (string_bytes out) (goods_of g))
-        (RefusesRun runs s) result }
+        → MakesOr
+        (λ g. RunsList (runs_of twice s.image.mode) s startup (string_bytes out) (goods_of g))
+        (RefusesRun (runs_of twice s.image.mode) s) result }
 {
-    let ran = run_accepted(accepted, runs);
+    let ran = run_accepted(accepted, runs_by(twice));
     let text = ran_text(alloc, &ran, startup)?;
     let outputs = memory_output(alloc, ran.memory, out)?;
     Ok(Goods {
@@ -105,7 +76,7 @@ fn exec_list(
     twice: bool,
     out: String,
 ) -> Result<Goods<ListFault>, MakeFault<Reason>>
-    ensures { Makes (λ x. executes_list x twice (string_bytes out)) files result }
+    ensures { Makes (executes_list twice (string_bytes out)) files result }
 {
     let LoadFiles {
         memory,
@@ -118,46 +89,46 @@ fn exec_list(
             why: Reason::NotKept,
         });
     }
-    let runs = runs_of(twice, image.mode);
     let loaded = Loaded::from_files(alloc, memory, image, segments);
     match loaded.accept(alloc) {
-        Ok(accepted) => run_goods(alloc, accepted, runs, startup, out),
+        Ok(accepted) => run_goods(alloc, accepted, twice, startup, out),
         Err(refused) => unaccepted_goods(alloc, refused.why),
     }
 }
 
-// Runs the load where it is accepted.
-fn make_exec(alloc: Global, exec: ExecInputs) -> Result<Goods<ListFault>, MakeFault<Reason>>
-    ensures { Makes executes (exec_inputs exec) result }
-{
-    let ExecInputs { load, twice, out } = exec;
-    match load {
-        TakenLoad::Normal(files) => exec_list(alloc, files, twice, out),
-        TakenLoad::Crash(files) => exec_in_place(alloc, files, twice, out),
-    }
-}
+impl Command for ExecCommand {
+    type Names = LoadNames;
 
-impl Command for ExecWords {
-    type Taken = ExecInputs;
+    type Taken = TakenLoad;
 
     type Fault = ListFault;
 
     type Reason = Reason;
 
-    ghost Inputs = { Inputs };
+    ghost use Rattle.list_commands.specs.declared.records.TakenLoad.{TakenLoad};
 
-    ghost inputs = { exec_inputs };
+    ghost Inputs = { TakenLoad };
 
-    ghost takes = { λ e. exec_files (exec_value e.words) };
+    ghost inputs = { λ f. f };
 
-    ghost makes = { executes };
+    ghost takes = { λ names. load_files_of (load_names_value names) };
 
-    fn take<S: Shelf>(self, alloc: Global, shelf: &mut S) -> Result<ExecInputs, TakeFault<Reason>> {
-        take_exec(alloc, self.words, shelf)
+    ghost makes = { λ e. executes e.twice (string_bytes e.out) };
+
+    fn take<S: Shelf>(
+        alloc: Global,
+        names: LoadNames,
+        shelf: &mut S,
+    ) -> Result<TakenLoad, TakeFault<Reason>> {
+        take_load_files(alloc, names, shelf)
     }
 
-    fn make(alloc: Global, exec: ExecInputs) -> Result<Goods<ListFault>, MakeFault<Reason>> {
-        make_exec(alloc, exec)
+    fn make(self, alloc: Global, load: TakenLoad) -> Result<Goods<ListFault>, MakeFault<Reason>> {
+        let ExecCommand { twice, out } = self;
+        match load {
+            TakenLoad::Normal(files) => exec_list(alloc, files, twice, out),
+            TakenLoad::Crash(files) => exec_in_place(alloc, files, twice, out),
+        }
     }
 }
 
@@ -171,5 +142,15 @@ pub fn run_exec<S: Shelf, O: Sink>(
     ensures { Meets S.Shelf O.Sink (exec_entry (exec_value words)).command shelf.old out.old
         (call_answer result) shelf.new out.new }
 {
-    run(alloc, ExecWords { words }, shelf, out)
+    let Exec {
+        memory,
+        load_record,
+        out: name,
+        twice,
+    } = words;
+    let names = LoadNames {
+        memory,
+        load_record,
+    };
+    run(alloc, names, ExecCommand { twice, out: name }, shelf, out)
 }

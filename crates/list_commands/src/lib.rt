@@ -3,9 +3,9 @@
 //! | Module | What it has |
 //! |---|---|
 //! | `records` | the files of a load: its memory and its record |
-//! | `check`, `dump`, `exec`, `trace`, `migrate` | a command each, with its words |
+//! | `check`, `dump`, `exec`, `trace`, `migrate` | a command each |
 //! | `crash_exec` | `exec` of a crash kernel, which lies in its place and never moves |
-//! | `migrate_inputs` | what `migrate` takes, which holds a fact of it |
+//! | `read_record` | what `migrate` takes, which holds a fact of it |
 #![tactic(auto)]
 
 mod check;
@@ -13,7 +13,7 @@ mod crash_exec;
 mod dump;
 mod exec;
 mod migrate;
-mod migrate_inputs;
+mod read_record;
 mod records;
 mod trace;
 

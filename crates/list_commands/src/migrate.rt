@@ -2,12 +2,13 @@
 
 ghost use Rattle.std.specs.Prelude.{◌≡◌, IfOk, string_bytes};
 ghost use Rattle.file_commands.specs.Answers.{Meets};
-ghost use Rattle.file_commands.specs.inner.Calls.{Makes, Takes, call_answer};
+ghost use Rattle.file_commands.specs.inner.Calls.{call_answer};
+ghost use Rattle.load_record.specs.File.{Record};
 ghost use Rattle.kexec_words.specs.inner.Values.{migrate_value};
-ghost use Rattle.list_commands.specs.Migrate.{MigrateInputs as Inputs, migrate_files, migrates, segments_line, migrate_entry};
-ghost use Rattle.list_commands.specs.inner.Views.{migrate_inputs};
+ghost use Rattle.list_commands.specs.Records.{load_record_file};
+ghost use Rattle.list_commands.specs.Migrate.{migrates, segments_line, migrate_entry};
 
-use crate::migrate_inputs::MigrateInputs;
+use crate::read_record::ReadRecord;
 use crate::records::take_digested_record;
 use command_parts::{Reason, one};
 use file_commands::{Command, File, Goods, MakeFault, Stop, TakeFault, run};
@@ -16,10 +17,10 @@ use kx_edge::{Shelf, Sink};
 use list_checker::ListFault;
 use std::alloc::{AllocError, Global};
 
-/// The words of `migrate`.
+/// How `migrate` is done: the name of the output.
 #[derive(Drop)]
-pub(crate) struct MigrateWords {
-    pub(crate) words: Migrate,
+pub(crate) struct MigrateCommand {
+    pub(crate) out: String,
 }
 
 // How many segments a record has.
@@ -29,66 +30,44 @@ fn segments_line(alloc: Global, count: usize) -> Result<String, AllocError>
     format!(in alloc; "record segments {count}\n")
 }
 
-// Takes the record.
-fn take_migrate<S: Shelf>(
-    alloc: Global,
-    migrate: MigrateWords,
-    shelf: &mut S,
-) -> Result<MigrateInputs, TakeFault<Reason>>
-    ensures { Takes S.Shelf (migrate_files (migrate_value migrate.words)) migrate_inputs shelf.old
-        result shelf.new }
-{
-    let Migrate { load_record, out } = migrate.words;
-    let load_record = take_digested_record(alloc, load_record, shelf)?;
-    Ok(MigrateInputs { load_record, out })
-}
+impl Command for MigrateCommand {
+    type Names = String;
 
-// Makes the file of the record, and the line of its segments.
-fn make_migrate(
-    alloc: Global,
-    migrate: MigrateInputs,
-) -> Result<Goods<ListFault>, MakeFault<Reason>>
-    ensures { Makes migrates (migrate_inputs migrate) result }
-{
-    let MigrateInputs {
-        load_record,
-        out: name,
-    } = migrate;
-    let text = segments_line(alloc, load_record.record().segments.count())?;
-    let bytes = load_record.into_file()?;
-    let outputs = one(alloc, File { name, bytes })?;
-    Ok(Goods {
-        outputs,
-        text,
-        fault: None,
-    })
-}
-
-impl Command for MigrateWords {
-    type Taken = MigrateInputs;
+    type Taken = ReadRecord;
 
     type Fault = ListFault;
 
     type Reason = Reason;
 
-    ghost Inputs = { Inputs };
+    ghost Inputs = { Record };
 
-    ghost inputs = { migrate_inputs };
+    ghost inputs = { λ r. r.load_record };
 
-    ghost takes = { λ m. migrate_files (migrate_value m.words) };
+    ghost takes = { λ name. load_record_file (string_bytes name) };
 
-    ghost makes = { migrates };
+    ghost makes = { λ m. migrates (string_bytes m.out) };
 
     fn take<S: Shelf>(
-        self,
         alloc: Global,
+        name: String,
         shelf: &mut S,
-    ) -> Result<MigrateInputs, TakeFault<Reason>> {
-        take_migrate(alloc, self, shelf)
+    ) -> Result<ReadRecord, TakeFault<Reason>> {
+        let load_record = take_digested_record(alloc, name, shelf)?;
+        Ok(ReadRecord { load_record })
     }
 
-    fn make(alloc: Global, migrate: MigrateInputs) -> Result<Goods<ListFault>, MakeFault<Reason>> {
-        make_migrate(alloc, migrate)
+    fn make(self, alloc: Global, taken: ReadRecord) -> Result<Goods<ListFault>, MakeFault<Reason>> {
+        let ReadRecord { load_record } = taken;
+        let text = segments_line(alloc, load_record.record().segments.count())?;
+        let file = File {
+            name: self.out,
+            bytes: load_record.into_file()?,
+        };
+        Ok(Goods {
+            outputs: one(alloc, file)?,
+            text,
+            fault: None,
+        })
     }
 }
 
@@ -102,5 +81,9 @@ pub fn run_migrate<S: Shelf, O: Sink>(
     ensures { Meets S.Shelf O.Sink (migrate_entry (migrate_value words)).command shelf.old out.old
         (call_answer result) shelf.new out.new }
 {
-    run(alloc, MigrateWords { words }, shelf, out)
+    let Migrate {
+        load_record,
+        out: name,
+    } = words;
+    run(alloc, load_record, MigrateCommand { out: name }, shelf, out)
 }

@@ -1,12 +1,15 @@
 //! The files of a load are taken, each with its limit, and read: its memory and its record.
+#![tactic(auto, unfolding(file_commands::specs::Taking::and_then, file_commands::specs::Taking::Took, file_commands::specs::Taking::FailedAt, file_commands::specs::Taking::WantedAt, file_commands::specs::inner::Calls::TakesNot))]
 
 ghost use Rattle.std.specs.Prelude.{◌≡◌, string_bytes, IfOk};
 ghost use Rattle.file_commands.specs.inner.Calls.{Takes};
-ghost use Rattle.list_commands.specs.Records.{load_by, load_files, load_record_file};
+ghost use Rattle.kexec_words.specs.inner.Values.{load_names_value};
+ghost use Rattle.list_commands.specs.Records.{load_by, load_files_of, load_record_file};
 ghost use Rattle.load_record.specs.inner.File.{IsWritable};
 
 use command_parts::{InputFault, Reason, Startup, refusal_by, take_memory};
 use file_commands::{FileParts, TakeFault, take_apart};
+use kexec_words::LoadNames;
 use kx_edge::Shelf;
 use kx_pages::Image;
 use load_record::{DigestedRecord, FIRST_BYTES, LoadRecord, RecFault};
@@ -19,7 +22,6 @@ const RECORD_LIMIT: usize = 268_436_448;
 
 /// Takes the file of a load record and reads it: what follows its front is taken into the buffer that becomes its first
 /// segment's.
-#[tactic(auto, unfolding(file_commands::specs::Taking::and_then, file_commands::specs::Taking::Took, file_commands::specs::Taking::FailedAt, file_commands::specs::Taking::WantedAt, file_commands::specs::inner::Calls::TakesNot))]
 pub(crate) fn take_record<S: Shelf>(
     alloc: Global,
     name: String,
@@ -37,7 +39,6 @@ pub(crate) fn take_record<S: Shelf>(
 }
 
 /// As `take_record`, with the digests of the record's segments.
-#[tactic(auto, unfolding(file_commands::specs::Taking::and_then, file_commands::specs::Taking::Took, file_commands::specs::Taking::FailedAt, file_commands::specs::Taking::WantedAt, file_commands::specs::inner::Calls::TakesNot))]
 pub(crate) fn take_digested_record<S: Shelf>(
     alloc: Global,
     name: String,
@@ -74,7 +75,7 @@ pub struct CrashFiles {
     pub startup: Startup,
 }
 
-/// A load that `check` or `exec` took, by the kind of its record. Neither looks at the kind again.
+/// A load that was taken, by the kind of its record. No command looks at the kind again.
 #[derive(Drop)]
 pub enum TakenLoad {
     Normal(LoadFiles),
@@ -111,14 +112,13 @@ fn load_by(memory: Memory, load_record: LoadRecord) -> TakenLoad
 /// Takes the memory file, then the file of the load record.
 pub(crate) fn take_load_files<S: Shelf>(
     alloc: Global,
-    memory: String,
-    load_record: String,
+    names: LoadNames,
     shelf: &mut S,
 ) -> Result<TakenLoad, TakeFault<Reason>>
-    ensures { Takes S.Shelf (load_files (string_bytes memory) (string_bytes load_record)) (λ f. f)
-        shelf.old result shelf.new }
+    ensures { Takes S.Shelf (load_files_of (load_names_value names)) (λ f. f) shelf.old result
+        shelf.new }
 {
-    let memory = take_memory(alloc, memory, shelf)?;
-    let load_record = take_record(alloc, load_record, shelf)?;
+    let memory = take_memory(alloc, names.memory, shelf)?;
+    let load_record = take_record(alloc, names.load_record, shelf)?;
     Ok(load_by(memory, load_record))
 }

@@ -2,10 +2,11 @@
 
 ghost use Rattle.std.specs.Prelude.{◌≡◌, ◌<◌, ◌^◌, ℕ, Some, IfOk, string_bytes};
 ghost use Rattle.file_commands.specs.Answers.{Meets};
-ghost use Rattle.file_commands.specs.inner.Calls.{Makes, Takes, call_answer};
+ghost use Rattle.file_commands.specs.inner.Calls.{Makes, call_answer};
+ghost use Rattle.page_memory.specs.Contents.{Contents};
 ghost use Rattle.kexec_words.specs.inner.Values.{trace_value};
-ghost use Rattle.list_commands.specs.Trace.{TraceInputs as Inputs, mode_by, outcome_line, trace_files, traces, trace_entry};
-ghost use Rattle.list_commands.specs.inner.Views.{trace_inputs};
+ghost use Rattle.command_parts.specs.Files.{memory_file};
+ghost use Rattle.list_commands.specs.Trace.{mode_by, outcome_line, traces, trace_entry};
 
 use command_parts::{Reason, memory_output, take_memory};
 use file_commands::{Command, Goods, MakeFault, Stop, TakeFault, run};
@@ -17,18 +18,10 @@ use page_memory::Memory;
 use relocate_machine::{Outcome, run as run_steps};
 use std::alloc::{AllocError, Global};
 
-/// The words of `trace`.
+/// How `trace` is done: from which head word on, by the moves of which mode, for how many steps at most, and the name of
+/// the output.
 #[derive(Drop)]
-pub(crate) struct TraceWords {
-    pub(crate) words: Trace,
-    /// The swap page is a page.
-    pub(crate) ghost swap_page: { (a : ℕ) → words.swap ≡ Some a → a < 2 ^ 46 },
-}
-
-/// What `trace` took, the head word, the mode of the moves, the most steps, and the name of its output.
-#[derive(Drop)]
-pub(crate) struct TraceInputs {
-    pub(crate) memory: Memory,
+pub(crate) struct TraceCommand {
     pub(crate) head: u64,
     pub(crate) mode: Mode,
     pub(crate) limit: u64,
@@ -59,39 +52,16 @@ fn mode_by(swap: Option<u64>) -> Mode
     }
 }
 
-// Takes the memory.
-fn take_trace<S: Shelf>(
-    alloc: Global,
-    trace: TraceWords,
-    shelf: &mut S,
-) -> Result<TraceInputs, TakeFault<Reason>>
-    ensures { Takes S.Shelf (trace_files (trace_value trace.words)) trace_inputs shelf.old
-        result shelf.new }
-{
-    let Trace {
-        memory,
-        out,
-        head,
-        limit,
-        swap,
-    } = trace.words;
-    let mode = mode_by(swap);
-    let memory = take_memory(alloc, memory, shelf)?;
-    Ok(TraceInputs {
-        memory,
-        head,
-        mode,
-        limit,
-        out,
-    })
-}
-
 // Runs the list, and makes the file of the memory after the steps and the line that tells how the run came out.
-fn make_trace(alloc: Global, trace: TraceInputs) -> Result<Goods<ListFault>, MakeFault<Reason>>
-    ensures { Makes traces (trace_inputs trace) result }
+fn make_trace(
+    alloc: Global,
+    trace: TraceCommand,
+    mut memory: Memory,
+) -> Result<Goods<ListFault>, MakeFault<Reason>>
+    ensures { Makes (traces trace.head trace.mode trace.limit (string_bytes trace.out)) memory
+        result }
 {
-    let TraceInputs {
-        mut memory,
+    let TraceCommand {
         head,
         mode,
         limit,
@@ -107,31 +77,33 @@ fn make_trace(alloc: Global, trace: TraceInputs) -> Result<Goods<ListFault>, Mak
     })
 }
 
-impl Command for TraceWords {
-    type Taken = TraceInputs;
+impl Command for TraceCommand {
+    type Names = String;
+
+    type Taken = Memory;
 
     type Fault = ListFault;
 
     type Reason = Reason;
 
-    ghost Inputs = { Inputs };
+    ghost Inputs = { Contents };
 
-    ghost inputs = { trace_inputs };
+    ghost inputs = { λ m. m };
 
-    ghost takes = { λ t. trace_files (trace_value t.words) };
+    ghost takes = { λ name. memory_file (string_bytes name) };
 
-    ghost makes = { traces };
+    ghost makes = { λ t. traces t.head t.mode t.limit (string_bytes t.out) };
 
     fn take<S: Shelf>(
-        self,
         alloc: Global,
+        name: String,
         shelf: &mut S,
-    ) -> Result<TraceInputs, TakeFault<Reason>> {
-        take_trace(alloc, self, shelf)
+    ) -> Result<Memory, TakeFault<Reason>> {
+        take_memory(alloc, name, shelf)
     }
 
-    fn make(alloc: Global, trace: TraceInputs) -> Result<Goods<ListFault>, MakeFault<Reason>> {
-        make_trace(alloc, trace)
+    fn make(self, alloc: Global, memory: Memory) -> Result<Goods<ListFault>, MakeFault<Reason>> {
+        make_trace(alloc, self, memory)
     }
 }
 
@@ -146,5 +118,19 @@ pub fn run_trace<S: Shelf, O: Sink>(
     ensures { Meets S.Shelf O.Sink (trace_entry (trace_value words)).command shelf.old out.old
         (call_answer result) shelf.new out.new }
 {
-    run(alloc, TraceWords { words }, shelf, out)
+    let Trace {
+        memory,
+        out: name,
+        head,
+        limit,
+        swap,
+    } = words;
+    let mode = mode_by(swap);
+    let trace = TraceCommand {
+        head,
+        mode,
+        limit,
+        out: name,
+    };
+    run(alloc, memory, trace, shelf, out)
 }

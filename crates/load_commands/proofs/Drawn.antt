@@ -28,7 +28,7 @@ use Rattle.load_states.proofs.Outside.{no_source, no_swap, walk_in}
 use Rattle.kexec_plan.specs.Requests.{Plan}
 use Rattle.load_commands.specs.Inputs.{LoadInputs}
 use Rattle.load_commands.specs.Loading.{IsLoaded}
-use Rattle.load_commands.specs.Loads.{drawn_pages}
+use Rattle.load_commands.specs.NormalLoad.{drawn_pages}
 
 -- the link pages of a list are those over which it was chained
 abbrev pub OnLink : (ℕ → Type 0) → Item → Type 0

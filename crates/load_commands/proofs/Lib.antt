@@ -5,7 +5,7 @@ pub mod Startups
 pub mod Drawn
 pub mod Leaving
 pub mod Ending
-pub mod Loads
+pub mod NormalLoad
 pub mod Proving
 pub mod Resident
 pub mod Commands

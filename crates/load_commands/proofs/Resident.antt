@@ -10,7 +10,7 @@ use Rattle.segments.specs.Values.{want}
 use Rattle.list_checker.specs.Walk.{IsAccepted}
 use Rattle.load_states.specs.States.{Checked, Load}
 use Rattle.resident_planner.specs.Laid.{plan_items}
-use Rattle.kexec_words.specs.Values.{BootResidentValue, InputsValue}
+use Rattle.kexec_words.specs.Values.{InputsValue}
 use Rattle.kexec_plan.specs.Plan.{plan}
 use Rattle.kexec_plan.specs.Requests.{Plan}
 use Rattle.command_parts.specs.declared.reason.Reason.{Reason}
@@ -53,8 +53,8 @@ pub resident_text_of : (c : Checked) (r : Ran) (start planned : Start) (copied c
 resident_text_of c r start planned copied count h s n = rw (h.words, h.links, h.pairs, h.image, h.ends, s, n) refl
 
 -- the files of a raw kernel have no modules
-abbrev with_modules : BootResidentValue → List (List ℕ) → InputsValue
-with_modules b ms = record { memory = b.memory; pool = b.pool; below = None; map = None; kernel = b.kernel; initrd = None; purgatory = None; modules = ms; command = None }
+abbrev with_modules : (memory pool kernel : List ℕ) → List (List ℕ) → InputsValue
+with_modules memory pool kernel ms = record { memory = memory; pool = pool; below = None; map = None; kernel = kernel; initrd = None; purgatory = None; modules = ms; command = None }
 
-pub no_modules : (b : BootResidentValue) (ms : List (List ℕ)) → ms ≡ [] → with_modules b ms ≡ raw_inputs b
-no_modules b ms e = ap (with_modules b) e
+pub no_modules : (memory pool kernel : List ℕ) (ms : List (List ℕ)) → ms ≡ [] → with_modules memory pool kernel ms ≡ raw_inputs memory pool kernel
+no_modules memory pool kernel ms e = ap (with_modules memory pool kernel) e

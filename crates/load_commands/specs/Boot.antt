@@ -1,15 +1,13 @@
--- What `boot` takes and makes (this project's own).
-use Rattle.std.specs.Prelude.{◌≡◌, ℕ, List, Option, None, Result, Ok, Err, ◌⊎◌, [], ◌∷◌}
-use Rattle.file_commands.specs.Taking.{Refusal, Take, ok, too_long, by, ◌>>=◌}
+-- What `boot` makes (this project's own).
+use Rattle.std.specs.Prelude.{◌≡◌, ℕ, List, Option, None, Result, Ok, Err, [], ◌∷◌}
+use Rattle.file_commands.specs.Taking.{Refusal, too_long, by}
 use Rattle.load_states.specs.States.{Checked}
-use Rattle.load_states.specs.Ready.{Told}
 use Rattle.kexec_words.specs.declared.commands.Runs.{Runs}
 use Rattle.kexec_words.specs.Values.{BootValue}
 use Rattle.kexec_plan.specs.Requests.{Plan}
 use Rattle.command_parts.specs.declared.reason.Reason.{Reason}
 use Rattle.load_commands.specs.Inputs.{LoadInputs, load_inputs}
-use Rattle.load_commands.specs.Loading.{IsLoaded, RefusesLoad}
-use Rattle.command_parts.specs.Outputs.{Made, HasNoFile, IsMemoryFile, IsFileOf}
+use Rattle.command_parts.specs.Outputs.{Made, IsMemoryFile, IsFileOf}
 use Rattle.command_parts.specs.Runs.{after_runs, run_text, wish_of, EndsAgain, IsOnce, Leaves, MachineLeaves}
 use Rattle.kx_edge.specs.Edge.{Said}
 use Rattle.kx_edge.specs.declared.edge.Shelf.{Ghosts as Shelf}
@@ -19,35 +17,18 @@ use Rattle.purgatory_link.specs.declared.region_test.RegionTest.TheVariants.{Sam
 use Rattle.purgatory_link.specs.RegionTest.{test}
 use Rattle.kexec_plan.specs.Finish.{HasTableApart}
 use Rattle.command_parts.specs.Entry.{ProgramEntry}
-use Rattle.load_commands.specs.Loads.{CanLoad, NormalLoad}
+use Rattle.load_commands.specs.NormalLoad.{CanLoad, CannotLoad, IsToldLoad, NormalLoad}
 use Rattle.load_commands.specs.Startup.{planned_startup}
 
--- what `boot` took, how often the list is to run, and the name of its output
-pub record BootInputs : Type 0 where
-  pub load : LoadInputs
-  pub runs : Option Runs
-  pub out : List ℕ
-
-abbrev pub boot_files : BootValue → Take Reason BootInputs
-boot_files b = do
-  x ← load_inputs b.image b.inputs
-  ok (record { load = x; runs = b.kept; out = b.out })
-
--- the kernel is loaded by this plan, and so much is told of its accepted list
-abbrev pub Boots : BootInputs → Plan → Checked → Type 0
-Boots x p c = IsLoaded (wish_of x.runs) x.load p c.load × Told c.load c.words c.links c.pairs
-
--- The kernel is loaded and its list run: the file of the memory after the last run is the output, and the text tells the
--- list and each run. Or the plan or the load refuses, or that memory has no file.
-abbrev pub boots : BootInputs → Result Made (Refusal Reason) → Type 0
-boots x (Ok goods) =
-    (p : Plan) × (c : Checked) × Boots x p c
-    × (goods.text ≡ run_text x.runs c (planned_startup p)) × (goods.fault ≡ None)
-    × IsMemoryFile goods.outputs x.out (after_runs x.runs c)
-boots x (Err (by why)) =
-    RefusesLoad (wish_of x.runs) x.load why
-    ⊎ ((p : Plan) × (c : Checked) × Boots x p c × HasNoFile (after_runs x.runs c) why)
-boots x (Err (too_long name limit)) = ⊥
+-- The kernel is loaded and its list run so often: the file of the memory after the last run is the output of this name,
+-- and the text tells the list and each run. Or the plan or the load refuses, or that memory has no file.
+abbrev pub boots : Option Runs → List ℕ → LoadInputs → Result Made (Refusal Reason) → Type 0
+boots runs out i (Ok goods) =
+    (p : Plan) × (c : Checked) × IsToldLoad (wish_of runs) i p c
+    × (goods.text ≡ run_text runs c (planned_startup p)) × (goods.fault ≡ None)
+    × IsMemoryFile goods.outputs out (after_runs runs c)
+boots runs out i (Err (by why)) = CannotLoad (wish_of runs) i (after_runs runs) why
+boots runs out i (Err (too_long name limit)) = ⊥
 
 module _ {S O : Type 0} (D : Shelf S) (E : Sink O) (s : S) (o : O) (s' : S) (o' : O) where
   -- After `boot`, by what was read: the kernel was loaded. The machine's runs of its list left what they are to leave, each
@@ -70,8 +51,8 @@ module _ {S O : Type 0} (D : Shelf S) (E : Sink O) (s : S) (o : O) (s' : S) (o' 
 
 abbrev pub boot_entry : BootValue → ProgramEntry
 boot_entry b = record {
-  Inputs = BootInputs;
-  command = command_of (boot_files b) boots;
-  did = λ D E x s o s' o'. HasBooted D E s o s' o' b x.load;
-  can = λ x. CanLoad (wish_of x.runs) x.load (after_runs x.runs);
+  Inputs = LoadInputs;
+  command = command_of (load_inputs b.image b.inputs) (boots b.kept b.out);
+  did = λ D E i s o s' o'. HasBooted D E s o s' o' b i;
+  can = λ i. CanLoad (wish_of b.kept) i (after_runs b.kept);
 }

@@ -3,6 +3,7 @@ use Rattle.std.specs.Prelude.{◌≡◌, ◌⊎◌, ℕ, List, [], ◌∷◌, �
 use Rattle.kx_edge.specs.Edge.{Said}
 use Rattle.kx_edge.specs.declared.edge.Shelf.{Ghosts as Shelf}
 use Rattle.kx_edge.specs.declared.edge.Sink.{Ghosts as Sink}
+use Rattle.kx_pages.specs.declared.image.ImageType.{ImageType}
 use Rattle.kx_pages.specs.declared.image.ImageType.TheVariants.{Raw}
 use Rattle.kx_pages.specs.declared.image.Start.{Start}
 use Rattle.kx_pages.specs.Bytes.{Mem}
@@ -43,12 +44,11 @@ copied_line copied = codes "copied " ++ (decimal copied ++ codes "\n")
 abbrev pub resident_text : Checked → Start → ℕ → List ℕ
 resident_text c start copied = (list_text c start ++ copied_line copied) ++ ran_line c.words
 
--- what `boot-resident` took: what the load of a raw kernel is made of, the pairs of destination and
--- resident page, and the name of its output
+-- what `boot-resident` took: what the load of a raw kernel is made of, and the pairs of destination and
+-- resident page
 pub record ResidentInputs : Type 0 where
   pub load : LoadInputs
   pub pairs : List (ℕ × ℕ)
-  pub out : List ℕ
 
 -- the pairs of a file: a destination, and the page that holds what it is to have
 abbrev pub pairs_file : List ℕ → Take Reason (List Pair)
@@ -57,25 +57,30 @@ pairs_file name = do
   from_reader (λ e. reasons.Input (inputs.Pairs e)) (pairs_reading bytes)
 
 -- the files of a raw kernel alone: each page of the pool is usable
-abbrev pub raw_inputs : BootResidentValue → InputsValue
-raw_inputs b = record {
-  memory = b.memory;
-  pool = b.pool;
+abbrev pub raw_inputs : (memory pool kernel : List ℕ) → InputsValue
+raw_inputs memory pool kernel = record {
+  memory = memory;
+  pool = pool;
   below = None;
   map = None;
-  kernel = b.kernel;
+  kernel = kernel;
   initrd = None;
   purgatory = None;
   modules = [];
   command = None;
 }
 
--- the kernel starts where it lies; the pairs are taken last
+-- what a load is made of, and then the pairs of a file
+abbrev pub inputs_with_pairs : ImageType → InputsValue → List ℕ → Take Reason ResidentInputs
+inputs_with_pairs image i pairs = do
+  x ← load_inputs image i
+  rs ← pairs_file pairs
+  ok (record { load = x; pairs = map as_pair rs })
+
+-- the kernel starts where it lies
 abbrev pub resident_files : BootResidentValue → Take Reason ResidentInputs
-resident_files b = do
-  x ← load_inputs (Raw b.at b.at) (raw_inputs b)
-  rs ← pairs_file b.pairs
-  ok (record { load = x; pairs = map as_pair rs; out = b.out })
+resident_files b =
+    inputs_with_pairs (Raw b.at b.at) (raw_inputs b.memory b.pool b.kernel) b.pairs
 
 -- the load of a list that was made: no page is drawn for it any more
 abbrev pub load_with : Plan → ResidentList → Load
@@ -107,18 +112,19 @@ BootsResident x p m c =
     IsResident x.load x.pairs p m × (c.load ≡ load_with p m)
     × Told c.load c.words c.links c.pairs
 
--- The list is made and run: the file of the memory after the run is the output, and the text tells the
--- list, what it copies, and the run. Or the plan or the list is refused, or that memory has no file.
-abbrev pub boots_resident : ResidentInputs → Result Made (Refusal Reason) → Type 0
-boots_resident x (Ok goods) =
+-- The list is made and run: the file of the memory after the run is the output of this name, and the text
+-- tells the list, what it copies, and the run. Or the plan or the list is refused, or that memory has no
+-- file.
+abbrev pub boots_resident : List ℕ → ResidentInputs → Result Made (Refusal Reason) → Type 0
+boots_resident out x (Ok goods) =
     (p : Plan) × (m : ResidentList) × (c : Checked) × BootsResident x p m c
     × (goods.text ≡ resident_text c p.start m.copied) × (goods.fault ≡ None)
-    × IsMemoryFile goods.outputs x.out (after_runs None c)
-boots_resident x (Err (by why)) =
+    × IsMemoryFile goods.outputs out (after_runs None c)
+boots_resident out x (Err (by why)) =
     RefusesResident x.load x.pairs why
     ⊎ ((p : Plan) × (m : ResidentList) × (c : Checked) × BootsResident x p m c
     × HasNoFile (after_runs None c) why)
-boots_resident x (Err (too_long name limit)) = ⊥
+boots_resident out x (Err (too_long name limit)) = ⊥
 
 module _ {S O : Type 0} (D : Shelf S) (E : Sink O) (s : S) (o : O) (s' : S) (o' : O) where
   -- After `boot-resident`, by what was read: the list of the kernel was made.
@@ -159,7 +165,7 @@ pub record CanBootResident (x : ResidentInputs) : Type 0 where
 abbrev pub boot_resident_entry : BootResidentValue → ProgramEntry
 boot_resident_entry b = record {
   Inputs = ResidentInputs;
-  command = command_of (resident_files b) boots_resident;
+  command = command_of (resident_files b) (boots_resident b.out);
   did = λ D E x s o s' o'. HasBootedResident D E s o s' o' b x;
   can = CanBootResident;
 }

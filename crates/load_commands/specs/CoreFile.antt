@@ -1,4 +1,4 @@
--- What `core` takes and makes (this project's own).
+-- What `core` makes (this project's own).
 use Rattle.std.specs.Prelude.{◌≡◌, ℕ, List, [], ◌∷◌, ◌++◌, codes, decimal, length, None, Result, Ok, Err}
 use Rattle.kx_edge.specs.Edge.{Said}
 use Rattle.kx_edge.specs.declared.edge.Shelf.{Ghosts as Shelf}
@@ -7,7 +7,7 @@ use Rattle.kx_pages.specs.Bytes.{Mem}
 use Rattle.page_memory.specs.Contents.{Contents, at}
 use Rattle.vmcore_file.specs.File.{CoreValue as CoreMade, core_reading}
 use Rattle.file_commands.specs.Answers.{FilesPut, command_of}
-use Rattle.file_commands.specs.Taking.{Refusal, Take, ok, too_long, by, ◌>>=◌}
+use Rattle.file_commands.specs.Taking.{Refusal, too_long, by}
 use Rattle.kexec_words.specs.Values.{CoreValue}
 use Rattle.command_parts.specs.declared.reason.Reason.{Reason}
 use Rattle.command_parts.specs.declared.reason.Reason.TheVariants.{Core}
@@ -23,30 +23,19 @@ core_line core =
     ++ (codes " notes "
     ++ (decimal core.notes ++ (codes " bytes " ++ (decimal (length core.bytes) ++ codes "\n")))))
 
--- the memory that `core` took, the address of its headers, and the name of its output
-pub record CoreInputs : Type 0 where
-  pub memory : Contents
-  pub address : ℕ
-  pub out : List ℕ
-
-abbrev pub core_files : CoreValue → Take Reason CoreInputs
-core_files c = do
-  m ← memory_file c.memory
-  ok (record { memory = m; address = c.address; out = c.out })
-
 -- the memory has no core by the headers at an address, for this reason
 abbrev pub RefusesCore : Mem → ℕ → Reason → Type 0
 RefusesCore M address (Core fault) = core_reading M address ≡ Err fault
 RefusesCore M address other = ⊥
 
--- the core file, and the line of its size; or there is none
-abbrev pub cores : CoreInputs → Result Made (Refusal Reason) → Type 0
-cores x (Ok goods) =
-    (core : CoreMade) × (core_reading (at x.memory) x.address ≡ Ok core)
+-- the core file of a memory by the headers at an address, under this name, and the line of its size; or there is none
+abbrev pub cores : ℕ → List ℕ → Contents → Result Made (Refusal Reason) → Type 0
+cores address out memory (Ok goods) =
+    (core : CoreMade) × (core_reading (at memory) address ≡ Ok core)
     × (goods.text ≡ core_line core) × (goods.fault ≡ None)
-    × (goods.outputs ≡ (x.out, core.bytes) ∷ [])
-cores x (Err (by why)) = RefusesCore (at x.memory) x.address why
-cores x (Err (too_long name limit)) = ⊥
+    × (goods.outputs ≡ (out, core.bytes) ∷ [])
+cores address out memory (Err (by why)) = RefusesCore (at memory) address why
+cores address out memory (Err (too_long name limit)) = ⊥
 
 module _ {S O : Type 0} (D : Shelf S) (E : Sink O) (s : S) (o : O) (s' : S) (o' : O) where
   -- After `core`: the memory that was read has a core by the headers at the address. OUT is its file, every other file is
@@ -58,13 +47,13 @@ module _ {S O : Type 0} (D : Shelf S) (E : Sink O) (s : S) (o : O) (s' : S) (o' 
     pub said : Said (E.said o) (core_line made) (E.said o')
 
 -- the memory has a core by the headers at the address
-abbrev pub CanWriteCore : CoreInputs → Type 0
-CanWriteCore x = (core : CoreMade) × (core_reading (at x.memory) x.address ≡ Ok core)
+abbrev pub CanWriteCore : ℕ → Contents → Type 0
+CanWriteCore address memory = (core : CoreMade) × (core_reading (at memory) address ≡ Ok core)
 
 abbrev pub core_entry : CoreValue → ProgramEntry
 core_entry c = record {
-  Inputs = CoreInputs;
-  command = command_of (core_files c) cores;
-  did = λ D E x s o s' o'. HasWrittenCore D E s o s' o' c x.memory;
-  can = CanWriteCore;
+  Inputs = Contents;
+  command = command_of (memory_file c.memory) (cores c.address c.out);
+  did = λ D E memory s o s' o'. HasWrittenCore D E s o s' o' c memory;
+  can = CanWriteCore c.address;
 }

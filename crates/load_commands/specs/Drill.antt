@@ -25,21 +25,21 @@ use Rattle.command_parts.specs.Files.{memory_file}
 use Rattle.command_parts.specs.Outputs.{HasNoFile, IsFileOf, IsTooHeavy, Made}
 use Rattle.load_commands.specs.Replies.{reply_lines}
 
--- what `drill` took, and the name of its output
+-- what `drill` took
 pub record DrillInputs : Type 0 where
   pub memory : Contents
   pub pool : List ℕ  -- in the order in which the pages are drawn
   pub map : MapValue
   pub events : List EventValue
-  pub out : List ℕ
 
-abbrev pub drill_files : DrillValue → Take Reason DrillInputs
-drill_files d = do
-  m ← memory_file d.memory
-  pages ← pool_file d.pool None
-  ram ← map_file d.map
-  events ← events_file d.events
-  ok (record { memory = m; pool = pages; map = ram; events = events; out = d.out })
+-- these are taken by their names, in this order
+abbrev pub drill_files : (memory pool map events : List ℕ) → Take Reason DrillInputs
+drill_files memory pool map events = do
+  m ← memory_file memory
+  pages ← pool_file pool None
+  ram ← map_file map
+  es ← events_file events
+  ok (record { memory = m; pool = pages; map = ram; events = es })
 
 -- the pages that are RAM by a memory map, as their longest runs in rising order
 pub record AreRam (m : MapValue) (ram : List Run) : Type 0 where
@@ -67,20 +67,20 @@ memory_after x ram = (after_events (start x ram) x.events).memory
 abbrev pub drill_text : DrillInputs → List Run → List ℕ
 drill_text x ram = reply_lines 1 (replies_to (start x ram) x.events)
 
--- No page of the pool lies in the reserved area. The file of the memory after the events is the output, the text has the
--- reply to each, and the images and pages are kept over them. Or a page of the pool lies there, or that memory has no file.
-abbrev pub drills : DrillInputs → Result Made (Refusal Reason) → Type 0
-drills x (Ok goods) =
+-- No page of the pool lies in the reserved area. The file of the memory after the events is the output of this name, the
+-- text has the reply to each, and the images and pages are kept over them. Or a page of the pool lies there, or that memory has no file.
+abbrev pub drills : List ℕ → DrillInputs → Result Made (Refusal Reason) → Type 0
+drills out x (Ok goods) =
     (ram : List Run) × AreRam x.map ram × (first_meeting x ≡ None)
     × (goods.text ≡ drill_text x ram) × (goods.fault ≡ None)
     × AreKept x.pool (start x ram) x.events
     × (bytes : List ℕ) × IsFileOf (memory_after x ram) bytes
-    × (goods.outputs ≡ (x.out, bytes) ∷ [])
-drills x (Err (by why)) =
+    × (goods.outputs ≡ (out, bytes) ∷ [])
+drills out x (Err (by why)) =
     Meets (first_meeting x) why
     ⊎ ((ram : List Run)
     × AreRam x.map ram × (first_meeting x ≡ None) × HasNoFile (memory_after x ram) why)
-drills x (Err (too_long name limit)) = ⊥
+drills out x (Err (too_long name limit)) = ⊥
 
 module _ {S O : Type 0} (D : Shelf S) (E : Sink O) (s : S) (o : O) (s' : S) (o' : O) where
   -- After `drill`, by what was read: the events of the file were applied one after another. OUT is the file of the memory after the last one,
@@ -109,7 +109,7 @@ pub record CanDrill (x : DrillInputs) : Type 0 where
 abbrev pub drill_entry : DrillValue → ProgramEntry
 drill_entry d = record {
   Inputs = DrillInputs;
-  command = command_of (drill_files d) drills;
+  command = command_of (drill_files d.memory d.pool d.map d.events) (drills d.out);
   did = λ D E x s o s' o'. HasDrilled D E s o s' o' d x;
   can = CanDrill;
 }

@@ -4,7 +4,7 @@ pub mod CrashInputs
 pub mod Startup
 pub mod Loading
 pub mod CrashLoading
-pub mod Loads
+pub mod NormalLoad
 pub mod Replies
 pub mod EventFile
 pub mod Boot
@@ -14,5 +14,5 @@ pub mod LoadPanic
 pub mod Drill
 pub mod Sample
 pub mod CoreFile
-pub mod Laid
+pub mod ByRules
 pub mod inner

@@ -1,9 +1,9 @@
--- What `load-panic` takes and makes (this project's own).
+-- What `load-panic` makes (this project's own).
 use Rattle.std.specs.Prelude.{◌≡◌, ℕ, List, [], ◌∷◌, length, true, None, Some, Result, Ok, Err, ◌⊎◌, false}
 use Rattle.kx_pages.specs.declared.image.Mode.TheVariants.{Plain}
 use Rattle.page_memory.specs.Contents.{at}
 use Rattle.segments.specs.Values.{pages, want}
-use Rattle.file_commands.specs.Taking.{Refusal, Take, ok, too_long, by, ◌>>=◌}
+use Rattle.file_commands.specs.Taking.{Refusal, too_long, by}
 use Rattle.load_states.specs.States.{CrashLoad}
 use Rattle.load_record.specs.File.{Record, record_file}
 use Rattle.kexec_words.specs.Values.{LoadPanicValue}
@@ -23,20 +23,6 @@ use Rattle.file_commands.specs.Answers.{FilesPut, command_of}
 use Rattle.kexec_plan.specs.Plan.{plan}
 use Rattle.command_parts.specs.Entry.{ProgramEntry}
 
--- what `load-panic` took, and the names of its outputs
-pub record LoadPanicCommand : Type 0 where
-  pub load : CrashInputs
-  pub out : List ℕ
-  pub load_record : List ℕ
-
-abbrev pub load_panic_of : LoadPanicValue → CrashInputs → LoadPanicCommand
-load_panic_of l load = record { load = load; out = l.out; load_record = l.load_record }
-
-abbrev pub load_panic_files : LoadPanicValue → Take Reason LoadPanicCommand
-load_panic_files l = do
-  load ← crash_inputs l.inputs l.map
-  ok (load_panic_of l load)
-
 -- the record of a crash load: plain, without a control page, its list the head alone
 abbrev pub record_of_crash : CrashLoad → Plan → Record
 record_of_crash load p = record {
@@ -53,20 +39,19 @@ abbrev pub panic_text : Plan → List ℕ
 panic_text p = crash_lines (length (pages p.segments)) p.start
 
 -- The kernel lies in its place: the file of the memory after the load and its record, which reads back,
--- are the outputs, and the text tells how many pages it has and how it starts. Or the plan refuses, or
--- that memory has no file.
-abbrev pub loads_panic : LoadPanicCommand → Result Made (Refusal Reason) → Type 0
-loads_panic x (Ok goods) =
-    (p : Plan) × (load : CrashLoad) × IsCrashLoaded x.load p load
+-- are the outputs of these names, and the text tells how many pages it has and how it starts. Or the
+-- plan refuses, or that memory has no file.
+abbrev pub loads_panic : List ℕ → List ℕ → CrashInputs → Result Made (Refusal Reason) → Type 0
+loads_panic out load_record i (Ok goods) =
+    (p : Plan) × (load : CrashLoad) × IsCrashLoaded i p load
     × (goods.text ≡ panic_text p) × (goods.fault ≡ None)
     × (bytes : List ℕ) × IsFileOf (at load.memory) bytes
-    × (goods.outputs ≡ (x.out, bytes) ∷ (x.load_record, record_file (record_of_crash load p)) ∷ [])
+    × (goods.outputs ≡ (out, bytes) ∷ (load_record, record_file (record_of_crash load p)) ∷ [])
     × IsReadBack (record_of_crash load p)
-loads_panic x (Err (by why)) =
-    HasNoPlan x.load.request (Some x.load.map) why
-    ⊎ ((p : Plan) × (load : CrashLoad) × IsCrashLoaded x.load p load
-    × HasNoFile (at load.memory) why)
-loads_panic x (Err (too_long name limit)) = ⊥
+loads_panic out load_record i (Err (by why)) =
+    HasNoPlan i.request (Some i.map) why
+    ⊎ ((p : Plan) × (load : CrashLoad) × IsCrashLoaded i p load × HasNoFile (at load.memory) why)
+loads_panic out load_record i (Err (too_long name limit)) = ⊥
 
 -- A crash kernel was put in its place, whatever memory held.
 pub record PanicLoad (i : CrashInputs) (p : Plan) (load : CrashLoad) : Type 0 where
@@ -109,8 +94,8 @@ pub record CanLoadPanic (i : CrashInputs) : Type 0 where
 
 abbrev pub load_panic_entry : LoadPanicValue → ProgramEntry
 load_panic_entry l = record {
-  Inputs = LoadPanicCommand;
-  command = command_of (load_panic_files l) loads_panic;
-  did = λ D E x s o s' o'. HasLoadedPanic D E s o s' o' l x.load;
-  can = λ x. CanLoadPanic x.load;
+  Inputs = CrashInputs;
+  command = command_of (crash_inputs l.inputs l.map) (loads_panic l.out l.load_record);
+  did = λ D E i s o s' o'. HasLoadedPanic D E s o s' o' l i;
+  can = CanLoadPanic;
 }

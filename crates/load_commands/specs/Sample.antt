@@ -5,7 +5,7 @@ use Rattle.load_states.specs.Fillings.{IsSealed}
 use Rattle.load_states.specs.Ready.{Told}
 use Rattle.load_states.specs.States.{Checked}
 use Rattle.sample_load.specs.Samples.{sample_memory, sample_pool, sample_segments, start_of, memory_digest}
-use Rattle.file_commands.specs.Taking.{Refusal, Take, ok}
+use Rattle.file_commands.specs.Taking.{Refusal, ok}
 use Rattle.command_parts.specs.declared.reason.Reason.{Reason}
 use Rattle.command_parts.specs.Outputs.{Made}
 use Rattle.command_parts.specs.Runs.{after_runs, list_text, Leaves, MachineLeaves}
@@ -24,9 +24,6 @@ use Rattle.hex.specs.Hex.{encode_lower}
 unfoldable pub memory_line : Mem → List ℕ
 memory_line N = codes "memory " ++ (encode_lower (memory_digest N) ++ codes "\n")
 
-abbrev pub sample_files : ℕ → Take Reason ℕ
-sample_files number = ok number
-
 -- The sample of this number was loaded in plain mode.
 pub record IsSample (number : ℕ) (c : Checked) : Type 0 where
   -- the list, the control page and the sources are those that the rules of taking pages and laying a list give, in its
@@ -42,11 +39,11 @@ sample_text number c =
     ++ memory_line (after_runs None c)
 
 -- The list of the sample is run, and the text tells of it. No output is made, and nothing is refused.
-abbrev pub samples : ℕ → Result Made (Refusal Reason) → Type 0
-samples number (Ok goods) =
+abbrev pub samples : ℕ → Unit {0} → Result Made (Refusal Reason) → Type 0
+samples number x (Ok goods) =
     (c : Checked) × IsSample number c × (goods.outputs ≡ []) × (goods.text ≡ sample_text number c)
     × (goods.fault ≡ None)
-samples number (Err why) = ⊥
+samples number x (Err why) = ⊥
 
 module _ {S O : Type 0} (D : Shelf S) (E : Sink O) (s : S) (o : O) (s' : S) (o' : O) where
   -- After `sample`: the load that the number makes was run. The machine's run of its list ends after as many steps as the
@@ -63,8 +60,8 @@ module _ {S O : Type 0} (D : Shelf S) (E : Sink O) (s : S) (o : O) (s' : S) (o' 
 
 abbrev pub sample_entry : ℕ → ProgramEntry
 sample_entry number = record {
-  Inputs = ℕ;
-  command = command_of (sample_files number) samples;
+  Inputs = Unit {0};
+  command = command_of (ok tt) (samples number);
   did = λ D E x s o s' o'. HasSampled D E s o s' o' number;
   can = always;
 }

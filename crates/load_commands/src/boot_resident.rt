@@ -2,25 +2,24 @@
 
 ghost use Rattle.std.specs.Prelude.{◌≡◌, ◌++◌, map, string_bytes, IfOk, OnOk};
 ghost use Rattle.kx_pages.specs.Lists.{Distinct};
+ghost use Rattle.kx_pages.specs.declared.image.ImageType.TheVariants.{Raw};
 ghost use Rattle.page_memory.specs.Contents.{at};
 ghost use Rattle.page_pool.specs.Pages.{usable_of};
 ghost use Rattle.list_checker.specs.Checked.{as_pair};
 ghost use Rattle.resident_planner.specs.Made.{IsMade};
 ghost use Rattle.file_commands.specs.Answers.{Meets};
-ghost use Rattle.file_commands.specs.inner.Calls.{Makes, MakesOr, Takes, call_answer};
-ghost use Rattle.kexec_words.specs.inner.Values.{boot_resident_value};
+ghost use Rattle.file_commands.specs.inner.Calls.{MakesOr, call_answer};
+ghost use Rattle.kexec_words.specs.inner.Values.{boot_resident_value, inputs_value};
 ghost use Rattle.load_commands.specs.inner.Views.{inputs_of, IsKernel, resident_inputs};
-ghost use Rattle.load_commands.specs.BootResident.{HasNoList, RefusesResident, ResidentInputs as Inputs, boots_resident, copied_line, pairs_file, resident_files, boot_resident_entry};
+ghost use Rattle.load_commands.specs.BootResident.{HasNoList, RefusesResident, ResidentInputs as Inputs, boots_resident, copied_line, inputs_with_pairs, raw_inputs, boot_resident_entry};
 ghost use Rattle.load_commands.specs.inner.Told.{ran_resident};
 
+use crate::files::take_pairs;
 use crate::inputs::take_inputs;
-use crate::load_inputs::LoadInputs;
+use crate::load_inputs::{InputNames, LoadInputs};
 use crate::loading::plan_request;
-use command_parts::{
-    InputFault, Ran, Reason, TEXT_LIMIT, load_lines, memory_output, push_ran_line, refusal_by,
-    run_loaded,
-};
-use file_commands::{Command, Goods, MakeFault, Stop, TakeFault, run, take_file};
+use command_parts::{Ran, Reason, load_lines, memory_output, push_ran_line, run_loaded};
+use file_commands::{Command, Goods, MakeFault, Stop, TakeFault, run};
 use kexec_plan::Planned;
 use kexec_words::{BootResident, Inputs};
 use kx_edge::{Shelf, Sink};
@@ -29,61 +28,36 @@ use list_checker::{ListFault, Pair};
 use load_states::Loaded;
 use page_memory::Memory;
 use page_pool::Pool;
-use resident_planner::{Made, PairsFault, ResidentFault, plan_resident, read_pairs};
+use resident_planner::{Made, ResidentFault, plan_resident};
 use segments::Segments;
 use std::alloc::{AllocError, Global};
 
-/// The words of `boot-resident`.
+/// How `boot-resident` is done: the name of the output.
 #[derive(Drop)]
-pub(crate) struct BootResidentWords {
-    pub(crate) words: BootResident,
+pub(crate) struct BootByPairs {
+    pub(crate) out: String,
 }
 
-/// What `boot-resident` took: what the load of a raw kernel is made of, the pairs of destination and resident page, and the
-/// name of its output.
+/// The names of what `boot-resident` takes: of what the load of a raw kernel is made of, and of the pairs.
+#[derive(Drop)]
+pub(crate) struct ResidentNames {
+    pub(crate) load: InputNames,
+    pub(crate) pairs: String,
+}
+
+/// What `boot-resident` took: what the load of a raw kernel is made of, and the pairs of destination and resident page.
 #[derive(Drop)]
 pub(crate) struct ResidentInputs {
     pub(crate) load: LoadInputs,
     pub(crate) pairs: Vec<Pair>,
-    pub(crate) out: String,
 }
 
-// Takes a file of pairs and reads it.
-#[tactic(auto, unfolding(file_commands::specs::Taking::and_then, file_commands::specs::Taking::Took, file_commands::specs::Taking::FailedAt, file_commands::specs::Taking::WantedAt, file_commands::specs::inner::Calls::TakesNot))]
-fn take_pairs<S: Shelf>(
-    alloc: Global,
-    name: String,
-    shelf: &mut S,
-) -> Result<Vec<Pair>, TakeFault<Reason>>
-    ensures { Takes S.Shelf (pairs_file (string_bytes name)) (λ v. v.items) shelf.old result
-        shelf.new }
+// The names of a raw kernel that starts where it lies, and of the files beside it.
+fn raw_names(alloc: Global, memory: String, pool: String, kernel: String, at: u64) -> InputNames
+    ensures image { result.image ≡ Raw at at }
+    ensures inputs { inputs_value result.inputs
+        ≡ raw_inputs (string_bytes memory) (string_bytes pool) (string_bytes kernel) }
 {
-    let bytes = take_file(alloc, name, TEXT_LIMIT, shelf)?;
-    match read_pairs(alloc, &bytes) {
-        Ok(pairs) => Ok(pairs),
-        Err(PairsFault::Memory) => Err(TakeFault::Memory),
-        Err(fault) => Err(refusal_by(InputFault::Pairs { fault })),
-    }
-}
-
-// Takes the files of a raw kernel that starts where it lies, and then the pairs.
-fn take_resident<S: Shelf>(
-    alloc: Global,
-    boot: BootResidentWords,
-    shelf: &mut S,
-) -> Result<ResidentInputs, TakeFault<Reason>>
-    ensures { Takes S.Shelf (resident_files (boot_resident_value boot.words)) resident_inputs
-        shelf.old result shelf.new }
-{
-    let BootResident {
-        memory,
-        pool,
-        out,
-        kernel,
-        pairs,
-        at,
-    } = boot.words;
-    let modules = Vec::new(alloc);
     let inputs = Inputs {
         memory,
         pool,
@@ -92,12 +66,13 @@ fn take_resident<S: Shelf>(
         kernel,
         initrd: None,
         purgatory: None,
-        modules,
+        modules: Vec::new(alloc),
         command: None,
     };
-    let load = take_inputs(alloc, ImageType::Raw { at, entry: at }, inputs, shelf)?;
-    let pairs = take_pairs(alloc, pairs, shelf)?;
-    Ok(ResidentInputs { load, pairs, out })
+    InputNames {
+        image: ImageType::Raw { at, entry: at },
+        inputs,
+    }
 }
 
 // The pages of a pool that can be drawn, in this order.
@@ -186,29 +161,15 @@ fn push_copied_line(alloc: Global, text: &mut String, copied: u64) -> Result<(),
 fn resident_text(alloc: Global, ran: &Ran, start: &Start, copied: u64) -> Result<String, AllocError>
     ensures { IfOk result (λ s. string_bytes s ≡ ran_resident ran.now start.now copied) }
 {
-    let mut text = load_lines(alloc, ran.words, ran.links, ran.pairs, &ran.image, start)?;
+    let mut text = load_lines(alloc, ran.counts, &ran.image, start)?;
     push_copied_line(alloc, &mut text, copied)?;
     push_ran_line(alloc, &mut text, ran.steps)?;
     Ok(text)
 }
 
-// Makes the list and runs it, and makes the file of the memory after the run.
-fn make_resident(alloc: Global, boot: ResidentInputs) -> Result<Goods<ListFault>, MakeFault<Reason>>
-    ensures { Makes boots_resident (resident_inputs boot) result }
-{
-    let ResidentInputs { load, pairs, out } = boot;
-    let kernel = load_resident(alloc, load, &pairs)?;
-    let ran = run_loaded(alloc, kernel.loaded, None)?;
-    let text = resident_text(alloc, &ran, &kernel.start, kernel.copied)?;
-    let outputs = memory_output(alloc, ran.memory, out)?;
-    Ok(Goods {
-        outputs,
-        text,
-        fault: None,
-    })
-}
+impl Command for BootByPairs {
+    type Names = ResidentNames;
 
-impl Command for BootResidentWords {
     type Taken = ResidentInputs;
 
     type Fault = ListFault;
@@ -219,20 +180,38 @@ impl Command for BootResidentWords {
 
     ghost inputs = { resident_inputs };
 
-    ghost takes = { λ b. resident_files (boot_resident_value b.words) };
+    ghost takes = { λ n. inputs_with_pairs n.load.image (inputs_value n.load.inputs)
+        (string_bytes n.pairs) };
 
-    ghost makes = { boots_resident };
+    ghost makes = { λ b. boots_resident (string_bytes b.out) };
 
+    // Takes what the load is made of, and then the pairs.
     fn take<S: Shelf>(
-        self,
         alloc: Global,
+        names: ResidentNames,
         shelf: &mut S,
     ) -> Result<ResidentInputs, TakeFault<Reason>> {
-        take_resident(alloc, self, shelf)
+        let load = take_inputs(alloc, names.load, shelf)?;
+        let pairs = take_pairs(alloc, names.pairs, shelf)?;
+        Ok(ResidentInputs { load, pairs })
     }
 
-    fn make(alloc: Global, boot: ResidentInputs) -> Result<Goods<ListFault>, MakeFault<Reason>> {
-        make_resident(alloc, boot)
+    // Makes the list and runs it, and makes the file of the memory after the run.
+    fn make(
+        self,
+        alloc: Global,
+        taken: ResidentInputs,
+    ) -> Result<Goods<ListFault>, MakeFault<Reason>> {
+        let ResidentInputs { load, pairs } = taken;
+        let kernel = load_resident(alloc, load, &pairs)?;
+        let ran = run_loaded(alloc, kernel.loaded, None)?;
+        let text = resident_text(alloc, &ran, &kernel.start, kernel.copied)?;
+        let outputs = memory_output(alloc, ran.memory, self.out)?;
+        Ok(Goods {
+            outputs,
+            text,
+            fault: None,
+        })
     }
 }
 
@@ -247,5 +226,17 @@ pub fn run_boot_resident<S: Shelf, O: Sink>(
         shelf.old out.old
         (call_answer result) shelf.new out.new }
 {
-    run(alloc, BootResidentWords { words }, shelf, out)
+    let BootResident {
+        memory,
+        pool,
+        out: name,
+        kernel,
+        pairs,
+        at,
+    } = words;
+    let names = ResidentNames {
+        load: raw_names(alloc, memory, pool, kernel, at),
+        pairs,
+    };
+    run(alloc, names, BootByPairs { out: name }, shelf, out)
 }

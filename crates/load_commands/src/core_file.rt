@@ -1,31 +1,31 @@
 //! `core`: writes the core file of a memory.
 
 ghost use Rattle.std.specs.Prelude.{◌≡◌, ◌<◌, ◌^◌, Ok, IfOk, string_bytes};
-ghost use Rattle.page_memory.specs.Contents.{at};
+ghost use Rattle.page_memory.specs.Contents.{Contents, at};
 ghost use Rattle.vmcore_file.specs.File.{core_reading};
 ghost use Rattle.vmcore_file.specs.inner.File.{value_of};
 ghost use Rattle.file_commands.specs.Answers.{Meets};
-ghost use Rattle.file_commands.specs.inner.Calls.{Makes, MakesOr, Takes, call_answer};
+ghost use Rattle.file_commands.specs.inner.Calls.{MakesOr, call_answer};
 ghost use Rattle.kexec_words.specs.inner.Values.{core_value};
-ghost use Rattle.load_commands.specs.CoreFile.{CoreInputs as Inputs, RefusesCore, core_files, core_line, cores, core_entry};
-ghost use Rattle.load_commands.specs.inner.Views.{core_inputs};
+ghost use Rattle.command_parts.specs.Files.{memory_file};
+ghost use Rattle.load_commands.specs.CoreFile.{RefusesCore, core_line, cores, core_entry};
 
-use crate::core_inputs::CoreInputs;
 use command_parts::{Reason, one, take_memory};
 use file_commands::{Command, File, Goods, MakeFault, Stop, TakeFault, run};
-use kexec_words::Core as CoreNames;
+use kexec_words::Core as CoreWords;
 use kx_edge::{Shelf, Sink};
 use list_checker::ListFault;
 use page_memory::Memory;
 use std::alloc::{AllocError, Global};
 use vmcore_file::{Core, CoreFault, make};
 
-/// The words of `core`.
+/// How `core` is done: the address of the crash headers, and the name of the output.
 #[derive(Drop)]
-pub(crate) struct CoreWords {
-    pub(crate) words: CoreNames,
+pub(crate) struct WriteCore {
+    pub(crate) address: u64,
+    pub(crate) out: String,
     /// The headers' address is one.
-    pub(crate) ghost inside: { words.address < 2 ^ 46 },
+    pub(crate) ghost inside: { address < 2 ^ 46 },
 }
 
 // How many load rows, bytes of notes and bytes a core file has.
@@ -36,28 +36,6 @@ fn core_line(alloc: Global, core: &Core) -> Result<String, AllocError>
     let notes = core.notes;
     let bytes = core.bytes.len();
     format!(in alloc; "core loads {loads} notes {notes} bytes {bytes}\n")
-}
-
-// Takes the memory.
-fn take_core<S: Shelf>(
-    alloc: Global,
-    core: CoreWords,
-    shelf: &mut S,
-) -> Result<CoreInputs, TakeFault<Reason>>
-    ensures { Takes S.Shelf (core_files (core_value core.words)) core_inputs shelf.old
-        result shelf.new }
-{
-    let CoreNames {
-        memory,
-        out,
-        address,
-    } = core.words;
-    let memory = take_memory(alloc, memory, shelf)?;
-    Ok(CoreInputs {
-        memory,
-        out,
-        address,
-    })
 }
 
 // The core of a memory by the headers at an address.
@@ -75,59 +53,51 @@ fn core_of(alloc: Global, memory: &Memory, address: u64) -> Result<Core, MakeFau
     }
 }
 
-// Makes the core file, and the line that tells its size.
-fn make_core(alloc: Global, core: CoreInputs) -> Result<Goods<ListFault>, MakeFault<Reason>>
-    ensures { Makes cores (core_inputs core) result }
-{
-    let CoreInputs {
-        memory,
-        out: name,
-        address,
-    } = core;
-    let core = core_of(alloc, &memory, address)?;
-    let text = core_line(alloc, &core)?;
-    let outputs = one(
-        alloc,
-        File {
-            name,
-            bytes: core.bytes,
-        },
-    )?;
-    Ok(Goods {
-        outputs,
-        text,
-        fault: None,
-    })
-}
+impl Command for WriteCore {
+    type Names = String;
 
-impl Command for CoreWords {
-    type Taken = CoreInputs;
+    type Taken = Memory;
 
     type Fault = ListFault;
 
     type Reason = Reason;
 
-    ghost Inputs = { Inputs };
+    ghost Inputs = { Contents };
 
-    ghost inputs = { core_inputs };
+    ghost inputs = { λ m. m };
 
-    ghost takes = { λ c. core_files (core_value c.words) };
+    ghost takes = { λ n. memory_file (string_bytes n) };
 
-    ghost makes = { cores };
+    ghost makes = { λ c. cores c.address (string_bytes c.out) };
 
-    fn take<S: Shelf>(self, alloc: Global, shelf: &mut S) -> Result<CoreInputs, TakeFault<Reason>> {
-        take_core(alloc, self, shelf)
+    fn take<S: Shelf>(
+        alloc: Global,
+        name: String,
+        shelf: &mut S,
+    ) -> Result<Memory, TakeFault<Reason>> {
+        take_memory(alloc, name, shelf)
     }
 
-    fn make(alloc: Global, core: CoreInputs) -> Result<Goods<ListFault>, MakeFault<Reason>> {
-        make_core(alloc, core)
+    // Makes the core file, and the line that tells its size.
+    fn make(self, alloc: Global, memory: Memory) -> Result<Goods<ListFault>, MakeFault<Reason>> {
+        let core = core_of(alloc, &memory, self.address)?;
+        let text = core_line(alloc, &core)?;
+        let file = File {
+            name: self.out,
+            bytes: core.bytes,
+        };
+        Ok(Goods {
+            outputs: one(alloc, file)?,
+            text,
+            fault: None,
+        })
     }
 }
 
 /// Runs `core`: writes the core file of a memory. The address of the headers is one.
 pub fn run_core<S: Shelf, O: Sink>(
     alloc: Global,
-    words: CoreNames,
+    words: CoreWords,
     shelf: &mut S,
     out: &mut O,
 ) -> Result<(), Stop<ListFault, Reason>>
@@ -135,5 +105,10 @@ pub fn run_core<S: Shelf, O: Sink>(
     ensures { Meets S.Shelf O.Sink (core_entry (core_value words)).command shelf.old out.old
         (call_answer result) shelf.new out.new }
 {
-    run(alloc, CoreWords { words }, shelf, out)
+    let CoreWords {
+        memory,
+        out: name,
+        address,
+    } = words;
+    run(alloc, memory, WriteCore { address, out: name }, shelf, out)
 }

@@ -1,22 +1,30 @@
-//! The files beside the memory are taken, each with its limit, and read: the pool, the memory map and the notes.
+//! The files beside the memory are taken, each with its limit, and read: the pool, the memory map, the notes, the pairs and the
+//! events.
+#![tactic(auto, unfolding(file_commands::specs::Taking::and_then, file_commands::specs::Taking::Took, file_commands::specs::Taking::FailedAt, file_commands::specs::Taking::WantedAt, file_commands::specs::inner::Calls::TakesNot))]
 
-ghost use Rattle.std.specs.Prelude.{◌≡◌, ℕ, ◌^◌, [], None, false, is_some, option_map, string_bytes, IfOk};
+ghost use Rattle.std.specs.Prelude.{◌≡◌, ℕ, ◌^◌, [], None, false, is_some, map, option_map, string_bytes, IfOk};
+ghost use Rattle.std.specs.List.{AllByRecursion};
 ghost use Rattle.file_commands.specs.inner.Calls.{Takes};
 ghost use Rattle.file_commands.specs.Files.{optional_file};
 ghost use Rattle.load_commands.specs.Files.{map_file, notes_file, pages_file, pool_file, some_notes, usable_below};
+ghost use Rattle.load_commands.specs.BootResident.{pairs_file};
+ghost use Rattle.load_commands.specs.EventFile.{events_file};
+ghost use Rattle.image_slots.specs.inner.Events.{HasFewBytes, event_of};
 ghost use Rattle.page_pool.specs.Pages.{is_filed, usable_of};
 
 use command_parts::{InputFault, Reason, TEXT_LIMIT, refusal_by};
 use crash_headers::{Note, NoteFault, read_notes};
 use file_commands::{TakeFault, take_file};
+use image_slots::{Event, EventsFault, read_events};
 use kx_edge::Shelf;
 use kx_pages::Page;
+use list_checker::Pair;
 use memory_map::{Map, MapFault};
 use page_pool::{Pool, PoolFault};
+use resident_planner::{PairsFault, read_pairs};
 use std::alloc::Global;
 
 // Takes a pool file and reads it. No page of the pool is drawn, and each is usable.
-#[tactic(auto, unfolding(file_commands::specs::Taking::and_then, file_commands::specs::Taking::Took, file_commands::specs::Taking::FailedAt, file_commands::specs::Taking::WantedAt, file_commands::specs::inner::Calls::TakesNot))]
 fn take_pages<S: Shelf>(
     alloc: Global,
     name: String,
@@ -68,7 +76,6 @@ pub(crate) fn take_pool<S: Shelf>(
 }
 
 /// Takes a memory map and reads it.
-#[tactic(auto, unfolding(file_commands::specs::Taking::and_then, file_commands::specs::Taking::Took, file_commands::specs::Taking::FailedAt, file_commands::specs::Taking::WantedAt, file_commands::specs::inner::Calls::TakesNot))]
 pub(crate) fn take_map_file<S: Shelf>(
     alloc: Global,
     name: String,
@@ -85,7 +92,6 @@ pub(crate) fn take_map_file<S: Shelf>(
 }
 
 /// Takes the memory map, where one is named, and reads it.
-#[tactic(auto, unfolding(file_commands::specs::Taking::and_then, file_commands::specs::Taking::Took, file_commands::specs::Taking::FailedAt, file_commands::specs::Taking::WantedAt, file_commands::specs::inner::Calls::TakesNot))]
 pub(crate) fn take_map<S: Shelf>(
     alloc: Global,
     name: Option<String>,
@@ -102,7 +108,6 @@ pub(crate) fn take_map<S: Shelf>(
 }
 
 // Takes a file of notes and reads it.
-#[tactic(auto, unfolding(file_commands::specs::Taking::and_then, file_commands::specs::Taking::Took, file_commands::specs::Taking::FailedAt, file_commands::specs::Taking::WantedAt, file_commands::specs::inner::Calls::TakesNot))]
 fn take_notes_file<S: Shelf>(
     alloc: Global,
     name: String,
@@ -120,7 +125,6 @@ fn take_notes_file<S: Shelf>(
 }
 
 /// Takes the file of notes, where one is named, and reads it. Without one there are none.
-#[tactic(auto, unfolding(file_commands::specs::Taking::and_then, file_commands::specs::Taking::Took, file_commands::specs::Taking::FailedAt, file_commands::specs::Taking::WantedAt, file_commands::specs::inner::Calls::TakesNot))]
 pub(crate) fn take_notes<S: Shelf>(
     alloc: Global,
     name: Option<String>,
@@ -132,5 +136,40 @@ pub(crate) fn take_notes<S: Shelf>(
     match name {
         Some(name) => take_notes_file(alloc, name, shelf),
         None => Ok(Vec::new(alloc)),
+    }
+}
+
+/// Takes a file of pairs and reads it.
+pub(crate) fn take_pairs<S: Shelf>(
+    alloc: Global,
+    name: String,
+    shelf: &mut S,
+) -> Result<Vec<Pair>, TakeFault<Reason>>
+    ensures { Takes S.Shelf (pairs_file (string_bytes name)) (λ v. v.items) shelf.old result
+        shelf.new }
+{
+    let bytes = take_file(alloc, name, TEXT_LIMIT, shelf)?;
+    match read_pairs(alloc, &bytes) {
+        Ok(pairs) => Ok(pairs),
+        Err(PairsFault::Memory) => Err(TakeFault::Memory),
+        Err(fault) => Err(refusal_by(InputFault::Pairs { fault })),
+    }
+}
+
+/// Takes a file of events and reads it.
+pub(crate) fn take_events<S: Shelf>(
+    alloc: Global,
+    name: String,
+    shelf: &mut S,
+) -> Result<Vec<Event>, TakeFault<Reason>>
+    ensures takes { Takes S.Shelf (events_file (string_bytes name)) (λ v. map event_of v.items)
+        shelf.old result shelf.new }
+    ensures few { IfOk result (λ v. AllByRecursion (λ e. HasFewBytes (event_of e)) v.items) }
+{
+    let bytes = take_file(alloc, name, TEXT_LIMIT, shelf)?;
+    match read_events(alloc, &bytes) {
+        Ok(events) => Ok(events),
+        Err(EventsFault::Memory) => Err(TakeFault::Memory),
+        Err(fault) => Err(refusal_by(InputFault::Events { fault })),
     }
 }

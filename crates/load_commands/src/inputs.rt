@@ -3,7 +3,6 @@
 
 ghost use Rattle.std.specs.Prelude.{◌≡◌, ◌≤◌, ◌-◌, ℕ, length, map, option_map, is_some, string_bytes, IfOk};
 ghost use Rattle.file_commands.specs.inner.Calls.{Takes, file_of};
-ghost use Rattle.kexec_words.specs.inner.Limits.{HasParts};
 ghost use Rattle.kexec_words.specs.inner.Values.{crash_inputs_value, inputs_value};
 ghost use Rattle.kexec_plan.specs.inner.Requests.{request_of};
 ghost use Rattle.load_commands.specs.Inputs.{KernelFiles as KernelBytes, kernel_files, left_after, load_inputs, module_of, request_with};
@@ -11,12 +10,12 @@ ghost use Rattle.load_commands.specs.inner.Views.{inputs_of, kernel_bytes, crash
 ghost use Rattle.load_commands.specs.CrashInputs.{crash_inputs, crash_request};
 
 use crate::files::{take_map, take_map_file, take_notes, take_pool};
-use crate::load_inputs::{CrashInputs, LoadInputs};
+use crate::load_inputs::{CrashInputs, CrashNames, InputNames, LoadInputs};
 use command_parts::{Reason, take_memory};
 use crash_headers::Note;
 use file_commands::{File, TakeFault, take_all, take_file, take_optional};
 use kexec_plan::{Module, Request};
-use kexec_words::{CrashInputs as CrashNames, Inputs};
+use kexec_words::{CrashInputs as CrashWords, Inputs};
 use kx_edge::Shelf;
 use kx_pages::{ImageType, KERNEL_LIMIT};
 use std::alloc::{AllocError, Global};
@@ -117,13 +116,11 @@ fn request_with(
 /// Takes what `boot` and `load` take.
 pub(crate) fn take_inputs<S: Shelf>(
     alloc: Global,
-    image: ImageType,
-    inputs: Inputs,
+    names: InputNames,
     shelf: &mut S,
 ) -> Result<LoadInputs, TakeFault<Reason>>
-    requires { HasParts (inputs_value inputs) image }
-    ensures { Takes S.Shelf (load_inputs image (inputs_value inputs)) inputs_of shelf.old
-        result shelf.new }
+    ensures { Takes S.Shelf (load_inputs names.image (inputs_value names.inputs)) inputs_of
+        shelf.old result shelf.new }
 {
     let Inputs {
         memory,
@@ -135,12 +132,12 @@ pub(crate) fn take_inputs<S: Shelf>(
         purgatory,
         modules,
         command,
-    } = inputs;
+    } = names.inputs;
     let memory = take_memory(alloc, memory, shelf)?;
     let pool = take_pool(alloc, pool, below, shelf)?;
     let map = take_map(alloc, map, shelf)?;
     let files = take_kernel(alloc, kernel, initrd, purgatory, modules, shelf)?;
-    let request = request_with(alloc, image, command, files)?;
+    let request = request_with(alloc, names.image, command, files)?;
     Ok(LoadInputs {
         memory,
         pool,
@@ -168,23 +165,23 @@ fn crash_request(
 /// Takes what `load-panic` takes.
 pub(crate) fn take_crash_inputs<S: Shelf>(
     alloc: Global,
-    inputs: CrashNames,
-    map: String,
+    names: CrashNames,
     shelf: &mut S,
 ) -> Result<CrashInputs, TakeFault<Reason>>
-    ensures { Takes S.Shelf (crash_inputs (crash_inputs_value inputs) (string_bytes map))
+    ensures { Takes S.Shelf
+        (crash_inputs (crash_inputs_value names.inputs) (string_bytes names.map))
         crash_inputs_of shelf.old result shelf.new }
 {
-    let CrashNames {
+    let CrashWords {
         memory,
         notes,
         kernel,
         initrd,
         purgatory,
         command,
-    } = inputs;
+    } = names.inputs;
     let memory = take_memory(alloc, memory, shelf)?;
-    let map = take_map_file(alloc, map, shelf)?;
+    let map = take_map_file(alloc, names.map, shelf)?;
     let notes = take_notes(alloc, notes, shelf)?;
     let modules = Vec::new(alloc);
     let files = take_kernel(alloc, kernel, initrd, purgatory, modules, shelf)?;

@@ -2,17 +2,17 @@
 //!
 //! | Module | What it has |
 //! |---|---|
-//! | `files`, `inputs`, `load_inputs` | the files of a kernel, their limits and readers, and the request that they make |
+//! | `files` | the files beside the memory: their limits and readers |
+//! | `inputs`, `load_inputs` | what a load is made of, by its names, and the request for a plan |
 //! | `loading`, `crash_loading` | a plan and its load; the same of a crash kernel, which is put in its place and never moves |
-//! | `boot`, `boot_resident`, `load`, `load_panic`, `sample`, `drill`, `core_file` | a command each, with its words |
-//! | `drill_inputs`, `core_inputs` | what these two take, which holds a fact of it |
+//! | `boot`, `boot_resident`, `load`, `load_panic`, `sample`, `drill`, `core_file` | a command each |
+//! | `drill_inputs` | what `drill` takes, which holds a fact of it |
 //! | `replies` | the lines of the replies of `drill` |
 #![tactic(auto)]
 
 mod boot;
 mod boot_resident;
 mod core_file;
-mod core_inputs;
 mod crash_loading;
 mod drill;
 mod drill_inputs;

@@ -9,18 +9,19 @@ ghost use Rattle.kx_pages.specs.Modes.{swap_page};
 ghost use Rattle.list_checker.specs.Walk.{IsAccepted};
 ghost use Rattle.load_record.specs.File.{record_file};
 ghost use Rattle.file_commands.specs.Answers.{Meets};
-ghost use Rattle.file_commands.specs.inner.Calls.{Makes, Takes, file_of, call_answer};
+ghost use Rattle.file_commands.specs.inner.Calls.{file_of, call_answer};
 ghost use Rattle.kexec_words.specs.inner.Limits.{HasParts};
 ghost use Rattle.kexec_words.specs.inner.Values.{inputs_value, load_value};
 ghost use Rattle.command_parts.specs.Outputs.{IsReadBack};
-ghost use Rattle.load_commands.specs.Load.{LoadCommand as Inputs, load_command_files, loads, load_entry};
+ghost use Rattle.load_commands.specs.Inputs.{LoadInputs as Inputs, load_inputs};
+ghost use Rattle.load_commands.specs.Load.{loads, load_entry};
 ghost use Rattle.load_commands.specs.inner.Told.{IsToldText};
-ghost use Rattle.load_commands.specs.inner.Views.{kernel_record, load_command};
+ghost use Rattle.load_commands.specs.inner.Views.{inputs_of, kernel_record};
 
 use crate::inputs::take_inputs;
-use crate::load_inputs::LoadInputs;
+use crate::load_inputs::{InputNames, LoadInputs};
 use crate::loading::{LoadedKernel, load_request};
-use command_parts::{Reason, load_lines, memory_output};
+use command_parts::{ListCounts, Reason, load_lines, memory_output};
 use file_commands::{Command, File, Goods, MakeFault, Stop, TakeFault, run};
 use kexec_words::Load;
 use kx_edge::{Shelf, Sink};
@@ -30,18 +31,9 @@ use load_states::Loaded;
 use page_memory::Memory;
 use std::alloc::{AllocError, Global};
 
-/// The words of `load`.
+/// How `load` is done: whether context is to be preserved, and the names of the outputs.
 #[derive(Drop)]
-pub(crate) struct LoadWords {
-    pub(crate) words: Load,
-    /// As for `boot`.
-    pub(crate) ghost parts: { HasParts (inputs_value words.inputs) words.image },
-}
-
-/// What `load` took, whether context is to be preserved, and the names of its outputs.
-#[derive(Drop)]
-pub(crate) struct LoadCommand {
-    pub(crate) load: LoadInputs,
+pub(crate) struct RecordLoad {
     pub(crate) wish: Wish,
     pub(crate) out: String,
     pub(crate) load_record: String,
@@ -54,31 +46,6 @@ fn kept_wish(kept: bool) -> Wish
     if kept { Wish::Kept } else { Wish::Plain }
 }
 
-// Takes what a load is made of.
-fn take_load<S: Shelf>(
-    alloc: Global,
-    load: LoadWords,
-    shelf: &mut S,
-) -> Result<LoadCommand, TakeFault<Reason>>
-    ensures { Takes S.Shelf (load_command_files (load_value load.words)) load_command shelf.old
-        result shelf.new }
-{
-    let Load {
-        inputs,
-        out,
-        load_record,
-        kept,
-        image,
-    } = load.words;
-    let load = take_inputs(alloc, image, inputs, shelf)?;
-    Ok(LoadCommand {
-        load,
-        wish: kept_wish(kept),
-        out,
-        load_record,
-    })
-}
-
 // What is said of a load whose list is accepted.
 fn loaded_text(alloc: Global, loaded: &Loaded, start: &Start) -> Result<String, AllocError>
     requires { (is : List Item)
@@ -88,14 +55,7 @@ fn loaded_text(alloc: Global, loaded: &Loaded, start: &Start) -> Result<String, 
 {
     let image = loaded.image();
     match check(alloc, loaded.memory(), &image, loaded.segments()) {
-        Ok(accept) => Ok(load_lines(
-            alloc,
-            accept.words,
-            accept.links,
-            accept.pairs.len() as u64,
-            &image,
-            start,
-        )?),
+        Ok(accept) => Ok(load_lines(alloc, ListCounts::of_accept(&accept), &image, start)?),
         Err(CheckFault::Memory) => Err(AllocError),
         Err(CheckFault::List { .. }) => unreachable!(),
     }
@@ -118,30 +78,10 @@ fn record_output(
     Ok((memory, File { name, bytes }))
 }
 
-// Loads the kernel, and makes the file of the memory after the load and its record.
-fn make_load(alloc: Global, load: LoadCommand) -> Result<Goods<ListFault>, MakeFault<Reason>>
-    ensures { Makes loads (load_command load) result }
-{
-    let LoadCommand {
-        load,
-        wish,
-        out,
-        load_record,
-    } = load;
-    let kernel = load_request(alloc, load, wish)?;
-    let text = loaded_text(alloc, &kernel.loaded, &kernel.startup.start)?;
-    let (memory, output) = record_output(alloc, kernel, load_record)?;
-    let mut outputs = memory_output(alloc, memory, out)?;
-    outputs.push(output)?;
-    Ok(Goods {
-        outputs,
-        text,
-        fault: None,
-    })
-}
+impl Command for RecordLoad {
+    type Names = InputNames;
 
-impl Command for LoadWords {
-    type Taken = LoadCommand;
+    type Taken = LoadInputs;
 
     type Fault = ListFault;
 
@@ -149,22 +89,32 @@ impl Command for LoadWords {
 
     ghost Inputs = { Inputs };
 
-    ghost inputs = { load_command };
+    ghost inputs = { inputs_of };
 
-    ghost takes = { λ l. load_command_files (load_value l.words) };
+    ghost takes = { λ n. load_inputs n.image (inputs_value n.inputs) };
 
-    ghost makes = { loads };
+    ghost makes = { λ c. loads c.wish (string_bytes c.out) (string_bytes c.load_record) };
 
     fn take<S: Shelf>(
-        self,
         alloc: Global,
+        names: InputNames,
         shelf: &mut S,
-    ) -> Result<LoadCommand, TakeFault<Reason>> {
-        take_load(alloc, self, shelf)
+    ) -> Result<LoadInputs, TakeFault<Reason>> {
+        take_inputs(alloc, names, shelf)
     }
 
-    fn make(alloc: Global, load: LoadCommand) -> Result<Goods<ListFault>, MakeFault<Reason>> {
-        make_load(alloc, load)
+    // Loads the kernel, and makes the file of the memory after the load and its record.
+    fn make(self, alloc: Global, load: LoadInputs) -> Result<Goods<ListFault>, MakeFault<Reason>> {
+        let kernel = load_request(alloc, load, self.wish)?;
+        let text = loaded_text(alloc, &kernel.loaded, &kernel.startup.start)?;
+        let (memory, output) = record_output(alloc, kernel, self.load_record)?;
+        let mut outputs = memory_output(alloc, memory, self.out)?;
+        outputs.push(output)?;
+        Ok(Goods {
+            outputs,
+            text,
+            fault: None,
+        })
     }
 }
 
@@ -179,5 +129,18 @@ pub fn run_load<S: Shelf, O: Sink>(
     ensures { Meets S.Shelf O.Sink (load_entry (load_value words)).command shelf.old out.old
         (call_answer result) shelf.new out.new }
 {
-    run(alloc, LoadWords { words }, shelf, out)
+    let Load {
+        inputs,
+        out: name,
+        load_record,
+        kept,
+        image,
+    } = words;
+    let names = InputNames { image, inputs };
+    let command = RecordLoad {
+        wish: kept_wish(kept),
+        out: name,
+        load_record,
+    };
+    run(alloc, names, command, shelf, out)
 }

@@ -4,16 +4,17 @@ ghost use Rattle.std.specs.Prelude.{◌≡◌, length, string_bytes, IfOk};
 ghost use Rattle.segments.specs.Values.{pages};
 ghost use Rattle.load_record.specs.File.{record_file};
 ghost use Rattle.file_commands.specs.Answers.{Meets};
-ghost use Rattle.file_commands.specs.inner.Calls.{Makes, Takes, file_of, call_answer};
-ghost use Rattle.kexec_words.specs.inner.Values.{load_panic_value};
-ghost use Rattle.load_commands.specs.inner.Views.{crash_record, load_panic_command};
+ghost use Rattle.file_commands.specs.inner.Calls.{file_of, call_answer};
+ghost use Rattle.kexec_words.specs.inner.Values.{crash_inputs_value, load_panic_value};
+ghost use Rattle.load_commands.specs.inner.Views.{crash_inputs_of, crash_record};
 ghost use Rattle.command_parts.specs.Outputs.{IsReadBack};
-ghost use Rattle.load_commands.specs.LoadPanic.{LoadPanicCommand as Inputs, load_panic_files, loads_panic, load_panic_entry};
+ghost use Rattle.load_commands.specs.CrashInputs.{CrashInputs as Inputs, crash_inputs};
+ghost use Rattle.load_commands.specs.LoadPanic.{loads_panic, load_panic_entry};
 ghost use Rattle.command_parts.specs.Texts.{crash_lines};
 
 use crate::crash_loading::{CrashKernel, load_in_place};
 use crate::inputs::take_crash_inputs;
-use crate::load_inputs::CrashInputs;
+use crate::load_inputs::{CrashInputs, CrashNames};
 use command_parts::{Reason, crash_lines, memory_output};
 use file_commands::{Command, File, Goods, MakeFault, Stop, TakeFault, run};
 use kexec_words::LoadPanic;
@@ -23,41 +24,11 @@ use list_checker::ListFault;
 use page_memory::Memory;
 use std::alloc::{AllocError, Global};
 
-/// The words of `load-panic`.
+/// How `load-panic` is done: the names of the outputs.
 #[derive(Drop)]
-pub(crate) struct LoadPanicWords {
-    pub(crate) words: LoadPanic,
-}
-
-/// What `load-panic` took, and the names of its outputs.
-#[derive(Drop)]
-pub(crate) struct LoadPanicCommand {
-    pub(crate) load: CrashInputs,
+pub(crate) struct RecordCrashLoad {
     pub(crate) out: String,
     pub(crate) load_record: String,
-}
-
-// Takes what a crash load is made of.
-fn take_load_panic<S: Shelf>(
-    alloc: Global,
-    load: LoadPanic,
-    shelf: &mut S,
-) -> Result<LoadPanicCommand, TakeFault<Reason>>
-    ensures { Takes S.Shelf (load_panic_files (load_panic_value load)) load_panic_command shelf.old
-        result shelf.new }
-{
-    let LoadPanic {
-        inputs,
-        map,
-        out,
-        load_record,
-    } = load;
-    let load = take_crash_inputs(alloc, inputs, map, shelf)?;
-    Ok(LoadPanicCommand {
-        load,
-        out,
-        load_record,
-    })
 }
 
 // What is said of a crash load, its record, as a file of this name, and the memory that it is of.
@@ -85,31 +56,10 @@ fn record_output(
     Ok((memory, text, File { name, bytes }))
 }
 
-// Puts the kernel in its place, and makes the file of the memory after the load and its record.
-fn make_load_panic(
-    alloc: Global,
-    load: LoadPanicCommand,
-) -> Result<Goods<ListFault>, MakeFault<Reason>>
-    ensures { Makes loads_panic (load_panic_command load) result }
-{
-    let LoadPanicCommand {
-        load,
-        out,
-        load_record,
-    } = load;
-    let kernel = load_in_place(alloc, load)?;
-    let (memory, text, output) = record_output(alloc, kernel, load_record)?;
-    let mut outputs = memory_output(alloc, memory, out)?;
-    outputs.push(output)?;
-    Ok(Goods {
-        outputs,
-        text,
-        fault: None,
-    })
-}
+impl Command for RecordCrashLoad {
+    type Names = CrashNames;
 
-impl Command for LoadPanicWords {
-    type Taken = LoadPanicCommand;
+    type Taken = CrashInputs;
 
     type Fault = ListFault;
 
@@ -117,22 +67,31 @@ impl Command for LoadPanicWords {
 
     ghost Inputs = { Inputs };
 
-    ghost inputs = { load_panic_command };
+    ghost inputs = { crash_inputs_of };
 
-    ghost takes = { λ l. load_panic_files (load_panic_value l.words) };
+    ghost takes = { λ n. crash_inputs (crash_inputs_value n.inputs) (string_bytes n.map) };
 
-    ghost makes = { loads_panic };
+    ghost makes = { λ c. loads_panic (string_bytes c.out) (string_bytes c.load_record) };
 
     fn take<S: Shelf>(
-        self,
         alloc: Global,
+        names: CrashNames,
         shelf: &mut S,
-    ) -> Result<LoadPanicCommand, TakeFault<Reason>> {
-        take_load_panic(alloc, self.words, shelf)
+    ) -> Result<CrashInputs, TakeFault<Reason>> {
+        take_crash_inputs(alloc, names, shelf)
     }
 
-    fn make(alloc: Global, load: LoadPanicCommand) -> Result<Goods<ListFault>, MakeFault<Reason>> {
-        make_load_panic(alloc, load)
+    // Puts the kernel in its place, and makes the file of the memory after the load and its record.
+    fn make(self, alloc: Global, load: CrashInputs) -> Result<Goods<ListFault>, MakeFault<Reason>> {
+        let kernel = load_in_place(alloc, load)?;
+        let (memory, text, output) = record_output(alloc, kernel, self.load_record)?;
+        let mut outputs = memory_output(alloc, memory, self.out)?;
+        outputs.push(output)?;
+        Ok(Goods {
+            outputs,
+            text,
+            fault: None,
+        })
     }
 }
 
@@ -147,5 +106,16 @@ pub fn run_load_panic<S: Shelf, O: Sink>(
         out.old
         (call_answer result) shelf.new out.new }
 {
-    run(alloc, LoadPanicWords { words }, shelf, out)
+    let LoadPanic {
+        inputs,
+        map,
+        out: name,
+        load_record,
+    } = words;
+    let names = CrashNames { inputs, map };
+    let command = RecordCrashLoad {
+        out: name,
+        load_record,
+    };
+    run(alloc, names, command, shelf, out)
 }

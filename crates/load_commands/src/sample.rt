@@ -3,9 +3,10 @@
 ghost use Rattle.std.specs.Prelude.{◌≡◌, ◌++◌, IfOk, OnOk, string_bytes};
 ghost use Rattle.page_memory.specs.Contents.{at};
 ghost use Rattle.file_commands.specs.Answers.{Meets};
-ghost use Rattle.file_commands.specs.inner.Calls.{Makes, call_answer};
+ghost use Rattle.file_commands.specs.inner.Calls.{call_answer};
 ghost use Rattle.command_parts.specs.inner.Ran.{ran_text};
-ghost use Rattle.load_commands.specs.Sample.{memory_line, sample_files, samples, sample_entry};
+ghost use Rattle.file_commands.specs.Taking.{ok};
+ghost use Rattle.load_commands.specs.Sample.{memory_line, samples, sample_entry};
 ghost use Rattle.load_commands.specs.inner.Views.{start_alone};
 
 use command_parts::{Ran, Reason, Startup, ran_text, run_loaded};
@@ -17,9 +18,9 @@ use page_memory::Memory;
 use sample_load::{digest_of, load_sample, start_of};
 use std::alloc::{AllocError, Global};
 
-/// The words of `sample`: a number below 10^18.
+/// How `sample` is done: its number, which is below 10^18.
 #[derive(Drop)]
-pub(crate) struct SampleWords {
+pub(crate) struct RunSample {
     pub(crate) number: u64,
 }
 
@@ -48,45 +49,39 @@ fn sample_text(alloc: Global, ran: &Ran, start: &Start) -> Result<String, AllocE
     Ok(text)
 }
 
-// Loads the sample of the number, runs its list, and makes the text that tells of both.
-fn make_sample(alloc: Global, number: u64) -> Result<Goods<ListFault>, MakeFault<Reason>>
-    ensures { Makes samples number result }
-{
-    let loaded = load_sample(alloc, number)?;
-    let start = start_of(loaded.segments());
-    let ran = run_loaded(alloc, loaded, None)?;
-    let text = sample_text(alloc, &ran, &start)?;
-    Ok(Goods {
-        outputs: Vec::new(alloc),
-        text,
-        fault: None,
-    })
-}
+impl Command for RunSample {
+    type Names = ();
 
-impl Command for SampleWords {
-    type Taken = u64;
+    type Taken = ();
 
     type Fault = ListFault;
 
     type Reason = Reason;
 
-    ghost use Rattle.std.specs.Prelude.{ℕ};
+    ghost Inputs = { Unit {0} };
 
-    ghost Inputs = { ℕ };
+    ghost inputs = { λ t. tt };
 
-    ghost inputs = { λ n. n };
+    ghost takes = { λ n. ok tt };
 
-    ghost takes = { λ s. sample_files s.number };
-
-    ghost makes = { samples };
+    ghost makes = { λ s. samples s.number };
 
     #[tactic(auto, unfolding(file_commands::specs::Taking::Took))]
-    fn take<S: Shelf>(self, _: Global, _: &mut S) -> Result<u64, TakeFault<Reason>> {
-        Ok(self.number)
+    fn take<S: Shelf>(_: Global, _: (), _: &mut S) -> Result<(), TakeFault<Reason>> {
+        Ok(())
     }
 
-    fn make(alloc: Global, number: u64) -> Result<Goods<ListFault>, MakeFault<Reason>> {
-        make_sample(alloc, number)
+    // Loads the sample of the number, runs its list, and makes the text that tells of both.
+    fn make(self, alloc: Global, _: ()) -> Result<Goods<ListFault>, MakeFault<Reason>> {
+        let loaded = load_sample(alloc, self.number)?;
+        let start = start_of(loaded.segments());
+        let ran = run_loaded(alloc, loaded, None)?;
+        let text = sample_text(alloc, &ran, &start)?;
+        Ok(Goods {
+            outputs: Vec::new(alloc),
+            text,
+            fault: None,
+        })
     }
 }
 
@@ -100,5 +95,5 @@ pub fn run_sample<S: Shelf, O: Sink>(
     ensures { Meets S.Shelf O.Sink (sample_entry number).command shelf.old out.old
         (call_answer result) shelf.new out.new }
 {
-    run(alloc, SampleWords { number }, shelf, out)
+    run(alloc, (), RunSample { number }, shelf, out)
 }

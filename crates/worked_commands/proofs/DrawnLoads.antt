@@ -28,7 +28,7 @@ use Rattle.kexec_plan.specs.Requests.{Plan}
 use Rattle.kexec_plan.specs.declared.fault.PlanFault.{PlanFault}
 use Rattle.kexec_plan.specs.declared.fault.PlanFault.TheVariants as plans
 use Rattle.load_commands.specs.Inputs.{LoadInputs}
-use Rattle.load_commands.specs.Loads.{NormalLoad}
+use Rattle.load_commands.specs.NormalLoad.{NormalLoad}
 use Rattle.worked_commands.specs.Drawn.{Each, IsNeeded, fields_of, found, found_kept, found_with, found_without_plan, kept_with, told_wrongly, with_a_page}
 use Rattle.worked_commands.specs.Inputs.{few_read, three_bytes}
 use Rattle.worked_commands.specs.Kept.{one_exchange}

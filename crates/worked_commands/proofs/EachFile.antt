@@ -31,7 +31,7 @@ use Rattle.command_parts.specs.declared.reason.InputFault.TheVariants as inputs
 use Rattle.command_parts.specs.declared.reason.Reason.{Reason}
 use Rattle.command_parts.specs.declared.reason.Reason.TheVariants.{Input}
 use Rattle.worked_commands.specs.Inputs.{all_asked, all_ram, each_file, each_of, spoiled, spoiled_of, unreadable}
-use Rattle.worked_commands.specs.Names.{all_inputs, crash_inputs_of, drill_events}
+use Rattle.worked_commands.specs.Names.{all_inputs, crash_inputs_of}
 use Rattle.worked_commands.specs.Texts.{no_memory}
 use Rattle.worked_commands.proofs.Passing.{one_passes}
 use Rattle.worked_commands.proofs.Reading.{read_by}
@@ -133,13 +133,13 @@ crash_notes =
 -- what is behind the map of `drill`
 after_drill_map : Take Reason DrillInputs
 after_drill_map = and_then (events_file (codes "e"))
-    (λ events. ok (record { memory = no_memory; pool = 0x10 ∷ 0x11 ∷ 0x12 ∷ []; map = all_ram; events = events; out = codes "o" }))
+    (λ events. ok (record { memory = no_memory; pool = 0x10 ∷ 0x11 ∷ 0x12 ∷ []; map = all_ram; events = events }))
 
-events_read : reads after_drill_map each_file ≡ Ok (record { memory = no_memory; pool = 0x10 ∷ 0x11 ∷ 0x12 ∷ []; map = all_ram; events = Panic ∷ []; out = codes "o" })
+events_read : reads after_drill_map each_file ≡ Ok (record { memory = no_memory; pool = 0x10 ∷ 0x11 ∷ 0x12 ∷ []; map = all_ram; events = Panic ∷ [] })
 unfolding and_then after_drill_map events_reading events_onto event_in named_event caller_in decimal lines cut number number_of
 events_read = read_by each_of after_drill_map
 
-pub drill_read : reads (drill_files drill_events) each_file ≡ Ok (record { memory = no_memory; pool = 0x10 ∷ 0x11 ∷ 0x12 ∷ []; map = all_ram; events = Panic ∷ []; out = codes "o" })
+pub drill_read : reads (drill_files (codes "m") (codes "p") (codes "t") (codes "e")) each_file ≡ Ok (record { memory = no_memory; pool = 0x10 ∷ 0x11 ∷ 0x12 ∷ []; map = all_ram; events = Panic ∷ [] })
 unfolding after_drill_map
 drill_read =
     reads_ok (memory_file (codes "m")) _ each_file no_memory each_memory
@@ -158,7 +158,7 @@ events_spoiled : reads after_drill_map (spoiled (codes "e" ∷ [])) ≡ Err (unr
 unfolding and_then after_drill_map events_reading events_onto event_in named_event caller_in decimal lines cut number number_of
 events_spoiled = read_by (spoiled_of (codes "e" ∷ [])) after_drill_map
 
-pub drill_spoiled : reads (drill_files drill_events) (spoiled (codes "e" ∷ [])) ≡ Err (unreadable (inputs.Events (events.BadLine 1)))
+pub drill_spoiled : reads (drill_files (codes "m") (codes "p") (codes "t") (codes "e")) (spoiled (codes "e" ∷ [])) ≡ Err (unreadable (inputs.Events (events.BadLine 1)))
 unfolding after_drill_map
 drill_spoiled =
     reads_ok (memory_file (codes "m")) _ (spoiled (codes "e" ∷ [])) no_memory events_memory

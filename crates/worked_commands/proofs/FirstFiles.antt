@@ -1,9 +1,8 @@
 -- What is read of the files that `load` put.
-use Rattle.std.proofs.Common.{◌≡◌, ◌∙◌, Bool, [], ◌∷◌, None, Ok, refl, ap}
+use Rattle.std.proofs.Common.{◌≡◌, ◌∙◌, [], ◌∷◌, Ok, refl, ap}
 use Rattle.std.specs.Prelude.{codes}
 use Rattle.kx_fields.specs.Fields.{field, with_field, zeros}
 use Rattle.kx_pages.specs.Bytes.{page_of}
-use Rattle.kx_pages.specs.declared.image.Mode.TheVariants.{Plain}
 use Rattle.load_record.specs.File.{read_head, read_segments, record_reading, record_text, segment_at, segment_text, tested_head, tested_segments}
 use Rattle.load_record.specs.Head.{head_fault, head_text}
 use Rattle.segments.specs.Rules.{bare_refusal, shape_refusal}
@@ -12,17 +11,14 @@ use Rattle.page_memory.specs.File.{read_pages, pages_onto, entry_at, reading, te
 use Rattle.file_commands.specs.Files.{from_reader, whole_file}
 use Rattle.file_commands.specs.Taking.{and_then, reads}
 use Rattle.file_commands.proofs.Steps.{reads_ok}
-use Rattle.list_commands.specs.Exec.{exec_files, exec_of}
 use Rattle.list_commands.specs.Records.{load_by, load_files, load_record_file}
 use Rattle.command_parts.specs.Files.{memory_file, memory_limit}
-use Rattle.list_commands.specs.Trace.{trace_files}
 use Rattle.command_parts.specs.declared.reason.InputFault.TheVariants as inputs
 use Rattle.command_parts.specs.declared.reason.Reason.{Reason}
 use Rattle.command_parts.specs.declared.reason.Reason.TheVariants as reasons
 use Rattle.worked_commands.specs.Firsts.{loaded_files, loaded_of}
 use Rattle.worked_commands.specs.Inputs.{three_bytes_record}
 use Rattle.worked_commands.specs.Memories.{abc_page, list_page, loaded, loaded_file, loaded_pages, memory_with}
-use Rattle.worked_commands.specs.Names.{exec_record, trace_memory}
 use Rattle.worked_commands.proofs.Memories.{one_memory_of}
 use Rattle.worked_commands.proofs.Reading.{read_by}
 
@@ -35,7 +31,7 @@ whole_read : reads (whole_file {R = Reason} memory_limit (codes "m")) loaded_fil
 unfolding text_of page_of
 whole_read = read_by loaded_of (whole_file memory_limit (codes "m"))
 
-memory_read : reads (memory_file (codes "m")) loaded_files ≡ Ok loaded
+pub memory_read : reads (memory_file (codes "m")) loaded_files ≡ Ok loaded
 memory_read =
     reads_ok (whole_file memory_limit (codes "m")) (λ bytes. from_reader (λ e. reasons.Input (inputs.Mem e)) (reading bytes)) loaded_files loaded_file whole_read
     ∙ ap (λ r. reads (from_reader (λ e. reasons.Input (inputs.Mem e)) r) loaded_files) (reading_is ∙ ap Ok (one_memory_of ((0x12, abc_page) ∷ (0x11, list_page) ∷ []) loaded_pages refl))
@@ -48,9 +44,3 @@ pub load_read : reads (load_files (codes "m") (codes "r")) loaded_files ≡ Ok (
 load_read =
     reads_ok (memory_file (codes "m")) _ loaded_files loaded memory_read
     ∙ (reads_ok (load_record_file (codes "r")) _ loaded_files three_bytes_record record_read ∙ refl)
-
-pub exec_read : (twice : Bool) → reads (exec_files (exec_record twice)) loaded_files ≡ Ok (exec_of (exec_record twice) (load_by loaded three_bytes_record))
-exec_read twice = reads_ok (load_files (codes "m") (codes "r")) _ loaded_files (load_by loaded three_bytes_record) load_read
-
-pub trace_read : reads (trace_files (trace_memory None)) loaded_files ≡ Ok (record { memory = loaded; head = 0x11002; mode = Plain; limit = 9; out = codes "o" })
-trace_read = reads_ok (memory_file (codes "m")) _ loaded_files loaded memory_read

@@ -9,7 +9,7 @@ use Rattle.segments.specs.inner.Rules.{IsBare}
 use Rattle.load_states.specs.Ready.{Told}
 use Rattle.load_states.specs.Runs.{EndsAfter}
 use Rattle.load_states.proofs.Ready.{list_ends}
-use Rattle.load_commands.specs.Loads.{NormalLoad}
+use Rattle.load_commands.specs.NormalLoad.{NormalLoad}
 use Rattle.command_parts.specs.Outputs.{IsFileOf}
 use Rattle.command_parts.specs.Runs.{Leaves, MachineLeaves, after_runs}
 use Rattle.command_parts.proofs.Ending.{machine_leaves}

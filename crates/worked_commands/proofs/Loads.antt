@@ -37,7 +37,7 @@ use Rattle.command_parts.specs.Runs.{checked_with, list_text}
 use Rattle.command_parts.specs.Texts.{load_lines}
 use Rattle.worked_commands.specs.Inputs.{few_asked, three_bytes}
 use Rattle.worked_commands.specs.Lists.{one_move}
-use Rattle.worked_commands.specs.Loads.{boot_of_unknown, few_plan}
+use Rattle.worked_commands.specs.Loads.{few_plan, unknown_read}
 use Rattle.worked_commands.specs.Memories.{abc_page, list_page, loaded}
 use Rattle.worked_commands.specs.Texts.{no_memory, plain_image}
 use Rattle.worked_commands.proofs.Lists.{accepted}
@@ -51,7 +51,7 @@ pub plan_is : plan few_asked None ≡ Ok few_plan
 unfolding plan plan_as read_kernel some_purgatory place_parts place_part place_some taken_by finish plain_plan ram ram_runs test_segments first_refusal refusal bare_refusal shape_refusal shown_format
 plan_is = refl
 
-pub no_plan : plan boot_of_unknown.load.request None ≡ Err plans.UnknownImage
+pub no_plan : plan unknown_read.request None ≡ Err plans.UnknownImage
 unfolding plan plan_as shown_format is_bzimage find_header header_place
 no_plan = refl
 

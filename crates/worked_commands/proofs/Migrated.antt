@@ -13,7 +13,7 @@ use Rattle.sha2.specs.Sha256.{compress, digest_bytes, first_words, hash_after, r
 use Rattle.file_commands.specs.Answers.{FilesPut}
 use Rattle.kexec_words.specs.Values as words
 use Rattle.kexec_main.specs.Call.{HasDone}
-use Rattle.list_commands.specs.Migrate.{MigrateInputs, segments_line}
+use Rattle.list_commands.specs.Migrate.{segments_line}
 use Rattle.worked_commands.specs.Inputs.{each_file, three_bytes_file, three_bytes_record}
 use Rattle.worked_commands.specs.Lists.{GivenBy}
 use Rattle.worked_commands.specs.Names.{migrate_record}
@@ -31,12 +31,9 @@ pub line_is : segments_line 1 ≡ codes "record segments 1\n"
 unfolding digits
 line_is = refl
 
-abbrev pub taken : MigrateInputs
-taken = record { load_record = three_bytes_record; out = codes "o" }
-
 pub migrated : {S O : Type 0} (D : Shelf S) (E : Sink O) → GivenBy D E (λ s o t p. HasDone D E each_file s o t p (words.migrate migrate_record)) ((codes "o", three_bytes_file) ∷ []) (codes "record segments 1\n")
 migrated D E = λ a o t p put say. (
-  taken,
+  three_bytes_record,
   migrate_read,
   record {
     read_back = reads_back;

@@ -22,7 +22,7 @@ use Rattle.command_parts.specs.Runs.{after_runs, list_text, run_text}
 use Rattle.load_commands.specs.Startup.{planned_startup}
 use Rattle.command_parts.specs.Texts.{ran_line}
 use Rattle.worked_commands.specs.Inputs.{few_asked, three_bytes, three_bytes_file, three_bytes_record}
-use Rattle.worked_commands.specs.Loads.{boot_of_unknown, boot_text, few_plan, load_text}
+use Rattle.worked_commands.specs.Loads.{boot_text, few_plan, load_text, unknown_read}
 use Rattle.worked_commands.specs.Memories.{loaded, loaded_file, run_file}
 use Rattle.worked_commands.specs.Texts.{no_memory}
 use Rattle.worked_commands.proofs.Loads.{as_checked, as_loaded, checked0, list_said, load0, no_plan, one_plan, plan_is, pool, sealed_by}
@@ -71,7 +71,7 @@ record_is c p e s =
     } in
     ap (λ (p : Plan). record_file (record_of_load c.load p)) (one_plan p e) ∙ ap record_file same ∙ ap record_file first_record ∙ record_bytes
 
-pub none : (p : Plan) → plan boot_of_unknown.load.request None ≡ Ok p → ⊥
+pub none : (p : Plan) → plan unknown_read.request None ≡ Ok p → ⊥
 none p e = let f : ◌≡◌ {A = Result Plan PlanFault} (Err plans.UnknownImage) (Ok p) = sym no_plan ∙ e in cc
 
 pub known : (f : PlanFault) → plan few_asked None ≡ Err f → ⊥

@@ -20,7 +20,7 @@ use Rattle.kexec_words.specs.declared.commands.Runs.{Runs}
 use Rattle.purgatory_link.specs.declared.region_test.RegionTest.TheVariants.{Same}
 use Rattle.purgatory_link.specs.RegionTest.{test}
 use Rattle.load_commands.specs.Inputs.{LoadInputs}
-use Rattle.load_commands.specs.Loads.{NormalLoad}
+use Rattle.load_commands.specs.NormalLoad.{NormalLoad}
 use Rattle.command_parts.specs.Runs.{EndsAgain, IsOnce, Leaves, MachineLeaves, after_runs, run_text, wish_of}
 use Rattle.load_commands.specs.Startup.{planned_startup}
 use Rattle.command_parts.proofs.Ending.{ends_again, machine_leaves}

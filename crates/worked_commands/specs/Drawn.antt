@@ -19,7 +19,7 @@ use Rattle.load_states.specs.States.{Checked, no_pages, swap_of}
 use Rattle.kexec_plan.specs.Plan.{plan}
 use Rattle.kexec_plan.specs.Requests.{Asked, Plan}
 use Rattle.load_commands.specs.Inputs.{LoadInputs}
-use Rattle.load_commands.specs.Loads.{NormalLoad, drawn_pages}
+use Rattle.load_commands.specs.NormalLoad.{NormalLoad, drawn_pages}
 use Rattle.worked_commands.specs.Inputs.{few_asked, few_read, three_bytes}
 use Rattle.worked_commands.specs.Kept.{exchange_memory}
 use Rattle.worked_commands.specs.Loads.{few_plan}

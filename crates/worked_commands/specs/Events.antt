@@ -1,12 +1,16 @@
 -- Events of two callers over a machine with 1 MiB of RAM, for `drill` (this project's own).
-use Rattle.std.specs.Prelude.{ℕ, ◌++◌, List, [], ◌∷◌, codes}
+use Rattle.std.specs.Prelude.{ℕ, ◌++◌, List, [], ◌∷◌, Result, codes}
 use Rattle.kx_pages.specs.Spans.{Run}
 use Rattle.kx_pages.specs.declared.image.Wish.TheVariants as wishes
 use Rattle.memory_map.specs.Maps.{MapValue}
 use Rattle.segments.specs.Values.{SegmentValue}
 use Rattle.image_slots.specs.declared.event.LoadKind.TheVariants as kinds
 use Rattle.image_slots.specs.Events.{EventValue, Open, Add, Write, Install, Store, Exec}
-use Rattle.load_commands.specs.Drill.{DrillInputs}
+use Rattle.file_commands.specs.Taking.{Refusal}
+use Rattle.load_commands.specs.Drill.{DrillInputs, drill_entry}
+use Rattle.command_parts.specs.Outputs.{Made}
+use Rattle.command_parts.specs.declared.reason.Reason.{Reason}
+use Rattle.worked_commands.specs.Names.{drill_events}
 use Rattle.worked_commands.specs.Texts.{no_memory}
 
 -- these bytes in the page at this address
@@ -33,7 +37,11 @@ small_runs = record { first = 0; count = 0x100 } ∷ []
 -- what `drill` took, with this pool and map
 abbrev pub drill_of : List ℕ → MapValue → List EventValue → DrillInputs
 drill_of pool map events =
-    record { memory = no_memory; pool = pool; map = map; events = events; out = codes "o" }
+    record { memory = no_memory; pool = pool; map = map; events = events }
+
+-- what drill m p o e --map t makes of it without events
+abbrev pub drill_makes : List ℕ → MapValue → Result Made (Refusal Reason) → Type 0
+drill_makes pool map = (drill_entry drill_events).command.makes (drill_of pool map [])
 
 -- the reply to each of them
 abbrev pub first_replies : List ℕ

@@ -1,7 +1,16 @@
 -- What `exec` makes of the list that moves page 12 to page 2 (this project's own).
-use Rattle.std.specs.Prelude.{ℕ, ◌++◌, List, [], ◌∷◌, None, codes}
+use Rattle.std.specs.Prelude.{ℕ, ◌++◌, Bool, List, [], ◌∷◌, None, Result, codes}
+use Rattle.file_commands.specs.Taking.{Refusal}
+use Rattle.list_commands.specs.Exec.{exec_entry}
+use Rattle.list_commands.specs.declared.records.TakenLoad.{TakenLoad}
 use Rattle.command_parts.specs.Outputs.{Made}
+use Rattle.command_parts.specs.declared.reason.Reason.{Reason}
 use Rattle.worked_commands.specs.Memories.{run_file}
+use Rattle.worked_commands.specs.Names.{exec_record}
+
+-- what exec m r x makes of a load, with or without --twice
+abbrev pub exec_makes : Bool → TakenLoad → Result Made (Refusal Reason) → Type 0
+exec_makes twice = (exec_entry (exec_record twice)).command.makes
 
 -- what is said of the list and of its run
 abbrev pub ran_text : List ℕ

@@ -27,7 +27,7 @@ use Rattle.load_commands.specs.CrashInputs.{CrashInputs}
 use Rattle.list_commands.specs.Exec.{files_text, load_of, runs_asked}
 use Rattle.list_commands.specs.Records.{list_files}
 use Rattle.load_commands.specs.Inputs.{LoadInputs}
-use Rattle.load_commands.specs.Loads.{NormalLoad}
+use Rattle.load_commands.specs.NormalLoad.{NormalLoad}
 use Rattle.command_parts.specs.Outputs.{IsFileOf}
 use Rattle.command_parts.specs.Runs.{EndsAgain, IsOnce, Leaves, MachineLeaves, after_runs, run_text, wish_of}
 use Rattle.load_commands.specs.Startup.{planned_startup}

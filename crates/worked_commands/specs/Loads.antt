@@ -1,16 +1,19 @@
 -- The load of the kernel `abc` to page 2 from a pool of pages 10, 11 and 12: its plan, what is taken, and what is made (this
 -- project's own).
-use Rattle.std.specs.Prelude.{ℕ, ◌++◌, List, [], ◌∷◌, None, codes}
+use Rattle.std.specs.Prelude.{ℕ, ◌++◌, List, [], ◌∷◌, None, false, Result, codes}
 use Rattle.kx_pages.specs.declared.image.ImageType.TheVariants.{Auto}
 use Rattle.kx_pages.specs.declared.image.Mode.TheVariants as modes
-use Rattle.kx_pages.specs.declared.image.Wish.TheVariants.{Plain}
 use Rattle.load_states.specs.States.{Checked, no_pages}
 use Rattle.kexec_plan.specs.Requests.{Plan}
-use Rattle.load_commands.specs.Boot.{BootInputs}
-use Rattle.load_commands.specs.Load.{LoadCommand}
+use Rattle.file_commands.specs.Taking.{Refusal}
+use Rattle.load_commands.specs.Boot.{boot_entry}
+use Rattle.load_commands.specs.Inputs.{LoadInputs}
+use Rattle.load_commands.specs.Load.{load_entry}
 use Rattle.command_parts.specs.Outputs.{Made}
+use Rattle.command_parts.specs.declared.reason.Reason.{Reason}
 use Rattle.worked_commands.specs.Inputs.{few_asked, few_read, three_bytes, three_bytes_file}
 use Rattle.worked_commands.specs.Memories.{loaded_file, run_file}
+use Rattle.worked_commands.specs.Names.{boot_raw, load_raw}
 use Rattle.worked_commands.specs.Texts.{no_memory}
 
 -- the kernel starts where it lies
@@ -23,25 +26,22 @@ few_plan = record {
 }
 
 -- what `boot` and `load` took, with these usable pages
-abbrev pub boot_of : List ℕ → BootInputs
-boot_of usable =
-    record { load = record few_read { usable = usable }; runs = None; out = codes "o" }
+abbrev pub few_with : List ℕ → LoadInputs
+few_with usable = record few_read { usable = usable }
 
-abbrev pub load_of_few : List ℕ → LoadCommand
-load_of_few usable = record {
-  load = record few_read { usable = usable };
-  wish = Plain;
-  out = codes "o";
-  load_record = codes "r";
-}
+-- what is made of it by boot --type raw --at 2000 m p o k, and by load --type raw --at 2000 m p o r k
+abbrev pub boot_makes : List ℕ → Result Made (Refusal Reason) → Type 0
+boot_makes usable = (boot_entry (boot_raw None)).command.makes (few_with usable)
 
--- the same of a kernel whose type its file is to tell
-abbrev pub boot_of_unknown : BootInputs
-boot_of_unknown = record {
-  load = record few_read { request = record few_asked { image = Auto } };
-  runs = None;
-  out = codes "o";
-}
+abbrev pub load_makes : List ℕ → Result Made (Refusal Reason) → Type 0
+load_makes usable = (load_entry (load_raw false)).command.makes (few_with usable)
+
+-- a kernel whose type its file is to tell, and what `boot` makes of it
+abbrev pub unknown_read : LoadInputs
+unknown_read = record few_read { request = record few_asked { image = Auto } }
+
+abbrev pub unknown_makes : Result Made (Refusal Reason) → Type 0
+unknown_makes = (boot_entry (boot_raw None)).command.makes unknown_read
 
 -- no segments are loaded: the list is the done word alone
 abbrev pub nothing_loaded : Checked

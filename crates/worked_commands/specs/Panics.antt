@@ -1,18 +1,21 @@
 -- The load of a crash kernel of `abc` to page 2: what it is made of is any input that has this plan (this project's own).
-use Rattle.std.specs.Prelude.{◌≡◌, ℕ, ◌++◌, List, [], ◌∷◌, Some, None, Ok, codes, replicate}
+use Rattle.std.specs.Prelude.{◌≡◌, ℕ, ◌++◌, List, [], ◌∷◌, Some, None, Result, Ok, codes, replicate}
 use Rattle.memory_map.specs.Maps.{reserved_area}
 use Rattle.kexec_plan.specs.Plan.{plan}
 use Rattle.load_states.specs.States.{CrashLoad}
+use Rattle.file_commands.specs.Taking.{Refusal}
 use Rattle.load_commands.specs.CrashInputs.{CrashInputs}
-use Rattle.load_commands.specs.LoadPanic.{LoadPanicCommand}
+use Rattle.load_commands.specs.LoadPanic.{load_panic_entry}
 use Rattle.command_parts.specs.Outputs.{Made}
+use Rattle.command_parts.specs.declared.reason.Reason.{Reason}
 use Rattle.worked_commands.specs.Inputs.{three_bytes, three_bytes_digest}
 use Rattle.worked_commands.specs.Loads.{few_plan}
 use Rattle.worked_commands.specs.Memories.{loaded, memory_with, run_file, run_pages}
+use Rattle.worked_commands.specs.Names.{load_panic_of}
 
--- what `load-panic` took
-abbrev pub panic_of : CrashInputs → LoadPanicCommand
-panic_of i = record { load = i; out = codes "o"; load_record = codes "r" }
+-- what load-panic --map t m o r k makes of it
+abbrev pub panic_makes : CrashInputs → Result Made (Refusal Reason) → Type 0
+panic_makes = (load_panic_entry (load_panic_of None)).command.makes
 
 -- the load where pages 11 and 12 had something before: page 2 has `abc`, and the head is a done word
 abbrev pub crash_load : CrashLoad

@@ -9,15 +9,13 @@ ghost use Rattle.kexec_plan.specs.Plan.{plan};
 ghost use Rattle.kexec_plan.specs.declared.fault.PlanFault.TheVariants as plans;
 ghost use Rattle.file_commands.specs.Taking.{by, too_long};
 ghost use Rattle.kexec_words.specs.Values as words;
-ghost use Rattle.load_commands.specs.Boot.{boots};
-ghost use Rattle.load_commands.specs.Laid.{HasLaid};
-ghost use Rattle.load_commands.specs.Load.{loads};
-ghost use Rattle.load_commands.specs.Loads.{NormalLoad};
+ghost use Rattle.load_commands.specs.ByRules.{HasLaid};
+ghost use Rattle.load_commands.specs.NormalLoad.{NormalLoad};
 ghost use Rattle.command_parts.specs.Outputs.{Made};
 ghost use Rattle.command_parts.specs.declared.reason.Reason.TheVariants as reasons;
 ghost use Rattle.worked_commands.specs.Inputs.{each_file, few_asked, few_read, three_bytes_file};
 ghost use Rattle.worked_commands.specs.Lists.{GivenBy, Gives};
-ghost use Rattle.worked_commands.specs.Loads.{boot_goods, boot_of, boot_of_unknown, boot_text, few_plan, load_goods, load_of_few, load_text, nothing_loaded};
+ghost use Rattle.worked_commands.specs.Loads.{boot_goods, boot_makes, boot_text, few_plan, load_goods, load_makes, load_text, nothing_loaded, unknown_makes};
 ghost use Rattle.worked_commands.specs.Memories.{loaded_file, run_file};
 ghost use Rattle.worked_commands.specs.Names.{boot_raw, load_raw};
 
@@ -26,46 +24,46 @@ use kx_edge::{Shelf, Sink};
 /// The kernel's plan, and the goods of its boot: the memory after the run, and a text. Nothing else is made.
 pub fn kernel_is_booted()
     ensures plan { plan few_asked None ≡ Ok few_plan }
-    ensures made { boots (boot_of (0x10 ∷ 0x11 ∷ 0x12 ∷ [])) (Ok boot_goods) }
-    ensures nothing_else { (goods : Made) → boots (boot_of (0x10 ∷ 0x11 ∷ 0x12 ∷ [])) (Ok goods)
+    ensures made { boot_makes (0x10 ∷ 0x11 ∷ 0x12 ∷ []) (Ok boot_goods) }
+    ensures nothing_else { (goods : Made) → boot_makes (0x10 ∷ 0x11 ∷ 0x12 ∷ []) (Ok goods)
         → goods ≡ boot_goods }
-    ensures not_refused_for_pages { boots (boot_of (0x10 ∷ 0x11 ∷ 0x12 ∷ []))
+    ensures not_refused_for_pages { boot_makes (0x10 ∷ 0x11 ∷ 0x12 ∷ [])
         (Err (by (reasons.NoPages 3 3))) → ⊥ }
-    ensures not_refused_for_its_plan { boots (boot_of (0x10 ∷ 0x11 ∷ 0x12 ∷ []))
+    ensures not_refused_for_its_plan { boot_makes (0x10 ∷ 0x11 ∷ 0x12 ∷ [])
         (Err (by (reasons.Plan plans.UnknownImage))) → ⊥ }
-    ensures never_too_long { boots (boot_of (0x10 ∷ 0x11 ∷ 0x12 ∷ []))
+    ensures never_too_long { boot_makes (0x10 ∷ 0x11 ∷ 0x12 ∷ [])
         (Err (too_long (codes "k") 9)) → ⊥ }
 {}
 
 /// The goods of its load: the memory after the load, the record, and a text. Nothing else is made.
 pub fn kernel_is_loaded()
-    ensures made { loads (load_of_few (0x10 ∷ 0x11 ∷ 0x12 ∷ [])) (Ok load_goods) }
-    ensures nothing_else { (goods : Made) → loads (load_of_few (0x10 ∷ 0x11 ∷ 0x12 ∷ [])) (Ok goods)
+    ensures made { load_makes (0x10 ∷ 0x11 ∷ 0x12 ∷ []) (Ok load_goods) }
+    ensures nothing_else { (goods : Made) → load_makes (0x10 ∷ 0x11 ∷ 0x12 ∷ []) (Ok goods)
         → goods ≡ load_goods }
-    ensures not_refused { loads (load_of_few (0x10 ∷ 0x11 ∷ 0x12 ∷ []))
+    ensures not_refused { load_makes (0x10 ∷ 0x11 ∷ 0x12 ∷ [])
         (Err (by (reasons.NoPages 3 3))) → ⊥ }
-    ensures never_too_long { loads (load_of_few (0x10 ∷ 0x11 ∷ 0x12 ∷ []))
+    ensures never_too_long { load_makes (0x10 ∷ 0x11 ∷ 0x12 ∷ [])
         (Err (too_long (codes "k") 9)) → ⊥ }
 {}
 
 /// A pool of two pages is a page short: the refusal has both numbers, the pool's first.
 pub fn pool_is_too_small()
-    ensures boot { boots (boot_of (0x10 ∷ 0x11 ∷ [])) (Err (by (reasons.NoPages 2 3))) }
-    ensures load { loads (load_of_few (0x10 ∷ 0x11 ∷ [])) (Err (by (reasons.NoPages 2 3))) }
-    ensures exchanged { boots (boot_of (0x10 ∷ 0x11 ∷ [])) (Err (by (reasons.NoPages 3 2))) → ⊥ }
-    ensures other_need { boots (boot_of (0x10 ∷ 0x11 ∷ [])) (Err (by (reasons.NoPages 2 4))) → ⊥ }
-    ensures other_pool { loads (load_of_few (0x10 ∷ 0x11 ∷ [])) (Err (by (reasons.NoPages 1 3)))
+    ensures boot { boot_makes (0x10 ∷ 0x11 ∷ []) (Err (by (reasons.NoPages 2 3))) }
+    ensures load { load_makes (0x10 ∷ 0x11 ∷ []) (Err (by (reasons.NoPages 2 3))) }
+    ensures exchanged { boot_makes (0x10 ∷ 0x11 ∷ []) (Err (by (reasons.NoPages 3 2))) → ⊥ }
+    ensures other_need { boot_makes (0x10 ∷ 0x11 ∷ []) (Err (by (reasons.NoPages 2 4))) → ⊥ }
+    ensures other_pool { load_makes (0x10 ∷ 0x11 ∷ []) (Err (by (reasons.NoPages 1 3)))
         → ⊥ }
-    ensures not_made { (goods : Made) → boots (boot_of (0x10 ∷ 0x11 ∷ [])) (Ok goods) → ⊥ }
-    ensures not_loaded { (goods : Made) → loads (load_of_few (0x10 ∷ 0x11 ∷ [])) (Ok goods) → ⊥ }
+    ensures not_made { (goods : Made) → boot_makes (0x10 ∷ 0x11 ∷ []) (Ok goods) → ⊥ }
+    ensures not_loaded { (goods : Made) → load_makes (0x10 ∷ 0x11 ∷ []) (Ok goods) → ⊥ }
 {}
 
 /// A kernel whose file does not tell its type has no plan.
 pub fn kernel_has_no_plan()
-    ensures refused { boots boot_of_unknown (Err (by (reasons.Plan plans.UnknownImage))) }
-    ensures other_fault { boots boot_of_unknown (Err (by (reasons.Plan plans.Memory))) → ⊥ }
-    ensures other_reason { boots boot_of_unknown (Err (by reasons.NotKept)) → ⊥ }
-    ensures not_made { (goods : Made) → boots boot_of_unknown (Ok goods) → ⊥ }
+    ensures refused { unknown_makes (Err (by (reasons.Plan plans.UnknownImage))) }
+    ensures other_fault { unknown_makes (Err (by (reasons.Plan plans.Memory))) → ⊥ }
+    ensures other_reason { unknown_makes (Err (by reasons.NotKept)) → ⊥ }
+    ensures not_made { (goods : Made) → unknown_makes (Ok goods) → ⊥ }
 {}
 
 /// A list of the done word alone is accepted for no segments, and its run ends. But it is not a load of the kernel, whose

@@ -7,7 +7,7 @@ ghost use Rattle.load_states.specs.Ready.{Told};
 ghost use Rattle.load_states.specs.States.{Checked};
 ghost use Rattle.kexec_plan.specs.Requests.{Plan};
 ghost use Rattle.load_commands.specs.Inputs.{LoadInputs};
-ghost use Rattle.load_commands.specs.Loads.{NormalLoad};
+ghost use Rattle.load_commands.specs.NormalLoad.{NormalLoad};
 ghost use Rattle.worked_commands.specs.Drawn.{Each, IsNeeded, IsNeededBy, fields_of, found, found_kept, found_with, found_without_plan, kept_with, told_wrongly, with_a_page, zeros_found, zeros_move, zeros_plan, zeros_with};
 ghost use Rattle.worked_commands.specs.Inputs.{few_read};
 ghost use Rattle.worked_commands.specs.Kept.{one_exchange};

@@ -4,10 +4,10 @@ ghost use Rattle.std.specs.Prelude.{◌≡◌, ◌∷◌, [], Some, None, Ok, Er
 ghost use Rattle.kx_pages.specs.Bytes.{page_of};
 ghost use Rattle.image_slots.specs.declared.fault.SlotsFault.TheVariants as slots;
 ghost use Rattle.file_commands.specs.Taking.{by, too_long};
-ghost use Rattle.load_commands.specs.Drill.{AreRam, CanDrill, HasDrilled, Meets, drill_text, drills, first_meeting, memory_after};
+ghost use Rattle.load_commands.specs.Drill.{AreRam, CanDrill, HasDrilled, Meets, drill_text, first_meeting, memory_after};
 ghost use Rattle.command_parts.specs.Outputs.{Made};
 ghost use Rattle.command_parts.specs.declared.reason.Reason.TheVariants as reasons;
-ghost use Rattle.worked_commands.specs.Events.{drill_of, first_events, first_replies, reserved_ram, small_ram, small_runs};
+ghost use Rattle.worked_commands.specs.Events.{drill_makes, drill_of, first_events, first_replies, reserved_ram, small_ram, small_runs};
 ghost use Rattle.worked_commands.specs.Inputs.{no_pages_file};
 ghost use Rattle.worked_commands.specs.Lists.{Gives, Never, Says};
 ghost use Rattle.worked_commands.specs.Names.{drill_events};
@@ -31,14 +31,14 @@ pub fn pool_meets_the_area()
     ensures meets { first_meeting (drill_of (0x10 ∷ 0x12 ∷ 0x11 ∷ []) reserved_ram []) ≡ Some 0x12 }
     ensures apart { first_meeting (drill_of (0x10 ∷ 0x13 ∷ []) reserved_ram []) ≡ None }
     ensures no_area { first_meeting (drill_of (0x10 ∷ 0x11 ∷ []) small_ram []) ≡ None }
-    ensures refused { drills (drill_of (0x10 ∷ 0x12 ∷ 0x11 ∷ []) reserved_ram [])
+    ensures refused { drill_makes (0x10 ∷ 0x12 ∷ 0x11 ∷ []) reserved_ram
         (Err (by (reasons.Slots (slots.PoolMeets 0x12)))) }
-    ensures other_page { drills (drill_of (0x10 ∷ 0x12 ∷ 0x11 ∷ []) reserved_ram [])
+    ensures other_page { drill_makes (0x10 ∷ 0x12 ∷ 0x11 ∷ []) reserved_ram
         (Err (by (reasons.Slots (slots.PoolMeets 0x11)))) → ⊥ }
     ensures other_reason { Meets (Some 0x12) reasons.NotKept → ⊥ }
     ensures not_made { (goods : Made)
-        → drills (drill_of (0x10 ∷ 0x12 ∷ []) reserved_ram []) (Ok goods) → ⊥ }
-    ensures never_too_long { drills (drill_of (0x10 ∷ []) small_ram [])
+        → drill_makes (0x10 ∷ 0x12 ∷ []) reserved_ram (Ok goods) → ⊥ }
+    ensures never_too_long { drill_makes (0x10 ∷ []) small_ram
         (Err (too_long (codes "e") 9)) → ⊥ }
 {}
 

@@ -5,11 +5,11 @@ ghost use Rattle.kx_pages.specs.Bytes.{page_of};
 ghost use Rattle.page_memory.specs.Contents.{Contents, at};
 ghost use Rattle.list_checker.specs.declared.fault.Why.TheVariants.{Missing, WrongBytes};
 ghost use Rattle.file_commands.specs.Taking.{by, too_long};
-ghost use Rattle.list_commands.specs.Exec.{CanExec, HasExecutedLoad, executes};
+ghost use Rattle.list_commands.specs.Exec.{CanExec, HasExecutedLoad};
 ghost use Rattle.list_commands.specs.Records.{load_by};
 ghost use Rattle.command_parts.specs.Outputs.{IsFileOf, Made};
 ghost use Rattle.command_parts.specs.declared.reason.Reason.TheVariants as reasons;
-ghost use Rattle.worked_commands.specs.Execs.{crash_text, ran_text, run_goods};
+ghost use Rattle.worked_commands.specs.Execs.{crash_text, exec_makes, ran_text, run_goods};
 ghost use Rattle.worked_commands.specs.Lists.{Gives, HasList, HasSource, crash_record, plain_record, told_fault};
 ghost use Rattle.worked_commands.specs.Memories.{loaded, run_file};
 ghost use Rattle.worked_commands.specs.Names.{exec_record};
@@ -18,42 +18,34 @@ use kx_edge::{Shelf, Sink};
 
 /// The list is run, which leaves `abc` in page 2 too: the output is the file of that memory, and nothing else is made.
 pub fn plain_list_is_run()
-    ensures made { executes
-        (record { load = load_by loaded plain_record; twice = false; out = codes "x" })
-        (Ok run_goods) }
-    ensures nothing_else { (goods : Made) → executes
-        (record { load = load_by loaded plain_record; twice = false; out = codes "x" }) (Ok goods)
-        → goods ≡ run_goods }
+    ensures made { exec_makes false (load_by loaded plain_record) (Ok run_goods) }
+    ensures nothing_else { (goods : Made)
+        → exec_makes false (load_by loaded plain_record) (Ok goods) → goods ≡ run_goods }
     ensures can { CanExec (load_by loaded plain_record) false }
 {}
 
 /// A plain list is not run twice, whatever its memory holds; and this is refused of nothing else.
 pub fn plain_list_is_not_run_twice()
-    ensures refused { (m : Contents) → executes
-        (record { load = load_by m plain_record; twice = true; out = codes "x" })
+    ensures refused { (m : Contents) → exec_makes true (load_by m plain_record)
         (Err (by reasons.NotKept)) }
-    ensures not_made { (m : Contents) (goods : Made) → executes
-        (record { load = load_by m plain_record; twice = true; out = codes "x" }) (Ok goods) → ⊥ }
-    ensures not_of_one_run { (m : Contents) → executes
-        (record { load = load_by m plain_record; twice = false; out = codes "x" })
+    ensures not_made { (m : Contents) (goods : Made)
+        → exec_makes true (load_by m plain_record) (Ok goods) → ⊥ }
+    ensures not_of_one_run { (m : Contents) → exec_makes false (load_by m plain_record)
         (Err (by reasons.NotKept)) → ⊥ }
-    ensures not_heavy { (m : Contents) → executes
-        (record { load = load_by m plain_record; twice = true; out = codes "x" })
+    ensures not_heavy { (m : Contents) → exec_makes true (load_by m plain_record)
         (Err (by (reasons.Heavy 131073))) → ⊥ }
-    ensures never_too_long { (m : Contents) → executes
-        (record { load = load_by m plain_record; twice = false; out = codes "x" })
+    ensures never_too_long { (m : Contents) → exec_makes false (load_by m plain_record)
         (Err (too_long (codes "x") 9)) → ⊥ }
     ensures cannot { (m : Contents) → CanExec (load_by m plain_record) true → ⊥ }
 {}
 
 /// A list with a fault is not run: the fault's line is all that is made.
 pub fn faulty_list_is_not_run()
-    ensures told { (m : Contents) → HasList m → HasSource m (codes "abd") → executes
-        (record { load = load_by m plain_record; twice = false; out = codes "x" })
+    ensures told { (m : Contents) → HasList m → HasSource m (codes "abd")
+        → exec_makes false (load_by m plain_record)
         (Ok (told_fault (record { word = 2; why = WrongBytes }) (codes "word 2: WrongBytes\n"))) }
-    ensures not_run { (m : Contents) → HasList m → HasSource m (codes "abd") → executes
-        (record { load = load_by m plain_record; twice = false; out = codes "x" }) (Ok run_goods)
-        → ⊥ }
+    ensures not_run { (m : Contents) → HasList m → HasSource m (codes "abd")
+        → exec_makes false (load_by m plain_record) (Ok run_goods) → ⊥ }
     ensures cannot { (m : Contents) → HasList m → HasSource m (codes "abd")
         → CanExec (load_by m plain_record) false → ⊥ }
 {}
@@ -62,25 +54,21 @@ pub fn faulty_list_is_not_run()
 /// has other bytes.
 pub fn crash_kernel_is_run()
     ensures made { (m : Contents) (bytes : List ℕ) → at m 2 ≡ page_of (codes "abc")
-        → IsFileOf (at m) bytes → executes
-        (record { load = load_by m (crash_record 4); twice = false; out = codes "x" })
+        → IsFileOf (at m) bytes → exec_makes false (load_by m (crash_record 4))
         (Ok (record {
           outputs = (codes "x", bytes) ∷ [];
           text = crash_text;
           fault = None;
         })) }
-    ensures twice { (m : Contents) → executes
-        (record { load = load_by m (crash_record 4); twice = true; out = codes "x" })
+    ensures twice { (m : Contents) → exec_makes true (load_by m (crash_record 4))
         (Err (by reasons.NotKept)) }
-    ensures not_made_twice { (m : Contents) (goods : Made) → executes
-        (record { load = load_by m (crash_record 4); twice = true; out = codes "x" }) (Ok goods)
-        → ⊥ }
-    ensures other_bytes { (m : Contents) → at m 2 ≡ page_of (codes "abd") → executes
-        (record { load = load_by m (crash_record 4); twice = false; out = codes "x" })
+    ensures not_made_twice { (m : Contents) (goods : Made)
+        → exec_makes true (load_by m (crash_record 4)) (Ok goods) → ⊥ }
+    ensures other_bytes { (m : Contents) → at m 2 ≡ page_of (codes "abd")
+        → exec_makes false (load_by m (crash_record 4))
         (Ok (told_fault (record { word = 0; why = Missing 2 }) (codes "word 0: Missing 2000\n"))) }
     ensures cannot_twice { (m : Contents) → CanExec (load_by m (crash_record 4)) true → ⊥ }
-    ensures never_too_long { (m : Contents) → executes
-        (record { load = load_by m (crash_record 4); twice = false; out = codes "x" })
+    ensures never_too_long { (m : Contents) → exec_makes false (load_by m (crash_record 4))
         (Err (too_long (codes "x") 9)) → ⊥ }
 {}
 

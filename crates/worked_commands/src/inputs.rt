@@ -1,10 +1,9 @@
 //! What each command reads of its files, and which of several faults is answered. The files that are spoiled are `?`.
 
-ghost use Rattle.std.specs.Prelude.{◌≡◌, ◌+◌, ◌*◌, ◌^◌, ◌∷◌, [], true, false, Some, None, Ok, Err, codes};
+ghost use Rattle.std.specs.Prelude.{◌≡◌, ◌+◌, ◌*◌, ◌^◌, ◌∷◌, [], true, false, Some, None, Result, Ok, Err, codes};
 ghost use Rattle.crash_headers.specs.declared.fault.NoteFault.TheVariants as notes;
 ghost use Rattle.image_slots.specs.declared.fault.EventsFault.TheVariants as events;
 ghost use Rattle.image_slots.specs.Events.{Panic};
-ghost use Rattle.kx_pages.specs.declared.image.ImageType.TheVariants.{Auto};
 ghost use Rattle.kx_pages.specs.declared.image.Mode.TheVariants as mode;
 ghost use Rattle.kx_pages.specs.declared.image.Wish.TheVariants as wish;
 ghost use Rattle.load_record.specs.declared.fault.RecFault.TheVariants as records;
@@ -12,27 +11,30 @@ ghost use Rattle.memory_map.specs.declared.fault.MapFault.TheVariants as maps;
 ghost use Rattle.page_memory.specs.declared.fault.MemFault.TheVariants as memories;
 ghost use Rattle.page_pool.specs.declared.fault.PoolFault.TheVariants as pools;
 ghost use Rattle.resident_planner.specs.declared.fault.PairsFault.TheVariants as pairs;
-ghost use Rattle.file_commands.specs.Taking.{reads};
+ghost use Rattle.file_commands.specs.Taking.{Refusal, reads};
 ghost use Rattle.kexec_words.specs.declared.commands.Runs.TheVariants.{Twice};
-ghost use Rattle.load_commands.specs.Boot.{boot_files};
-ghost use Rattle.load_commands.specs.BootResident.{raw_inputs, resident_files};
-ghost use Rattle.load_commands.specs.CoreFile.{core_files};
-ghost use Rattle.load_commands.specs.CrashInputs.{crash_request};
-ghost use Rattle.load_commands.specs.Drill.{drill_files};
-ghost use Rattle.list_commands.specs.Exec.{exec_files};
-ghost use Rattle.list_commands.specs.Records.{crash_files, list_files, load_by, load_files_of, record_limit};
+ghost use Rattle.load_commands.specs.Boot.{boot_entry, boots};
+ghost use Rattle.load_commands.specs.BootResident.{boot_resident_entry};
+ghost use Rattle.load_commands.specs.CoreFile.{core_entry};
+ghost use Rattle.load_commands.specs.Drill.{drill_entry};
+ghost use Rattle.list_commands.specs.Check.{check_entry};
+ghost use Rattle.list_commands.specs.Dump.{dump_entry};
+ghost use Rattle.list_commands.specs.Exec.{exec_entry};
+ghost use Rattle.list_commands.specs.Records.{crash_files, list_files, load_by, record_limit};
 ghost use Rattle.load_commands.specs.Files.{limit_by, usable_below};
 ghost use Rattle.command_parts.specs.Files.{memory_limit, text_limit};
-ghost use Rattle.load_commands.specs.Inputs.{left_after, purgatory_limit};
-ghost use Rattle.load_commands.specs.Load.{load_command_files};
-ghost use Rattle.load_commands.specs.LoadPanic.{load_panic_files};
-ghost use Rattle.list_commands.specs.Migrate.{migrate_files};
-ghost use Rattle.load_commands.specs.Sample.{sample_files};
+ghost use Rattle.load_commands.specs.Inputs.{LoadInputs, left_after, purgatory_limit};
+ghost use Rattle.load_commands.specs.Load.{load_entry, load_wish};
+ghost use Rattle.load_commands.specs.LoadPanic.{load_panic_entry};
+ghost use Rattle.list_commands.specs.Migrate.{migrate_entry};
+ghost use Rattle.load_commands.specs.Sample.{sample_entry};
 ghost use Rattle.command_parts.specs.Startup.{recorded_startup};
-ghost use Rattle.list_commands.specs.Trace.{trace_files};
+ghost use Rattle.list_commands.specs.Trace.{mode_by, trace_entry};
+ghost use Rattle.command_parts.specs.Outputs.{Made};
+ghost use Rattle.command_parts.specs.declared.reason.Reason.{Reason};
 ghost use Rattle.command_parts.specs.declared.reason.InputFault.TheVariants as inputs;
 ghost use Rattle.worked_commands.specs.Inputs.{all_asked, all_ram, each_file, few_read, spoiled, three_bytes, three_bytes_record, unreadable};
-ghost use Rattle.worked_commands.specs.Names.{all_inputs, boot_all, boot_raw, boot_resident_raw, core_memory, drill_events, exec_record, load_panic_of, load_raw, migrate_record, of_record, trace_memory};
+ghost use Rattle.worked_commands.specs.Names.{boot_all, boot_raw, boot_resident_raw, core_memory, drill_events, exec_record, load_panic_of, load_raw, migrate_record, of_record, trace_memory};
 ghost use Rattle.worked_commands.specs.Texts.{no_memory};
 
 /// The limits of files: a memory file of 131,072 pages, a record of 16 segments and 65,536 pages, and so on.
@@ -54,77 +56,56 @@ pub fn pages_below_a_limit()
     ensures all_usable { usable_below None (0x13 ∷ 0x11 ∷ []) ≡ 0x13 ∷ 0x11 ∷ [] }
 {}
 
-/// What `boot` and `load` read.
+/// What `boot` and `load` read, and what their words ask of it.
 pub fn files_of_boots_and_loads()
-    ensures boot { reads (boot_files (boot_raw (Some Twice))) each_file
-        ≡ Ok (record { load = few_read; runs = Some Twice; out = codes "o" }) }
-    ensures boot_all { reads (boot_files boot_all) each_file
+    ensures boot { reads (boot_entry (boot_raw (Some Twice))).command.takes each_file
+        ≡ Ok few_read }
+    ensures boot_all { reads (boot_entry boot_all).command.takes each_file
         ≡ Ok (record {
-          load = record {
-            memory = no_memory;
-            usable = 0x10 ∷ 0x11 ∷ [];
-            map = Some all_ram;
-            request = all_asked;
-          };
-          runs = None;
-          out = codes "o";
+          memory = no_memory;
+          usable = 0x10 ∷ 0x11 ∷ [];
+          map = Some all_ram;
+          request = all_asked;
         }) }
-    ensures load { reads (load_command_files (load_raw false)) each_file
-        ≡ Ok (record {
-          load = few_read;
-          wish = wish.Plain;
-          out = codes "o";
-          load_record = codes "r";
-        }) }
-    ensures load_kept { reads (load_command_files (load_raw true)) each_file
-        ≡ Ok (record {
-          load = few_read;
-          wish = wish.Kept;
-          out = codes "o";
-          load_record = codes "r";
-        }) }
+    ensures boot_twice { (i : LoadInputs) (r : Result Made (Refusal Reason))
+        → (boot_entry (boot_raw (Some Twice))).command.makes i r
+        → boots (Some Twice) (codes "o") i r }
+    ensures load { reads (load_entry (load_raw false)).command.takes each_file ≡ Ok few_read }
+    ensures load_plain { load_wish (load_raw false) ≡ wish.Plain }
+    ensures load_kept { load_wish (load_raw true) ≡ wish.Kept }
 {}
 
 /// What `load-panic` reads: the request is that of a crash kernel, with its notes.
 pub fn files_of_load_panic()
-    ensures with_notes { reads (load_panic_files (load_panic_of (Some (codes "n")))) each_file
+    ensures with_notes { reads
+        (load_panic_entry (load_panic_of (Some (codes "n")))).command.takes each_file
         ≡ Ok (record {
-          load = record {
-            memory = no_memory;
-            map = all_ram;
-            request = record all_asked {
-              crash = true;
-              modules = [];
-              notes = record { start = 0x200000; size = 0x400 } ∷ [];
-            };
+          memory = no_memory;
+          map = all_ram;
+          request = record all_asked {
+            crash = true;
+            modules = [];
+            notes = record { start = 0x200000; size = 0x400 } ∷ [];
           };
-          out = codes "o";
-          load_record = codes "r";
         }) }
-    ensures without_notes { reads (load_panic_files (load_panic_of None)) each_file
+    ensures without_notes { reads (load_panic_entry (load_panic_of None)).command.takes each_file
         ≡ Ok (record {
-          load = record {
-            memory = no_memory;
-            map = all_ram;
-            request = record all_asked { crash = true; modules = [] };
-          };
-          out = codes "o";
-          load_record = codes "r";
+          memory = no_memory;
+          map = all_ram;
+          request = record all_asked { crash = true; modules = [] };
         }) }
 {}
 
 /// What `check`, `dump`, `exec` and `migrate` read: by the kind of the record its list, or its head, and its segments.
 pub fn files_of_records()
-    ensures check { reads (load_files_of of_record) each_file
+    ensures check { reads (check_entry of_record).command.takes each_file
         ≡ Ok (load_by no_memory three_bytes_record) }
-    ensures exec { reads (exec_files (exec_record true)) each_file
-        ≡ Ok (record {
-          load = load_by no_memory three_bytes_record;
-          twice = true;
-          out = codes "x";
-        }) }
-    ensures migrate { reads (migrate_files migrate_record) each_file
-        ≡ Ok (record { load_record = three_bytes_record; out = codes "o" }) }
+    ensures dump { reads (dump_entry of_record).command.takes each_file
+        ≡ Ok (load_by no_memory three_bytes_record) }
+    ensures exec { reads (exec_entry (exec_record true)).command.takes each_file
+        ≡ Ok (load_by no_memory three_bytes_record) }
+    ensures migrate { reads (migrate_entry migrate_record).command.takes each_file
+        ≡ Ok three_bytes_record }
     ensures list { list_files no_memory three_bytes_record
         ≡ record {
           memory = no_memory;
@@ -141,85 +122,74 @@ pub fn files_of_records()
         } }
 {}
 
-/// What the other commands read.
+/// What the other commands read, and the mode of the moves that `trace` is asked for.
 pub fn files_of_other_commands()
-    ensures resident { reads (resident_files boot_resident_raw) each_file
-        ≡ Ok (record { load = few_read; pairs = (2, 0x13) ∷ []; out = codes "o" }) }
-    ensures drill { reads (drill_files drill_events) each_file
+    ensures resident { reads (boot_resident_entry boot_resident_raw).command.takes each_file
+        ≡ Ok (record { load = few_read; pairs = (2, 0x13) ∷ [] }) }
+    ensures drill { reads (drill_entry drill_events).command.takes each_file
         ≡ Ok (record {
           memory = no_memory;
           pool = 0x10 ∷ 0x11 ∷ 0x12 ∷ [];
           map = all_ram;
           events = Panic ∷ [];
-          out = codes "o";
         }) }
-    ensures trace { reads (trace_files (trace_memory (Some 0x13000))) each_file
-        ≡ Ok (record {
-          memory = no_memory;
-          head = 0x11002;
-          mode = mode.Kept 0x13;
-          limit = 9;
-          out = codes "o";
-        }) }
-    ensures trace_plain { reads (trace_files (trace_memory None)) each_file
-        ≡ Ok (record {
-          memory = no_memory;
-          head = 0x11002;
-          mode = mode.Plain;
-          limit = 9;
-          out = codes "o";
-        }) }
-    ensures core { reads (core_files core_memory) each_file
-        ≡ Ok (record { memory = no_memory; address = 0x3000; out = codes "o" }) }
-    ensures sample { reads (sample_files 77) each_file ≡ Ok 77 }
+    ensures trace { reads (trace_entry (trace_memory None)).command.takes each_file ≡ Ok no_memory }
+    ensures trace_mode { mode_by (Some 0x13000) ≡ mode.Kept 0x13 }
+    ensures trace_plain { mode_by None ≡ mode.Plain }
+    ensures core { reads (core_entry core_memory).command.takes each_file ≡ Ok no_memory }
+    ensures sample { reads (sample_entry 77).command.takes each_file ≡ Ok tt }
 {}
 
 /// Of several spoiled files the one that is read first is answered: memory, pool, map; memory, map, notes; memory, record.
 pub fn first_of_spoiled_files()
-    ensures boot_memory { reads (boot_files boot_all)
+    ensures boot_memory { reads (boot_entry boot_all).command.takes
         (spoiled (codes "m" ∷ codes "p" ∷ codes "t" ∷ []))
         ≡ Err (unreadable (inputs.Mem memories.BadMagic)) }
-    ensures boot_pool { reads (boot_files boot_all) (spoiled (codes "p" ∷ codes "t" ∷ []))
+    ensures boot_pool { reads (boot_entry boot_all).command.takes
+        (spoiled (codes "p" ∷ codes "t" ∷ []))
         ≡ Err (unreadable (inputs.Pool (pools.BadLine 1))) }
-    ensures boot_map { reads (boot_files boot_all) (spoiled (codes "t" ∷ []))
+    ensures boot_map { reads (boot_entry boot_all).command.takes (spoiled (codes "t" ∷ []))
         ≡ Err (unreadable (inputs.Map (maps.BadLine 1))) }
-    ensures panic_memory { reads (load_panic_files (load_panic_of (Some (codes "n"))))
+    ensures panic_memory { reads (load_panic_entry (load_panic_of (Some (codes "n")))).command.takes
         (spoiled (codes "m" ∷ codes "t" ∷ codes "n" ∷ []))
         ≡ Err (unreadable (inputs.Mem memories.BadMagic)) }
-    ensures panic_map { reads (load_panic_files (load_panic_of (Some (codes "n"))))
+    ensures panic_map { reads (load_panic_entry (load_panic_of (Some (codes "n")))).command.takes
         (spoiled (codes "t" ∷ codes "n" ∷ [])) ≡ Err (unreadable (inputs.Map (maps.BadLine 1))) }
-    ensures panic_notes { reads (load_panic_files (load_panic_of (Some (codes "n"))))
+    ensures panic_notes { reads (load_panic_entry (load_panic_of (Some (codes "n")))).command.takes
         (spoiled (codes "n" ∷ [])) ≡ Err (unreadable (inputs.Notes (notes.BadLine 1))) }
-    ensures check_memory { reads (load_files_of of_record) (spoiled (codes "m" ∷ codes "r" ∷ []))
+    ensures check_memory { reads (check_entry of_record).command.takes
+        (spoiled (codes "m" ∷ codes "r" ∷ []))
         ≡ Err (unreadable (inputs.Mem memories.BadMagic)) }
-    ensures check_record { reads (load_files_of of_record) (spoiled (codes "r" ∷ []))
+    ensures check_record { reads (check_entry of_record).command.takes (spoiled (codes "r" ∷ []))
         ≡ Err (unreadable (inputs.Rec records.BadMagic)) }
-    ensures migrate { reads (migrate_files migrate_record) (spoiled (codes "r" ∷ []))
+    ensures migrate { reads (migrate_entry migrate_record).command.takes (spoiled (codes "r" ∷ []))
         ≡ Err (unreadable (inputs.Rec records.BadMagic)) }
 {}
 
 /// The same of `boot-resident`: memory, pool, pairs; and of `drill`: memory, pool, map, events.
 pub fn first_of_more_spoiled_files()
-    ensures resident_memory { reads (resident_files boot_resident_raw)
+    ensures resident_memory { reads (boot_resident_entry boot_resident_raw).command.takes
         (spoiled (codes "m" ∷ codes "p" ∷ codes "l" ∷ []))
         ≡ Err (unreadable (inputs.Mem memories.BadMagic)) }
-    ensures resident_pool { reads (resident_files boot_resident_raw)
+    ensures resident_pool { reads (boot_resident_entry boot_resident_raw).command.takes
         (spoiled (codes "p" ∷ codes "l" ∷ []))
         ≡ Err (unreadable (inputs.Pool (pools.BadLine 1))) }
-    ensures resident_pairs { reads (resident_files boot_resident_raw) (spoiled (codes "l" ∷ []))
+    ensures resident_pairs { reads (boot_resident_entry boot_resident_raw).command.takes
+        (spoiled (codes "l" ∷ []))
         ≡ Err (unreadable (inputs.Pairs (pairs.BadLine 1))) }
-    ensures drill_memory { reads (drill_files drill_events)
+    ensures drill_memory { reads (drill_entry drill_events).command.takes
         (spoiled (codes "m" ∷ codes "p" ∷ codes "t" ∷ codes "e" ∷ []))
         ≡ Err (unreadable (inputs.Mem memories.BadMagic)) }
-    ensures drill_pool { reads (drill_files drill_events)
+    ensures drill_pool { reads (drill_entry drill_events).command.takes
         (spoiled (codes "p" ∷ codes "t" ∷ codes "e" ∷ []))
         ≡ Err (unreadable (inputs.Pool (pools.BadLine 1))) }
-    ensures drill_map { reads (drill_files drill_events) (spoiled (codes "t" ∷ codes "e" ∷ []))
+    ensures drill_map { reads (drill_entry drill_events).command.takes
+        (spoiled (codes "t" ∷ codes "e" ∷ []))
         ≡ Err (unreadable (inputs.Map (maps.BadLine 1))) }
-    ensures drill_events { reads (drill_files drill_events) (spoiled (codes "e" ∷ []))
+    ensures drill_events { reads (drill_entry drill_events).command.takes (spoiled (codes "e" ∷ []))
         ≡ Err (unreadable (inputs.Events (events.BadLine 1))) }
-    ensures trace { reads (trace_files (trace_memory None)) (spoiled (codes "m" ∷ []))
+    ensures trace { reads (trace_entry (trace_memory None)).command.takes (spoiled (codes "m" ∷ []))
         ≡ Err (unreadable (inputs.Mem memories.BadMagic)) }
-    ensures core { reads (core_files core_memory) (spoiled (codes "m" ∷ []))
+    ensures core { reads (core_entry core_memory).command.takes (spoiled (codes "m" ∷ []))
         ≡ Err (unreadable (inputs.Mem memories.BadMagic)) }
 {}

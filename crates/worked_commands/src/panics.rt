@@ -7,7 +7,7 @@ ghost use Rattle.kexec_plan.specs.declared.fault.PlanFault.TheVariants as plans;
 ghost use Rattle.file_commands.specs.Taking.{by, too_long};
 ghost use Rattle.load_commands.specs.CrashInputs.{CrashInputs};
 ghost use Rattle.load_commands.specs.CrashLoading.{IsCrashLoaded};
-ghost use Rattle.load_commands.specs.LoadPanic.{CanLoadPanic, HasLoadedPanic, PanicLoad, loads_panic};
+ghost use Rattle.load_commands.specs.LoadPanic.{CanLoadPanic, HasLoadedPanic, PanicLoad};
 ghost use Rattle.command_parts.specs.Outputs.{Made};
 ghost use Rattle.command_parts.specs.declared.reason.Reason.TheVariants as reasons;
 ghost use Rattle.memory_map.specs.Maps.{reserved_area};
@@ -16,7 +16,7 @@ ghost use Rattle.worked_commands.specs.Lists.{Gives};
 ghost use Rattle.worked_commands.specs.Loads.{few_plan};
 ghost use Rattle.worked_commands.specs.Memories.{loaded, run_file};
 ghost use Rattle.worked_commands.specs.Names.{load_panic_of};
-ghost use Rattle.worked_commands.specs.Panics.{crash_file, crash_load, panic_goods, panic_of, panic_text};
+ghost use Rattle.worked_commands.specs.Panics.{crash_file, crash_load, panic_goods, panic_makes, panic_text};
 
 use kx_edge::{Shelf, Sink};
 
@@ -25,27 +25,27 @@ pub fn crash_kernel_is_loaded()
     ensures load { (i : CrashInputs) → i.memory ≡ loaded
         → plan i.request (Some i.map) ≡ Ok few_plan → IsCrashLoaded i few_plan crash_load }
     ensures made { (i : CrashInputs) → i.memory ≡ loaded
-        → plan i.request (Some i.map) ≡ Ok few_plan → loads_panic (panic_of i) (Ok panic_goods) }
+        → plan i.request (Some i.map) ≡ Ok few_plan → panic_makes i (Ok panic_goods) }
     ensures nothing_else { (i : CrashInputs) (goods : Made) → i.memory ≡ loaded
-        → plan i.request (Some i.map) ≡ Ok few_plan → loads_panic (panic_of i) (Ok goods)
+        → plan i.request (Some i.map) ≡ Ok few_plan → panic_makes i (Ok goods)
         → goods ≡ panic_goods }
     ensures not_refused { (i : CrashInputs) → plan i.request (Some i.map) ≡ Ok few_plan
-        → loads_panic (panic_of i) (Err (by (reasons.Plan plans.UnknownImage))) → ⊥ }
-    ensures never_too_long { (i : CrashInputs) → loads_panic (panic_of i)
+        → panic_makes i (Err (by (reasons.Plan plans.UnknownImage))) → ⊥ }
+    ensures never_too_long { (i : CrashInputs) → panic_makes i
         (Err (too_long (codes "k") 9)) → ⊥ }
 {}
 
 /// A request without a plan is refused, for its fault alone.
 pub fn crash_kernel_has_no_plan()
     ensures refused { (i : CrashInputs) → plan i.request (Some i.map) ≡ Err plans.UnknownImage
-        → loads_panic (panic_of i) (Err (by (reasons.Plan plans.UnknownImage))) }
+        → panic_makes i (Err (by (reasons.Plan plans.UnknownImage))) }
     ensures other_fault { (i : CrashInputs) → plan i.request (Some i.map) ≡ Err plans.UnknownImage
-        → loads_panic (panic_of i) (Err (by (reasons.Plan plans.Memory))) → ⊥ }
-    ensures other_reason { (i : CrashInputs) → loads_panic (panic_of i) (Err (by reasons.NotKept))
+        → panic_makes i (Err (by (reasons.Plan plans.Memory))) → ⊥ }
+    ensures other_reason { (i : CrashInputs) → panic_makes i (Err (by reasons.NotKept))
         → ⊥ }
     ensures not_made { (i : CrashInputs) (goods : Made)
         → plan i.request (Some i.map) ≡ Err plans.UnknownImage
-        → loads_panic (panic_of i) (Ok goods) → ⊥ }
+        → panic_makes i (Ok goods) → ⊥ }
 {}
 
 /// What is promised of the load: page 2 alone has changed, and lies in the reserved area.

@@ -7,7 +7,7 @@ ghost use Rattle.load_states.specs.States.{Checked, no_pages};
 ghost use Rattle.resident_planner.specs.declared.fault.ResidentFault.TheVariants as faults;
 ghost use Rattle.sample_load.specs.Samples.{memory_digest, sample_segments, start_of};
 ghost use Rattle.file_commands.specs.Taking.{Refusal, by, too_long};
-ghost use Rattle.load_commands.specs.BootResident.{CanBootResident, HasBootedResident, boots_resident, load_with, raw_inputs};
+ghost use Rattle.load_commands.specs.BootResident.{CanBootResident, HasBootedResident, load_with, raw_inputs};
 ghost use Rattle.list_commands.specs.Dump.{lines_of};
 ghost use Rattle.command_parts.specs.Outputs.{Made};
 ghost use Rattle.command_parts.specs.Runs.{after_runs};
@@ -19,7 +19,7 @@ ghost use Rattle.worked_commands.specs.Lists.{Never, Puts};
 ghost use Rattle.worked_commands.specs.Loads.{few_plan};
 ghost use Rattle.worked_commands.specs.Memories.{loaded};
 ghost use Rattle.worked_commands.specs.Names.{boot_resident_raw, few_inputs};
-ghost use Rattle.worked_commands.specs.Residents.{resident_over};
+ghost use Rattle.worked_commands.specs.Residents.{resident_makes, resident_over};
 ghost use Rattle.worked_commands.specs.Texts.{kept_checked, plain_image, registers};
 
 use kx_edge::{Shelf, Sink};
@@ -27,27 +27,27 @@ use kx_edge::{Shelf, Sink};
 /// A pair whose destination is not wanted, one with a destination that an earlier pair has, and one whose source has other
 /// bytes.
 pub fn pairs_are_refused()
-    ensures unwanted { (m : Contents) → boots_resident (resident_over m ((5, 0x13) ∷ []))
+    ensures unwanted { (m : Contents) → resident_makes m ((5, 0x13) ∷ [])
         (Err (by (reasons.Resident (faults.NotWanted 5)))) }
-    ensures other_page { (m : Contents) → boots_resident (resident_over m ((5, 0x13) ∷ []))
+    ensures other_page { (m : Contents) → resident_makes m ((5, 0x13) ∷ [])
         (Err (by (reasons.Resident (faults.NotWanted 6)))) → ⊥ }
     ensures repeats { (m : Contents) → at m 0x13 ≡ page_of (codes "abc")
-        → boots_resident (resident_over m ((2, 0x13) ∷ (2, 0x14) ∷ []))
+        → resident_makes m ((2, 0x13) ∷ (2, 0x14) ∷ [])
         (Err (by (reasons.Resident (faults.Repeats 2)))) }
     ensures stale { (m : Contents) → at m 0x13 ≡ page_of (codes "abd")
-        → boots_resident (resident_over m ((2, 0x13) ∷ []))
+        → resident_makes m ((2, 0x13) ∷ [])
         (Err (by (reasons.Resident (faults.Stale 2)))) }
-    ensures other_reason { (m : Contents) → boots_resident (resident_over m ((5, 0x13) ∷ []))
+    ensures other_reason { (m : Contents) → resident_makes m ((5, 0x13) ∷ [])
         (Err (by reasons.NotKept)) → ⊥ }
     ensures not_made { (m : Contents) (goods : Made)
-        → boots_resident (resident_over m ((5, 0x13) ∷ [])) (Ok goods) → ⊥ }
-    ensures never_too_long { (m : Contents) → boots_resident (resident_over m [])
+        → resident_makes m ((5, 0x13) ∷ []) (Ok goods) → ⊥ }
+    ensures never_too_long { (m : Contents) → resident_makes m []
         (Err (too_long (codes "l") 9)) → ⊥ }
 {}
 
 /// What `boot-resident` takes of its words, and the load of a list that was made.
 pub fn load_of_a_list()
-    ensures inputs { raw_inputs boot_resident_raw ≡ few_inputs }
+    ensures inputs { raw_inputs (codes "m") (codes "p") (codes "k") ≡ few_inputs }
     ensures load { load_with few_plan (record { memory = loaded; image = plain_image; copied = 1 })
         ≡ record {
           memory = loaded;
@@ -66,12 +66,12 @@ pub fn sample_is_said()
         ≡ codes "accepted words 7 links 3 pairs 2\nhead 12002 control 10000 swap 11000\n"
         ++ codes "start entry 2a00 rax 2badb002 rbx 9500 rsi 90000\nran 7\nmemory ba07\n" }
     ensures made { (number : ℕ) (c : Checked) → IsSample number c
-        → samples number (Ok (lines_of (sample_text number c))) }
-    ensures no_output { (number : ℕ) (goods : Made) → samples number (Ok goods)
+        → samples number tt (Ok (lines_of (sample_text number c))) }
+    ensures no_output { (number : ℕ) (goods : Made) → samples number tt (Ok goods)
         → goods.outputs ≡ [] }
-    ensures no_fault { (number : ℕ) (goods : Made) → samples number (Ok goods)
+    ensures no_fault { (number : ℕ) (goods : Made) → samples number tt (Ok goods)
         → goods.fault ≡ None }
-    ensures not_refused { (number : ℕ) (why : Refusal Reason) → samples number (Err why) → ⊥ }
+    ensures not_refused { (number : ℕ) (why : Refusal Reason) → samples number tt (Err why) → ⊥ }
 {}
 
 /// No list is made of a pair that is refused; and a sample puts no file.

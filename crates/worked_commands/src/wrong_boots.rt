@@ -7,7 +7,7 @@ ghost use Rattle.kexec_words.specs.Values.{BootValue};
 ghost use Rattle.kexec_plan.specs.Finish.{HasTableApart};
 ghost use Rattle.kexec_plan.specs.Requests.{Plan};
 ghost use Rattle.load_commands.specs.Inputs.{LoadInputs};
-ghost use Rattle.load_commands.specs.Loads.{NormalLoad};
+ghost use Rattle.load_commands.specs.NormalLoad.{NormalLoad};
 ghost use Rattle.command_parts.specs.Runs.{EndsAgain, IsOnce, Leaves, MachineLeaves, after_runs, wish_of};
 ghost use Rattle.purgatory_link.specs.declared.region_test.RegionTest.TheVariants.{Same};
 ghost use Rattle.purgatory_link.specs.RegionTest.{test};

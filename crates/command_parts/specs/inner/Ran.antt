@@ -22,6 +22,11 @@ HasMode None (modes.Kept swap) = ⊥
 HasMode (Some runs) modes.Plain = ⊥
 HasMode (Some runs) (modes.Kept swap) = Unit {0}
 
+-- what runs of a list in this mode are: plain, or so many with context preserved
+abbrev pub runs_in : Mode → Runs → Option Runs
+runs_in modes.Plain runs = None
+runs_in (modes.Kept swap) runs = Some runs
+
 -- the steps of the second run, where there is one
 abbrev pub second_steps : Option Runs → ℕ → Option ℕ
 second_steps None words = None
@@ -32,9 +37,9 @@ second_steps (Some Twice) words = Some words
 pub record HasRun (runs : Option Runs) (c : Checked) (r : Ran) : Type 0 where
   pub memory : Agree (at r.memory) (after_runs runs c)
   pub image : r.image ≡ c.load.image
-  pub words : r.words ≡ c.words
-  pub links : r.links ≡ c.links
-  pub pairs : r.pairs ≡ length c.pairs
+  pub words : r.counts.words ≡ c.words
+  pub links : r.counts.links ≡ c.links
+  pub pairs : r.counts.pairs ≡ length c.pairs
   pub ends : r.steps ≡ c.words
   pub ends_again : r.back ≡ second_steps runs c.words
 
@@ -51,5 +56,6 @@ last_line (Some steps) text line = text ++ ran_line steps
 
 abbrev pub ran_text : Ran → Startup → List ℕ
 ran_text r s =
-    last_line r.back (load_lines r.words r.links r.pairs r.image s.start ++ ran_line r.steps)
+    last_line r.back
+    (load_lines r.counts.words r.counts.links r.counts.pairs r.image s.start ++ ran_line r.steps)
     (purgatory_line (at r.memory) s.purgatory)

@@ -14,8 +14,9 @@ use Rattle.kexec_words.specs.Values.{BootValue, ExecValue, LoadValue}
 use Rattle.kexec_plan.specs.Requests.{Plan}
 use Rattle.list_commands.specs.declared.records.LoadFiles.{LoadFiles}
 use Rattle.list_commands.specs.declared.records.TakenLoad.TheVariants.{Normal}
-use Rattle.list_commands.specs.Exec.{HasExecuted, exec_files, exec_of, files_text}
-use Rattle.load_commands.specs.Laid.{HasBootedLaid, HasLoadedLaid}
+use Rattle.list_commands.specs.Exec.{HasExecuted, files_text}
+use Rattle.list_commands.specs.Records.{load_files}
+use Rattle.load_commands.specs.ByRules.{HasBootedLaid, HasLoadedLaid}
 use Rattle.load_commands.specs.Load.{load_wish, record_of_load}
 use Rattle.command_parts.specs.Runs.{run_text, wish_of}
 use Rattle.load_commands.specs.Startup.{planned_startup}
@@ -46,7 +47,7 @@ LoadThenExecIsBoot {S} {O} D E =
     (held after : Files) (s t u s' t' u' : S) (o p q o' p' q' : O) (b : BootValue) (l : LoadValue)
     (e : ExecValue) → AskTogether b l e
     → (boot : HasBootedLaid D E held s o s' o' b) (load : HasLoadedLaid D E held t p t' p' l)
-    (files : LoadFiles) → reads (exec_files e) after ≡ Ok (exec_of e (Normal files))
+    (files : LoadFiles) → reads (load_files e.memory e.load_record) after ≡ Ok (Normal files)
     → (exec : HasExecuted D E u q u' q' e files)
     → file_at after l.out ≡ load.loaded.output
     → file_at after l.load_record

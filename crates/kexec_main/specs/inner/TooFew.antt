@@ -15,14 +15,13 @@ use Rattle.load_states.specs.Ready.{Told}
 use Rattle.load_states.specs.States.{Checked, Load}
 use Rattle.kexec_plan.specs.Requests.{Plan}
 use Rattle.kexec_plan.specs.Plan.{plan}
-use Rattle.load_commands.specs.Inputs.{LoadInputs}
+use Rattle.load_commands.specs.Inputs.{LoadInputs, load_inputs}
 use Rattle.kx_edge.specs.Edge.{Files}
 use Rattle.file_commands.specs.Taking.{by, reads}
 use Rattle.kexec_words.specs.Values.{BootValue, CommandValue, LoadValue}
 use Rattle.command_parts.specs.declared.reason.Reason.TheVariants.{NoPages}
-use Rattle.load_commands.specs.Boot.{BootInputs, boot_files}
 use Rattle.kexec_main.specs.Call.{HasRefusal}
-use Rattle.load_commands.specs.Load.{LoadCommand, load_command_files}
+use Rattle.load_commands.specs.Load.{load_wish}
 use Rattle.load_commands.specs.Loading.{IsLoaded}
 use Rattle.command_parts.specs.Runs.{wish_of}
 use Rattle.kexec_words.specs.Values as words
@@ -40,12 +39,13 @@ IsRefusedForPages c held pool n = HasRefusal c held (by (NoPages pool n))
 -- the files are read, and the load of what they are takes more pages than the pool has usable: so many, and so many
 abbrev pub BootLacksPages : BootValue → Files → (pool need : ℕ) → Type 0
 BootLacksPages b held pool n =
-    (x : BootInputs) × (reads (boot_files b) held ≡ Ok x)
-    × LacksPages (wish_of x.runs) x.load pool n
+    (i : LoadInputs) × (reads (load_inputs b.image b.inputs) held ≡ Ok i)
+    × LacksPages (wish_of b.kept) i pool n
 
 abbrev pub LoadLacksPages : LoadValue → Files → (pool need : ℕ) → Type 0
 LoadLacksPages l held pool n =
-    (x : LoadCommand) × (reads (load_command_files l) held ≡ Ok x) × LacksPages x.wish x.load pool n
+    (i : LoadInputs) × (reads (load_inputs l.image l.inputs) held ≡ Ok i)
+    × LacksPages (load_wish l) i pool n
 
 -- `boot` and `load` are refused for pages exactly where the pool has too few
 abbrev pub BootRefusesForPages : Type 0

@@ -1,16 +1,14 @@
 -- What is proved of `exec`.
 use Rattle.std.proofs.Common.{◌≡◌, ◌∙◌, ℕ, Bool, List, [], ◌∷◌, true, false, Option, Some, None, Ok, Err, refl, sym, ap, subst, inl, inr, Result}
-use Rattle.kx_laws.proofs.Results.{ok_same}
 use Rattle.kx_edge.specs.Edge.{Files}
 use Rattle.kx_edge.specs.declared.edge.Shelf.{Ghosts as Shelf}
 use Rattle.kx_edge.specs.declared.edge.Sink.{Ghosts as Sink}
 use Rattle.page_memory.specs.Contents.{at}
 use Rattle.list_checker.specs.declared.fault.ListFault.{ListFault}
 use Rattle.load_states.specs.States.{Load}
-use Rattle.file_commands.specs.Taking.{Refusal, by, too_long, ok, reads}
-use Rattle.file_commands.specs.Answers.{GoesOut, MeetsTold, done}
+use Rattle.file_commands.specs.Taking.{Refusal, by, too_long}
+use Rattle.file_commands.specs.Answers.{MeetsTold, done}
 use Rattle.file_commands.specs.inner.Order.{Stands}
-use Rattle.file_commands.proofs.Steps.{reads_cases}
 use Rattle.list_commands.specs.declared.records.TakenLoad.{TakenLoad}
 use Rattle.list_commands.specs.declared.records.TakenLoad.TheVariants.{Normal, Crash}
 use Rattle.list_commands.specs.declared.records.CrashFiles.{CrashFiles}
@@ -23,8 +21,7 @@ use Rattle.load_states.proofs.Ready.{list_ends}
 use Rattle.load_states.specs.inner.Runs.{IsSameLoad}
 use Rattle.list_commands.specs.Check.{IsAcceptedLoad, IsInPlace}
 use Rattle.list_commands.specs.CrashExec.{executes_place_as}
-use Rattle.list_commands.specs.Exec.{CanExec, CanRun, CanRunInPlace, ExecInputs, HasExecutedLoad, RefusesFiles, exec_entry, exec_files, exec_of, executes_as, executes_by, is_not_kept, load_of, runs_asked}
-use Rattle.list_commands.specs.Records.{load_files}
+use Rattle.list_commands.specs.Exec.{CanExec, CanRun, CanRunInPlace, HasExecutedLoad, RefusesFiles, exec_entry, executes, executes_as, is_not_kept, load_of, runs_asked}
 use Rattle.command_parts.specs.Runs.{after_runs, checked_with}
 use Rattle.command_parts.proofs.Ending.{ends_again, machine_leaves}
 use Rattle.list_commands.proofs.Executes.{runs_fit}
@@ -34,13 +31,9 @@ use Rattle.command_parts.proofs.Alike.{same_left}
 use Rattle.list_commands.proofs.Reread.{exec_bare}
 use Rattle.file_commands.proofs.Keeping.{Keeps, put_as, said_as}
 
-exec_asked : (e : ExecValue) (held : Files) (x : ExecInputs) → reads (exec_files e) held ≡ Ok x → (load : TakenLoad) × (x ≡ exec_of e load)
-exec_asked e held x read = let k = reads_cases (load_files e.memory e.load_record) (λ load. ok (exec_of e load)) held x read in (k.0, sym (ok_same {F = Refusal Reason} _ x k.2))
-
 module _ {S O : Type 0} (D : Shelf S) (E : Sink O) (held : Files) (s : S) (o : O) (s' : S) (o' : O) where
-  executed_by : (e : ExecValue) (load : TakenLoad) (goods : Made) → reads (exec_files e) held ≡ Ok (exec_of e load) → executes_by load e.twice e.out (Ok goods) → goods.fault ≡ None → GoesOut D E goods s o s' o'
-      → HasExecutedLoad D E s o s' o' e load
-  executed_by e (Normal x) goods read m fault out =
+  executed : (e : ExecValue) → (m : MeetsTold D E (exec_entry e).command held s o done s' o') → HasExecutedLoad D E s o s' o' e m.0
+  executed e (Normal x, goods, read, m, fault, out) =
       let n = subst (λ f. executes_as x e.twice e.out goods f) fault m.1 in
       let r = n in
       let c = checked_with (load_of x) r.0 r.1 r.2 in
@@ -59,7 +52,7 @@ module _ {S O : Type 0} (D : Shelf S) (E : Sink O) (held : Files) (s : S) (o : O
         put = put_as D E s o s' o' goods.outputs ((e.out, r.6.0) ∷ []) r.6.1 out.put;
         said = said_as D E s o s' o' goods.text _ r.4 out.said;
       }
-  executed_by e (Crash x) goods read m fault out =
+  executed e (Crash x, goods, read, m, fault, out) =
       let n = subst (λ f. executes_place_as x e.out goods f) fault m.1 in
       let run = n.1 in
       record {
@@ -71,16 +64,10 @@ module _ {S O : Type 0} (D : Shelf S) (E : Sink O) (held : Files) (s : S) (o : O
         said = said_as D E s o s' o' goods.text _ run.text out.said;
       }
 
-  executed : (e : ExecValue) → (m : MeetsTold D E (exec_entry e).command held s o done s' o') → HasExecutedLoad D E s o s' o' e m.0.load
-  executed e (x, goods, read, m, fault, out) =
-      let k = exec_asked e held x read in
-      subst (λ load. HasExecutedLoad D E s o s' o' e load) (sym (ap (λ (x : ExecInputs). x.load) k.1))
-      (executed_by e k.0 goods (subst (λ x. reads (exec_files e) held ≡ Ok x) k.1 read) (subst (λ (x : ExecInputs). executes_by x.load x.twice x.out (Ok goods)) k.1 m) fault out)
-
 not_both : (b : Bool) → b ≡ false → b ≡ true → ⊥
 not_both b f t = let k = sym f ∙ t in cc
 
-exec_not : (load : TakenLoad) (twice : Bool) (out : List ℕ) (a : Refusal Reason) → CanExec load twice → executes_by load twice out (Err a) → ⊥
+exec_not : (load : TakenLoad) (twice : Bool) (out : List ℕ) (a : Refusal Reason) → CanExec load twice → executes twice out load (Err a) → ⊥
 exec_not (Normal x) twice out (by why) can (inl k) = not_both (is_not_kept twice x) can.kept k.1
 exec_not (Normal x) twice out (by why) can (inr (k, r)) =
     let c = checked_with (load_of x) r.0 r.1 r.2 in
@@ -98,17 +85,17 @@ crash_whole : (x : CrashFiles) (out : List ℕ) (goods : Made) (f : Option ListF
 crash_whole x out goods None accepted m e = e
 crash_whole x out goods (Some f) accepted m e = absurd (m.0.no_place accepted)
 
-exec_whole : (load : TakenLoad) (twice : Bool) (out : List ℕ) (goods : Made) → CanExec load twice → executes_by load twice out (Ok goods) → goods.fault ≡ None
+exec_whole : (load : TakenLoad) (twice : Bool) (out : List ℕ) (goods : Made) → CanExec load twice → executes twice out load (Ok goods) → goods.fault ≡ None
 exec_whole (Normal x) twice out goods can m = run_whole x twice out goods goods.fault (can.items, can.accepted) m.1 refl
 exec_whole (Crash x) twice out goods can m = crash_whole x out goods goods.fault can.accepted m.1 refl
 
-exec_stands : (e : ExecValue) (x : ExecInputs) → CanExec x.load x.twice → Stands (exec_entry e).command x
-exec_stands e x can = record { unrefused = λ a m. exec_not x.load x.twice x.out a can m; whole = λ goods m. exec_whole x.load x.twice x.out goods can m }
+exec_stands : (e : ExecValue) (x : TakenLoad) → CanExec x e.twice → Stands (exec_entry e).command x
+exec_stands e x can = record { unrefused = λ a m. exec_not x e.twice e.out a can m; whole = λ goods m. exec_whole x e.twice e.out goods can m }
 
 same_files : (x : LoadFiles) (s : Load) → s ≡ load_of x → IsSameLoad (load_of x) s
 same_files x s e = record { reads = λ p. ap (λ (s : Load). at s.memory p) e; image = ap (λ (s : Load). s.image) e; segments = ap (λ (s : Load). s.segments) e }
 
-can_run : (x : LoadFiles) (twice : Bool) (out : List ℕ) (goods : Made) → executes_by (Normal x) twice out (Ok goods) → executes_as x twice out goods None → CanRun x twice
+can_run : (x : LoadFiles) (twice : Bool) (out : List ℕ) (goods : Made) → executes twice out (Normal x) (Ok goods) → executes_as x twice out goods None → CanRun x twice
 can_run x twice out goods m (words, links, qs, told, text, fault, (bytes, outputs, file)) =
     let c = checked_with (load_of x) words links qs in
     let runs = runs_asked twice x in
@@ -119,12 +106,12 @@ can_run x twice out goods m (words, links, qs, told, text, fault, (bytes, output
       light = λ d n same t h. has_file (after_runs runs c) bytes n file (subst (λ N. IsTooHeavy N n) (same_left runs c d (same_files x d.load same) told t) h);
     }
 
-can_run_in_place : (x : CrashFiles) (twice : Bool) (out : List ℕ) (goods : Made) → executes_by (Crash x) twice out (Ok goods) → executes_place_as x out goods None → CanRunInPlace x twice
+can_run_in_place : (x : CrashFiles) (twice : Bool) (out : List ℕ) (goods : Made) → executes twice out (Crash x) (Ok goods) → executes_place_as x out goods None → CanRunInPlace x twice
 can_run_in_place x twice out goods m r =
     let f = r.1.output in
     record { accepted = r.0; once = m.0; light = λ n h. has_file (at x.memory) f.0 n f.2 h }
 
-can_exec : (load : TakenLoad) (twice : Bool) (out : List ℕ) (goods : Made) → executes_by load twice out (Ok goods) → goods.fault ≡ None → CanExec load twice
+can_exec : (load : TakenLoad) (twice : Bool) (out : List ℕ) (goods : Made) → executes twice out load (Ok goods) → goods.fault ≡ None → CanExec load twice
 can_exec (Normal x) twice out goods m fault = can_run x twice out goods m (subst (λ f. executes_as x twice out goods f) fault m.1)
 can_exec (Crash x) twice out goods m fault = can_run_in_place x twice out goods m (subst (λ f. executes_place_as x out goods f) fault m.1)
 
@@ -143,7 +130,7 @@ place_none : (x : CrashFiles) (out : List ℕ) (goods : Made) (why : Reason) (fa
 place_none x out goods why None accepted f r = let file = r.1.output in file_none (at x.memory) file.0 why file.2 f
 place_none x out goods why (Some fault) accepted f m = m.0.no_place accepted
 
-exec_refused : (load : TakenLoad) (twice : Bool) (out : List ℕ) (a : Refusal Reason) → executes_by load twice out (Err a) → (r : Result Made (Refusal Reason)) → executes_by load twice out r → r ≡ Err a
+exec_refused : (load : TakenLoad) (twice : Bool) (out : List ℕ) (a : Refusal Reason) → executes twice out load (Err a) → (r : Result Made (Refusal Reason)) → executes twice out load r → r ≡ Err a
 exec_refused (Normal x) twice out (by why) (inl h) (Ok goods) m = absurd (not_both (is_not_kept twice x) m.0 h.1)
 exec_refused (Normal x) twice out (by why) (inl h) (Err (by w)) (inl k) = ap (λ w. Err (by w)) (k.0 ∙ sym h.0)
 exec_refused (Normal x) twice out (by why) (inl h) (Err (by w)) (inr k) = absurd (not_both (is_not_kept twice x) k.0 h.1)
@@ -166,6 +153,6 @@ pub exec_keeps : (e : ExecValue) → Keeps (exec_entry e)
 exec_keeps e = record {
   did = λ D E held s o s' o'. executed D E held s o s' o' e;
   stands = exec_stands e;
-  could = λ x goods m fault. can_exec x.load x.twice x.out goods m fault;
-  refuses = λ x. exec_refused x.load x.twice x.out;
+  could = λ x goods m fault. can_exec x e.twice e.out goods m fault;
+  refuses = λ x. exec_refused x e.twice e.out;
 }

@@ -1,11 +1,9 @@
 -- What is proved of `boot-resident`.
 use Rattle.std.proofs.Common.{◌≡◌, ◌∙◌, ℕ, List, [], ◌∷◌, length, None, Ok, Err, refl, sym, ap, subst, inl, inr}
-use Rattle.kx_laws.proofs.Results.{ok_same}
 use Rattle.kx_edge.specs.Edge.{Files}
 use Rattle.kx_edge.specs.declared.edge.Shelf.{Ghosts as Shelf}
 use Rattle.kx_edge.specs.declared.edge.Sink.{Ghosts as Sink}
 use Rattle.kx_pages.specs.Modes.{swap_page}
-use Rattle.kx_pages.specs.declared.image.ImageType.TheVariants.{Raw}
 use Rattle.kx_pages.specs.declared.image.Mode.TheVariants.{Plain}
 use Rattle.page_memory.specs.Contents.{at}
 use Rattle.segments.specs.inner.Rules.{IsBare}
@@ -22,33 +20,25 @@ use Rattle.resident_planner.specs.Made.{IsMade}
 use Rattle.resident_planner.specs.Refusals.{IsFault, resident_of}
 use Rattle.resident_planner.specs.declared.plan.Made.{Made as ResidentList}
 use Rattle.resident_planner.proofs.Once.{IsSameMade, least_of, made_has_none, one_fault, one_made}
-use Rattle.file_commands.specs.Taking.{Refusal, by, too_long, reads}
+use Rattle.file_commands.specs.Taking.{Refusal, by, too_long}
 use Rattle.file_commands.specs.Answers.{MeetsTold, done}
 use Rattle.file_commands.specs.inner.Order.{Stands}
 use Rattle.file_commands.proofs.Meeting.{RefusesFor}
-use Rattle.file_commands.proofs.Steps.{reads_cases}
 use Rattle.kexec_words.specs.Values.{BootResidentValue}
 use Rattle.kexec_plan.specs.Requests.{Plan}
 use Rattle.kexec_plan.proofs.Bare.{planned_bare}
 use Rattle.command_parts.specs.declared.reason.Reason.{Reason}
 use Rattle.command_parts.specs.declared.reason.Reason.TheVariants as reasons
-use Rattle.load_commands.specs.BootResident.{BootsResident, CanBootResident, HasBootedResident, IsResident, RefusesResident, ResidentInputs, boot_resident_entry, boots_resident, load_with, pairs_file, raw_inputs, resident_files}
-use Rattle.load_commands.specs.Inputs.{LoadInputs, load_inputs}
+use Rattle.load_commands.specs.BootResident.{BootsResident, CanBootResident, HasBootedResident, IsResident, RefusesResident, ResidentInputs, boot_resident_entry, boots_resident, load_with}
+use Rattle.load_commands.specs.Inputs.{LoadInputs}
 use Rattle.command_parts.specs.Outputs.{HasNoFile, IsFileOf, IsTooHeavy, Made}
 use Rattle.command_parts.specs.Runs.{after_runs}
 use Rattle.command_parts.proofs.Ending.{machine_leaves}
 use Rattle.file_commands.proofs.Keeping.{Keeps, put_as, said_as}
 use Rattle.command_parts.proofs.Leaving.{leaves_by}
 use Rattle.command_parts.proofs.Outputs.{file_none, has_file, heavy, one_weight}
-use Rattle.load_commands.proofs.Loads.{no_fault, one_plan, same_fault}
+use Rattle.load_commands.proofs.NormalLoad.{no_fault, one_plan, same_fault}
 use Rattle.command_parts.proofs.Alike.{same_left}
-
--- what was taken has the words' own name of the output
-resident_asked : (b : BootResidentValue) (held : Files) (x : ResidentInputs) → reads (resident_files b) held ≡ Ok x → x.out ≡ b.out
-resident_asked b held x read =
-    let i = reads_cases (load_inputs (Raw b.at b.at) (raw_inputs b)) _ held x read in
-    let rs = reads_cases (pairs_file b.pairs) _ held x i.2 in
-    ap (λ (x : ResidentInputs). x.out) (sym (ok_same {F = Refusal Reason} _ x rs.2))
 
 -- the segments of a planned kernel have one list by the pairs
 module _ (i : LoadInputs) (rs : List (ℕ × ℕ)) where
@@ -128,7 +118,7 @@ module _ {S O : Type 0} (D : Shelf S) (E : Sink O) (held : Files) (s : S) (o : O
         leaves = leaves_by None c Plain mode tt l.2;
         output = bytes;
         is_memory = file;
-        put = put_as D E s o s' o' goods.outputs ((b.out, bytes) ∷ []) (outputs ∙ ap (λ name. (name, bytes) ∷ []) (resident_asked b held x read)) out.put;
+        put = put_as D E s o s' o' goods.outputs ((b.out, bytes) ∷ []) outputs out.put;
         said = said_as D E s o s' o' goods.text _ text out.said;
       }
 
@@ -139,20 +129,20 @@ same_after x p q m n c d (h, load, told) (k, other, also) = same_left None c d (
 resident_stands : (b : BootResidentValue) (x : ResidentInputs) → CanBootResident x → Stands (boot_resident_entry b).command x
 resident_stands b x can = record { unrefused = none; whole = λ goods m. m.5 }
   where
-    none : (a : Refusal Reason) → boots_resident x (Err a) → ⊥
+    none : (a : Refusal Reason) → boots_resident b.out x (Err a) → ⊥
     none (by why) (inl r) = not_refused x.load x.pairs can.p can.m why can.resident r
     none (by why) (inr (p, m, c, l, f)) = heavy (after_runs None c) why (λ n h. can.light p m c n l h) f
     none (too_long name limit) m = m
 
-can_boot : (x : ResidentInputs) (goods : Made) → boots_resident x (Ok goods) → CanBootResident x
-can_boot x goods (p, m, c, l, text, fault, (bytes, outputs, file)) = record {
+can_boot : (b : BootResidentValue) (x : ResidentInputs) (goods : Made) → boots_resident b.out x (Ok goods) → CanBootResident x
+can_boot b x goods (p, m, c, l, text, fault, (bytes, outputs, file)) = record {
   p = p;
   m = m;
   resident = l.0;
   light = λ q n d count k h. has_file (after_runs None c) bytes count file (subst (λ N. IsTooHeavy N count) (same_after x p q m n c d l k) h);
 }
 
-refused_boots : (b : BootResidentValue) (x : ResidentInputs) (a : Refusal Reason) → boots_resident x (Err a) → RefusesFor (boot_resident_entry b).command x a
+refused_boots : (b : BootResidentValue) (x : ResidentInputs) (a : Refusal Reason) → boots_resident b.out x (Err a) → RefusesFor (boot_resident_entry b).command x a
 refused_boots b x (by why) (inl r) (Ok goods) (p, m, c, l, text, fault, file) = absurd (not_refused x.load x.pairs p m why l.0 r)
 refused_boots b x (by why) (inr (p, m, c, l, f)) (Ok goods) (q, n, d, k, text, fault, (bytes, outputs, file)) =
     absurd (file_none (after_runs None c) bytes why (subst (λ N. IsFileOf N bytes) (same_after x p q m n c d l k) file) f)
@@ -168,6 +158,6 @@ pub boot_resident_keeps : (b : BootResidentValue) → Keeps (boot_resident_entry
 boot_resident_keeps b = record {
   did = λ D E held s o s' o'. booted D E held s o s' o' b;
   stands = resident_stands b;
-  could = λ x goods m fault. can_boot x goods m;
+  could = λ x goods m fault. can_boot b x goods m;
   refuses = refused_boots b;
 }

@@ -2,37 +2,23 @@
 use Rattle.std.proofs.Common.{◌≡◌, ◌∙◌, ℕ, List, [], ◌∷◌, Option, None, Ok, Err, ap, sym, subst, inl, inr}
 use Rattle.std.proofs.lemmas.Option.{none-some}
 use Rattle.kx_laws.proofs.Options.{some_same}
-use Rattle.kx_laws.proofs.Results.{ok_same}
 use Rattle.kx_edge.specs.Edge.{Files}
 use Rattle.kx_edge.specs.declared.edge.Shelf.{Ghosts as Shelf}
 use Rattle.kx_edge.specs.declared.edge.Sink.{Ghosts as Sink}
 use Rattle.kx_pages.specs.Spans.{Run}
 use Rattle.kx_pages.proofs.Same.{same_spans}
 use Rattle.image_slots.specs.declared.fault.SlotsFault.TheVariants as slots
-use Rattle.file_commands.specs.Taking.{Refusal, by, too_long, ok, reads, ◌>>=◌}
+use Rattle.file_commands.specs.Taking.{Refusal, by, too_long}
 use Rattle.file_commands.specs.Answers.{MeetsTold, done}
 use Rattle.file_commands.specs.inner.Order.{Stands}
 use Rattle.file_commands.proofs.Meeting.{RefusesFor}
-use Rattle.file_commands.proofs.Steps.{reads_cases}
 use Rattle.kexec_words.specs.Values.{DrillValue}
 use Rattle.command_parts.specs.declared.reason.Reason.{Reason}
 use Rattle.command_parts.specs.declared.reason.Reason.TheVariants as reasons
-use Rattle.load_commands.specs.Drill.{AreRam, CanDrill, DrillInputs, HasDrilled, Meets, drill_entry, drill_files, drills, first_meeting, memory_after}
-use Rattle.load_commands.specs.EventFile.{events_file}
-use Rattle.load_commands.specs.Files.{map_file, pool_file}
-use Rattle.command_parts.specs.Files.{memory_file}
+use Rattle.load_commands.specs.Drill.{AreRam, CanDrill, DrillInputs, HasDrilled, Meets, drill_entry, drills, first_meeting, memory_after}
 use Rattle.command_parts.specs.Outputs.{HasNoFile, IsFileOf, IsTooHeavy, Made}
 use Rattle.command_parts.proofs.Outputs.{file_none, has_file, heavy, one_weight}
 use Rattle.file_commands.proofs.Keeping.{Keeps, put_as, said_as}
-
--- the name of the output is that of the words
-drill_asked : (d : DrillValue) (held : Files) (x : DrillInputs) → reads (drill_files d) held ≡ Ok x → x.out ≡ d.out
-drill_asked d held x read =
-    let m = reads_cases (memory_file d.memory) (λ m. pool_file d.pool None >>= λ pages. map_file d.map >>= λ ram. events_file d.events >>= λ events. ok (record { memory = m; pool = pages; map = ram; events = events; out = d.out })) held x read in
-    let p = reads_cases (pool_file d.pool None) (λ pages. map_file d.map >>= λ ram. events_file d.events >>= λ events. ok (record { memory = m.0; pool = pages; map = ram; events = events; out = d.out })) held x m.2 in
-    let r = reads_cases (map_file d.map) (λ ram. events_file d.events >>= λ events. ok (record { memory = m.0; pool = p.0; map = ram; events = events; out = d.out })) held x p.2 in
-    let e = reads_cases (events_file d.events) (λ events. ok (record { memory = m.0; pool = p.0; map = r.0; events = events; out = d.out })) held x r.2 in
-    ap (λ (x : DrillInputs). x.out) (sym (ok_same {F = Refusal Reason} _ x e.2))
 
 module _ {S O : Type 0} (D : Shelf S) (E : Sink O) (held : Files) (s : S) (o : O) (s' : S) (o' : O) where
   drilled : (d : DrillValue) → (m : MeetsTold D E (drill_entry d).command held s o done s' o') → HasDrilled D E s o s' o' d m.0
@@ -43,7 +29,7 @@ module _ {S O : Type 0} (D : Shelf S) (E : Sink O) (held : Files) (s : S) (o : O
     kept = n.5;
     output = n.6;
     is_memory = n.7;
-    put = put_as D E s o s' o' goods.outputs ((d.out, n.6) ∷ []) (n.8 ∙ ap (λ name. (name, n.6) ∷ []) (drill_asked d held x read)) out.put;
+    put = put_as D E s o s' o' goods.outputs ((d.out, n.6) ∷ []) n.8 out.put;
     said = said_as D E s o s' o' goods.text _ n.3 out.said;
   }
 
@@ -65,16 +51,16 @@ one_meeting found other w h k = absurd h
 drill_stands : (d : DrillValue) (x : DrillInputs) → CanDrill x → Stands (drill_entry d).command x
 drill_stands d x can = record { unrefused = none; whole = λ goods m. m.4 }
   where
-    none : (a : Refusal Reason) → drills x (Err a) → ⊥
+    none : (a : Refusal Reason) → drills d.out x (Err a) → ⊥
     none (by why) (inl r) = meets_not (first_meeting x) why r can.apart
     none (by why) (inr (ram, is, apart, f)) = heavy (memory_after x ram) why (λ n h. can.light n (subst (λ N. IsTooHeavy N n) (one_memory x ram can.ram is can.are_ram) h)) f
     none (too_long name limit) m = m
 
-can_drill : (x : DrillInputs) (goods : Made) → drills x (Ok goods) → CanDrill x
-can_drill x goods m = record { ram = m.0; are_ram = m.1; apart = m.2; light = λ n h. has_file (memory_after x m.0) m.6 n m.7 h }
+can_drill : (d : DrillValue) (x : DrillInputs) (goods : Made) → drills d.out x (Ok goods) → CanDrill x
+can_drill d x goods m = record { ram = m.0; are_ram = m.1; apart = m.2; light = λ n h. has_file (memory_after x m.0) m.6 n m.7 h }
 
 -- what is refused for one reason is neither done nor refused for another one
-drill_refused : (d : DrillValue) (x : DrillInputs) (a : Refusal Reason) → drills x (Err a) → RefusesFor (drill_entry d).command x a
+drill_refused : (d : DrillValue) (x : DrillInputs) (a : Refusal Reason) → drills d.out x (Err a) → RefusesFor (drill_entry d).command x a
 drill_refused d x (by why) (inl r) (Ok goods) m = absurd (meets_not (first_meeting x) why r m.2)
 drill_refused d x (by why) (inl r) (Err (by w)) (inl k) = ap (λ w. Err (by w)) (one_meeting (first_meeting x) why w r k)
 drill_refused d x (by why) (inl r) (Err (by w)) (inr (ram, is, apart, f)) = absurd (meets_not (first_meeting x) why r apart)
@@ -90,6 +76,6 @@ pub drill_keeps : (d : DrillValue) → Keeps (drill_entry d)
 drill_keeps d = record {
   did = λ D E held s o s' o'. drilled D E held s o s' o' d;
   stands = drill_stands d;
-  could = λ x goods m fault. can_drill x goods m;
+  could = λ x goods m fault. can_drill d x goods m;
   refuses = drill_refused d;
 }

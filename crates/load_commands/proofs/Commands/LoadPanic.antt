@@ -1,6 +1,6 @@
 -- What is proved of `load-panic`.
 use Rattle.std.proofs.Common.{◌≡◌, ◌∙◌, ℕ, List, [], ◌∷◌, true, Some, Ok, Err, sym, ap, subst, inl, inr}
-use Rattle.std.specs.Prelude.{map, unwrap_or}
+use Rattle.std.specs.Prelude.{unwrap_or}
 use Rattle.kx_laws.proofs.Results.{ok_same}
 use Rattle.kx_edge.specs.Edge.{Files}
 use Rattle.kx_edge.specs.declared.edge.Shelf.{Ghosts as Shelf}
@@ -8,7 +8,7 @@ use Rattle.kx_edge.specs.declared.edge.Sink.{Ghosts as Sink}
 use Rattle.page_memory.specs.Contents.{at}
 use Rattle.load_record.specs.File.{record_file}
 use Rattle.load_states.specs.States.{CrashLoad}
-use Rattle.file_commands.specs.Taking.{Refusal, by, too_long, ok, reads, ◌>>=◌}
+use Rattle.file_commands.specs.Taking.{Refusal, by, too_long, reads}
 use Rattle.file_commands.specs.Answers.{MeetsTold, done}
 use Rattle.file_commands.specs.inner.Order.{Stands}
 use Rattle.file_commands.proofs.Meeting.{RefusesFor}
@@ -20,15 +20,15 @@ use Rattle.command_parts.specs.Outputs.{Made, IsTooHeavy, HasNoFile, IsFileOf}
 use Rattle.kexec_words.specs.Values.{CrashInputsValue, LoadPanicValue}
 use Rattle.kexec_plan.specs.declared.fault.PlanFault.{PlanFault}
 use Rattle.kexec_plan.proofs.Area.{in_area, outside_all}
-use Rattle.load_commands.specs.CrashInputs.{CrashInputs, crash_inputs, crash_request}
+use Rattle.load_commands.specs.CrashInputs.{CrashInputs, crash_inputs}
 use Rattle.load_commands.specs.CrashLoading.{IsCrashLoaded}
 use Rattle.load_commands.specs.Files.{map_file, some_notes}
 use Rattle.command_parts.specs.Files.{memory_file}
 use Rattle.load_commands.specs.Inputs.{kernel_files}
-use Rattle.load_commands.specs.LoadPanic.{CanLoadPanic, HasLoadedPanic, LoadPanicCommand, PanicLoad, load_panic_entry, load_panic_files, load_panic_of, loads_panic, record_of_crash}
+use Rattle.load_commands.specs.LoadPanic.{CanLoadPanic, HasLoadedPanic, PanicLoad, load_panic_entry, loads_panic, record_of_crash}
 use Rattle.load_commands.specs.Loading.{HasNoPlan}
 use Rattle.command_parts.proofs.Outputs.{file_none, has_file, heavy, one_weight}
-use Rattle.load_commands.proofs.Loads.{no_fault, same_fault}
+use Rattle.load_commands.proofs.NormalLoad.{no_fault, same_fault}
 use Rattle.command_parts.proofs.Told.{one_memory}
 use Rattle.file_commands.proofs.Keeping.{Keeps, put_as, said_as}
 
@@ -49,32 +49,24 @@ panic i p c crash l =
 -- what `load-panic` takes is the request of a crash kernel
 crash_asked : (i : CrashInputsValue) (map : List ℕ) (held : Files) (x : CrashInputs) → reads (crash_inputs i map) held ≡ Ok x → x.request.crash ≡ true
 crash_asked i map held x read =
-    let m = reads_cases (memory_file i.memory) (λ m. map_file map >>= λ ram. some_notes i.notes >>= λ notes. kernel_files i.kernel i.initrd i.purgatory [] >>= λ files. ok (record { memory = m; map = ram; request = crash_request i.command notes files })) held x read in
-    let r = reads_cases (map_file map) (λ ram. some_notes i.notes >>= λ notes. kernel_files i.kernel i.initrd i.purgatory [] >>= λ files. ok (record { memory = m.0; map = ram; request = crash_request i.command notes files })) held x m.2 in
-    let n = reads_cases (some_notes i.notes) (λ notes. kernel_files i.kernel i.initrd i.purgatory [] >>= λ files. ok (record { memory = m.0; map = r.0; request = crash_request i.command notes files })) held x r.2 in
-    let f = reads_cases (kernel_files i.kernel i.initrd i.purgatory []) (λ files. ok (record { memory = m.0; map = r.0; request = crash_request i.command n.0 files })) held x n.2 in
+    let m = reads_cases (memory_file i.memory) _ held x read in
+    let r = reads_cases (map_file map) _ held x m.2 in
+    let n = reads_cases (some_notes i.notes) _ held x r.2 in
+    let f = reads_cases (kernel_files i.kernel i.initrd i.purgatory []) _ held x n.2 in
     ap (λ (x : CrashInputs). x.request.crash) (sym (ok_same {F = Refusal Reason} _ x f.2))
 
-panic_asked : (l : LoadPanicValue) (held : Files) (x : LoadPanicCommand) → reads (load_panic_files l) held ≡ Ok x → (i : CrashInputs) × (x ≡ load_panic_of l i) × (i.request.crash ≡ true)
-panic_asked l held x read =
-    let k = reads_cases (crash_inputs l.inputs l.map) (λ i. ok (load_panic_of l i)) held x read in
-    (k.0, sym (ok_same {F = Refusal Reason} _ x k.2), crash_asked l.inputs l.map held k.0 k.1)
-
 module _ {S O : Type 0} (D : Shelf S) (E : Sink O) (held : Files) (s : S) (o : O) (s' : S) (o' : O) where
-  loaded_panic : (l : LoadPanicValue) → (m : MeetsTold D E (load_panic_entry l).command held s o done s' o') → HasLoadedPanic D E s o s' o' l m.0.load
-  loaded_panic l (x, goods, read, m, fault, out) =
-      let k = panic_asked l held x read in
-      let n = subst (λ x. loads_panic x (Ok goods)) k.1 m in
-      subst (λ i. HasLoadedPanic D E s o s' o' l i) (sym (ap (λ (x : LoadPanicCommand). x.load) k.1)) (record {
-        planned = n.0;
-        loaded = n.1;
-        load = panic k.0 n.0 n.1 k.2 n.2;
-        output = n.5;
-        is_memory = n.6;
-        read_back = n.8;
-        put = put_as D E s o s' o' goods.outputs ((l.out, n.5) ∷ (l.load_record, record_file (record_of_crash n.1 n.0)) ∷ []) n.7 out.put;
-        said = said_as D E s o s' o' goods.text _ n.3 out.said;
-      })
+  loaded_panic : (l : LoadPanicValue) → (m : MeetsTold D E (load_panic_entry l).command held s o done s' o') → HasLoadedPanic D E s o s' o' l m.0
+  loaded_panic l (i, goods, read, n, fault, out) = record {
+    planned = n.0;
+    loaded = n.1;
+    load = panic i n.0 n.1 (crash_asked l.inputs l.map held i read) n.2;
+    output = n.5;
+    is_memory = n.6;
+    read_back = n.8;
+    put = put_as D E s o s' o' goods.outputs ((l.out, n.5) ∷ (l.load_record, record_file (record_of_crash n.1 n.0)) ∷ []) n.7 out.put;
+    said = said_as D E s o s' o' goods.text _ n.3 out.said;
+  }
 
 -- nothing refuses a crash load that can be made
 panic_not : (i : CrashInputs) (why : Reason) → CanLoadPanic i → HasNoPlan i.request (Some i.map) why → ⊥
@@ -84,19 +76,19 @@ panic_not i other can h = h
 panic_as : (i : CrashInputs) (p : Plan) (c : CrashLoad) → (can : CanLoadPanic i) → IsCrashLoaded i p c → IsCrashLoaded i can.p c
 panic_as i p c can l = subst (λ p. IsCrashLoaded i p c) (ok_same {F = PlanFault} p can.p (sym l.planned ∙ can.planned)) l
 
-load_panic_stands : (l : LoadPanicValue) (x : LoadPanicCommand) → CanLoadPanic x.load → Stands (load_panic_entry l).command x
-load_panic_stands l x can = record { unrefused = none; whole = λ goods m. m.4 }
+load_panic_stands : (l : LoadPanicValue) (i : CrashInputs) → CanLoadPanic i → Stands (load_panic_entry l).command i
+load_panic_stands l i can = record { unrefused = none; whole = λ goods m. m.4 }
   where
-    none : (a : Refusal Reason) → loads_panic x (Err a) → ⊥
-    none (by why) (inl r) = panic_not x.load why can r
-    none (by why) (inr (p, c, k, f)) = heavy (at c.memory) why (λ n h. can.light c n (panic_as x.load p c can k) h) f
+    none : (a : Refusal Reason) → loads_panic l.out l.load_record i (Err a) → ⊥
+    none (by why) (inl r) = panic_not i why can r
+    none (by why) (inr (p, c, k, f)) = heavy (at c.memory) why (λ n h. can.light c n (panic_as i p c can k) h) f
     none (too_long name limit) m = m
 
-can_load_panic : (x : LoadPanicCommand) (goods : Made) → loads_panic x (Ok goods) → CanLoadPanic x.load
-can_load_panic x goods (p, c, l, text, fault, bytes, file, outputs, back) = record {
+can_load_panic : (l : LoadPanicValue) (i : CrashInputs) (goods : Made) → loads_panic l.out l.load_record i (Ok goods) → CanLoadPanic i
+can_load_panic k i goods (p, c, l, text, fault, bytes, file, outputs, back) = record {
   p = p;
   planned = l.planned;
-  light = λ d n k h. has_file (at c.memory) bytes n file (subst (λ N. IsTooHeavy N n) (one_memory (at d.memory) (at c.memory) (λ q. k.memory q ∙ sym (l.memory q))) h);
+  light = λ d n m h. has_file (at c.memory) bytes n file (subst (λ N. IsTooHeavy N n) (one_memory (at d.memory) (at c.memory) (λ q. m.memory q ∙ sym (l.memory q))) h);
 }
 
 -- a crash load without a plan is refused for it
@@ -115,22 +107,22 @@ panic_memory i p q c d l k =
     let m = subst (λ p. IsCrashLoaded i p d) (ok_same {F = PlanFault} q p (sym k.planned ∙ l.planned)) k in
     one_memory (at d.memory) (at c.memory) (λ z. m.memory z ∙ sym (l.memory z))
 
-refused_panic : (l : LoadPanicValue) (x : LoadPanicCommand) (a : Refusal Reason) → loads_panic x (Err a) → RefusesFor (load_panic_entry l).command x a
-refused_panic l x (by why) (inl r) (Ok goods) m = absurd (panic_none x.load why m.0 m.1 r m.2)
-refused_panic l x (by why) (inl r) (Err (by w)) (inl s) = ap (λ w. Err (by w)) (panic_fault x.load why w r s)
-refused_panic l x (by why) (inl r) (Err (by w)) (inr m) = absurd (panic_none x.load why m.0 m.1 r m.2)
-refused_panic l x (by why) (inr (p, c, k, f)) (Ok goods) m =
-    absurd (file_none (at c.memory) m.5 why (subst (λ N. IsFileOf N m.5) (panic_memory x.load p m.0 c m.1 k m.2) m.6) f)
-refused_panic l x (by why) (inr (p, c, k, f)) (Err (by w)) (inl s) = absurd (panic_none x.load w p c s k)
-refused_panic l x (by why) (inr (p, c, k, f)) (Err (by w)) (inr (q, d, h, g)) =
-    ap (λ w. Err (by w)) (one_weight (at c.memory) why w f (subst (λ N. HasNoFile N w) (panic_memory x.load p q c d k h) g))
-refused_panic l x (by why) r (Err (too_long name limit)) m = absurd m
-refused_panic l x (too_long name limit) r s m = absurd r
+refused_panic : (l : LoadPanicValue) (i : CrashInputs) (a : Refusal Reason) → loads_panic l.out l.load_record i (Err a) → RefusesFor (load_panic_entry l).command i a
+refused_panic l i (by why) (inl r) (Ok goods) m = absurd (panic_none i why m.0 m.1 r m.2)
+refused_panic l i (by why) (inl r) (Err (by w)) (inl s) = ap (λ w. Err (by w)) (panic_fault i why w r s)
+refused_panic l i (by why) (inl r) (Err (by w)) (inr m) = absurd (panic_none i why m.0 m.1 r m.2)
+refused_panic l i (by why) (inr (p, c, k, f)) (Ok goods) m =
+    absurd (file_none (at c.memory) m.5 why (subst (λ N. IsFileOf N m.5) (panic_memory i p m.0 c m.1 k m.2) m.6) f)
+refused_panic l i (by why) (inr (p, c, k, f)) (Err (by w)) (inl s) = absurd (panic_none i w p c s k)
+refused_panic l i (by why) (inr (p, c, k, f)) (Err (by w)) (inr (q, d, h, g)) =
+    ap (λ w. Err (by w)) (one_weight (at c.memory) why w f (subst (λ N. HasNoFile N w) (panic_memory i p q c d k h) g))
+refused_panic l i (by why) r (Err (too_long name limit)) m = absurd m
+refused_panic l i (too_long name limit) r s m = absurd r
 
 pub load_panic_keeps : (l : LoadPanicValue) → Keeps (load_panic_entry l)
 load_panic_keeps l = record {
   did = λ D E held s o s' o'. loaded_panic D E held s o s' o' l;
   stands = load_panic_stands l;
-  could = λ x goods m fault. can_load_panic x goods m;
+  could = λ i goods m fault. can_load_panic l i goods m;
   refuses = refused_panic l;
 }

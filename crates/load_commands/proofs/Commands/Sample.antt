@@ -1,5 +1,5 @@
 -- What is proved of `sample`.
-use Rattle.std.proofs.Common.{◌≡◌, ◌∙◌, ℕ, List, [], ◌++◌, None, Ok, sym, ap, subst}
+use Rattle.std.proofs.Common.{◌≡◌, ◌∙◌, ℕ, List, [], ◌++◌, None, sym, ap, subst}
 use Rattle.std.proofs.lemmas.List.{append-nil}
 use Rattle.kx_edge.specs.Edge.{Files, Said}
 use Rattle.kx_edge.specs.declared.edge.Shelf.{Ghosts as Shelf}
@@ -10,18 +10,16 @@ use Rattle.page_memory.specs.Contents.{at}
 use Rattle.load_states.specs.States.{Checked}
 use Rattle.load_states.proofs.Ready.{list_ends}
 use Rattle.segments.specs.inner.Rules.{IsBare}
-use Rattle.file_commands.specs.Taking.{File, Refusal}
+use Rattle.file_commands.specs.Taking.{File}
 use Rattle.file_commands.specs.Answers.{FilesPut, MeetsTold, done}
 use Rattle.file_commands.specs.inner.Order.{Stands}
-use Rattle.kx_laws.proofs.Results.{ok_same}
 use Rattle.sample_load.specs.Samples.{sample_segments, start_of}
 use Rattle.sample_load.proofs.Rising.{IsBare-sample}
 use Rattle.command_parts.specs.declared.running.Ran.{Ran}
-use Rattle.command_parts.specs.declared.reason.Reason.{Reason}
 use Rattle.command_parts.specs.Runs.{after_runs, list_text}
 use Rattle.command_parts.specs.inner.Ran.{HasRun, ran_text}
 use Rattle.load_commands.specs.inner.Views.{start_alone}
-use Rattle.load_commands.specs.Sample.{HasSampled, IsSample, sample_entry, sample_text, samples, memory_line}
+use Rattle.load_commands.specs.Sample.{HasSampled, IsSample, sample_entry, sample_text, memory_line}
 use Rattle.command_parts.specs.Texts.{ran_line}
 use Rattle.command_parts.proofs.Ending.{machine_leaves}
 use Rattle.file_commands.proofs.Keeping.{Keeps}
@@ -36,7 +34,7 @@ sampled_text number c r start h same =
     ∙ ap (λ start. (list_text c start ++ ran_line c.words) ++ memory_line (after_runs None c)) same
 
 -- nothing refuses it
-sample_stands : (number x : ℕ) → Stands (sample_entry number).command x
+sample_stands : (number : ℕ) (x : Unit {0}) → Stands (sample_entry number).command x
 sample_stands number x = record { unrefused = λ a m. m; whole = λ goods m. m.4 }
 
 -- the segments of a sample break no rule
@@ -57,8 +55,7 @@ module _ {S O : Type 0} (D : Shelf S) (E : Sink O) (s : S) (o : O) (s' : S) (o' 
 
   sampled : (held : Files) (number : ℕ) → MeetsTold D E (sample_entry number).command held s o done s' o' → HasSampled D E s o s' o' number
   sampled held number (x, goods, read, m, fault, out) =
-      let n = subst (λ x. samples x (Ok goods)) (sym (ok_same {F = Refusal Reason} number x read)) m in
-      sampled_as number n.0 goods.outputs goods.text n.1 n.3 (subst (λ os. FilesPut (D.files s) os (D.files s')) n.2 out.put) out.said
+      sampled_as number m.0 goods.outputs goods.text m.1 m.3 (subst (λ os. FilesPut (D.files s) os (D.files s')) m.2 out.put) out.said
 
 pub sample_keeps : (number : ℕ) → Keeps (sample_entry number)
 sample_keeps number = record {

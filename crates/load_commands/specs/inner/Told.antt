@@ -11,7 +11,8 @@ use Rattle.load_commands.specs.BootResident.{copied_line}
 -- the same by what ran
 abbrev pub ran_resident : Ran → Start → ℕ → List ℕ
 ran_resident r start copied =
-    (load_lines r.words r.links r.pairs r.image start ++ copied_line copied) ++ ran_line r.steps
+    (load_lines r.counts.words r.counts.links r.counts.pairs r.image start ++ copied_line copied)
+    ++ ran_line r.steps
 
 -- what is said of a load, by what is told of its accepted list
 abbrev pub IsToldText : Load → Start → List ℕ → Type 0

@@ -1,7 +1,7 @@
 -- What the commands took, as values of the program, seen as the definitions speak of them (this project's own). Contracts
 -- of the program's own calls use these views; no clause of `kexec` does.
 -- No clause of `kexec` reaches what stands here: it serves laws, and contracts inside the crates.
-use Rattle.std.specs.Prelude.{ℕ, List, map, option_map, ◌≡◌, true, false, string_bytes, None}
+use Rattle.std.specs.Prelude.{ℕ, List, map, option_map, ◌≡◌, true, false, None}
 use Rattle.kx_pages.specs.declared.image.Mode.TheVariants.{Plain}
 use Rattle.kx_pages.specs.declared.image.Wish.{Wish}
 use Rattle.load_record.specs.File.{Record}
@@ -20,22 +20,14 @@ use Rattle.load_commands.specs.CrashLoading.{IsCrashLoaded}
 use Rattle.load_commands.specs.Loading.{IsLoaded}
 use Rattle.load_commands.specs.Startup.{planned_startup}
 use Rattle.command_parts.specs.inner.Startups.{record_with}
-use Rattle.load_commands.specs.declared.boot.BootInputs.{BootInputs as TakenBootInputs}
-use Rattle.load_commands.specs.Boot.{BootInputs}
 use Rattle.list_checker.specs.Checked.{as_pair}
 use Rattle.resident_planner.specs.declared.plan.Made.{Made as ResidentList}
 use Rattle.load_commands.specs.declared.boot_resident.ResidentInputs.{ResidentInputs as TakenResidentInputs}
 use Rattle.load_commands.specs.declared.boot_resident.ResidentKernel.{ResidentKernel}
 use Rattle.load_commands.specs.BootResident.{IsResident, ResidentInputs, load_with}
-use Rattle.load_commands.specs.declared.load.LoadCommand.{LoadCommand as TakenLoadCommand}
-use Rattle.load_commands.specs.Load.{LoadCommand}
-use Rattle.load_commands.specs.declared.load_panic.LoadPanicCommand.{LoadPanicCommand as TakenLoadPanicCommand}
-use Rattle.load_commands.specs.LoadPanic.{LoadPanicCommand}
 use Rattle.image_slots.specs.inner.Events.{event_of}
 use Rattle.load_commands.specs.declared.drill_inputs.DrillInputs.{DrillInputs as TakenDrillInputs}
 use Rattle.load_commands.specs.Drill.{DrillInputs}
-use Rattle.load_commands.specs.declared.core_inputs.CoreInputs.{CoreInputs as TakenCoreInputs}
-use Rattle.load_commands.specs.CoreFile.{CoreInputs}
 use Rattle.kx_pages.specs.declared.image.Start.{Start}
 use Rattle.command_parts.specs.declared.startup.Startup.{Startup}
 
@@ -84,15 +76,9 @@ crash_record k =
     record_with k.startup true (record { head = k.loaded.head; mode = Plain; control = 0 })
     k.loaded.segments
 
-abbrev pub boot_inputs : TakenBootInputs → BootInputs
-boot_inputs b = record { load = inputs_of b.load; runs = b.runs; out = string_bytes b.out }
-
+-- what `boot-resident` took
 abbrev pub resident_inputs : TakenResidentInputs → ResidentInputs
-resident_inputs b = record {
-  load = inputs_of b.load;
-  pairs = map as_pair b.pairs.items;
-  out = string_bytes b.out;
-}
+resident_inputs t = record { load = inputs_of t.load; pairs = map as_pair t.pairs.items }
 
 -- what was made: the plan has this start, and the list is that of this load
 pub record IsKernel (i : LoadInputs) (rs : List (ℕ × ℕ)) (k : ResidentKernel) : Type 0 where
@@ -103,33 +89,14 @@ pub record IsKernel (i : LoadInputs) (rs : List (ℕ × ℕ)) (k : ResidentKerne
   pub load : k.loaded ≡ load_with p m
   pub copied : k.copied ≡ m.copied
 
-abbrev pub load_command : TakenLoadCommand → LoadCommand
-load_command l =
-    record {
-      load = inputs_of l.load;
-      wish = l.wish;
-      out = string_bytes l.out;
-      load_record = string_bytes l.load_record;
-    }
-
-abbrev pub load_panic_command : TakenLoadPanicCommand → LoadPanicCommand
-load_panic_command l = record {
-  load = crash_inputs_of l.load;
-  out = string_bytes l.out;
-  load_record = string_bytes l.load_record;
-}
-
+-- what `drill` took
 abbrev pub drill_inputs : TakenDrillInputs → DrillInputs
 drill_inputs t = record {
   memory = t.memory;
   pool = usable_of t.pool;
   map = t.map;
   events = map event_of t.events.items;
-  out = string_bytes t.out;
 }
-
-abbrev pub core_inputs : TakenCoreInputs → CoreInputs
-core_inputs t = record { memory = t.memory; address = t.address; out = string_bytes t.out }
 
 -- a kernel without a purgatory
 abbrev pub start_alone : Start → Startup

@@ -8,20 +8,20 @@ use Rattle.load_commands.proofs.inputs.take_crash_inputs.Goals as goal
 
 pub returns-in_err-memory : goal.returns-in_err-memory
 returns-in_err-memory g c =
-    let takes = crash_inputs (crash_inputs_value c.args.inputs) (string_bytes c.args.map) in
+    let takes = crash_inputs (crash_inputs_value c.args.names.inputs) (string_bytes c.args.names.map) in
     let begun = start g.S.Shelf takes c.args.shelf.now in
     stopped g.S.Shelf _ _ _ crash_inputs_of _ (search rules) begun c.in_err-memory.ensures
 
 pub returns-in_err-map : goal.returns-in_err-map
 returns-in_err-map g c =
-    let takes = crash_inputs (crash_inputs_value c.args.inputs) (string_bytes c.args.map) in
+    let takes = crash_inputs (crash_inputs_value c.args.names.inputs) (string_bytes c.args.names.map) in
     let begun = start g.S.Shelf takes c.args.shelf.now in
     let memory = next g.S.Shelf _ _ begun c.in_ok-memory.ensures in
     stopped g.S.Shelf _ _ _ crash_inputs_of _ (search rules) memory c.in_err-map.ensures
 
 pub returns-in_err-notes : goal.returns-in_err-notes
 returns-in_err-notes g c =
-    let takes = crash_inputs (crash_inputs_value c.args.inputs) (string_bytes c.args.map) in
+    let takes = crash_inputs (crash_inputs_value c.args.names.inputs) (string_bytes c.args.names.map) in
     let begun = start g.S.Shelf takes c.args.shelf.now in
     let memory = next g.S.Shelf _ _ begun c.in_ok-memory.ensures in
     let map = next g.S.Shelf _ _ memory c.in_ok-map.ensures in
@@ -29,7 +29,7 @@ returns-in_err-notes g c =
 
 pub returns-in_err-files : goal.returns-in_err-files
 returns-in_err-files g c =
-    let takes = crash_inputs (crash_inputs_value c.args.inputs) (string_bytes c.args.map) in
+    let takes = crash_inputs (crash_inputs_value c.args.names.inputs) (string_bytes c.args.names.map) in
     let begun = start g.S.Shelf takes c.args.shelf.now in
     let memory = next g.S.Shelf _ _ begun c.in_ok-memory.ensures in
     let map = next g.S.Shelf _ _ memory c.in_ok-map.ensures in
@@ -39,7 +39,7 @@ returns-in_err-files g c =
 
 pub returns-in_err-request : goal.returns-in_err-request
 returns-in_err-request g c =
-    let takes = crash_inputs (crash_inputs_value c.args.inputs) (string_bytes c.args.map) in
+    let takes = crash_inputs (crash_inputs_value c.args.names.inputs) (string_bytes c.args.names.map) in
     let begun = start g.S.Shelf takes c.args.shelf.now in
     let memory = next g.S.Shelf _ _ begun c.in_ok-memory.ensures in
     let map = next g.S.Shelf _ _ memory c.in_ok-map.ensures in
@@ -50,7 +50,7 @@ returns-in_err-request g c =
 
 pub returns : goal.returns
 returns g c =
-    let takes = crash_inputs (crash_inputs_value c.args.inputs) (string_bytes c.args.map) in
+    let takes = crash_inputs (crash_inputs_value c.args.names.inputs) (string_bytes c.args.names.map) in
     let begun = start g.S.Shelf takes c.args.shelf.now in
     let memory = next g.S.Shelf _ _ begun c.in_ok-memory.ensures in
     let map = next g.S.Shelf _ _ memory c.in_ok-map.ensures in

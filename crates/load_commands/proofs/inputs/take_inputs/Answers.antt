@@ -11,23 +11,20 @@ use Rattle.load_commands.proofs.inputs.take_inputs.Goals as goal
 
 pub returns-in_err-memory : goal.returns-in_err-memory
 returns-in_err-memory g c =
-    let i = inputs_value c.args.inputs in
-    let takes = load_inputs c.args.image i in
+    let takes = load_inputs c.args.names.image (inputs_value c.args.names.inputs) in
     let begun = start g.S.Shelf takes c.args.shelf.now in
     stopped g.S.Shelf _ _ _ inputs_of _ (search rules) begun c.in_err-memory.ensures
 
 pub returns-in_err-pool : goal.returns-in_err-pool
 returns-in_err-pool g c =
-    let i = inputs_value c.args.inputs in
-    let takes = load_inputs c.args.image i in
+    let takes = load_inputs c.args.names.image (inputs_value c.args.names.inputs) in
     let begun = start g.S.Shelf takes c.args.shelf.now in
     let memory = next g.S.Shelf _ _ begun c.in_ok-memory.ensures in
     stopped g.S.Shelf _ _ _ inputs_of _ (search rules) memory c.in_err-pool.ensures.takes
 
 pub returns-in_err-map : goal.returns-in_err-map
 returns-in_err-map g c =
-    let i = inputs_value c.args.inputs in
-    let takes = load_inputs c.args.image i in
+    let takes = load_inputs c.args.names.image (inputs_value c.args.names.inputs) in
     let begun = start g.S.Shelf takes c.args.shelf.now in
     let memory = next g.S.Shelf _ _ begun c.in_ok-memory.ensures in
     let pool = next g.S.Shelf _ _ memory c.in_ok-pool.ensures.takes in
@@ -35,8 +32,7 @@ returns-in_err-map g c =
 
 pub returns-in_err-files : goal.returns-in_err-files
 returns-in_err-files g c =
-    let i = inputs_value c.args.inputs in
-    let takes = load_inputs c.args.image i in
+    let takes = load_inputs c.args.names.image (inputs_value c.args.names.inputs) in
     let begun = start g.S.Shelf takes c.args.shelf.now in
     let memory = next g.S.Shelf _ _ begun c.in_ok-memory.ensures in
     let pool = next g.S.Shelf _ _ memory c.in_ok-pool.ensures.takes in
@@ -45,8 +41,7 @@ returns-in_err-files g c =
 
 pub returns-in_err-request : goal.returns-in_err-request
 returns-in_err-request g c =
-    let i = inputs_value c.args.inputs in
-    let takes = load_inputs c.args.image i in
+    let takes = load_inputs c.args.names.image (inputs_value c.args.names.inputs) in
     let begun = start g.S.Shelf takes c.args.shelf.now in
     let memory = next g.S.Shelf _ _ begun c.in_ok-memory.ensures in
     let pool = next g.S.Shelf _ _ memory c.in_ok-pool.ensures.takes in
@@ -56,8 +51,7 @@ returns-in_err-request g c =
 
 pub returns : goal.returns
 returns g c =
-    let i = inputs_value c.args.inputs in
-    let takes = load_inputs c.args.image i in
+    let takes = load_inputs c.args.names.image (inputs_value c.args.names.inputs) in
     let begun = start g.S.Shelf takes c.args.shelf.now in
     let memory = next g.S.Shelf _ _ begun c.in_ok-memory.ensures in
     let pool = next g.S.Shelf _ _ memory c.in_ok-pool.ensures.takes in
@@ -68,8 +62,8 @@ returns g c =
 -- the request has the words' own parts
 pub invariant_of-result-clause-mapped : goal.invariant_of-result-clause-mapped
 invariant_of-result-clause-mapped g c =
-    let i = inputs_value c.args.inputs in
+    let i = inputs_value c.args.names.inputs in
     let e = c.in_ok-request.ensures in
-    request_mapped (request_of c.in_ok-request.request) c.args.image i c.in_ok-map.map (ap (λ (r : Asked). r.crash) e) (ap (λ (r : Asked). r.image) e)
-    (ap (λ (r : Asked). is_some r.purgatory) e ∙ is_some_map _ c.in_ok-files.files.purgatory ∙ c.in_ok-files.ensures.named ∙ sym (is_some_map string_bytes c.args.inputs.purgatory))
-    (c.in_ok-map.ensures.named ∙ sym (is_some_map string_bytes c.args.inputs.map)) c.requires
+    request_mapped (request_of c.in_ok-request.request) c.args.names.image i c.in_ok-map.map (ap (λ (r : Asked). r.crash) e) (ap (λ (r : Asked). r.image) e)
+    (ap (λ (r : Asked). is_some r.purgatory) e ∙ is_some_map _ c.in_ok-files.files.purgatory ∙ c.in_ok-files.ensures.named ∙ sym (is_some_map string_bytes c.args.names.inputs.purgatory))
+    (c.in_ok-map.ensures.named ∙ sym (is_some_map string_bytes c.args.names.inputs.map)) c.args.names.parts

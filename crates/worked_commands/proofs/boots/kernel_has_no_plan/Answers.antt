@@ -4,19 +4,18 @@ use Rattle.kexec_plan.specs.Requests.{Plan}
 use Rattle.kexec_plan.specs.declared.fault.PlanFault.{PlanFault}
 use Rattle.kexec_plan.specs.declared.fault.PlanFault.TheVariants as plans
 use Rattle.file_commands.specs.Taking.{by}
-use Rattle.load_commands.specs.Boot.{boots}
 use Rattle.command_parts.specs.declared.reason.Reason.TheVariants as reasons
-use Rattle.worked_commands.specs.Loads.{boot_of_unknown}
+use Rattle.worked_commands.specs.Loads.{unknown_makes}
 use Rattle.worked_commands.proofs.Loads.{no_plan}
 use Rattle.worked_commands.proofs.OneLoad.{none}
 use Rattle.std.specs.Fmt.{digits}
 use Rattle.worked_commands.proofs.boots.kernel_has_no_plan.Goals as goal
 
-other_fault : boots boot_of_unknown (Err (by (reasons.Plan plans.Memory))) → ⊥
+other_fault : unknown_makes (Err (by (reasons.Plan plans.Memory))) → ⊥
 other_fault (inl e) = let f : ◌≡◌ {A = Result Plan PlanFault} (Err plans.UnknownImage) (Err plans.Memory) = sym no_plan ∙ e in cc
 other_fault (inr (p, c, b, h)) = h
 
-other_reason : boots boot_of_unknown (Err (by reasons.NotKept)) → ⊥
+other_reason : unknown_makes (Err (by reasons.NotKept)) → ⊥
 other_reason (inl e) = e
 other_reason (inr (p, c, b, h)) = h
 

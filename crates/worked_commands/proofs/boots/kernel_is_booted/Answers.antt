@@ -3,10 +3,9 @@ use Rattle.std.proofs.Common.{◌≡◌, ◌∙◌, [], ◌∷◌, Ok, Err, refl
 use Rattle.std.specs.Prelude.{codes}
 use Rattle.kexec_plan.specs.declared.fault.PlanFault.TheVariants as plans
 use Rattle.file_commands.specs.Taking.{by}
-use Rattle.load_commands.specs.Boot.{boots}
 use Rattle.command_parts.specs.Outputs.{Made}
 use Rattle.command_parts.specs.declared.reason.Reason.TheVariants as reasons
-use Rattle.worked_commands.specs.Loads.{boot_goods, boot_of, boot_text, few_plan}
+use Rattle.worked_commands.specs.Loads.{boot_goods, boot_makes, boot_text, few_plan}
 use Rattle.worked_commands.specs.Memories.{run_file}
 use Rattle.worked_commands.proofs.Loads.{plan_is, pool}
 use Rattle.worked_commands.proofs.Memories.{run_is}
@@ -15,17 +14,17 @@ use Rattle.worked_commands.proofs.OneLoad.{boot_leaves, boot_says, known}
 use Rattle.std.specs.Fmt.{digits}
 use Rattle.worked_commands.proofs.boots.kernel_is_booted.Goals as goal
 
-alone : (goods : Made) → boots (boot_of pool) (Ok goods) → goods ≡ boot_goods
+alone : (goods : Made) → boot_makes pool (Ok goods) → goods ≡ boot_goods
 alone goods (p, c, (l, told), text, fault, (bytes, outputs, file)) =
     let said : goods.text ≡ boot_text = text ∙ boot_says c p l.planned l.laid told in
     let put : goods.outputs ≡ (codes "o", run_file) ∷ [] = outputs ∙ ap (λ bytes. (codes "o", bytes) ∷ []) (boot_leaves c p bytes l.planned l.laid told file) in
     λ i. record { outputs = put i; text = said i; fault = fault i }
 
-enough : boots (boot_of pool) (Err (by (reasons.NoPages 3 3))) → ⊥
+enough : boot_makes pool (Err (by (reasons.NoPages 3 3))) → ⊥
 enough (inl (p, e, few)) = omega (arith, few.2)
 enough (inr (p, c, b, h)) = h
 
-planned : boots (boot_of pool) (Err (by (reasons.Plan plans.UnknownImage))) → ⊥
+planned : boot_makes pool (Err (by (reasons.Plan plans.UnknownImage))) → ⊥
 planned (inl e) = known plans.UnknownImage e
 planned (inr (p, c, b, h)) = h
 

@@ -6,11 +6,11 @@ use Rattle.load_record.specs.Head.{head_text}
 use Rattle.kx_fields.specs.Fields.{field, with_field, zeros}
 use Rattle.sha2.specs.Sha256.{compress, digest_bytes, first_words, hash_after, rounds, schedule, sha256}
 use Rattle.file_commands.specs.Taking.{by}
-use Rattle.load_commands.specs.Load.{loads, record_of_load}
+use Rattle.load_commands.specs.Load.{record_of_load}
 use Rattle.command_parts.specs.Outputs.{Made, IsReadBack}
 use Rattle.command_parts.specs.declared.reason.Reason.TheVariants as reasons
 use Rattle.worked_commands.specs.Inputs.{three_bytes_file}
-use Rattle.worked_commands.specs.Loads.{few_plan, load_goods, load_of_few, load_text}
+use Rattle.worked_commands.specs.Loads.{few_plan, load_goods, load_makes, load_text}
 use Rattle.worked_commands.specs.Memories.{loaded_file}
 use Rattle.worked_commands.proofs.Loads.{plan_is, pool}
 use Rattle.worked_commands.proofs.Memories.{loaded_is}
@@ -26,7 +26,7 @@ reads_back : IsReadBack (record_of_load load1 few_plan)
 unfolding record_text record_reading tested_head read_head segment_at segment_text read_segments tested_segments head_text head_fault bare_refusal shape_refusal field with_field zeros compress digest_bytes first_words hash_after rounds schedule sha256
 reads_back = refl
 
-alone : (goods : Made) → loads (load_of_few pool) (Ok goods) → goods ≡ load_goods
+alone : (goods : Made) → load_makes pool (Ok goods) → goods ≡ load_goods
 alone goods (p, c, (l, told), text, fault, bytes, file, outputs, back) =
     let said : goods.text ≡ load_text = text ∙ load_says c p l.planned l.laid told in
     let memory : bytes ≡ loaded_file = load_leaves c p bytes l.planned l.laid file in
@@ -34,7 +34,7 @@ alone goods (p, c, (l, told), text, fault, bytes, file, outputs, back) =
     let put : goods.outputs ≡ (codes "o", loaded_file) ∷ (codes "r", three_bytes_file) ∷ [] = outputs ∙ λ i. (codes "o", memory i) ∷ (codes "r", recorded i) ∷ [] in
     λ i. record { outputs = put i; text = said i; fault = fault i }
 
-enough : loads (load_of_few pool) (Err (by (reasons.NoPages 3 3))) → ⊥
+enough : load_makes pool (Err (by (reasons.NoPages 3 3))) → ⊥
 enough (inl (p, e, few)) = omega (arith, few.2)
 enough (inr (p, c, b, h)) = h
 

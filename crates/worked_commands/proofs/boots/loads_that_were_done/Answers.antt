@@ -1,5 +1,5 @@
 -- By what is read, and by the one load.
-use Rattle.std.proofs.Common.{◌≡◌, ◌∙◌, List, [], ◌∷◌, None, false, Ok, refl, sym, subst}
+use Rattle.std.proofs.Common.{◌≡◌, ◌∙◌, List, [], ◌∷◌, None, false, refl, sym, subst}
 use Rattle.std.specs.Prelude.{codes}
 use Rattle.kx_laws.proofs.Results.{ok_same}
 use Rattle.kx_edge.specs.Edge.{Said}
@@ -12,16 +12,17 @@ use Rattle.load_record.specs.Head.{head_text}
 use Rattle.kx_fields.specs.Fields.{field, with_field, zeros}
 use Rattle.sha2.specs.Sha256.{compress, digest_bytes, first_words, hash_after, rounds, schedule, sha256}
 use Rattle.file_commands.specs.Answers.{FilesPut}
-use Rattle.file_commands.specs.Taking.{File, Refusal, reads}
-use Rattle.load_commands.specs.Boot.{BootInputs, HasBooted, boot_files}
-use Rattle.load_commands.specs.Laid.{HasBootedLaid, HasLoadedLaid}
-use Rattle.load_commands.specs.Load.{HasLoaded, LoadCommand, load_command_files, record_of_load}
-use Rattle.load_commands.specs.Loads.{IsLaid}
+use Rattle.file_commands.specs.Taking.{File, Refusal}
+use Rattle.load_commands.specs.Boot.{HasBooted}
+use Rattle.load_commands.specs.ByRules.{HasBootedLaid, HasLoadedLaid}
+use Rattle.load_commands.specs.Load.{HasLoaded, record_of_load}
+use Rattle.load_commands.specs.NormalLoad.{IsLaid}
 use Rattle.worked_commands.specs.Inputs.{each_file, few_read, three_bytes_file}
-use Rattle.worked_commands.specs.Loads.{boot_of, boot_text, few_plan, load_of_few, load_text}
+use Rattle.worked_commands.specs.Loads.{boot_text, few_plan, load_text}
 use Rattle.worked_commands.specs.Memories.{loaded_file, run_file}
 use Rattle.worked_commands.specs.Names.{boot_raw, load_raw}
-use Rattle.worked_commands.proofs.Loads.{plan_is, pool}
+use Rattle.worked_commands.proofs.CallFiles.{few_taken}
+use Rattle.worked_commands.proofs.Loads.{plan_is}
 use Rattle.worked_commands.proofs.Memories.{loaded_is, run_is}
 use Rattle.worked_commands.proofs.LoadWitness.{checked1, load1, loaded1, sealed, told1}
 use Rattle.load_record.specs.File.{read_head, read_segments, record_reading, segment_at, tested_head, tested_segments}
@@ -29,13 +30,7 @@ use Rattle.load_record.specs.Head.{head_fault}
 use Rattle.segments.specs.Rules.{bare_refusal, shape_refusal}
 use Rattle.command_parts.specs.Outputs.{IsReadBack}
 use Rattle.worked_commands.proofs.OneLoad.{boot_leaves, boot_says, load_leaves, load_says, record_is}
-use Rattle.file_commands.specs.Taking.{and_then}
-use Rattle.page_memory.specs.File.{read_pages, pages_onto, entry_at}
-use Rattle.page_pool.specs.File.{pool_reading, pages_onto as pool_onto, line_onto, checked_range, range_of}
-use Rattle.text_lines.specs.Lines.{lines, cut, number, number_of}
-use Rattle.worked_commands.specs.Inputs.{each_of}
-use Rattle.worked_commands.proofs.Reading.{read_by}
-use Rattle.load_commands.proofs.Loads.{normal}
+use Rattle.load_commands.proofs.NormalLoad.{normal}
 use Rattle.load_commands.proofs.Ending.{again_of, machine_of}
 use Rattle.load_commands.proofs.Leaving.{leaves_of}
 use Rattle.load_commands.proofs.Proving.{proves_itself}
@@ -45,17 +40,9 @@ reads_back : IsReadBack (record_of_load load1 few_plan)
 unfolding record_text record_reading tested_head read_head segment_at segment_text read_segments tested_segments head_text head_fault bare_refusal shape_refusal field with_field zeros compress digest_bytes first_words hash_after rounds schedule sha256
 reads_back = refl
 
-boot_read : reads (boot_files (boot_raw None)) each_file ≡ Ok (record { load = few_read; runs = None; out = codes "o" })
-unfolding and_then field read_pages pages_onto entry_at pool_reading pool_onto line_onto checked_range range_of lines cut number number_of
-boot_read = read_by each_of (boot_files (boot_raw None))
-
-load_read : reads (load_command_files (load_raw false)) each_file ≡ Ok (load_of_few pool)
-unfolding and_then field read_pages pages_onto entry_at pool_reading pool_onto line_onto checked_range range_of lines cut number number_of
-load_read = read_by each_of (load_command_files (load_raw false))
-
 module _ {S O : Type 0} (D : Shelf S) (E : Sink O) (a : S) (o : O) (t : S) (p : O) where
   booted : HasBootedLaid D E each_file a o t p (boot_raw None) → FilesPut (D.files a) ((codes "o", run_file) ∷ []) (D.files t) × Said (E.said o) boot_text (E.said p)
-  booted h = here (subst (λ (x : BootInputs). (b : HasBooted D E a o t p (boot_raw None) x.load) × IsLaid Plain x.load b.planned b.checked) (ok_same {F = Refusal Reason} h.inputs _ (sym h.read ∙ boot_read)) (h.booted, h.laid))
+  booted h = here (subst (λ i. (b : HasBooted D E a o t p (boot_raw None) i) × IsLaid Plain i b.planned b.checked) (ok_same {F = Refusal Reason} h.inputs _ (sym h.read ∙ few_taken)) (h.booted, h.laid))
     where
       here : (b : HasBooted D E a o t p (boot_raw None) few_read) × IsLaid Plain few_read b.planned b.checked → FilesPut (D.files a) ((codes "o", run_file) ∷ []) (D.files t) × Said (E.said o) boot_text (E.said p)
       here (b, laid) = (
@@ -64,7 +51,7 @@ module _ {S O : Type 0} (D : Shelf S) (E : Sink O) (a : S) (o : O) (t : S) (p : 
       )
 
   loaded_by : HasLoadedLaid D E each_file a o t p (load_raw false) → FilesPut (D.files a) ((codes "o", loaded_file) ∷ (codes "r", three_bytes_file) ∷ []) (D.files t) × Said (E.said o) load_text (E.said p)
-  loaded_by h = here (subst (λ (x : LoadCommand). (b : HasLoaded D E a o t p (load_raw false) x.load) × IsLaid Plain x.load b.planned b.checked) (ok_same {F = Refusal Reason} h.inputs _ (sym h.read ∙ load_read)) (h.loaded, h.laid))
+  loaded_by h = here (subst (λ i. (b : HasLoaded D E a o t p (load_raw false) i) × IsLaid Plain i b.planned b.checked) (ok_same {F = Refusal Reason} h.inputs _ (sym h.read ∙ few_taken)) (h.loaded, h.laid))
     where
       here : (b : HasLoaded D E a o t p (load_raw false) few_read) × IsLaid Plain few_read b.planned b.checked → FilesPut (D.files a) ((codes "o", loaded_file) ∷ (codes "r", three_bytes_file) ∷ []) (D.files t) × Said (E.said o) load_text (E.said p)
       here (b, laid) =
@@ -83,8 +70,8 @@ returns-clause-load g c = λ a o t p h. loaded_by g.S.Shelf g.O.Sink a o t p h
 
 pub returns-clause-boot_by : goal.returns-clause-boot_by
 returns-clause-boot_by g c = λ a o t p put say. record {
-  inputs = boot_of pool;
-  read = boot_read;
+  inputs = few_read;
+  read = few_taken;
   booted = record {
     planned = few_plan;
     checked = checked1;
@@ -103,8 +90,8 @@ returns-clause-boot_by g c = λ a o t p put say. record {
 
 pub returns-clause-load_by : goal.returns-clause-load_by
 returns-clause-load_by g c = λ a o t p put say. record {
-  inputs = load_of_few pool;
-  read = load_read;
+  inputs = few_read;
+  read = few_taken;
   loaded = record {
     planned = few_plan;
     checked = checked1;

@@ -3,10 +3,8 @@ use Rattle.std.proofs.Common.{◌≡◌, ◌∙◌, ◌≤◌, ℕ, List, [], �
 use Rattle.kx_pages.specs.declared.image.Wish.TheVariants.{Plain}
 use Rattle.segments.specs.Values.{need}
 use Rattle.file_commands.specs.Taking.{by}
-use Rattle.load_commands.specs.Boot.{boots}
-use Rattle.load_commands.specs.Load.{loads}
 use Rattle.command_parts.specs.declared.reason.Reason.TheVariants as reasons
-use Rattle.worked_commands.specs.Loads.{boot_of, few_plan, load_of_few}
+use Rattle.worked_commands.specs.Loads.{boot_makes, few_plan, load_makes}
 use Rattle.worked_commands.proofs.Loads.{plan_is}
 use Rattle.worked_commands.proofs.OneLoad.{takes}
 use Rattle.std.specs.Fmt.{digits}
@@ -15,15 +13,15 @@ use Rattle.worked_commands.proofs.boots.pool_is_too_small.Goals as goal
 abbrev two : List ℕ
 two = 0x10 ∷ 0x11 ∷ []
 
-exchanged : boots (boot_of two) (Err (by (reasons.NoPages 3 2))) → ⊥
+exchanged : boot_makes two (Err (by (reasons.NoPages 3 2))) → ⊥
 exchanged (inl (p, e, few)) = let f : 3 ≡ 2 = few.0 in omega (arith, f)
 exchanged (inr (p, c, b, h)) = h
 
-other_need : boots (boot_of two) (Err (by (reasons.NoPages 2 4))) → ⊥
+other_need : boot_makes two (Err (by (reasons.NoPages 2 4))) → ⊥
 other_need (inl (p, e, few)) = let f : 4 ≡ 3 = few.1 ∙ takes p e in omega (arith, f)
 other_need (inr (p, c, b, h)) = h
 
-other_pool : loads (load_of_few two) (Err (by (reasons.NoPages 1 3))) → ⊥
+other_pool : load_makes two (Err (by (reasons.NoPages 1 3))) → ⊥
 other_pool (inl (p, e, few)) = let f : 1 ≡ 2 = few.0 in omega (arith, f)
 other_pool (inr (p, c, b, h)) = h
 

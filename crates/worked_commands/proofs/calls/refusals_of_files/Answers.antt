@@ -1,5 +1,5 @@
 -- By what is read.
-use Rattle.std.proofs.Common.{[], ◌∷◌, true, Some, None, inl}
+use Rattle.std.proofs.Common.{[], ◌∷◌, inl}
 use Rattle.std.specs.Prelude.{codes}
 use Rattle.kx_fields.specs.Fields.{field}
 use Rattle.load_record.specs.File.{read_head, record_reading, tested_head}
@@ -7,19 +7,14 @@ use Rattle.page_memory.specs.File.{read_pages, pages_onto, entry_at}
 use Rattle.page_pool.specs.File.{pool_reading, pages_onto as pool_onto, line_onto, checked_range, range_of}
 use Rattle.text_lines.specs.Lines.{lines, cut, number, number_of, lines_onto, two_numbers}
 use Rattle.resident_planner.specs.Pairs.{pair_of, line_onto as pair_line}
-use Rattle.file_commands.specs.Taking.{and_then, ok}
-use Rattle.load_commands.specs.Boot.{boot_files}
+use Rattle.file_commands.specs.Taking.{and_then}
 use Rattle.load_commands.specs.BootResident.{resident_files}
-use Rattle.load_commands.specs.CoreFile.{core_files}
-use Rattle.load_commands.specs.CrashInputs.{crash_inputs}
-use Rattle.list_commands.specs.Exec.{exec_files}
+use Rattle.kx_pages.specs.declared.image.ImageType.TheVariants.{Raw}
+use Rattle.command_parts.specs.Files.{memory_file}
+use Rattle.load_commands.specs.Inputs.{load_inputs}
 use Rattle.list_commands.specs.Records.{load_files_of}
-use Rattle.load_commands.specs.Load.{load_command_files}
-use Rattle.load_commands.specs.LoadPanic.{load_panic_of as load_panic_command}
-use Rattle.list_commands.specs.Trace.{trace_files}
-use Rattle.file_commands.proofs.Steps.{reads_err}
-use Rattle.worked_commands.specs.Inputs.{spoiled, spoiled_of}
-use Rattle.worked_commands.specs.Names.{boot_raw, boot_resident_raw, core_memory, crash_inputs_of, exec_record, load_panic_of, load_raw, of_record, trace_memory}
+use Rattle.worked_commands.specs.Inputs.{spoiled_of}
+use Rattle.worked_commands.specs.Names.{boot_resident_raw, few_inputs, of_record}
 use Rattle.worked_commands.proofs.EachFile.{crash_notes, drill_spoiled}
 use Rattle.worked_commands.proofs.Reading.{read_by}
 use Rattle.worked_commands.proofs.CallFiles.{migrate_spoiled}
@@ -27,14 +22,14 @@ use Rattle.worked_commands.proofs.calls.refusals_of_files.Goals as goal
 
 pub returns-clause-boot : goal.returns-clause-boot
 unfolding and_then read_pages pages_onto entry_at field pool_reading pool_onto line_onto checked_range range_of lines cut number number_of pair_of pair_line lines_onto two_numbers record_reading tested_head read_head
-returns-clause-boot c = inl (read_by (spoiled_of (codes "p" ∷ [])) (boot_files (boot_raw None)))
+returns-clause-boot c = inl (read_by (spoiled_of (codes "p" ∷ [])) (load_inputs (Raw 0x2000 0x2000) few_inputs))
 
 pub returns-clause-load : goal.returns-clause-load
 unfolding and_then read_pages pages_onto entry_at field pool_reading pool_onto line_onto checked_range range_of lines cut number number_of pair_of pair_line lines_onto two_numbers record_reading tested_head read_head
-returns-clause-load c = inl (read_by (spoiled_of (codes "p" ∷ [])) (load_command_files (load_raw true)))
+returns-clause-load c = inl (read_by (spoiled_of (codes "p" ∷ [])) (load_inputs (Raw 0x2000 0x2000) few_inputs))
 
 pub returns-clause-load_panic : goal.returns-clause-load_panic
-returns-clause-load_panic c = inl (reads_err (crash_inputs (crash_inputs_of (Some (codes "n"))) (codes "t")) (λ load. ok (load_panic_command (load_panic_of (Some (codes "n"))) load)) (spoiled (codes "n" ∷ [])) _ crash_notes)
+returns-clause-load_panic c = inl crash_notes
 
 pub returns-clause-check : goal.returns-clause-check
 unfolding and_then read_pages pages_onto entry_at field pool_reading pool_onto line_onto checked_range range_of lines cut number number_of pair_of pair_line lines_onto two_numbers record_reading tested_head read_head
@@ -46,11 +41,11 @@ returns-clause-dump c = inl (read_by (spoiled_of (codes "m" ∷ codes "r" ∷ []
 
 pub returns-clause-exec : goal.returns-clause-exec
 unfolding and_then read_pages pages_onto entry_at field pool_reading pool_onto line_onto checked_range range_of lines cut number number_of pair_of pair_line lines_onto two_numbers record_reading tested_head read_head
-returns-clause-exec c = inl (read_by (spoiled_of (codes "r" ∷ [])) (exec_files (exec_record true)))
+returns-clause-exec c = inl (read_by (spoiled_of (codes "r" ∷ [])) (load_files_of of_record))
 
 pub returns-clause-trace : goal.returns-clause-trace
 unfolding and_then read_pages pages_onto entry_at field pool_reading pool_onto line_onto checked_range range_of lines cut number number_of pair_of pair_line lines_onto two_numbers record_reading tested_head read_head
-returns-clause-trace c = inl (read_by (spoiled_of (codes "m" ∷ [])) (trace_files (trace_memory None)))
+returns-clause-trace c = inl (read_by (spoiled_of (codes "m" ∷ [])) (memory_file (codes "m")))
 
 pub returns-clause-migrate : goal.returns-clause-migrate
 returns-clause-migrate c = inl migrate_spoiled
@@ -64,4 +59,4 @@ returns-clause-drill c = inl drill_spoiled
 
 pub returns-clause-core : goal.returns-clause-core
 unfolding and_then read_pages pages_onto entry_at field pool_reading pool_onto line_onto checked_range range_of lines cut number number_of pair_of pair_line lines_onto two_numbers record_reading tested_head read_head
-returns-clause-core c = inl (read_by (spoiled_of (codes "m" ∷ [])) (core_files core_memory))
+returns-clause-core c = inl (read_by (spoiled_of (codes "m" ∷ [])) (memory_file (codes "m")))

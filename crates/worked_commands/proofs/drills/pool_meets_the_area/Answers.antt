@@ -3,12 +3,12 @@ use Rattle.std.proofs.Common.{◌≡◌, ℕ, [], ◌∷◌, Option, Some, None,
 use Rattle.kx_laws.proofs.Options.{some_same}
 use Rattle.image_slots.specs.declared.fault.SlotsFault.TheVariants as slots
 use Rattle.file_commands.specs.Taking.{by}
-use Rattle.load_commands.specs.Drill.{drills, first_meeting}
+use Rattle.load_commands.specs.Drill.{first_meeting}
 use Rattle.command_parts.specs.declared.reason.Reason.TheVariants as reasons
-use Rattle.worked_commands.specs.Events.{drill_of, reserved_ram}
+use Rattle.worked_commands.specs.Events.{drill_makes, drill_of, reserved_ram}
 use Rattle.worked_commands.proofs.drills.pool_meets_the_area.Goals as goal
 
-other_page : drills (drill_of (0x10 ∷ 0x12 ∷ 0x11 ∷ []) reserved_ram []) (Err (by (reasons.Slots (slots.PoolMeets 0x11)))) → ⊥
+other_page : drill_makes (0x10 ∷ 0x12 ∷ 0x11 ∷ []) reserved_ram (Err (by (reasons.Slots (slots.PoolMeets 0x11)))) → ⊥
 other_page (inl e) = let f : 0x12 ≡ 0x11 = some_same 0x12 0x11 e in omega (arith, f)
 other_page (inr (ram, are, apart, h)) = h
 

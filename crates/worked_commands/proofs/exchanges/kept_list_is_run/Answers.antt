@@ -8,13 +8,14 @@ use Rattle.list_checker.specs.declared.fault.ListFault.{ListFault}
 use Rattle.load_states.specs.Ready.{Told}
 use Rattle.file_commands.specs.Taking.{File, by}
 use Rattle.kexec_words.specs.declared.commands.Runs.TheVariants.{Once, Twice}
-use Rattle.list_commands.specs.Exec.{RunsFiles, executes, executes_as, load_of}
+use Rattle.list_commands.specs.Exec.{RunsFiles, executes_as, load_of}
 use Rattle.list_commands.specs.Records.{list_files, load_by}
 use Rattle.command_parts.specs.Outputs.{IsFileOf, IsMemoryFile, IsTooHeavy, Made}
 use Rattle.command_parts.specs.Runs.{after_runs, checked_with, run_text}
 use Rattle.load_states.specs.States.{Checked}
 use Rattle.command_parts.specs.declared.reason.Reason.TheVariants as reasons
 use Rattle.command_parts.proofs.Outputs.{has_file}
+use Rattle.worked_commands.specs.Execs.{exec_makes}
 use Rattle.worked_commands.specs.Kept.{exchange_memory, exchange_record, once_goods, once_pages, one_exchange, twice_goods, twice_pages}
 use Rattle.worked_commands.proofs.Exchange.{accepted, once_is, only_list, twice_is}
 use Rattle.worked_commands.proofs.Memories.{one_file}
@@ -70,7 +71,7 @@ twice_runs : RunsFiles (list_files exchange_memory exchange_record) true (codes 
 unfolding digits
 twice_runs = (4, 1, (2, 0x13) ∷ [], told, refl, refl, (text_of twice_pages, refl, twice_is))
 
-kept : executes (record { load = load_by exchange_memory exchange_record; twice = true; out = codes "x" }) (Err (by reasons.NotKept)) → ⊥
+kept : exec_makes true (load_by exchange_memory exchange_record) (Err (by reasons.NotKept)) → ⊥
 kept (inl (e, f)) = let g : false ≡ true = f in cc
 kept (inr (e, h)) = h.4
 

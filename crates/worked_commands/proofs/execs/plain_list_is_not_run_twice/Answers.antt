@@ -1,20 +1,19 @@
 -- By the words and the mode alone.
 use Rattle.std.proofs.Common.{◌≡◌, true, false, Err, refl, inl, inr}
-use Rattle.std.specs.Prelude.{codes}
 use Rattle.page_memory.specs.Contents.{Contents}
 use Rattle.file_commands.specs.Taking.{by}
-use Rattle.list_commands.specs.Exec.{executes}
 use Rattle.list_commands.specs.Records.{load_by}
 use Rattle.command_parts.specs.declared.reason.Reason.TheVariants as reasons
+use Rattle.worked_commands.specs.Execs.{exec_makes}
 use Rattle.worked_commands.specs.Lists.{plain_record}
 use Rattle.std.specs.Fmt.{digits}
 use Rattle.worked_commands.proofs.execs.plain_list_is_not_run_twice.Goals as goal
 
-not_once : (m : Contents) → executes (record { load = load_by m plain_record; twice = false; out = codes "x" }) (Err (by reasons.NotKept)) → ⊥
+not_once : (m : Contents) → exec_makes false (load_by m plain_record) (Err (by reasons.NotKept)) → ⊥
 not_once m (inl (e, f)) = let g : false ≡ true = f in cc
 not_once m (inr (e, h)) = h.4
 
-not_heavy : (m : Contents) → executes (record { load = load_by m plain_record; twice = true; out = codes "x" }) (Err (by (reasons.Heavy 131073))) → ⊥
+not_heavy : (m : Contents) → exec_makes true (load_by m plain_record) (Err (by (reasons.Heavy 131073))) → ⊥
 not_heavy m (inl (e, f)) = let g : reasons.Heavy 131073 ≡ reasons.NotKept = e in cc
 not_heavy m (inr (e, h)) = let g : true ≡ false = e in cc
 

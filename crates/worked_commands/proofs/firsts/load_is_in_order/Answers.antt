@@ -1,6 +1,5 @@
 -- By what is read, and by the one list.
 use Rattle.std.proofs.Common.{◌≡◌, ◌∙◌, true, false, refl, sym, ap, subst, inl, inr}
-use Rattle.std.specs.Prelude.{codes}
 use Rattle.kx_laws.proofs.Results.{ok_same}
 use Rattle.kx_pages.specs.declared.image.Mode.TheVariants.{Plain}
 use Rattle.segments.specs.Values.{overlay, want}
@@ -12,7 +11,7 @@ use Rattle.relocate_machine.specs.Run.{run_of}
 use Rattle.file_commands.specs.Taking.{Refusal}
 use Rattle.kexec_words.specs.Values as words
 use Rattle.kexec_main.specs.Call.{IsInOrder}
-use Rattle.list_commands.specs.Exec.{CanExec, ExecInputs, exec_of}
+use Rattle.list_commands.specs.Exec.{CanExec}
 use Rattle.list_commands.specs.Records.{load_by}
 use Rattle.command_parts.specs.Outputs.{IsFileOf, IsTooHeavy}
 use Rattle.command_parts.specs.declared.reason.Reason.{Reason}
@@ -25,12 +24,12 @@ use Rattle.worked_commands.specs.Names.{exec_record}
 use Rattle.worked_commands.proofs.Lists.{accepted}
 use Rattle.worked_commands.proofs.Memories.{has_list, loaded_source, run_is, run_pages_are}
 use Rattle.worked_commands.proofs.Stepping.{end_is, whole}
-use Rattle.worked_commands.proofs.FirstFiles.{exec_read, load_read, trace_read}
+use Rattle.worked_commands.proofs.FirstFiles.{load_read, memory_read}
 use Rattle.worked_commands.proofs.firsts.load_is_in_order.Goals as goal
 
 not_twice : IsInOrder (words.exec (exec_record true)) loaded_files → ⊥
 not_twice (x, read, can) =
-    let k = subst (λ (x : ExecInputs). CanExec x.load x.twice) (ok_same {F = Refusal Reason} x _ (sym read ∙ exec_read true)) can in
+    let k = subst (λ x. CanExec x true) (ok_same {F = Refusal Reason} x _ (sym read ∙ load_read)) can in
     let e : true ≡ false = k.kept in
     cc
 
@@ -45,8 +44,8 @@ returns-clause-dump c = (load_by loaded three_bytes_record, load_read, tt)
 
 pub returns-clause-exec : goal.returns-clause-exec
 returns-clause-exec c = (
-  exec_of (exec_record false) (load_by loaded three_bytes_record),
-  exec_read false,
+  load_by loaded three_bytes_record,
+  load_read,
   record {
     items = one_move;
     accepted = accepted (at loaded) has_list loaded_source;
@@ -57,10 +56,10 @@ returns-clause-exec c = (
 )
 
 pub returns-clause-trace : goal.returns-clause-trace
-returns-clause-trace c = (record { memory = loaded; head = 0x11002; mode = Plain; limit = 9; out = codes "o" }, trace_read, λ n h. has_file (at (run_of loaded 0x11002 Plain 9).0.memory) run_file n left h)
+returns-clause-trace c = (loaded, memory_read, λ n h. has_file (at (run_of loaded 0x11002 Plain 9).0.memory) run_file n left h)
 
 pub returns-clause-exec_twice : goal.returns-clause-exec_twice
 returns-clause-exec_twice c = not_twice
 
 pub returns-clause-refused_twice : goal.returns-clause-refused_twice
-returns-clause-refused_twice c = inr (exec_of (exec_record true) (load_by loaded three_bytes_record), exec_read true, inl (refl, refl))
+returns-clause-refused_twice c = inr (load_by loaded three_bytes_record, load_read, inl (refl, refl))

@@ -28,7 +28,7 @@ use Rattle.kexec_words.specs.Values as words
 use Rattle.kexec_main.specs.Call.{HasDone}
 use Rattle.list_commands.specs.Check.{HasCheckedLoad}
 use Rattle.list_commands.specs.Dump.{HasDumpedLoad, segment_line, walk_text, word_line}
-use Rattle.list_commands.specs.Exec.{ExecInputs, HasExecutedLoad, exec_of, load_of}
+use Rattle.list_commands.specs.Exec.{HasExecutedLoad, load_of}
 use Rattle.list_commands.specs.Records.{list_files, load_by}
 use Rattle.command_parts.specs.Outputs.{IsFileOf}
 use Rattle.command_parts.specs.Runs.{after_runs, checked_with, run_text}
@@ -45,7 +45,7 @@ use Rattle.worked_commands.specs.Names.{exec_record, of_record, trace_memory}
 use Rattle.worked_commands.proofs.Lists.{accepted, only_list, walk_is}
 use Rattle.worked_commands.proofs.Memories.{has_list, loaded_source, one_file, run_is, run_pages_are}
 use Rattle.worked_commands.proofs.Stepping.{end_is, whole}
-use Rattle.worked_commands.proofs.FirstFiles.{exec_read, load_read, trace_read}
+use Rattle.worked_commands.proofs.FirstFiles.{load_read, memory_read}
 use Rattle.worked_commands.proofs.firsts.load_is_used.Goals as goal
 
 left : IsFileOf (at (run_of loaded 0x11002 Plain 9).0.memory) run_file
@@ -107,14 +107,14 @@ module _ {S O : Type 0} (D : Shelf S) (E : Sink O) (a : S) (o : O) (t : S) (p : 
 
   exec : HasDone D E loaded_files a o t p (words.exec (exec_record false)) → Gave ((codes "x", run_file) ∷ []) boot_text
   exec (x, read, h) =
-      let k = subst (λ (x : ExecInputs). HasExecutedLoad D E a o t p (exec_record false) x.load) (ok_same {F = Refusal Reason} x (exec_of (exec_record false) (load_by loaded three_bytes_record)) (sym read ∙ exec_read false)) h in (
+      let k = subst (λ x. HasExecutedLoad D E a o t p (exec_record false) x) (ok_same {F = Refusal Reason} x (load_by loaded three_bytes_record) (sym read ∙ load_read)) h in (
         subst (λ bytes. FilesPut (D.files a) ((codes "x", bytes) ∷ []) (D.files t)) (exec_output k.checked k.output k.of_files k.is_memory) k.put,
         subst (λ text. Said (E.said o) text (E.said p)) (exec_text k.checked k.of_files k.accepted) k.said,
       )
 
   trace : HasDone D E loaded_files a o t p (words.trace (trace_memory None)) → Gave ((codes "o", run_file) ∷ []) (codes "done 4\n")
   trace (x, read, h) =
-      let k = subst (λ x. HasTraced D E a o t p x) (ok_same {F = Refusal Reason} x (record { memory = loaded; head = 0x11002; mode = Plain; limit = 9; out = codes "o" }) (sym read ∙ trace_read)) h in (
+      let k = subst (λ m. HasTraced D E a o t p (trace_memory None) m) (ok_same {F = Refusal Reason} x loaded (sym read ∙ memory_read)) h in (
         subst (λ bytes. FilesPut (D.files a) ((codes "o", bytes) ∷ []) (D.files t)) (one_file (at (run_of loaded 0x11002 Plain 9).0.memory) k.output run_file k.is_memory left) k.put,
         subst (λ text. Said (E.said o) text (E.said p)) done_line k.said,
       )
@@ -136,7 +136,7 @@ returns-clause-check_by g c = λ a o t p put say. (load_by loaded three_bytes_re
 
 pub returns-clause-trace_by : goal.returns-clause-trace_by
 returns-clause-trace_by g c = λ a o t p put say. (
-  record { memory = loaded; head = 0x11002; mode = Plain; limit = 9; out = codes "o" },
-  trace_read,
+  loaded,
+  memory_read,
   record { output = run_file; is_memory = left; put = put; said = subst (λ text. Said (g.O.Sink.said o) text (g.O.Sink.said p)) (sym done_line) say },
 )

@@ -1,10 +1,9 @@
 -- By computing.
-use Rattle.std.specs.Prelude.{refl, Some, None}
+use Rattle.std.specs.Prelude.{refl, codes}
 use Rattle.load_commands.specs.BootResident.{resident_files}
-use Rattle.load_commands.specs.CoreFile.{core_files}
-use Rattle.list_commands.specs.Trace.{trace_files}
+use Rattle.command_parts.specs.Files.{memory_file}
 use Rattle.worked_commands.specs.Inputs.{each_of}
-use Rattle.worked_commands.specs.Names.{boot_resident_raw, core_memory, trace_memory}
+use Rattle.worked_commands.specs.Names.{boot_resident_raw}
 use Rattle.worked_commands.proofs.Reading.{read_by}
 use Rattle.worked_commands.proofs.EachFile.{drill_read}
 use Rattle.file_commands.specs.Taking.{and_then}
@@ -25,15 +24,18 @@ returns-clause-drill c = drill_read
 
 pub returns-clause-trace : goal.returns-clause-trace
 unfolding and_then field read_pages pages_onto entry_at text_of lines cut number number_of pool_reading pool_onto line_onto checked_range range_of pair_of pair_line lines_onto two_numbers
-returns-clause-trace c = read_by each_of (trace_files (trace_memory (Some 0x13000)))
+returns-clause-trace c = read_by each_of (memory_file (codes "m"))
+
+pub returns-clause-trace_mode : goal.returns-clause-trace_mode
+returns-clause-trace_mode c = refl
 
 pub returns-clause-trace_plain : goal.returns-clause-trace_plain
 unfolding and_then field read_pages pages_onto entry_at text_of lines cut number number_of pool_reading pool_onto line_onto checked_range range_of pair_of pair_line lines_onto two_numbers
-returns-clause-trace_plain c = read_by each_of (trace_files (trace_memory None))
+returns-clause-trace_plain c = refl
 
 pub returns-clause-core : goal.returns-clause-core
 unfolding and_then field read_pages pages_onto entry_at text_of lines cut number number_of pool_reading pool_onto line_onto checked_range range_of pair_of pair_line lines_onto two_numbers
-returns-clause-core c = read_by each_of (core_files core_memory)
+returns-clause-core c = read_by each_of (memory_file (codes "m"))
 
 pub returns-clause-sample : goal.returns-clause-sample
 unfolding and_then field read_pages pages_onto entry_at text_of lines cut number number_of pool_reading pool_onto line_onto checked_range range_of pair_of pair_line lines_onto two_numbers

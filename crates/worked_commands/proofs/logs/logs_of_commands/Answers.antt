@@ -16,7 +16,7 @@ use Rattle.command_parts.specs.Runs.{run_text}
 use Rattle.load_commands.specs.Startup.{planned_startup}
 use Rattle.load_commands.proofs.Ending.{again_of, machine_of}
 use Rattle.load_commands.proofs.Leaving.{leaves_of}
-use Rattle.load_commands.proofs.Loads.{normal}
+use Rattle.load_commands.proofs.NormalLoad.{normal}
 use Rattle.load_commands.proofs.Proving.{proves_itself}
 use Rattle.recorded_kexec.specs.Boot.{HasBootedLogged}
 use Rattle.worked_commands.specs.Inputs.{each_file, each_of, few_read}

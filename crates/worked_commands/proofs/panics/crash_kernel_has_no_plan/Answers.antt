@@ -6,16 +6,15 @@ use Rattle.kexec_plan.specs.declared.fault.PlanFault.{PlanFault}
 use Rattle.kexec_plan.specs.declared.fault.PlanFault.TheVariants as plans
 use Rattle.file_commands.specs.Taking.{by}
 use Rattle.load_commands.specs.CrashInputs.{CrashInputs}
-use Rattle.load_commands.specs.LoadPanic.{loads_panic}
 use Rattle.command_parts.specs.declared.reason.Reason.TheVariants as reasons
-use Rattle.worked_commands.specs.Panics.{panic_of}
+use Rattle.worked_commands.specs.Panics.{panic_makes}
 use Rattle.worked_commands.proofs.panics.crash_kernel_has_no_plan.Goals as goal
 
-other_fault : (i : CrashInputs) → plan i.request (Some i.map) ≡ Err plans.UnknownImage → loads_panic (panic_of i) (Err (by (reasons.Plan plans.Memory))) → ⊥
+other_fault : (i : CrashInputs) → plan i.request (Some i.map) ≡ Err plans.UnknownImage → panic_makes i (Err (by (reasons.Plan plans.Memory))) → ⊥
 other_fault i e (inl f) = let h : ◌≡◌ {A = Result Plan PlanFault} (Err plans.UnknownImage) (Err plans.Memory) = sym e ∙ f in cc
 other_fault i e (inr (p, load, l, h)) = h
 
-other_reason : (i : CrashInputs) → loads_panic (panic_of i) (Err (by reasons.NotKept)) → ⊥
+other_reason : (i : CrashInputs) → panic_makes i (Err (by reasons.NotKept)) → ⊥
 other_reason i (inl f) = f
 other_reason i (inr (p, load, l, h)) = h
 

@@ -15,7 +15,7 @@ use Rattle.file_commands.specs.Taking.{by}
 use Rattle.load_commands.specs.CrashInputs.{CrashInputs}
 use Rattle.load_commands.specs.CrashLoading.{IsCrashLoaded}
 use Rattle.command_parts.specs.Outputs.{IsReadBack, IsFileOf, Made}
-use Rattle.load_commands.specs.LoadPanic.{loads_panic, panic_text as text_of_panic, record_of_crash}
+use Rattle.load_commands.specs.LoadPanic.{panic_text as text_of_panic, record_of_crash}
 use Rattle.command_parts.proofs.Outputs.{file_as}
 use Rattle.command_parts.specs.declared.reason.Reason.TheVariants as reasons
 use Rattle.kx_fields.specs.Fields.{field, with_field, zeros}
@@ -26,7 +26,7 @@ use Rattle.sha2.specs.Sha256.{compress, digest_bytes, first_words, hash_after, r
 use Rattle.worked_commands.specs.Inputs.{three_bytes}
 use Rattle.worked_commands.specs.Loads.{few_plan}
 use Rattle.worked_commands.specs.Memories.{abc_page, loaded, loaded_pages, memory_with, run_file, run_pages}
-use Rattle.worked_commands.specs.Panics.{crash_file, crash_load, panic_goods, panic_of, panic_text}
+use Rattle.worked_commands.specs.Panics.{crash_file, crash_load, panic_goods, panic_makes, panic_text}
 use Rattle.worked_commands.proofs.Lists.{in_place}
 use Rattle.worked_commands.proofs.Memories.{is_run, one_file, run_is, run_pages_are, same_page}
 use Rattle.worked_commands.proofs.panics.crash_kernel_is_loaded.Goals as goal
@@ -65,7 +65,7 @@ load i m e = record {
   accepted = in_its_place;
 }
 
-alone : (i : CrashInputs) (goods : Made) → i.memory ≡ loaded → plan i.request (Some i.map) ≡ Ok few_plan → loads_panic (panic_of i) (Ok goods) → goods ≡ panic_goods
+alone : (i : CrashInputs) (goods : Made) → i.memory ≡ loaded → plan i.request (Some i.map) ≡ Ok few_plan → panic_makes i (Ok goods) → goods ≡ panic_goods
 alone i goods m e (p, load, l, text, fault, bytes, file, outputs, back) =
     let one = one_plan i p e l.planned in
     let reads : (q : ℕ) → at load.memory q ≡ overlay (at i.memory) (want three_bytes) q = λ q. l.memory q ∙ ap (λ (p : Plan). overlay (at i.memory) (want p.segments) q) one in
@@ -75,7 +75,7 @@ alone i goods m e (p, load, l, text, fault, bytes, file, outputs, back) =
     let put : goods.outputs ≡ (codes "o", run_file) ∷ (codes "r", crash_file) ∷ [] = outputs ∙ λ j. (codes "o", memory j) ∷ (codes "r", recorded j) ∷ [] in
     λ j. record { outputs = put j; text = said j; fault = fault j }
 
-not_refused : (i : CrashInputs) → plan i.request (Some i.map) ≡ Ok few_plan → loads_panic (panic_of i) (Err (by (reasons.Plan plans.UnknownImage))) → ⊥
+not_refused : (i : CrashInputs) → plan i.request (Some i.map) ≡ Ok few_plan → panic_makes i (Err (by (reasons.Plan plans.UnknownImage))) → ⊥
 not_refused i e (inl f) = let h : ◌≡◌ {A = Result Plan PlanFault} (Ok few_plan) (Err plans.UnknownImage) = sym e ∙ f in cc
 not_refused i e (inr (p, load, l, h)) = h
 

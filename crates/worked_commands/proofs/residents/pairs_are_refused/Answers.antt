@@ -11,11 +11,10 @@ use Rattle.resident_planner.specs.Refusals.{pairs_refusal}
 use Rattle.resident_planner.specs.declared.fault.ResidentFault.{ResidentFault}
 use Rattle.resident_planner.specs.declared.fault.ResidentFault.TheVariants as faults
 use Rattle.file_commands.specs.Taking.{by}
-use Rattle.load_commands.specs.BootResident.{boots_resident}
 use Rattle.command_parts.specs.declared.reason.Reason.TheVariants as reasons
 use Rattle.worked_commands.specs.Inputs.{few_asked, three_bytes}
 use Rattle.worked_commands.specs.Loads.{few_plan}
-use Rattle.worked_commands.specs.Residents.{resident_over}
+use Rattle.worked_commands.specs.Residents.{resident_makes}
 use Rattle.worked_commands.proofs.Loads.{one_plan, plan_is}
 use Rattle.worked_commands.proofs.residents.pairs_are_refused.Goals as goal
 
@@ -32,14 +31,14 @@ abbrev page_in : ResidentFault → ℕ
 page_in (faults.NotWanted page) = page
 page_in other = 0
 
-other_page : (m : Contents) → boots_resident (resident_over m ((5, 0x13) ∷ [])) (Err (by (reasons.Resident (faults.NotWanted 6)))) → ⊥
+other_page : (m : Contents) → resident_makes m ((5, 0x13) ∷ []) (Err (by (reasons.Resident (faults.NotWanted 6)))) → ⊥
 other_page m (inl (p, e, f)) =
     let h : faults.NotWanted 5 ≡ faults.NotWanted 6 = some_same (faults.NotWanted 5) (faults.NotWanted 6) (sym (unwanted_by m p e) ∙ f) in
     let k : 5 ≡ 6 = ap page_in h in
     omega (arith, k)
 other_page m (inr (p, list, c, b, h)) = h
 
-other_reason : (m : Contents) → boots_resident (resident_over m ((5, 0x13) ∷ [])) (Err (by reasons.NotKept)) → ⊥
+other_reason : (m : Contents) → resident_makes m ((5, 0x13) ∷ []) (Err (by reasons.NotKept)) → ⊥
 other_reason m (inl e) = e
 other_reason m (inr (p, list, c, b, h)) = h
 

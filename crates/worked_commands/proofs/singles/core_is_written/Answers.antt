@@ -7,9 +7,9 @@ use Rattle.page_memory.specs.Contents.{Contents, at}
 use Rattle.vmcore_file.specs.File.{CoreValue, core_reading}
 use Rattle.vmcore_file.specs.declared.fault.CoreFault.{CoreFault}
 use Rattle.vmcore_file.specs.declared.fault.CoreFault.TheVariants as faults
-use Rattle.load_commands.specs.CoreFile.{core_line, cores}
+use Rattle.load_commands.specs.CoreFile.{core_line}
 use Rattle.command_parts.specs.Outputs.{Made}
-use Rattle.worked_commands.specs.Singles.{core_over, one_output}
+use Rattle.worked_commands.specs.Singles.{core_makes, one_output}
 use Rattle.worked_commands.specs.Texts.{core_of_five}
 use Rattle.worked_commands.proofs.singles.core_is_written.Goals as goal
 
@@ -20,7 +20,7 @@ line_is = refl
 one_core : (m : Contents) (core : CoreValue) → core_reading (at m) 0x3000 ≡ Ok core_of_five → core_reading (at m) 0x3000 ≡ Ok core → core ≡ core_of_five
 one_core m core e f = ok_same {F = CoreFault} core core_of_five (sym f ∙ e)
 
-alone : (m : Contents) (goods : Made) → core_reading (at m) 0x3000 ≡ Ok core_of_five → cores (core_over m) (Ok goods) → goods ≡ one_output (codes "abcde") (codes "core loads 2 notes 344 bytes 5\n")
+alone : (m : Contents) (goods : Made) → core_reading (at m) 0x3000 ≡ Ok core_of_five → core_makes m (Ok goods) → goods ≡ one_output (codes "abcde") (codes "core loads 2 notes 344 bytes 5\n")
 alone m goods e (core, read, text, fault, outputs) =
     let k = one_core m core e read in
     let said : goods.text ≡ codes "core loads 2 notes 344 bytes 5\n" = text ∙ ap core_line k ∙ line_is in

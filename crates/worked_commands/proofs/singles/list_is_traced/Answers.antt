@@ -9,10 +9,10 @@ use Rattle.relocate_machine.specs.declared.step.Outcome.TheVariants as outcomes
 use Rattle.relocate_machine.specs.Machine.{State}
 use Rattle.relocate_machine.specs.Run.{run_of}
 use Rattle.command_parts.specs.Outputs.{IsFileOf, Made}
-use Rattle.list_commands.specs.Trace.{outcome_line, traces}
+use Rattle.list_commands.specs.Trace.{outcome_line}
 use Rattle.command_parts.proofs.Outputs.{has_file}
 use Rattle.worked_commands.specs.Memories.{loaded, loaded_file, run_file}
-use Rattle.worked_commands.specs.Singles.{one_output, trace_over}
+use Rattle.worked_commands.specs.Singles.{one_output, trace_makes}
 use Rattle.worked_commands.proofs.Memories.{loaded_is, one_file, run_pages_are}
 use Rattle.worked_commands.proofs.Stepping.{at_end, end_is, just_whole, leaves, standing, two_steps, whole}
 use Rattle.worked_commands.proofs.singles.list_is_traced.Goals as goal
@@ -33,13 +33,13 @@ off_line = refl
 left : (m : Contents) (head limit : ℕ) (t : State) (how : Outcome) (bytes : List ℕ) → run_of m head Plain limit ≡ (t, how) → IsFileOf (at t.memory) bytes → IsFileOf (at (run_of m head Plain limit).0.memory) bytes
 left m head limit t how bytes e file = subst (λ (r : State × Outcome). IsFileOf (at r.0.memory) bytes) (sym e) file
 
-made : (m : Contents) (head limit : ℕ) (t : State) (how : Outcome) (bytes line : List ℕ) → run_of m head Plain limit ≡ (t, how) → IsFileOf (at t.memory) bytes → outcome_line how ≡ line → traces (trace_over m head Plain limit) (Ok (one_output bytes line))
+made : (m : Contents) (head limit : ℕ) (t : State) (how : Outcome) (bytes line : List ℕ) → run_of m head Plain limit ≡ (t, how) → IsFileOf (at t.memory) bytes → outcome_line how ≡ line → trace_makes head limit m (Ok (one_output bytes line))
 made m head limit t how bytes line e file said = (sym said ∙ ap (λ (r : State × Outcome). outcome_line r.1) (sym e), refl, (bytes, refl, left m head limit t how bytes e file))
 
 at_run : IsFileOf (at at_end.memory) run_file
 at_run = subst (λ N. IsFileOf N run_file) (sym end_is) run_pages_are
 
-alone : (goods : Made) → traces (trace_over loaded 0x11002 Plain 9) (Ok goods) → goods ≡ one_output run_file (codes "done 4\n")
+alone : (goods : Made) → trace_makes 0x11002 9 loaded (Ok goods) → goods ≡ one_output run_file (codes "done 4\n")
 alone goods (text, fault, (bytes, outputs, file)) =
     let said : goods.text ≡ codes "done 4\n" = text ∙ ap (λ (r : State × Outcome). outcome_line r.1) whole ∙ done_line in
     let same : bytes ≡ run_file = one_file (at (run_of loaded 0x11002 Plain 9).0.memory) bytes run_file file (left loaded 0x11002 9 at_end (outcomes.Done 4) run_file whole at_run) in

@@ -16,7 +16,7 @@ use Rattle.file_commands.specs.Answers.{FilesPut}
 use Rattle.load_commands.specs.CoreFile.{core_line}
 use Rattle.command_parts.specs.Outputs.{IsReadBack, IsFileOf}
 use Rattle.list_commands.specs.Migrate.{segments_line}
-use Rattle.list_commands.specs.Trace.{outcome_line, traces}
+use Rattle.list_commands.specs.Trace.{outcome_line}
 use Rattle.kx_fields.specs.Fields.{field, with_field, zeros}
 use Rattle.load_record.specs.File.{read_head, read_segments, record_file, record_reading, record_text, segment_at, segment_text, tested_head, tested_segments}
 use Rattle.load_record.specs.Head.{head_fault, head_text}
@@ -24,7 +24,7 @@ use Rattle.segments.specs.Rules.{bare_refusal, shape_refusal}
 use Rattle.sha2.specs.Sha256.{compress, digest_bytes, first_words, hash_after, rounds, schedule, sha256}
 use Rattle.worked_commands.specs.Inputs.{three_bytes_file, three_bytes_record}
 use Rattle.worked_commands.specs.Memories.{loaded, run_file}
-use Rattle.worked_commands.specs.Singles.{one_output, trace_over}
+use Rattle.worked_commands.specs.Singles.{one_output, trace_makes}
 use Rattle.worked_commands.specs.Texts.{core_of_five}
 use Rattle.worked_commands.proofs.Memories.{one_file, run_pages_are}
 use Rattle.worked_commands.proofs.Stepping.{at_end, end_is, whole}
@@ -65,7 +65,7 @@ off_line = refl
 left : (m : Contents) (head limit : ℕ) (t : State) (how : Outcome) (bytes : List ℕ) → run_of m head Plain limit ≡ (t, how) → IsFileOf (at t.memory) bytes → IsFileOf (at (run_of m head Plain limit).0.memory) bytes
 left m head limit t how bytes e file = subst (λ (r : State × Outcome). IsFileOf (at r.0.memory) bytes) (sym e) file
 
-made : (m : Contents) (head limit : ℕ) (t : State) (how : Outcome) (bytes line : List ℕ) → run_of m head Plain limit ≡ (t, how) → IsFileOf (at t.memory) bytes → outcome_line how ≡ line → traces (trace_over m head Plain limit) (Ok (one_output bytes line))
+made : (m : Contents) (head limit : ℕ) (t : State) (how : Outcome) (bytes line : List ℕ) → run_of m head Plain limit ≡ (t, how) → IsFileOf (at t.memory) bytes → outcome_line how ≡ line → trace_makes head limit m (Ok (one_output bytes line))
 made m head limit t how bytes line e file said = (sym said ∙ ap (λ (r : State × Outcome). outcome_line r.1) (sym e), refl, (bytes, refl, left m head limit t how bytes e file))
 
 at_run : IsFileOf (at at_end.memory) run_file
