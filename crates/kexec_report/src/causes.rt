@@ -1,7 +1,7 @@
 //! Why a file or standard output failed.
 
-ghost use Rattle.std.specs.Prelude.{◌≡◌};
-ghost use Rattle.std_io.specs.io.Error.{error_kind};
+ghost use Rattle.std.specs.Prelude.{◌≡◌, IfSome, Some};
+ghost use Rattle.std.specs.IoError.{error_kind};
 
 use command_parts::Status;
 use kexec_usage::Given;
@@ -25,7 +25,9 @@ pub enum Failure {
 
 impl Failure {
     // A failure of standard output.
-    fn of_output(error: io::Error) -> Failure {
+    fn of_output(error: io::Error) -> Failure
+        ensures { result ≡ Failure.ClosedPipe → error_kind error ≡ ErrorKind.BrokenPipe }
+    {
         match error.kind() {
             ErrorKind::BrokenPipe => Failure::ClosedPipe,
             _ => Failure::Output { error },
@@ -33,10 +35,14 @@ impl Failure {
     }
 
     /// What the shelf and the sink keep: the shelf's, where both do.
-    pub fn of(file: Option<HostCause>, output: Option<io::Error>) -> Option<Failure> {
-        match file {
-            Some(cause) => Some(Failure::File { cause }),
-            None => output.map(Failure::of_output),
+    pub fn of(file: Option<HostCause>, output: Option<io::Error>) -> Option<Failure>
+        ensures closed { result ≡ Some Failure.ClosedPipe
+            → IfSome output (λ e. error_kind e ≡ ErrorKind.BrokenPipe) }
+    {
+        match (file, output) {
+            (Some(cause), _) => Some(Failure::File { cause }),
+            (None, Some(error)) => Some(Failure::of_output(error)),
+            (None, None) => None,
         }
     }
 }

@@ -1,6 +1,6 @@
 //! How the program ends: its exit status, and what it says.
 
-ghost use Rattle.std.specs.Prelude.{◌≡◌, ◌×◌, ⊥, IfSome, IsNone, IsSome, Some, true};
+ghost use Rattle.std.specs.Prelude.{◌≡◌, IfSome, IsNone, IsSome, false, true};
 ghost use Rattle.command_parts.specs.ExitStatuses.{code_of};
 ghost use Rattle.kexec_report.specs.inner.Endings.{is_asked_for, is_quiet};
 
