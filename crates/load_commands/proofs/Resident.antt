@@ -10,12 +10,11 @@ use Rattle.segments.specs.Values.{want}
 use Rattle.list_checker.specs.Walk.{IsAccepted}
 use Rattle.load_states.specs.States.{Checked, Load}
 use Rattle.resident_planner.specs.Laid.{plan_items}
-use Rattle.kexec_words.specs.Values.{InputsValue}
 use Rattle.kexec_plan.specs.Plan.{plan}
 use Rattle.kexec_plan.specs.Requests.{Plan}
 use Rattle.command_parts.specs.declared.reason.Reason.{Reason}
 use Rattle.command_parts.specs.declared.reason.Reason.TheVariants as reasons
-use Rattle.load_commands.specs.BootResident.{HasNoList, RefusesResident, raw_inputs, resident_text}
+use Rattle.load_commands.specs.BootResident.{HasNoList, RefusesResident, resident_text}
 use Rattle.load_commands.specs.inner.Told.{ran_resident}
 use Rattle.command_parts.specs.inner.Ran.{HasMode, HasRun}
 use Rattle.load_commands.specs.inner.Views.{IsKernel}
@@ -51,10 +50,3 @@ kernel_accepted i rs k h =
 -- the text of a run is that of its list
 pub resident_text_of : (c : Checked) (r : Ran) (start planned : Start) (copied count : ℕ) → HasRun None c r → start ≡ planned → copied ≡ count → ran_resident r start copied ≡ resident_text c planned count
 resident_text_of c r start planned copied count h s n = rw (h.words, h.links, h.pairs, h.image, h.ends, s, n) refl
-
--- the files of a raw kernel have no modules
-abbrev with_modules : (memory pool kernel : List ℕ) → List (List ℕ) → InputsValue
-with_modules memory pool kernel ms = record { memory = memory; pool = pool; below = None; map = None; kernel = kernel; initrd = None; purgatory = None; modules = ms; command = None }
-
-pub no_modules : (memory pool kernel : List ℕ) (ms : List (List ℕ)) → ms ≡ [] → with_modules memory pool kernel ms ≡ raw_inputs memory pool kernel
-no_modules memory pool kernel ms e = ap (with_modules memory pool kernel) e

@@ -1,11 +1,11 @@
 //! What `boot`, `load` and `load-panic` take: the memory, the pool or the notes, the memory map, and the files of the
 //! kernel, which become the request for a plan.
 
-ghost use Rattle.std.specs.Prelude.{◌≡◌, ◌≤◌, ◌-◌, ℕ, length, map, option_map, is_some, string_bytes, IfOk};
+ghost use Rattle.std.specs.Prelude.{◌≡◌, map, option_map, is_some, string_bytes, IfOk};
 ghost use Rattle.file_commands.specs.inner.Calls.{Takes, file_of};
 ghost use Rattle.kexec_words.specs.inner.Values.{crash_inputs_value, inputs_value};
 ghost use Rattle.kexec_plan.specs.inner.Requests.{request_of};
-ghost use Rattle.load_commands.specs.Inputs.{KernelFiles as KernelBytes, kernel_files, left_after, load_inputs, module_of, request_with};
+ghost use Rattle.load_commands.specs.Inputs.{kernel_files, left_after, load_inputs, module_of, request_with};
 ghost use Rattle.load_commands.specs.inner.Views.{inputs_of, kernel_bytes, crash_inputs_of};
 ghost use Rattle.load_commands.specs.CrashInputs.{crash_inputs, crash_request};
 

@@ -1,7 +1,6 @@
 //! A request is planned, and its segments are loaded.
 
-ghost use Rattle.std.specs.Prelude.{◌≡◌, ◌≤◌, ℕ, length, false, option_map, Ok};
-ghost use Rattle.kx_laws.specs.inner.Results.{Gives};
+ghost use Rattle.std.specs.Prelude.{◌≡◌, ◌≤◌, ℕ, length, false, Ok};
 ghost use Rattle.page_memory.specs.Contents.{at};
 ghost use Rattle.page_pool.specs.Pages.{is_filed, usable_of};
 ghost use Rattle.segments.specs.Values.{need};
