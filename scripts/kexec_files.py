@@ -21,8 +21,8 @@ from companion.written import to_write
 
 __all__ = ["DIGESTS", "END", "KEXEC", "Memory", "NUMBERS", "PAGE", "Parser", "Record", "Segment", "TOP", "Wrong",
            "WrongWords", "build", "call", "integer", "memory_bytes", "module_of", "numbers", "program_given", "random_bytes",
-           "read_record", "run", "segments_of", "to_write", "tool", "unknown", "without_digests", "words_given", "write_memory", "write_pool",
-           "write_ram_map"]
+           "read_record", "run", "segments_of", "to_write", "tool", "unknown", "without_digests", "words_given",
+           "write_memory", "write_pool", "write_ram_map"]
 
 
 class Parser(argparse.ArgumentParser):
