@@ -16,6 +16,8 @@ PLANTED = [  # the check, the file, what stands in it, what is planted there, an
      "examples/first/list.svg is not what"),
     ("scripts/run-scenes --faults", "crates/command_parts/src/status.rt", "pub enum Status {\n",
      "pub enum Status {\n    Planted,\n", "Planted: no scene ends so"),
+    ("scripts/run-scenes --faults", "crates/command_tests/src/refused_memory_tests.rt", "Status::Memory", "Status::Done",
+     "status 12, Memory: no scene ends so, and no test"),
     ("scripts/run-scenes --faults", "crates/scenes/data/below.scenes", "\ntells POOL ", "\n# tells POOL ",
      ": no scene tells its sentence"),
     ("scripts/believed --check", "docs/BELIEVED.list", "boot_params Numbers.high\n", "", "  + boot_params Numbers.high"),
