@@ -65,9 +65,13 @@ sys.exit(1)
 
 
 def copied(folder):
-    """A copy of the repository, without what is built."""
+    """A copy of what the checks read of the repository."""
     tree = f"{folder}/repository"
-    shutil.copytree(TOP, tree, ignore=shutil.ignore_patterns("out", ".git", "__pycache__"), symlinks=True)
+    os.makedirs(tree)
+    for name in ("CONTRIBUTING.md", "README.md", "crates.txt", "kexec"):
+        shutil.copy(f"{TOP}/{name}", tree)
+    for name in (".ci", "bench", "crates", "docs", "examples", "scripts", "tests"):
+        shutil.copytree(f"{TOP}/{name}", f"{tree}/{name}", ignore=shutil.ignore_patterns("out", "__pycache__"))
     return tree
 
 
