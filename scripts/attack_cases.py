@@ -154,7 +154,7 @@ def cases(folder, names):
     chosen = []
     for name in names or words:
         if name not in words:
-            raise files.Wrong(f"there is no case {name}: {', '.join(words)}")
+            raise files.WrongWords(f"there is no case {name}: {', '.join(words)}")
         if name in by_name:
             chosen.append(by_name[name])
         else:
