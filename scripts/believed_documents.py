@@ -49,7 +49,7 @@ def table_of_numbers(library):
         yield row_of(f"**all clauses of `{root}`**, {added}", its)
     rows = [(f"`{name}`, a clause of `kexec`", [f"clause {name}"], []) for name, it in clauses().items() if it[0] == TOP_CALL]
     rows += [("`HasBooted`", ["Boot.HasBooted"], []), ("`HasBooted`, `plan` taken as known", ["Boot.HasBooted"], plan)]
-    rows += [("`boot_files`, what `boot` reads of its files", ["Boot.boot_files"], []), ("`plan`", plan, [])]
+    rows += [("`load_inputs`, what `boot` reads of its files", ["Inputs.load_inputs"], []), ("`plan`", plan, [])]
     rows += [("`MemoryStarts`, `plan` taken as known", ["Booted.MemoryStarts"], plan)]
     for what, names, stop in rows:
         stops = {it for name in stop for it in definitions_named(library, name)}
