@@ -42,6 +42,18 @@ class Definition:
         """Its text, below the head of the block that it stands in, which names what the block's definitions are given."""
         return "\n".join([*self.head, *self.comment, *self.lines]).rstrip() if self.head else self.text()
 
+    def said(self, head):
+        """What it says, without its type: the lines that begin so, each with what is indented below it; a record whole."""
+        base = len(self.lines[0]) - len(self.lines[0].lstrip())
+        is_record = "record" in self.lines[0].split(" : ")[0].split()
+        found, wanted = [], is_record
+        for line in filter(str.strip, self.lines):
+            if line[base] not in " })" and not is_record:
+                wanted = line[base:].startswith(f"{head} ")
+            if wanted:
+                found.append(line[base:])
+        return found
+
     def length(self):
         return sum(1 for line in self.lines if line.strip() and not line.strip().startswith(("--", "//")))
 

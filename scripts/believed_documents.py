@@ -49,11 +49,15 @@ def table_of_numbers(library):
         yield row_of(f"**all clauses of `{root}`**, {added}", its)
     rows = [(f"`{name}`, a clause of `kexec`", [f"clause {name}"], []) for name, it in clauses().items() if it[0] == TOP_CALL]
     rows += [("`HasBooted`", ["Boot.HasBooted"], []), ("`HasBooted`, `plan` taken as known", ["Boot.HasBooted"], plan)]
-    rows += [("`boot_files`, what `boot` reads of its files", ["Boot.boot_files"], []), ("`plan`", plan, [])]
+    rows += [("`load_inputs`, what `boot` reads of its files", ["Inputs.load_inputs"], []), ("`plan`", plan, [])]
     rows += [("`MemoryStarts`, `plan` taken as known", ["Booted.MemoryStarts"], plan)]
     for what, names, stop in rows:
         stops = {it for name in stop for it in definitions_named(library, name)}
         yield row_of(what, list(Reached(library, starts_of(library, names), stops).by))
+
+
+def block(kind, name, path, text):
+    return f"<!-- {kind} {name} -->\n`{path.relative_to(TOP)}`\n\n```\n{text}\n```\n<!-- end -->"
 
 
 def quoted(library, found):
@@ -61,11 +65,30 @@ def quoted(library, found):
     kind, name = found[1], found[2]
     if kind == "quote":
         (it,) = definitions_named(library, name)[:1]
-        path, text = it.path, it.quote()
-    else:
-        _root, path, lines = clauses()[name]
-        text = "\n".join(line[4:].rstrip() for line in lines).rstrip()
-    return f"<!-- {kind} {name} -->\n`{path.relative_to(TOP)}`\n\n```\n{text}\n```\n<!-- end -->"
+        return block(kind, name, it.path, it.quote())
+    _root, path, lines = clauses()[name]
+    return block(kind, name, path, "\n".join(line[4:].rstrip() for line in lines).rstrip())
+
+
+def in_lines(library, name):
+    """The definitions that such a block names, each with the beginning of those of its lines that are wanted."""
+    crate, file, *heads = name.replace(":", "").replace(",", "").split(" ")
+    for head in heads:
+        (it,) = definitions_named(library, f"{crate} {file}.{head.partition('/')[0]}")[:1]
+        yield it, head.replace("/", " ")
+
+
+def lined(library, found):
+    """Definitions of one file as what they say alone, without their types and comments: of a name with a case behind a stroke,
+    as `after_runs/None`, what is said of this case. What takes more than a line stands apart."""
+    text, apart = "", False
+    for it, head in in_lines(library, found[1]):
+        lines = it.said(head)
+        if not lines:
+            sys.exit(f"believed: {it.title()} has no line that begins with {head}")
+        text += ("\n\n" if apart or len(lines) > 1 else "\n") + "\n".join(lines)
+        apart = len(lines) > 1
+    return block("lines", found[1], it.path, text.strip())
 
 
 def minutes_of(text):
@@ -86,6 +109,7 @@ def timed(text):
 def filled(library, tries, text):
     """The guide with its quotes, places, counts and times as they are now."""
     text = re.sub(r"<!-- (quote|clause) (.*?) -->\n.*?<!-- end -->", lambda found: quoted(library, found), text, flags=re.S)
+    text = re.sub(r"<!-- lines (.*?) -->\n.*?<!-- end -->", lambda found: lined(library, found), text, flags=re.S)
     for name, rows in (("numbers", table_of_numbers(library)), ("tries", table_of_tries(*tries))):
         rows = "\n".join(rows)
         text = re.sub(rf"<!-- {name} -->\n.*?<!-- end -->", f"<!-- {name} -->\n{rows}\n<!-- end -->", text, flags=re.S)
@@ -114,20 +138,23 @@ def files_as_they_must_be(library, reached, news=None):
     """The files that this script writes, each with its text."""
     tries = tried(library, reached, news)
     guide = filled(library, tries, GUIDE.read_text(encoding="utf8"))
-    whole = re.search(r"<!-- whole -->(\d+)<!-- end -->", guide)[1]
+    first, whole = (re.search(rf"<!-- {name} -->(\d+)<!-- end -->", guide)[1] for name in ("first", "whole"))
+    times = rf"\g<1>{first} minutes for the shortest boot, {whole} for all"
     return {
         LIST: "".join(list_of_names(library, tries[1])),
         GUIDE: guide,
         ENTRIES: marked(reached, ENTRIES.read_text(encoding="utf8")),
-        README: re.sub(r"(docs/BELIEVED.md \|[^|\n]*?)\d+ minutes", rf"\g<1>{whole} minutes", README.read_text(encoding="utf8")),
+        README: re.sub(r"(docs/BELIEVED.md \|[^|\n]*?)\d+ minutes for the shortest boot, \d+ for all", times,
+                       README.read_text(encoding="utf8")),
     }
 
 
 def unexplained(library, guide):
     """The definitions that a quote of the guide uses, and that it neither quotes nor names outside quotes."""
-    prose = re.sub(r"<!-- (quote|clause|numbers|tries).*?<!-- end -->", "", guide, flags=re.S)
+    prose = re.sub(r"<!-- (quote|lines|clause|numbers|tries).*?<!-- end -->", "", guide, flags=re.S)
     said = set(re.findall(r"[\w'>=]+", " ".join(re.findall(r"`([^`]+)`", prose))))
     quotes = [definitions_named(library, name)[0] for name in re.findall(r"<!-- quote (.*?) -->", guide)]
+    quotes += [it for name in re.findall(r"<!-- lines (.*?) -->", guide) for it, _head in in_lines(library, name)]
     for it in quotes:
         for used in library.used(it):
             if not isinstance(used, str) and used not in quotes and used.name.strip("◌") not in said:

@@ -122,7 +122,10 @@ def starts_of(library, names):
     for name in names or [f"root {root}" for root in ROOTS]:
         kind, _, rest = name.partition(" ")
         if kind == "root" and rest in ROOTS:
-            found += starts_of(library, [f"clause {it}" for it, (root, _path, _lines) in known.items() if root == rest])
+            its = [f"clause {it}" for it, (root, _path, _lines) in known.items() if root == rest]
+            if not its:
+                sys.exit(f"believed: {rest} has no clause")
+            found += starts_of(library, its)
             found += definitions_named(library, STATUS) if rest == TOP_CALL else []
         elif kind == "clause" and rest in known:
             _root, path, lines = known[rest]

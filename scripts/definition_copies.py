@@ -7,6 +7,8 @@ tells of each declaration of a crate whether it is admitted, so one crate may ha
 """
 import collections
 import re
+import resource
+import signal
 import subprocess
 import tempfile
 from pathlib import Path
@@ -108,7 +110,7 @@ def answers_for(module, goals):
 
 
 def flat(module):
-    return module.removeprefix("Rattle.").replace(".", "_").replace("+", "_").replace("-", "_")
+    return re.sub(r"^Rattle\.", "", module).replace(".", "_").replace("+", "_").replace("-", "_")
 
 
 class Copies:
@@ -161,12 +163,11 @@ class Copies:
     def check(self, limit):
         """What is not admitted: for each group rows of module, line and message. None where the check came to no end."""
         with tempfile.TemporaryDirectory(prefix="wrong-definitions-") as room:
-            words = self.words(CRATE, self.write(room))
-            try:
-                run = subprocess.run(words, cwd=room, stdin=subprocess.DEVNULL, stdout=subprocess.PIPE,
-                                     stderr=subprocess.STDOUT, text=True, errors="replace", timeout=limit)
-            except subprocess.TimeoutExpired:
-                return None
+            run = subprocess.run(self.words(CRATE, self.write(room)), cwd=room, stdin=subprocess.DEVNULL,
+                                 stdout=subprocess.PIPE, stderr=subprocess.STDOUT, text=True, errors="replace",
+                                 preexec_fn=lambda: resource.setrlimit(resource.RLIMIT_CPU, (limit, limit)))
+        if run.returncode in (-signal.SIGXCPU, -signal.SIGKILL):
+            return None
         if "fn tried::nothing: " not in run.stdout:
             raise RuntimeError(run.stdout)
         found = collections.defaultdict(list)

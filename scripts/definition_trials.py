@@ -1,27 +1,19 @@
 """Changes of definitions, tried against examples: many in one check of a scratch crate."""
 import collections
-import importlib.machinery
-import importlib.util
 import os
 import re
 
-from believed_definitions import TOP, Library
+from believed_definitions import Library
 from believed_reach import Reached, clauses_in, examples
 from crate_table import below
 from definition_changes import applied, changes_of, chosen
 from definition_copies import Copies, Sources
+from kexec_files import module_of
 
 MOST_CHANGES = 9  # of a definition; most of the others are no definitions
 GROUPS = 100  # changes in one check
-EXAMPLES = (2, 4, 24)  # how many examples are tried at first, then, and then
-LIMIT = 1800  # seconds of a check
-
-
-def module_of(script):
-    loader = importlib.machinery.SourceFileLoader(script.replace("-", "_"), str(TOP / "scripts" / script))
-    module = importlib.util.module_from_spec(importlib.util.spec_from_loader(loader.name, loader))
-    loader.exec_module(module)
-    return module
+EXAMPLES = (1, 3, 8, 18)  # how many examples are tried at first, then, and so on: the first one refuses most
+LIMIT = 900  # seconds of a processor that a check may take
 
 
 def clauses_of(path, function):
@@ -52,7 +44,7 @@ class Checker:
         words += ["--antt-project", f"{builder.kit}/rattle/logic/antt-project.json", "--logic-built", f"{builder.kit}/logic_built"]
         places = {it: self.library(it) for it in sorted(own, key=lambda it: len(below(builder.stands_on, it)))}
         rows = {it: f"{builder.kit}/rlibs/{it}.rlib" for it in sorted(kits - set(builder.uses))}
-        places |= {it: place for it, place in rows.items() if os.path.isdir(place)}
+        places.update((it, place) for it, place in rows.items() if os.path.isdir(place))
         for name, place in places.items():
             words += ["--extern", f"{name}={place}", "-L", f"dependency={os.path.dirname(place)}"]
         return [*words, "--allow-holes"]

@@ -3,6 +3,8 @@
 The readers and writers are the companion's (scripts/companion); here is what only the checks need.
 """
 import argparse
+import importlib.machinery
+import importlib.util
 import os
 import re
 import sys
@@ -15,11 +17,12 @@ from companion.parsers import integer, sentence_of
 from companion.program import KEXEC, TOP, build, tool
 from companion.records import DIGESTS, NUMBERS, Record, Segment, segments_of, without_digests
 from companion.refusals import Wrong, WrongWords, call
+from companion.written import to_write
 
 __all__ = ["DIGESTS", "END", "KEXEC", "Memory", "NUMBERS", "PAGE", "Parser", "Record", "Segment", "TOP", "Wrong",
-           "WrongWords", "build", "call", "integer", "memory_bytes", "numbers", "program_given", "read_record", "run",
-           "segments_of", "tool", "unknown", "without_digests", "words_given", "write_memory", "write_pool",
-           "write_ram_map"]
+           "WrongWords", "build", "call", "integer", "memory_bytes", "module_of", "numbers", "program_given", "random_bytes",
+           "read_record", "run", "segments_of", "to_write", "tool", "unknown", "without_digests", "words_given",
+           "write_memory", "write_pool", "write_ram_map"]
 
 
 class Parser(argparse.ArgumentParser):
@@ -53,6 +56,20 @@ def program_given(word):
     return path
 
 
+def module_of(script):
+    """A script of this folder as a module."""
+    sys.dont_write_bytecode = True
+    loader = importlib.machinery.SourceFileLoader(script.replace("-", "_"), f"{TOP}/scripts/{script}")
+    module = importlib.util.module_from_spec(importlib.util.spec_from_loader(loader.name, loader))
+    loader.exec_module(module)
+    return module
+
+
+def random_bytes(chance, count):
+    """So many bytes that are drawn; random.randbytes is not in Python 3.8."""
+    return chance.getrandbits(8 * count).to_bytes(count, "little") if count else b""
+
+
 def write_ram_map(file, last):
     """A memory map: System RAM from the first page up to the byte `last`."""
     write_map(file, [(PAGE, last, RAM)])
@@ -60,7 +77,7 @@ def write_ram_map(file, last):
 
 def write_pool(file, first, count):
     """A pool of so many pages from the first on."""
-    with open(file, "w", encoding="ascii") as out:
+    with to_write(file, True) as out:
         out.write(f"{first:x}-{first + count - 1:x}\n")
 
 
@@ -78,8 +95,7 @@ def run(words, folder):
 
 def unknown(words):
     """What the program does not know of these words: the command or an option; None where it knows all."""
-    _, printed, said = program.run([words[0], "--help"], TOP)
-    told = printed + said
+    _, told, _ = program.run([words[0], "--help"], TOP)
     if not re.match(rf"Usage: \S+ {re.escape(words[0])} ", told):
         return f"command {words[0]}"
     return next((f"option {word}" for word in words if word.startswith("--") and word not in told), None)

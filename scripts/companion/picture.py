@@ -8,8 +8,9 @@ from companion.memory_files import Memory
 from companion.parsers import Parser, choose
 from companion.progress import Progress
 from companion.records import Record
-from companion.refusals import Wrong
+from companion.refusals import Wrong, WrongWords
 from companion.scene import scene_of
+from companion.written import write_text
 
 # the examples with a picture, and whether their lists preserve context
 EXAMPLES = [("first", False), ("comes-back", True), ("elf", False), ("spoiled", False), ("resident", False)]
@@ -66,8 +67,7 @@ def parser_of_list():
 def put(given, text):
     """Writes an SVG to the file of --svg, or to standard output."""
     if given.svg and given.svg != "-":
-        with open(given.svg, "w", encoding="utf-8") as out:
-            out.write(text)
+        write_text(given.svg, text)
         print(f"{given.svg}: written")
     else:
         sys.stdout.write(text)
@@ -108,7 +108,7 @@ def example_pictures():
     """Each example's picture: its file, and what it is to be."""
     folder = f"{program.TOP}/examples"
     if program.IS_INSTALLED or not os.path.isdir(folder):
-        raise Wrong("--check and --make are for the source tree: there are no examples with pictures here")
+        raise WrongWords("--check and --make are for the source tree: there are no examples with pictures here")
     for name, is_kept in EXAMPLES:
         with open(f"{folder}/{name}/dump", encoding="ascii") as dump:
             yield f"{folder}/{name}/list.svg", picture_list.draw(picture_list.List(dump.read()), is_kept)
@@ -125,8 +125,7 @@ def compare_examples(is_made):
         if found == wanted:
             continue
         if is_made:
-            with open(path, "w", encoding="utf-8") as out:
-                out.write(wanted)
+            write_text(path, wanted)
         else:
             status = 1
             print(f"{os.path.relpath(path, program.TOP)} is not what picture list --make makes", file=sys.stderr)

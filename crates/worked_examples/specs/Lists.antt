@@ -47,6 +47,11 @@ abbrev pub why_refused : Mem → List SegmentValue → ℕ → Option ℕ → Op
 why_refused M ss control swap place earlier i =
     reason M (want ss) (pages ss) control swap place earlier (Some i)
 
+-- page 2 comes from page 12, and in a second list page page 3 from page 14
+abbrev pub over_two_pages : List Item
+over_two_pages =
+    Link 0x11 ∷ Destination 2 ∷ Source 0x12 ∷ Link 0x13 ∷ Source 0x14 ∷ Done 0 ∷ []
+
 -- page 2 is its own source, and page 3 comes from page 12
 abbrev pub one_exchanged : List Item
 one_exchanged = Link 0x11 ∷ Destination 2 ∷ Source 2 ∷ Source 0x12 ∷ Done 0 ∷ []

@@ -41,13 +41,13 @@ three_bytes_file = three_bytes_by (codes "KXREC002") three_bytes_digest
 abbrev pub three_bytes_first : List ℕ
 three_bytes_first = three_bytes_by (codes "KXREC001") []
 
--- the record of a load with context preserved
+-- the record of a load with context preserved, in which no two numbers are the same
 abbrev pub kept_record : Record
 kept_record = record {
   crash = false;
   image = record { head = 0x12002; mode = Kept 0x11; control = 0x10 };
-  start = record { entry = 0x2000; rax = 0; rbx = 0; rsi = 0 };
-  regions = 0;
-  digest = 0;
+  start = record { entry = 0x2000; rax = 0xa; rbx = 0xb; rsi = 0xc };
+  regions = 0xd;
+  digest = 0xe;
   segments = three_bytes;
 }

@@ -1,9 +1,9 @@
 //! Each condition of acceptance: a list that breaks it is not accepted.
 
-ghost use Rattle.std.specs.Prelude.{◌≡◌};
-ghost use Rattle.kx_pages.specs.Bytes.{Mem};
+ghost use Rattle.std.specs.Prelude.{◌≡◌, None, Some};
+ghost use Rattle.kx_pages.specs.Bytes.{Mem, Wants};
 ghost use Rattle.segments.specs.Values.{want};
-ghost use Rattle.list_checker.specs.Walk.{Accepted};
+ghost use Rattle.list_checker.specs.Walk.{Accepted, IsAccepted};
 ghost use Rattle.worked_examples.specs.Kernels.{two_pages, no_bytes};
 ghost use Rattle.worked_examples.specs.Lists.{one_move, last_page_first, first_page_first};
 ghost use Rattle.worked_examples.specs.Conditions.{NeverAccepted, NeverKept, linked_twice, source_alone, written_twice, over_itself, from_itself};
@@ -34,4 +34,10 @@ pub fn conditions_of_kept_lists()
     ensures swap_is_link { NeverKept 0x11002 0x10 0x11 one_move }
     ensures swap_is_destination { NeverKept 0x11002 0x10 2 one_move }
     ensures swap_is_source { NeverKept 0x11002 0x10 0x12 one_move }
+{}
+
+/// A list is held to the conditions of plain lists where there is no swap page, and else to those of kept lists.
+pub fn conditions_by_mode()
+    ensures plain { (M : Mem) (W : Wants) → IsAccepted M W 4 0x10 None one_move → ⊥ }
+    ensures kept { (M : Mem) (W : Wants) → IsAccepted M W 0x11002 0x10 (Some 0x10) one_move → ⊥ }
 {}

@@ -15,12 +15,16 @@ mod faults;
 mod files;
 mod headers;
 mod kernels;
+mod lines;
 mod lists;
 mod loads;
 mod maps;
+mod memories;
 mod multiboots;
 mod notes;
+mod numbers;
 mod objects;
+mod pages;
 mod purgatories;
 mod records;
 mod regions;
@@ -29,49 +33,113 @@ mod runs;
 mod samples;
 mod words;
 
-pub use bzimages::{boot_parameters, boot_parameters_with_many_rows, setup_header_of_a_bzimage};
-pub use conditions::{conditions_of_kept_lists, conditions_of_plain_lists};
-pub use cores::{core_file_of_a_memory, places_in_a_core_file};
-pub use events::{image_that_is_replaced, load_that_is_run, texts_of_events};
-pub use exchanges::{
-    exchanged_once, exchanged_twice, own_source_keeps_a_write, source_gets_a_write,
-};
-pub use executables::{executable_with_two_loads, spoiled_executables};
-pub use faults::{
-    destinations_of_source_words, done_words, sources_of_source_words, words_at_the_head,
-    words_that_link,
-};
-pub use files::{empty_memory_file, pool_texts, spoiled_memory_files, spoiled_pool_texts};
+pub use bzimages::boot_parameters;
+pub use bzimages::boot_parameters_with_many_rows;
+pub use bzimages::setup_header_of_a_bzimage;
+pub use conditions::conditions_by_mode;
+pub use conditions::conditions_of_kept_lists;
+pub use conditions::conditions_of_plain_lists;
+pub use cores::core_file_of_a_memory;
+pub use cores::places_in_a_core_file;
+pub use events::image_that_is_replaced;
+pub use events::load_that_is_run;
+pub use events::texts_of_events;
+pub use exchanges::exchanged_once;
+pub use exchanges::exchanged_twice;
+pub use exchanges::own_source_keeps_a_write;
+pub use exchanges::source_gets_a_write;
+pub use executables::executable_with_two_loads;
+pub use executables::spoiled_executables;
+pub use faults::destinations_of_source_words;
+pub use faults::done_words;
+pub use faults::sources_of_source_words;
+pub use faults::words_at_the_head;
+pub use faults::words_that_link;
+pub use files::empty_memory_file;
+pub use files::pool_texts;
+pub use files::spoiled_memory_files;
+pub use files::spoiled_pool_texts;
 pub use headers::headers_of_a_crash_kernel;
-pub use kernels::{
-    bad_addresses, half_of_memory, misplaced_segments, one_page_is_wanted, pages_needed,
-    segments_that_overlap, too_much, two_pages_are_wanted,
-};
-pub use lists::{
-    crash_list, exchanged_list_is_accepted, exchanged_page_stands_in_two_pairs,
-    head_past_the_limit, list_that_goes_round, list_without_a_source_is_accepted,
-    loaded_list_is_accepted, one_page_list, own_source_is_accepted,
-    source_is_overwritten_after_its_copy, source_is_overwritten_before_its_copy,
-    word_with_two_flags,
-};
-pub use loads::{
-    kernel_without_bytes, last_slot_links_on, list_fills_its_link_page, loaded_page_is_exchanged,
-    one_page_kernel, pages_past_the_limit_are_passed_over, pool_is_a_page_short,
-    pool_pages_are_their_own_destinations, two_pages_with_context_preserved,
-};
-pub use maps::{map_with_a_crash_area, spoiled_maps};
-pub use multiboots::{information_of_a_kernel, kernel_with_addresses, spoiled_headers};
-pub use notes::{notes_of_a_text, spoiled_notes};
-pub use objects::{object_with_a_relocation, spoiled_objects};
-pub use purgatories::{formulas_of_relocations, linked_object, refused_links};
-pub use records::{changed_bytes, record_of_one_page, spoiled_records};
-pub use regions::{table_of_regions, test_of_a_region};
-pub use residents::{
-    page_that_is_resident, pages_that_changed_places, refused_pairs, texts_of_pairs,
-};
-pub use runs::{
-    destination_flag_comes_first, exchanged_list_runs, first_page_first_runs, kept_list_runs,
-    last_page_first_runs, off_past_the_limit, one_page_runs, round_and_round, run_without_a_source,
-};
+pub use kernels::bad_addresses;
+pub use kernels::half_of_memory;
+pub use kernels::misplaced_segments;
+pub use kernels::one_page_is_wanted;
+pub use kernels::pages_needed;
+pub use kernels::segments_that_overlap;
+pub use kernels::too_much;
+pub use kernels::two_pages_are_wanted;
+pub use lines::lines_of_a_map;
+pub use lines::pages_of_a_map;
+pub use lists::crash_list;
+pub use lists::exchanged_list_is_accepted;
+pub use lists::exchanged_page_stands_in_two_pairs;
+pub use lists::head_past_the_limit;
+pub use lists::list_over_two_pages;
+pub use lists::list_that_goes_round;
+pub use lists::list_without_a_source_is_accepted;
+pub use lists::loaded_list_is_accepted;
+pub use lists::one_page_list;
+pub use lists::own_source_is_accepted;
+pub use lists::source_is_overwritten_after_its_copy;
+pub use lists::source_is_overwritten_before_its_copy;
+pub use lists::word_with_two_flags;
+pub use loads::kernel_without_bytes;
+pub use loads::last_slot_links_on;
+pub use loads::list_fills_its_link_page;
+pub use loads::loaded_page_is_exchanged;
+pub use loads::one_page_kernel;
+pub use loads::pages_past_the_limit_are_passed_over;
+pub use loads::pool_is_a_page_short;
+pub use loads::pool_pages_are_their_own_destinations;
+pub use loads::two_pages_with_context_preserved;
+pub use maps::map_with_a_crash_area;
+pub use maps::spoiled_maps;
+pub use memories::blocks_of_bytes;
+pub use memories::bytes_of_pages;
+pub use memories::memory_files_at_their_limits;
+pub use memories::pages_of_a_memory;
+pub use multiboots::flags_of_a_header;
+pub use multiboots::information_of_a_kernel;
+pub use multiboots::kernel_with_addresses;
+pub use multiboots::spoiled_headers;
+pub use notes::notes_of_a_text;
+pub use notes::spoiled_notes;
+pub use numbers::length_of_crash_headers;
+pub use numbers::limits_of_a_setup_header;
+pub use numbers::numbers_of_boot_parameters;
+pub use objects::object_with_a_relocation;
+pub use objects::spoiled_objects;
+pub use pages::numbers_in_lists;
+pub use pages::pages_of_bytes;
+pub use pages::pages_of_segments;
+pub use pages::spans_of_pages;
+pub use purgatories::formulas_of_relocations;
+pub use purgatories::linked_object;
+pub use purgatories::refused_links;
+pub use records::changed_bytes;
+pub use records::numbers_of_a_record;
+pub use records::record_of_one_page;
+pub use records::spoiled_records;
+pub use regions::limits_of_regions;
+pub use regions::table_of_regions;
+pub use regions::test_of_a_region;
+pub use residents::page_that_is_resident;
+pub use residents::pages_that_changed_places;
+pub use residents::refused_pairs;
+pub use residents::texts_of_pairs;
+pub use runs::destination_flag_comes_first;
+pub use runs::exchanged_list_runs;
+pub use runs::first_page_first_runs;
+pub use runs::head_that_is_no_link;
+pub use runs::kept_list_runs;
+pub use runs::last_page_first_runs;
+pub use runs::list_over_two_pages_runs;
+pub use runs::off_past_the_limit;
+pub use runs::one_page_runs;
+pub use runs::round_and_round;
+pub use runs::run_without_a_source;
 pub use samples::draws_of_a_sample;
-pub use words::{items_of_words, machine_takes_the_first_flag, words_in_memory, words_of_items};
+pub use words::items_of_words;
+pub use words::machine_takes_the_first_flag;
+pub use words::words_in_memory;
+pub use words::words_of_items;

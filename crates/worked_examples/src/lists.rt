@@ -7,19 +7,27 @@ ghost use Rattle.kx_pages.specs.declared.item.Item.{Item};
 ghost use Rattle.kx_pages.specs.Bytes.{page_of, Mem};
 ghost use Rattle.segments.specs.Values.{want, pages};
 ghost use Rattle.kimage_list.specs.Laying.{list_of, head_of, control_of};
-ghost use Rattle.list_checker.specs.Walk.{Walk, Accepted, AcceptedKept, InOrder, PairsApart, pairs};
+ghost use Rattle.list_checker.specs.Walk.{Walk, Accepted, AcceptedKept, InOrder, PairsApart, links, pairs};
 ghost use Rattle.list_checker.specs.Crash.{AcceptedCrash, crash_reason};
 ghost use Rattle.list_checker.specs.declared.fault.Why.TheVariants.{Flags, HeadKind, LinkAgain, SourceSpoiled, PairsMeet, Missing, PastLimit};
 ghost use Rattle.load_states.specs.Loads.{entries_of, memory_of};
 ghost use Rattle.worked_examples.specs.Kernels.{three_bytes, two_pages, no_bytes};
 ghost use Rattle.worked_examples.specs.Loads.{three_bytes_loaded};
-ghost use Rattle.worked_examples.specs.Lists.{HasWords, FirstFault, NoneAccepted, one_move, one_exchanged, no_move, one_at_home, last_page_first, first_page_first};
+ghost use Rattle.worked_examples.specs.Lists.{HasWords, FirstFault, NoneAccepted, one_move, one_exchanged, no_move, one_at_home, over_two_pages, last_page_first, first_page_first};
 
 /// The list of a kernel of three bytes: page 2 comes from page 12.
 pub fn one_page_list()
     ensures pairs { pairs one_move ≡ (2, 0x12) ∷ [] }
     ensures accepted { (M : Mem) → HasWords M 0x11000 (0x2001 ∷ 0x12008 ∷ 4 ∷ [])
         → M 0x12 ≡ page_of (codes "abc") → Accepted M (want three_bytes) 0x11002 0x10 one_move }
+{}
+
+/// A list that goes on in a second page, with the page behind the last destination.
+pub fn list_over_two_pages()
+    ensures pairs { pairs over_two_pages ≡ (2, 0x12) ∷ (3, 0x14) ∷ [] }
+    ensures links { links over_two_pages ≡ 0x11 ∷ 0x13 ∷ [] }
+    ensures walk { (M : Mem) → HasWords M 0x11000 (0x2001 ∷ 0x12008 ∷ 0x13002 ∷ [])
+        → HasWords M 0x13000 (0x14008 ∷ 4 ∷ []) → Walk M 0x11002 over_two_pages }
 {}
 
 /// What the load of that kernel lays is that list, whatever memory held.

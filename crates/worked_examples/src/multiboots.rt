@@ -1,8 +1,8 @@
 //! Multiboot kernels: their header, what they are loaded as, and the information that they are handed.
 
-ghost use Rattle.std.specs.Prelude.{◌≡◌, ◌++◌, ◌∷◌, [], None, Ok, Err, codes, replicate};
+ghost use Rattle.std.specs.Prelude.{◌≡◌, ◌++◌, ◌∷◌, [], Some, None, Ok, Err, codes, map, replicate};
 ghost use Rattle.byteorder.specs.Endian.{little_bytes};
-ghost use Rattle.multiboot_image.specs.Header.{find_header};
+ghost use Rattle.multiboot_image.specs.Header.{find_header, unknown_bit};
 ghost use Rattle.multiboot_image.specs.Info.{info, info_size, places_of};
 ghost use Rattle.multiboot_image.specs.MapRows.{mem_lower, mem_upper};
 ghost use Rattle.multiboot_image.specs.Modules.{module_table, texts};
@@ -79,4 +79,11 @@ pub fn information_of_a_kernel()
         (record { start = 0x3000; size = 5; text = codes "a" }
         ∷ record { start = 0x4000; size = 0x1000; text = codes "b" } ∷ [])
         ≡ codes "a" ++ (0 ∷ codes "b" ++ 0 ∷ []) }
+{}
+
+/// The flags of a header: bits 0 and 1, and those from 16 on, ask for nothing that must be served.
+pub fn flags_of_a_header()
+    ensures lowest { map unknown_bit (4 ∷ 0x8000 ∷ 0xc000 ∷ 0x1_8000 ∷ [])
+        ≡ Some 2 ∷ Some 15 ∷ Some 14 ∷ Some 15 ∷ [] }
+    ensures none { map unknown_bit (0 ∷ 3 ∷ 0x1_0003 ∷ []) ≡ None ∷ None ∷ None ∷ [] }
 {}

@@ -1,9 +1,9 @@
 //! The test of a purgatory's regions.
 
-ghost use Rattle.std.specs.Prelude.{◌≡◌, ◌++◌, length, replicate};
+ghost use Rattle.std.specs.Prelude.{◌≡◌, ◌++◌, ◌∷◌, [], Some, false, length, map, replicate, true};
 ghost use Rattle.byteorder.specs.Endian.{little_bytes};
 ghost use Rattle.purgatory_link.specs.Regions.{region_table};
-ghost use Rattle.purgatory_link.specs.RegionTest.{test};
+ghost use Rattle.purgatory_link.specs.RegionTest.{first_wild_region, is_wild, passes, test};
 ghost use Rattle.purgatory_link.specs.declared.region_test.RegionTest.TheVariants as answers;
 ghost use Rattle.worked_examples.specs.Kernels.{three_bytes};
 ghost use Rattle.worked_examples.specs.Records.{three_bytes_digest};
@@ -24,4 +24,18 @@ pub fn table_of_regions()
     ensures bytes { region_table three_bytes
         ≡ little_bytes 8 0x2000 ++ (little_bytes 8 0x1000 ++ replicate 240 0) }
     ensures length { length (region_table three_bytes) ≡ 256 }
+{}
+
+/// Regions at their limits: one that ends at 2^46 and one a byte longer, and regions of 2^28 bytes together, and a byte more.
+pub fn limits_of_regions()
+    ensures ends { map (passes 0x3fff_ffff_f000) (0x1000 ∷ 0x1001 ∷ []) ≡ false ∷ true ∷ [] }
+    ensures total { map
+        (is_wild
+        (record { start = 0x1000; size = 0x800_0000 }
+        ∷ record { start = 0x1000_0000; size = 0x800_0000 } ∷ record { start = 0; size = 1 } ∷ []))
+        (0 ∷ 1 ∷ 2 ∷ []) ≡ false ∷ false ∷ true ∷ [] }
+    ensures first { first_wild_region
+        (record { start = 0x1000; size = 0x800_0000 }
+        ∷ record { start = 0x1000_0000; size = 0x800_0000 } ∷ record { start = 0; size = 1 } ∷ [])
+        ≡ Some 2 }
 {}
