@@ -2,6 +2,8 @@
 import random
 import struct
 
+from companion.written import to_write
+
 ELF64 = b"\x7fELF\x02\x01\x01".ljust(16, b"\0")
 LOAD = 16
 
@@ -12,7 +14,7 @@ def write_executable(file, loads, base):
     order = list(range(loads))
     random.Random(1).shuffle(order)
     start = 64 + 56 * loads
-    with open(file, "wb") as out:
+    with to_write(file) as out:
         out.write(ELF64 + struct.pack("<HHIQQQIHHHHHH", 2, 62, 1, base, 64, 0, 0, 64, 56, loads, 0, 0, 0))
         for i in order:
             at, address = start + LOAD * i, base + LOAD * i
@@ -39,7 +41,7 @@ def write_purgatory(file, relocations):
     for kind, flags, data, link, info, align, entry in parts:
         headers.append(struct.pack("<IIQQQQIIQQ", 0, kind, flags, 0, at, len(data), link, info, align, entry))
         at += len(data)
-    with open(file, "wb") as out:
+    with to_write(file) as out:
         out.write(ELF64 + struct.pack("<HHIQQQIHHHHHH", 1, 62, 1, 0, 0, at, 0, 64, 0, 0, 64, len(headers), 0))
         for part in parts:
             out.write(part[2])

@@ -10,6 +10,7 @@ sys.path.append(f"{TOP}/scripts")
 from companion.memory_files import write_memory
 from companion.numbers import PAGE
 from companion.records import record_bytes
+from companion.written import to_write
 
 # the last page below the limit of addresses, whose address is the longest in a line
 LAST_PAGE = (1 << 34) - 1
@@ -18,9 +19,9 @@ MOST_BYTES = 16 + 131072 * (8 + PAGE)
 
 def make_machine(folder):
     """A map of 16 GiB, the largest pool, and the memory and the kernel of the first example."""
-    with open(f"{folder}/map", "w", encoding="ascii") as out:
+    with to_write(f"{folder}/map", True) as out:
         out.write("00000000-3ffffffff : System RAM\n")
-    with open(f"{folder}/pool", "w", encoding="ascii") as out:
+    with to_write(f"{folder}/pool", True) as out:
         out.write("200000-23ffff\n")
     shutil.copy(f"{TOP}/examples/first/memory.kxmem", f"{folder}/memory")
     shutil.copy(f"{TOP}/examples/first/kernel", f"{folder}/kernel")
@@ -34,7 +35,7 @@ def dump(folder, times):
     last = first + pages - 1
     write_memory(f"{folder}/list", (
         (page, words + struct.pack("<Q", 4 if page == last else (page + 1) * PAGE | 2)) for page in range(first, last + 1)))
-    with open(f"{folder}/record", "wb") as out:
+    with to_write(f"{folder}/record") as out:
         out.write(record_bytes(first * PAGE | 2, 0x1000, [(0x2000, b"kernel")]))
     return "list", ["dump", "list", "record"]
 
@@ -43,7 +44,7 @@ def events(text, count):
     """A kind of events: this text so many times and more."""
 
     def write(folder, times):
-        with open(f"{folder}/events", "w", encoding="ascii") as out:
+        with to_write(f"{folder}/events", True) as out:
             out.write(text * (count * times))
         return "events", ["drill", "--map", "map", "memory", "pool", "/dev/null", "events"]
 
@@ -54,7 +55,7 @@ def zeros(count):
     """A kind of memory files: so many bytes of zeros and more."""
 
     def write(folder, times):
-        with open(f"{folder}/zeros", "wb") as out:
+        with to_write(f"{folder}/zeros") as out:
             out.truncate(count * times)
         return "zeros", ["trace", "zeros", "/dev/null", "4", "1"]
 

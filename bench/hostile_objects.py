@@ -3,6 +3,8 @@ purgatory. Each kind writes its file in a folder, of so many times its least siz
 command."""
 import struct
 
+from companion.written import to_write
+
 HEADER, ROW, SYMBOL, ENTRY = 64, 64, 24, 24
 MOST_SECTIONS = 0xfe00
 
@@ -49,7 +51,7 @@ def kind(make):
     """A kind of purgatories, of 1 MiB and more, before the kernel of the first example."""
 
     def write(folder, times):
-        with open(f"{folder}/object", "wb") as out:
+        with to_write(f"{folder}/object") as out:
             out.write(make(times << 20))
         options = ["--map", "map", "--type", "raw", "--at", "2000", "--purgatory", "object"]
         return "object", ["boot", *options, "memory", "pool", "/dev/null", "kernel"]

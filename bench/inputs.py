@@ -7,6 +7,7 @@ import sys
 sys.path.append(f"{os.path.dirname(os.path.dirname(os.path.realpath(__file__)))}/scripts")
 from companion import memory_files
 from companion.numbers import PAGE
+from companion.written import to_write
 
 
 def page_bytes(number):
@@ -32,7 +33,7 @@ def write_dumped(file, headers, first, pages):
 
 def write_kernel(file, pages):
     """A raw kernel of so many pages, each of other bytes."""
-    with open(file, "wb") as out:
+    with to_write(file) as out:
         for number in range(pages):
             out.write(page_bytes(number ^ 0x5A5A5A5A))
 
@@ -43,7 +44,7 @@ def write_resident(folder, first, sources):
     no room for all sources and destinations of the largest kernel and for its list."""
     places = sorted(place for place in sources if place is not None)
     write_memory(f"{folder}/memory", [first + place for place in places])
-    with open(f"{folder}/kernel", "wb") as kernel, open(f"{folder}/pairs", "w", encoding="ascii") as pairs:
+    with to_write(f"{folder}/kernel") as kernel, to_write(f"{folder}/pairs", True) as pairs:
         for number, place in enumerate(sources):
             if place is None:
                 kernel.write(page_bytes(number ^ 0x5A5A5A5A) if number % 256 else bytes(PAGE))
@@ -53,7 +54,7 @@ def write_resident(folder, first, sources):
 
 
 def write_pool(file, pages):
-    with open(file, "w", encoding="ascii") as out:
+    with to_write(file, True) as out:
         out.writelines(f"{number:x}\n" for number in pages)
 
 

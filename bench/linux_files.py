@@ -4,6 +4,7 @@ import sys
 
 sys.path.append(f"{os.path.dirname(os.path.dirname(os.path.realpath(__file__)))}/scripts")
 from companion.kernels import write_bzimage
+from companion.written import to_write
 
 __all__ = ["MAP", "write_bzimage", "write_machine_map"]
 
@@ -17,5 +18,5 @@ bffdf000-bfffffff : Reserved
 
 
 def write_machine_map(file):
-    with open(file, "w", encoding="ascii") as out:
+    with to_write(file, True) as out:
         out.write(MAP)

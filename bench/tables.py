@@ -29,7 +29,7 @@ class Clock:
 
 def one_run(words, folder):
     """Runs the words once: time in seconds, the part of it in the program itself, and peak resident memory in bytes."""
-    with open(f"{folder}/said", "wb") as said:
+    with kexec_files.to_write(f"{folder}/said") as said:
         start = time.perf_counter()
         child = subprocess.Popen(words, cwd=folder, stdin=subprocess.DEVNULL, stdout=said, stderr=subprocess.STDOUT)
         _, status, used = os.wait4(child.pid, 0)

@@ -115,7 +115,13 @@ def test_running_machine(tests):
         tests.write(f"{folder}/crash_notes_size", "360\n")
     os.makedirs(f"{tests.folder}/sys/kernel", exist_ok=True)
     tests.write("sys/kernel/vmcoreinfo", "0x000000000004f000 1024\n")
-    tests.same("notes", machine.note_lines(f"{tests.folder}/sys"), ["1f00 168\n", "2f00 168\n", "3f00 168\n", "4f000 1024\n"])
+    lines = ["1f00 168\n", "2f00 168\n", "3f00 168\n", "4f000 1024\n"]
+    tests.same("notes", machine.note_lines(f"{tests.folder}/sys"), (lines, []))
+    for number in (0, 10, 2):
+        os.remove(f"{tests.folder}/sys/devices/system/cpu/cpu{number}/crash_notes")
+    found, lacking = machine.note_lines(f"{tests.folder}/sys")
+    tests.same("notes that are missing", (found, len(lacking), "no crash_notes of any processor (No such" in lacking[0]),
+               (lines[3:], 1, True))
     tests.same("free pages", machine.buddy_runs([(0x100, 0x2000), (0x3002, 0x4000)], f"{tests.folder}/flags"),
                [(0x101, 0x103), (0x3003, 0x3004)])
 
@@ -230,6 +236,9 @@ def test_plan(tests):
     tests.write("small", "00100000-0010ffff : System RAM\n")
     status, out, _ = tests.run(KERNELYET, "plan", "vmlinuz", "--map", "small")
     tests.same("plan of a small machine", (status, "wants 1 MiB" in out, "from 1 MiB to 4 GiB: 64 KiB" in out), (1, True, True))
+    tests.write("two-pages", "1-2\n")
+    status, out, _ = tests.run(KERNELYET, "plan", "vmlinuz", "--map", "iomem", "--pool", "two-pages")
+    tests.same("a refusal has the names that were given", (status, 'POOL "two-pages": the pool has too few' in out), (1, True))
     tests.write("narrow", "00100000-03ffffff : System RAM\n  01000000-0100ffff : Crash kernel\n")
     status, out, _ = tests.run(KERNELYET, "plan", "--crash", "vmlinuz", "initrd", "--map", "narrow")
     tests.same("plan of a small crash area", (status, "the crash area: 64 KiB at 0x1000000" in out, "crashkernel=16M" in out),

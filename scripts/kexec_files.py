@@ -17,10 +17,11 @@ from companion.parsers import integer, sentence_of
 from companion.program import KEXEC, TOP, build, tool
 from companion.records import DIGESTS, NUMBERS, Record, Segment, segments_of, without_digests
 from companion.refusals import Wrong, WrongWords, call
+from companion.written import to_write
 
 __all__ = ["DIGESTS", "END", "KEXEC", "Memory", "NUMBERS", "PAGE", "Parser", "Record", "Segment", "TOP", "Wrong",
-           "WrongWords", "build", "call", "integer", "memory_bytes", "module_of", "numbers", "program_given", "read_record", "run",
-           "segments_of", "tool", "unknown", "without_digests", "words_given", "write_memory", "write_pool",
+           "WrongWords", "build", "call", "integer", "memory_bytes", "module_of", "numbers", "program_given", "random_bytes",
+           "read_record", "run", "segments_of", "to_write", "tool", "unknown", "without_digests", "words_given", "write_memory", "write_pool",
            "write_ram_map"]
 
 
@@ -64,6 +65,11 @@ def module_of(script):
     return module
 
 
+def random_bytes(chance, count):
+    """So many bytes that are drawn; random.randbytes is not in Python 3.8."""
+    return chance.getrandbits(8 * count).to_bytes(count, "little") if count else b""
+
+
 def write_ram_map(file, last):
     """A memory map: System RAM from the first page up to the byte `last`."""
     write_map(file, [(PAGE, last, RAM)])
@@ -71,7 +77,7 @@ def write_ram_map(file, last):
 
 def write_pool(file, first, count):
     """A pool of so many pages from the first on."""
-    with open(file, "w", encoding="ascii") as out:
+    with to_write(file, True) as out:
         out.write(f"{first:x}-{first + count - 1:x}\n")
 
 

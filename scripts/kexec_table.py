@@ -32,7 +32,7 @@ def read_arguments():
             fields = dict(re.findall(r"^    (\w+): (.*?),$", body, re.M))
             what = fields["what"]
             arguments[constant] = Argument(fields["name"].strip('"'), fields["value"].strip('"'),
-                                           fields["form"].removeprefix("Form::"), fields["kind"].removeprefix("Kind::"),
+                                           fields["form"].partition("::")[2], fields["kind"].partition("::")[2],
                                            texts.get(what, what.strip('"')))
     return arguments
 

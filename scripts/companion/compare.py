@@ -47,6 +47,11 @@ def where_differs(one, other):
     return first
 
 
+def exact_size(count):
+    """A number of bytes, and the same in a larger unit where it has one."""
+    return counted(count, "byte") + f" ({size_text(count)})" * (count >= 1024)
+
+
 def segment_differences(name, one, other):
     """How a part of two loads differs."""
     if one is None or other is None:
@@ -55,7 +60,7 @@ def segment_differences(name, one, other):
     if one.mem != other.mem:
         yield f"{name}: place", f"{one.mem:#x}", f"{other.mem:#x}"
     if len(one.data) != len(other.data):
-        yield f"{name}: bytes", *(f"{len(it.data)} ({size_text(len(it.data))})" for it in (one, other))
+        yield f"{name}: bytes", *(exact_size(len(it.data)) for it in (one, other))
     if one.memsz != other.memsz:
         yield f"{name}: memory", *(size_text(it.memsz) for it in (one, other))
     first = where_differs(one.data, other.data)

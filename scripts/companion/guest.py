@@ -18,8 +18,9 @@ from companion.numbers import size_text
 from companion.parsers import Parser, integer, mebibytes
 from companion.progress import Progress, growth
 from companion.records import Record
-from companion.refusals import Wrong
+from companion.refusals import NothingTried
 from companion.words import name_called
+from companion.written import to_write
 
 # On a busy machine the timer of an emulated one may come late, which is no fault of its interrupt controller.
 COMMAND = "console=ttyS0 no_timer_check"
@@ -40,8 +41,9 @@ memory are taken out. Then
    kernel showed."""
 EPILOG = """KERNEL is a bzImage with a serial console, initrd and crash dump support built
 in, as Debian's linux-image-amd64 has it. Nothing is kept, but in --keep FOLDER.
-Where a tool is missing, that is said, and its step is skipped. Each line says a
-step and what it showed. Status 0 where no step failed, else 1."""
+Where a reader of core files is missing, that is said, and its step is skipped.
+Each line says a step and what it showed. Status 0 where no step failed, else 1;
+2 where nothing was tried, for want of QEMU, gcc, ld or a file."""
 
 
 def parser():
@@ -93,7 +95,7 @@ class Story:
                     self.say(f"the guest did not panic: {guest.said[-300:].decode(errors='replace')}", False)
                     return False
                 for name in ("map", "notes"):
-                    with open(f"{self.folder}/guest-{name}", "w", encoding="utf-8") as out:
+                    with to_write(f"{self.folder}/guest-{name}", True) as out:
                         out.write(said_between(guest.said, name))
                 self.console = guest.said.decode(errors="replace").replace("\r", "")
                 guest.ask("stop")
@@ -184,6 +186,6 @@ def main(arguments):
     lacks += [f"{what} {file or ''}".rstrip() + f" (--{what})" for what, file in named
               if file is not None and not os.path.isfile(file)]
     if lacks:
-        raise Wrong(f"there is no {', no '.join(lacks)}")
+        raise NothingTried(f"nothing was tried: there is no {', no '.join(lacks)}")
     program.ready()
     return tell(given)

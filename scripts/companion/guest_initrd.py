@@ -1,6 +1,8 @@
 """The initrd of the guests of `guest`: a static busybox and one script, as a cpio archive."""
 import stat
 
+from companion.written import to_write
+
 # What the guest, the next kernel and the crash kernel do: the command line says which one it is.
 INIT = r"""#!/bin/busybox sh
 /bin/busybox --install -s /bin
@@ -48,7 +50,7 @@ def make_initrd(path, busybox):
         program = file.read()
     folders = [(name, stat.S_IFDIR | 0o755, b"") for name in ("bin", "proc", "sys", "dev")]
     entries = [("bin/busybox", stat.S_IFREG | 0o755, program), ("init", stat.S_IFREG | 0o755, INIT.encode())]
-    with open(path, "wb") as out:
+    with to_write(path) as out:
         out.write(archive([*folders, *entries]))
 
 

@@ -5,6 +5,7 @@ import struct
 
 from companion.numbers import PAGE, up
 from companion.refusals import Wrong
+from companion.written import to_write
 
 # How a file begins: the bytes, their place, and what it is. The first that holds is it.
 FRONTS = [
@@ -95,7 +96,7 @@ def setup_header(init_size, sectors=5, **fields):
 def write_bzimage(path, size, init_size, pages, **fields):
     """A bzImage of so many bytes, whose protected-mode part is what `pages` gives, page after page."""
     head = setup_header(init_size, **{"syssize": (size - 512 * 5) // 16, **fields})
-    with open(path, "wb") as out:
+    with to_write(path) as out:
         out.write(head)
         left = size - len(head)
         while left > 0:

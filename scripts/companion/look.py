@@ -1,10 +1,11 @@
 """kernelyet look: what stands in memory files, load records and lists."""
 from companion import look_lists, look_steps, look_texts, memory_files, records, reports, shown
 from companion.lists import address_of, kind_of, walk
-from companion.numbers import END, PAGE, address, counted, number_of, runs, size_text
+from companion.numbers import END, PAGE, address, counted, number_of, runs, size_of, size_text
 from companion.parsers import Parser, choose
 from companion.progress import Progress
 from companion.refusals import Wrong
+from companion.written import write_bytes
 
 TEXT = """Shows what stands in memory files, load records and lists.
 
@@ -38,7 +39,7 @@ def parsers():
     dump = words_for("bytes", "[OPTIONS] MEMORY ADDRESS [SIZE]", "Shows bytes of a memory file, as a hexdump.", show_bytes)
     dump.word_of("MEMORY", "the memory file")
     dump.word_of("ADDRESS", "where it begins, hexadecimal")
-    dump.word_of("SIZE", "how many bytes, hexadecimal; 100 without it", nargs="?", default="100")
+    dump.word_of("SIZE", "how many bytes, as 4096 or 4K; 256 without it", nargs="?", default="256")
     differ = words_for("differ", "[OPTIONS] MEMORY OTHER [RECORD]", "Shows the pages that differ, as runs.", show_differ)
     differ.word_of("MEMORY", "a memory file")
     differ.word_of("OTHER", "another one")
@@ -78,7 +79,7 @@ def show_pages(given):
 
 def show_bytes(given):
     memory = memory_files.Memory(given.memory)
-    at, size = number_of(given.address, 16, "ADDRESS"), number_of(given.size, 16, "SIZE")
+    at, size = number_of(given.address, 16, "ADDRESS"), size_of(given.size, "SIZE")
     if at + size > END:
         raise Wrong(f"ADDRESS and SIZE must end at {END:#x} or below")
     parts = [{"start": first, "hex": data.hex()} for first, data in held_parts(memory, at, at + size)]
@@ -169,8 +170,7 @@ def make_record(given):
     if len(segments) > records.MOST_SEGMENTS or any(at % PAGE for at, _ in segments):
         raise Wrong(f"a load has at most {records.MOST_SEGMENTS} segments, each at a multiple of {address(PAGE)}")
     made = records.record_bytes(numbers.pop("head"), numbers.pop("control"), segments, **numbers)
-    with open(given.record, "wb") as out:
-        out.write(made)
+    write_bytes(given.record, made)
     print(f"{given.record}: {counted(len(segments), 'segment')}, {size_text(len(made))}")
     return 0
 

@@ -1,6 +1,4 @@
 """kernelyet look list: the list of a load record, and where it is not accepted."""
-import os
-
 from companion import memory_files, program, records, reports, shown
 from companion.lists import address_of, kind_of, merged, pairs_of, walk
 from companion.numbers import PAGE, counted
@@ -26,7 +24,7 @@ def parser():
 def checked(memory, record):
     """The line that `check` prints, what it says of a fault, and the number of the faulty word or None."""
     with Progress(f"checking the list of {record}"):
-        status, printed, said = program.run(["check", os.path.abspath(memory), os.path.abspath(record)])
+        status, printed, said = program.run(["check", "--", memory, record])
     if status not in (0, 1):
         raise Wrong(program.sentence(said))
     line = printed.splitlines()[0]

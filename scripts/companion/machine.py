@@ -8,6 +8,7 @@ from companion.numbers import PAGE, common, counted, number_of, size_of, size_te
 from companion.parsers import Parser
 from companion.progress import Progress, bar
 from companion.refusals import Wrong
+from companion.written import write_text
 
 # KPF_BUDDY, KPF_HWPOISON, KPF_OFFLINE of linux/kernel-page-flags.h
 BUDDY, POISON, OFFLINE = 1 << 10, 1 << 19, 1 << 23
@@ -113,22 +114,28 @@ def buddy_runs(runs, path):
 
 
 def note_lines(sysfs):
-    """The lines of a note file: sysfs has the size of a processor's notes in decimal, and 0x before vmcoreinfo's place."""
-    folder, lines = f"{sysfs}/devices/system/cpu", []
+    """The lines of a note file, and what sysfs does not show of them: it has the size of a processor's notes in decimal, and 0x
+    before vmcoreinfo's place."""
+    folder, lines, lacking, why = f"{sysfs}/devices/system/cpu", [], [], ""
     numbers = sorted(int(name[3:]) for name in os.listdir(folder) if name[:3] == "cpu" and name[3:].isdigit())
     for number in numbers:
         try:
             with open(f"{folder}/cpu{number}/crash_notes") as place, open(f"{folder}/cpu{number}/crash_notes_size") as size:
                 lines.append(f"{int(place.read(), 16):x} {int(size.read()):x}\n")
-        except OSError:
-            continue
+        except OSError as error:
+            lacking.append(number)
+            why = error.strerror
+    found = []
+    if lacking:
+        whose = "any processor" if lacking == numbers else f"processor {', '.join(map(str, lacking))}"
+        found.append(f"{folder} shows no crash_notes of {whose} ({why}): a core file will lack their registers")
     try:
         with open(f"{sysfs}/kernel/vmcoreinfo") as file:
             place, size = file.read().split()
             lines.append(f"{int(place, 16):x} {int(size, 16):x}\n")
-    except OSError:
-        pass
-    return lines
+    except OSError as error:
+        found.append(f"{sysfs}/kernel/vmcoreinfo is not shown ({error.strerror}): what reads a core file will lack its symbols")
+    return lines, found
 
 
 def check(pool_path, map_path):
@@ -140,11 +147,6 @@ def check(pool_path, map_path):
     pages, wrong = (sum(last - first + 1 for first, last, *_ in runs) for runs in (pool, found))
     print(f"{wrong} of {counted(pages, 'page')} of the pool are not free RAM")
     return 1 if wrong else 0
-
-
-def write_text(path, text):
-    with open(path, "w", encoding="utf-8", errors="surrogateescape") as out:
-        out.write(text)
 
 
 def make_memory(given, free):
@@ -190,9 +192,11 @@ def make(given):
     print(f"{given.folder}/pool: {counted(count, 'page')} in {counted(lines, 'line')}: {which}, "
           f"the {'lowest' if given.lowest else 'highest'} memory first")
     if not (given.ram or given.map):
-        notes = note_lines(given.sysfs)
+        notes, lacking = note_lines(given.sysfs)
         write_text(f"{given.folder}/notes", "".join(notes))
         print(f"{given.folder}/notes: {counted(len(notes), 'note')}")
+        for what in lacking:
+            print(f"warning: {what}")
     return 0
 
 

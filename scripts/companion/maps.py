@@ -1,6 +1,7 @@
 """Memory maps, the text of /proc/iomem: docs/FORMATS.md has their format."""
 from companion.numbers import END, PAGE, UNITS, without
 from companion.refusals import Wrong
+from companion.written import write_text
 
 RAM, CRASH, RESERVED = "System RAM", "Crash kernel", "Reserved"
 # Rows that take pages from RAM, also where they stand inside a row of it.
@@ -56,8 +57,7 @@ def text_of(rows):
 
 
 def write_map(path, rows):
-    with open(path, "w", encoding="utf-8", errors="surrogateescape") as out:
-        out.write(text_of(rows))
+    write_text(path, text_of(rows))
 
 
 def ram_runs(rows):

@@ -4,6 +4,7 @@ import struct
 
 from companion.numbers import END_PAGE, PAGE, counted
 from companion.refusals import Wrong
+from companion.written import to_write
 
 MAGIC, MOST_PAGES = b"KXMEM001", 131072
 NONE = bytes(PAGE)
@@ -50,7 +51,7 @@ class Writer:
     until `end` has written the number of pages."""
 
     def __init__(self, path):
-        self.count, self.file = 0, open(path, "wb")
+        self.count, self.file = 0, to_write(path)
         self.file.write(MAGIC + bytes(8))
 
     def add(self, number, data):

@@ -26,6 +26,11 @@ def parser():
     return words
 
 
+def zero_page_rows(page):
+    """The E820 rows (start, size, kind) in a zero page."""
+    return [struct.unpack_from("<QQI", page, 0x2D0 + 20 * i) for i in range(min(page[0x1E8], 128))]
+
+
 def field(page, at, width):
     return int.from_bytes(page[at : at + width], "little")
 
@@ -57,7 +62,7 @@ class Parameters:
 
     def rows(self):
         """The E820 rows in the zero page, and those of the records of type SETUP_E820_EXT (struct setup_data)."""
-        rows = [struct.unpack_from("<QQI", self.page, 0x2D0 + 20 * i) for i in range(self.page[0x1E8])]
+        rows = zero_page_rows(self.page)
         at, seen = self.setup_data, set()
         while at and at not in seen and self.mem <= at <= self.mem + len(self.page) - 16:
             seen.add(at)

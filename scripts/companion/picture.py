@@ -10,6 +10,7 @@ from companion.progress import Progress
 from companion.records import Record
 from companion.refusals import Wrong
 from companion.scene import scene_of
+from companion.written import write_text
 
 # the examples with a picture, and whether their lists preserve context
 EXAMPLES = [("first", False), ("comes-back", True), ("elf", False), ("spoiled", False), ("resident", False)]
@@ -66,8 +67,7 @@ def parser_of_list():
 def put(given, text):
     """Writes an SVG to the file of --svg, or to standard output."""
     if given.svg and given.svg != "-":
-        with open(given.svg, "w", encoding="utf-8") as out:
-            out.write(text)
+        write_text(given.svg, text)
         print(f"{given.svg}: written")
     else:
         sys.stdout.write(text)
@@ -125,8 +125,7 @@ def compare_examples(is_made):
         if found == wanted:
             continue
         if is_made:
-            with open(path, "w", encoding="utf-8") as out:
-                out.write(wanted)
+            write_text(path, wanted)
         else:
             status = 1
             print(f"{os.path.relpath(path, program.TOP)} is not what picture list --make makes", file=sys.stderr)

@@ -177,6 +177,6 @@ def draw(told, is_kept):
         pages_end += ROW
     height, width = max(words_end, pages_end) + 10, after_left + page_width + EDGE
     for start, size, name in told.segments:
-        shapes.append(svg.text(EDGE, height + 14, f"{name} from {start:#x} to {start + size:#x}", size=12))
+        shapes.append(svg.text(EDGE, height + 14, f"{name} at {pages_text(start, max(1, -(-size // PAGE)))}", size=12))
         height += 20
     return svg.document(width, height + 10, shapes)

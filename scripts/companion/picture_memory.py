@@ -49,7 +49,7 @@ class Bar:
                 before = top
             kind = piece.kind
         if self.end - before >= 14:
-            last = f"{self.pieces[-1].end:#x}"
+            last = f"{self.pieces[-1].end - 1:#x}"
             yield svg.text(self.left - 8, self.end + 4, last, 11, colour="#666", anchor="end", has_edge=True)
         yield svg.rectangle(self.left, self.top, WIDTH, self.end - self.top, "none", "#555")
 

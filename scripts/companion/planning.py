@@ -144,13 +144,20 @@ class Plan:
         pool = [] if self.is_crash else ["pool"]
         return [*words, "memory.kxmem", *pool, "loaded.kxmem", "loaded.record", os.path.abspath(given.kernel)]
 
+    def names(self):
+        """What the user calls the files by whose names the program is called; those that were not given, by what they are or
+        where they lie."""
+        given = self.given
+        names = {name: f"{self.folder}/{name}" for name in ("memory.kxmem", "loaded.kxmem", "loaded.record")}
+        names.update(map=self.machine.source, pool=given.pool or "all free RAM from 1 MiB on")
+        names.update({os.path.abspath(path): path for path in (given.initrd, given.notes, given.purgatory, given.kernel) if path})
+        return names
+
     def refusal_of(self, said):
         """The sentence of a refusal, in which the files have the names that were given."""
         sentence = program.sentence(said).partition(OF_PLAN)[0]
-        for name in ("initrd", "notes", "purgatory", "kernel"):
-            path = getattr(self.given, name)
-            sentence = sentence.replace(f'"{os.path.abspath(path)}"', f'"{path}"') if path else sentence
-        return sentence
+        quoted = {f'"{name}"': f'"{known}"' for name, known in self.names().items()}
+        return re.sub("|".join(map(re.escape, quoted)), lambda found: quoted[found[0]], sentence)
 
     def load_once(self):
         with Progress("loading the kernel into an empty memory"):

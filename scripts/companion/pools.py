@@ -2,6 +2,7 @@
 from companion import maps
 from companion.numbers import END_PAGE, PAGE, common
 from companion.refusals import Wrong
+from companion.written import to_write
 
 MOST_POOL = 262144
 # The pages of a line, where the highest memory comes first: 2 MiB. A pool is drawn in the order of its text, and the pages of
@@ -38,7 +39,7 @@ def pool_lines(runs, is_highest_first):
 def write_pool(path, runs, is_highest_first):
     """Writes the pool, and answers the number of its lines and of its pages."""
     lines, count = pool_lines(runs, is_highest_first)
-    with open(path, "w", encoding="ascii") as out:
+    with to_write(path, True) as out:
         out.writelines(lines)
     return len(lines), count
 

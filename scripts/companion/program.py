@@ -71,5 +71,7 @@ def tool(words, folder):
     except OSError:
         raise Wrong(f"there is no {words[0]}: gcc and binutils are needed") from None
     if ended.returncode:
-        raise Wrong(f"'{' '.join(words)}' ended with status {ended.returncode}: {ended.stderr.strip()}")
+        lines = ended.stderr.strip().splitlines() or ["it said nothing"]
+        told = next((line for line in lines if "error" in line or "fail" in line), lines[0])
+        raise Wrong(f"'{' '.join(words)}' ended with status {ended.returncode}: {told}")
     return ended.stdout

@@ -2,6 +2,7 @@
 import os
 import sys
 import threading
+import time
 
 from companion.numbers import size_text
 
@@ -35,6 +36,31 @@ class Progress:
             print(f"\r\033[K{self.what}: {told}", end="", file=sys.stderr, flush=True)
         if seconds:
             print("\r\033[K", end="", file=sys.stderr, flush=True)
+
+
+class Silence:
+    """Tells on standard error, where that is a terminal, for how many seconds nothing was said by what is waited for. The line
+    is cleared away before the next words are printed."""
+
+    def __init__(self):
+        self.last, self.is_shown, self.lock = time.monotonic(), False, threading.Lock()
+        self.is_told = sys.stderr is not None and sys.stderr.isatty()
+
+    def tell(self, said):
+        """Tells it, after a second of silence; what was said before is not written over."""
+        seconds = time.monotonic() - self.last
+        with self.lock:
+            if self.is_told and seconds >= 1:
+                line_end = "" if self.is_shown or not said or said.endswith(b"\n") else "\n"
+                print(f"{line_end}\r\033[Knothing was said for {seconds:.0f} s", end="", file=sys.stderr, flush=True)
+                self.is_shown = True
+
+    def end(self):
+        """Something is said, or nothing more is waited for."""
+        with self.lock:
+            if self.is_shown:
+                print("\r\033[K", end="", file=sys.stderr, flush=True)
+            self.last, self.is_shown = time.monotonic(), False
 
 
 def growth(paths, whole=0):

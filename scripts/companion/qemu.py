@@ -7,8 +7,11 @@ import sys
 import threading
 import time
 
+from companion import endings
 from companion.numbers import PAGE, runs, span
+from companion.progress import Silence
 from companion.refusals import Wrong
+from companion.written import to_write
 
 QEMU = "qemu-system-x86_64"
 # This machine has no RAM between 3 and 4 GiB, and none that can be laid between 640 KiB and 1 MiB.
@@ -38,8 +41,9 @@ class Machine:
 
     def __init__(self, folder, ram, words, is_told=True):
         self.folder, self.ram, self.is_told, self.said = folder, ram, is_told, b""
+        self.silence = Silence()
         self.memory, self.reason = f"{folder}/ram", None
-        with open(self.memory, "wb") as file:
+        with to_write(self.memory) as file:
             file.truncate(ram * MIB)
         words = [
             QEMU, "-cpu", "max", "-m", str(ram), "-machine", "pc,memory-backend=ram,max-ram-below-4g=3G",
@@ -70,6 +74,7 @@ class Machine:
         for data in iter(lambda: self.run.stdout.read1(4096), b""):
             self.said += data
             if self.is_told:
+                self.silence.end()
                 sys.stdout.buffer.write(data)
                 sys.stdout.buffer.flush()
 
@@ -89,15 +94,18 @@ class Machine:
 
     def ask(self, command, **arguments):
         """Gives the monitor a command, and waits for its answer."""
-        json.dump({"execute": command, "arguments": arguments}, self.answers)
-        self.answers.flush()
-        for line in self.answers:
-            answer = json.loads(line)
-            if "error" in answer:
-                raise Wrong(f"QEMU's {command}: {answer['error']['desc']}")
-            if "return" in answer:
-                return answer["return"]
-            self.events.append(answer)
+        try:
+            json.dump({"execute": command, "arguments": arguments}, self.answers)
+            self.answers.flush()
+            for line in self.answers:
+                answer = json.loads(line)
+                if "error" in answer:
+                    raise Wrong(f"QEMU's {command}: {answer['error']['desc']}")
+                if "return" in answer:
+                    return answer["return"]
+                self.events.append(answer)
+        except ConnectionError:
+            pass
         raise Wrong(f"QEMU went away in {command}")
 
     def wait_for(self, text, seconds):
@@ -110,15 +118,28 @@ class Machine:
         return True
 
     def wait_for_end(self, seconds):
-        """Waits until the machine has ended: None where it turned itself off, else why not."""
-        try:
-            self.run.wait(seconds)
-        except subprocess.TimeoutExpired:
-            return f"the machine did not turn itself off in {seconds} seconds"
+        """Waits until the machine has ended, or its kernel has said that it goes no further: None where it turned itself off,
+        else why not."""
+        end, seen = time.monotonic() + seconds, 0
+        while self.run.poll() is None:
+            # what was said last may be the end of a line that began before
+            new, seen = self.said[max(0, seen - 1024) :], len(self.said)
+            if endings.is_halted(new):
+                return "the kernel halted the machine, and did not turn it off"
+            if endings.is_over(new):
+                return endings.panic_of(self.said) or "the kernel panicked"
+            if endings.panic_of(new):
+                end = min(end, time.monotonic() + endings.AFTER_PANIC)
+            if time.monotonic() > end:
+                silent = "" if self.said else (", and said nothing on its serial line: a Linux kernel does so where its "
+                                               "command line has no console=ttyS0")
+                return endings.panic_of(self.said) or f"the machine did not turn itself off in {seconds} seconds{silent}"
+            self.silence.tell(self.said)
+            time.sleep(0.2)
         self.reader.join(5)
         found = [json.loads(line) for line in self.answers if line.strip()]
         reasons = [event["data"]["reason"] for event in [*self.events, *found] if event.get("event") == "SHUTDOWN"]
-        return None if "guest-shutdown" in reasons else f"the machine did not turn itself off: {reasons or 'it failed'}"
+        return endings.by_reason(self.said, reasons)
 
     def lay(self, memory, keep):
         """Lays the pages of a memory file into the machine's memory. Answers the pages for which it has no RAM or that

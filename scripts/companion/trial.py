@@ -1,16 +1,19 @@
 """kernelyet try: boots a memory file in a virtual machine, and shows what its serial line says."""
 import re
+import socket
 import sys
 import tempfile
 
 from companion import qemu
 from companion.memory_files import Memory
 from companion.numbers import PAGE, counted, span
+from companion.parameters import zero_page_rows
 from companion.parsers import Parser, integer, mebibytes
 from companion.program import tool
 from companion.progress import Progress
 from companion.refusals import Wrong
 from companion.words import name_called
+from companion.written import write_text
 
 TEXT = """Boots a memory file that `boot`, `exec` or `load-panic` wrote in a virtual
 machine, and shows what its serial line says.
@@ -25,10 +28,13 @@ that the firmware's work there does not count. The stub itself lies in pages
 that the file does not have. Where memory at the jump differs from the file,
 that is said: pages for which the machine has no RAM, and pages of zeros in which
 the firmware left bytes."""
-EPILOG = """It needs qemu-system-x86_64, gcc and binutils. Status 0 where the machine turned
-itself off within the time, else 1."""
+EPILOG = """It needs qemu-system-x86_64, gcc and binutils. It ends when the machine turns
+itself off or resets itself, when its kernel says that it panicked or halted, or
+after the time. Status 0 where the machine turned itself off, else 1."""
 
 STUB_PAGES = 4
+# kinds of E820 rows: ACPI Tables, ACPI Non-volatile Storage
+ACPI = (3, 4)
 # A Multiboot kernel: 1 GiB pages that map the first 512 GiB to themselves. It says on the second serial line that it is
 # there, waits for a byte, and jumps. TABLES is the address of its two pages of tables.
 STUB = r"""
@@ -118,8 +124,7 @@ def start_of(given):
 
 
 def make_stub(folder, start, first):
-    with open(f"{folder}/stub.S", "w", encoding="ascii") as out:
-        out.write(STUB)
+    write_text(f"{folder}/stub.S", STUB)
     names = [f"-D{name}=0x{value}" for name, value in zip(["ENTRY", "RAX", "RBX", "RSI"], start)]
     names.append(f"-DTABLES={(first + STUB_PAGES - 2) * PAGE:#x}")
     tool(["gcc", "-m32", *names, "-c", "-o", "stub.o", "stub.S"], folder)
@@ -165,15 +170,31 @@ def boot(machine, memory, stub, seconds):
     jump.settimeout(seconds)
     try:
         is_there = jump.recv(1) == b"J"
-    except TimeoutError:
+    except (socket.timeout, ConnectionError):
         is_there = False
     if not is_there:
         raise Wrong("the stub did not start: the machine's firmware did not load it")
     with Progress("laying the memory"):
         found = machine.lay(memory, range(stub, stub + STUB_PAGES))
     say_differences(*found, stub)
-    jump.send(b"G")
-    return machine.wait_for_end(seconds)
+    try:
+        jump.send(b"G")
+    except ConnectionError:
+        raise Wrong("the machine went away before the jump") from None
+    fault = machine.wait_for_end(seconds)
+    machine.silence.end()
+    return fault
+
+
+def likely_cause(memory, rsi):
+    """What may be behind a machine that did not turn itself off: a Linux kernel finds the machine's ACPI tables, by which it
+    would do so, in the rows of the map that it was handed."""
+    page = memory.bytes_at(rsi, PAGE)
+    is_linux = page[0x202:0x206] == b"HdrS"
+    if not is_linux or any(kind in ACPI for _, _, kind in zero_page_rows(page)):
+        return ""
+    return ("; a likely cause: the map with which the kernel was loaded has no ACPI Tables, and without these Linux turns no "
+            "machine off")
 
 
 def main(arguments):
@@ -188,5 +209,5 @@ def main(arguments):
         with qemu.Machine(folder, ram, words) as machine:
             fault = boot(machine, memory, stub, given.seconds)
     if fault:
-        print(f"\n{name_called()}: {fault}", file=sys.stderr)
+        print(f"\n{name_called()}: {fault}{likely_cause(memory, int(start[3], 16))}", file=sys.stderr)
     return 1 if fault else 0

@@ -5,6 +5,8 @@ import os
 import sys
 from typing import NamedTuple
 
+from companion import refusals
+
 
 class Word(NamedTuple):
     """A word of the companion: the module that has `parser()` and `main(arguments)`, which answers the status; and what it
@@ -82,13 +84,10 @@ def main(argv):
         words = [*words[1:], "--help"]
     first = words[0] if words else ""
     if first in WORDS:
-        from companion import refusals
-
         module = importlib.import_module(WORDS[first].module)
         return refusals.call(lambda: module.main(words[1:]), name)
     if first in ("--help", "-h") and len(words) == 1:
-        print(help_text())
-        return 0
+        return refusals.call(lambda: print(help_text()), name)
     # to options the program has an answer, also to those of kexec(8)
     if first not in COMMANDS and not first.startswith("-"):
         return refuse(first, name)

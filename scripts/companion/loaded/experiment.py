@@ -13,7 +13,8 @@ from companion.loaded.guest_machine import Guest
 from companion.memory_files import Memory
 from companion.numbers import PAGE, address, counted
 from companion.parsers import Parser, integer
-from companion.refusals import Wrong
+from companion.refusals import NothingTried, Wrong
+from companion.written import to_write
 
 TEXT = """Boots a guest in QEMU, which loads a next kernel by kexec. The guest stands
 still; its memory is dumped, and `loaded` reads the image from the dump; `check`
@@ -181,13 +182,13 @@ class Story:
 def tell_story(given, folder):
     """Follows one guest; whether all was as it must be."""
     inner = guest_disk.next_initrd(given)
-    with open(f"{folder}/initrd", "wb") as out:
+    with to_write(f"{folder}/initrd") as out:
         out.write(guest_disk.initrd(given, inner))
     with Guest(folder, given, f"{folder}/initrd") as guest:
         try:
             return follow(Story(given, folder, guest), given)
         finally:
-            with open(f"{folder}/console", "w", encoding="utf-8") as out:
+            with to_write(f"{folder}/console", True) as out:
                 out.write(guest.text())
 
 
@@ -216,7 +217,7 @@ def main(arguments):
              ("static busybox (--busybox)", given.busybox)]
     lacks = [qemu.QEMU] * (not shutil.which(qemu.QEMU)) + [what for what, path in files if not os.path.isfile(path)]
     if lacks:
-        raise Wrong(f"there is no {', no '.join(lacks)}")
+        raise NothingTried(f"nothing was tried: there is no {', no '.join(lacks)}")
     program.ready()
     with tempfile.TemporaryDirectory(prefix="kernelyet-loaded-") as folder:
         try:

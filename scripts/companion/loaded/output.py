@@ -6,6 +6,7 @@ from companion.memory_files import MOST_PAGES, Writer
 from companion.numbers import PAGE
 from companion.records import record_bytes
 from companion.refusals import Wrong
+from companion.written import to_write
 
 
 def record_of(found, is_copies):
@@ -48,7 +49,7 @@ def write(folder, kernel, found, rows, is_all=False, is_copies=False):
     os.makedirs(folder, exist_ok=True)
     pages = found.kept() | (set(found.wanted()) if is_all else set())
     counts = write_memory(f"{folder}/memory.kxmem", kernel.physical, pages)
-    with open(f"{folder}/record", "wb") as out:
+    with to_write(f"{folder}/record") as out:
         out.write(record)
     maps.write_map(f"{folder}/map", rows)
     return counts
