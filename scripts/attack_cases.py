@@ -84,30 +84,30 @@ def load_cases(object_file):
     elf = example("elf", "memory.kxmem", "pool", "kernel", "map")
     raw = ["--type", "raw", "--at", "2000"]
     of_map = {"memory.kxmem": EMPTY, "pool": POOL, "map": MAP}
-    linux = of_map | {"kernel": bzimage(), "initrd": b"initrd"}
+    linux = {**of_map, "kernel": bzimage(), "initrd": b"initrd"}
     four = ["memory.kxmem", "pool", "out", "kernel"]
     five = ["memory.kxmem", "pool", "out", "record", "kernel"]
     cases = [
         Case("boot", ["boot", *raw, *four], first, ["out"]),
         Case("boot-kept", ["boot", "--kept", "2", *raw, *four], back, ["out"]),
         # page 0x200 is passed over, since it does not lie below the address 100000
-        Case("boot-below", ["boot", "--below", "100000", *raw, *four], first | {"pool": b"10\n200\n11-12\n2\n"}, ["out"]),
+        Case("boot-below", ["boot", "--below", "100000", *raw, *four], {**first, "pool": b"10\n200\n11-12\n2\n"}, ["out"]),
         Case("load", ["load", *raw, *five], first, ["out", "record"]),
         Case("load-kept", ["load", "--kept", *raw, *five], back, ["out", "record"]),
         Case("boot-elf", ["boot", "--map", "map", *four], elf, ["out"]),
         Case("boot-linux", ["boot", "--map", "map", "--initrd", "initrd", "--command", "quiet", *four], linux, ["out"]),
         Case("boot-multiboot", ["boot", "--map", "map", *four, "module"],
-             of_map | {"kernel": multiboot(), "module": b"module"}, ["out"]),
+             {**of_map, "kernel": multiboot(), "module": b"module"}, ["out"]),
     ]
     drill = example("drill", "memory.kxmem", "pool", "map", "events")
     cases.append(Case("drill", ["drill", "--map", "map", "memory.kxmem", "pool", "out", "events"], drill, ["out"]))
     if object_file:
         cases.append(Case("boot-purgatory", ["boot", "--type", "elf", "--map", "map", "--purgatory", "purgatory", *four],
-                          of_map | {"kernel": elf["kernel"], "purgatory": object_file}, ["out"]))
+                          {**of_map, "kernel": elf["kernel"], "purgatory": object_file}, ["out"]))
     panic = {name: linux[name] for name in ("memory.kxmem", "map", "kernel", "initrd")}
     cases.append(Case("load-panic", ["load-panic", "--map", "map", "--initrd", "initrd", "--notes", "notes",
                                      "memory.kxmem", "out", "record", "kernel"],
-                      panic | {"notes": b"200000 168\n201000 168\n"}, ["out", "record"]))
+                      {**panic, "notes": b"200000 168\n201000 168\n"}, ["out", "record"]))
     resident = example("resident", "memory.kxmem", "pool", "kernel", "pairs")
     cases.append(Case("boot-resident", ["boot-resident", "--at", "2000", *four, "pairs"], resident, ["out"]))
     core = example("core", "memory.kxmem", "map", "notes", "kernel")
@@ -146,7 +146,7 @@ def case_after(name, words, load, outputs, folder):
 def cases(folder, names):
     """The cases of these names; all where none is given. Each command of the program's table has one."""
     by_name = {case.name: case for case in load_cases(purgatory(folder))}
-    words = {name: case.words for name, case in by_name.items()} | {row[0]: row[1] for row in AFTER}
+    words = {**{name: case.words for name, case in by_name.items()}, **{row[0]: row[1] for row in AFTER}}
     without = [command for command in kexec_table.read_commands() if command not in {its[0] for its in words.values()}]
     if without:
         raise files.Wrong(f"no case is of {', '.join(without)}: add one to scripts/attack_cases.py")

@@ -132,6 +132,16 @@ def test_believed(tests):
     guide = tests.read("believed/docs/BELIEVED.md").decode()
     tests.same("the quote", "HasBooted n = MemoryStarts (boot_files n)\n```" in guide, True)
     tests.same("the lines alone", "```\nMemoryStarts n = n ≡ n\n```" in guide, True)
+    try_faults(tests, call)
+    tests.write("believed/crates/boot_laws/src/laws.rt", "")
+    tests.same("a root without a clause", call("--check"), (1, "", "believed: boot_laws has no clause\n"))
+    os.remove(f"{tree}/crates/recorded_kexec/src/run.rt")
+    wanted = "believed: crates/recorded_kexec/src/run.rt is missing, where kexec_recorded stands\n"
+    tests.same("a root without its file", call("--check"), (1, "", wanted))
+
+
+def try_faults(tests, call):
+    """Each fault by itself, in files that are right otherwise."""
     for name, old, new, wanted in FAULTS:
         text = tests.read(f"believed/{name}").decode()
         tests.same(f"{name} has it", old in text, True)
@@ -142,8 +152,3 @@ def test_believed(tests):
         # an import stands for the next change, and changes nothing by itself
         if wanted:
             tests.write(f"believed/{name}", text)
-    tests.write("believed/crates/boot_laws/src/laws.rt", "")
-    tests.same("a root without a clause", call("--check"), (1, "", "believed: boot_laws has no clause\n"))
-    os.remove(f"{tree}/crates/recorded_kexec/src/run.rt")
-    wanted = "believed: crates/recorded_kexec/src/run.rt is missing, where kexec_recorded stands\n"
-    tests.same("a root without its file", call("--check"), (1, "", wanted))

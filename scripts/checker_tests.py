@@ -2,6 +2,9 @@
 import os
 import re
 import shutil
+import sys
+
+from kexec_files import memory_bytes
 
 TOP = os.path.dirname(os.path.dirname(os.path.realpath(__file__)))
 PLANTED = [  # the check, the file, what stands in it, what is planted there, and what is then told
@@ -16,6 +19,8 @@ PLANTED = [  # the check, the file, what stands in it, what is planted there, an
      "examples/first/list.svg is not what"),
     ("scripts/run-scenes --faults", "crates/command_parts/src/status.rt", "pub enum Status {\n",
      "pub enum Status {\n    Planted,\n", "Planted: no scene ends so"),
+    ("scripts/run-scenes --faults", "crates/command_tests/src/refused_memory_tests.rt", "Status::Memory", "Status::Done",
+     "status 12, Memory: no scene ends so, and no test"),
     ("scripts/run-scenes --faults", "crates/scenes/data/below.scenes", "\ntells POOL ", "\n# tells POOL ",
      ": no scene tells its sentence"),
     ("scripts/believed --check", "docs/BELIEVED.list", "boot_params Numbers.high\n", "", "  + boot_params Numbers.high"),
@@ -60,9 +65,13 @@ sys.exit(1)
 
 
 def copied(folder):
-    """A copy of the repository, without what is built."""
+    """A copy of what the checks read of the repository."""
     tree = f"{folder}/repository"
-    shutil.copytree(TOP, tree, ignore=shutil.ignore_patterns("out", ".git", "__pycache__"), symlinks=True)
+    os.makedirs(tree)
+    for name in ("CONTRIBUTING.md", "README.md", "crates.txt", "kexec"):
+        shutil.copy(f"{TOP}/{name}", tree)
+    for name in (".ci", "bench", "crates", "docs", "examples", "scripts", "tests"):
+        shutil.copytree(f"{TOP}/{name}", f"{tree}/{name}", ignore=shutil.ignore_patterns("out", "__pycache__"))
     return tree
 
 
@@ -136,6 +145,19 @@ def test_misuses(tests):
         tests.same(f"must-not-compile with back_twice {what}", (status, found), (1, ["back_twice"]))
 
 
+def test_tools(tests):
+    """Where a tool is missing, and so nothing is tried, the status is 2."""
+    os.makedirs(f"{tests.folder}/tools")
+    os.symlink(sys.executable, f"{tests.folder}/tools/python3")
+    env = {**tests.env, "PATH": f"{tests.folder}/tools"}
+    tests.write("handed", memory_bytes({2: b"handed"}))
+    for words, wanted in ((["try", "--start", "start entry 2000 rax 0 rbx 0 rsi 0", "handed"], "there is no gcc"),
+                          (["guest"], "nothing was tried: there is no qemu"),
+                          (["guest", "--loaded"], "nothing was tried: there is no qemu")):
+        status, out, said = tests.run("scripts/kernelyet", *words, env=env)
+        tests.same(f"{words[:2]} without tools", (status, out, wanted in said, said.count("\n")), (2, "", True, 1))
+
+
 def test_gate(tests):
     """Each check of .ci/run is one that a test here, or beside this one, has seen fail."""
     with open(f"{TOP}/.ci/run", encoding="utf-8") as file:
@@ -148,4 +170,4 @@ def test_gate(tests):
     tests.same("test-scripts counts what is wrong", (probe.count, probe.failed), (1, 1))
 
 
-ALL = (test_planted, test_programs, test_misuses, test_gate)
+ALL = (test_planted, test_programs, test_misuses, test_tools, test_gate)

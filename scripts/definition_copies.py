@@ -110,7 +110,7 @@ def answers_for(module, goals):
 
 
 def flat(module):
-    return module.removeprefix("Rattle.").replace(".", "_").replace("+", "_").replace("-", "_")
+    return re.sub(r"^Rattle\.", "", module).replace(".", "_").replace("+", "_").replace("-", "_")
 
 
 class Copies:

@@ -44,7 +44,7 @@ class Checker:
         words += ["--antt-project", f"{builder.kit}/rattle/logic/antt-project.json", "--logic-built", f"{builder.kit}/logic_built"]
         places = {it: self.library(it) for it in sorted(own, key=lambda it: len(below(builder.stands_on, it)))}
         rows = {it: f"{builder.kit}/rlibs/{it}.rlib" for it in sorted(kits - set(builder.uses))}
-        places |= {it: place for it, place in rows.items() if os.path.isdir(place)}
+        places.update((it, place) for it, place in rows.items() if os.path.isdir(place))
         for name, place in places.items():
             words += ["--extern", f"{name}={place}", "-L", f"dependency={os.path.dirname(place)}"]
         return [*words, "--allow-holes"]

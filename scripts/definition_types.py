@@ -10,7 +10,7 @@ PRELUDE = "use Rattle.std.specs.Prelude.{ℕ, Bool, List, Option, Result}"
 
 def own_module(module):
     """The module that has the type: that of its variants has the same."""
-    return module.removesuffix(".TheVariants")
+    return module[: -len(".TheVariants")] if module.endswith(".TheVariants") else module
 
 
 def source_of(crate, name):

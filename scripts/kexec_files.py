@@ -21,8 +21,8 @@ from companion.written import to_write
 
 __all__ = ["DIGESTS", "END", "KEXEC", "Memory", "NUMBERS", "PAGE", "Parser", "Record", "Segment", "TOP", "Wrong",
            "WrongWords", "build", "call", "integer", "memory_bytes", "module_of", "numbers", "program_given", "random_bytes",
-           "read_record", "run", "segments_of", "to_write", "tool", "unknown", "without_digests", "words_given", "write_memory", "write_pool",
-           "write_ram_map"]
+           "read_record", "run", "segments_of", "to_write", "tool", "unknown", "without_digests", "words_given",
+           "write_memory", "write_pool", "write_ram_map"]
 
 
 class Parser(argparse.ArgumentParser):
@@ -95,8 +95,7 @@ def run(words, folder):
 
 def unknown(words):
     """What the program does not know of these words: the command or an option; None where it knows all."""
-    _, printed, said = program.run([words[0], "--help"], TOP)
-    told = printed + said
+    _, told, _ = program.run([words[0], "--help"], TOP)
     if not re.match(rf"Usage: \S+ {re.escape(words[0])} ", told):
         return f"command {words[0]}"
     return next((f"option {word}" for word in words if word.startswith("--") and word not in told), None)

@@ -31,6 +31,11 @@ UNMET = {
     "a plan looks up four symbols, which have names of their own": ["Plan Link NoSymbol Other"],
 }
 
+# Statuses that no scene ends with, the tests that do, and how these name them.
+TESTED = {
+    "Heavy": ("command_tests/src/limit_tests.rt", '"Heavy { count: '),
+    "Memory": ("command_tests/src/refused_memory_tests.rt", "let Status::Memory = status")}
+
 # Endings that a scene meets inside alone, where no sentence is said.
 UNTOLD = {
     "Unwritten": "scripts/attack-devices tells it, with files that take no byte",
@@ -67,6 +72,24 @@ def endings(known, title):
             yield (name, *rest)
 
 
+def statuses():
+    """The exit statuses by the names of what they are of."""
+    with open(f"{CRATES}/command_parts/src/status.rt", encoding="utf-8") as file:
+        return {name: int(number) for name, number in re.findall(r"^ +Status::(\w+)[^=\n]* => (\d+),$", file.read(), re.M)}
+
+
+def untried_statuses(ended):
+    """The statuses that no scene ends with, nor a test that is said to."""
+    for name, number in statuses().items():
+        is_tried = name == "Done" or any(names[:1] == (name,) for names in ended)
+        if name in TESTED:
+            path, line = TESTED[name]
+            with open(f"{CRATES}/{path}", encoding="utf-8") as file:
+                is_tried = line in file.read()
+        if not is_tried:
+            yield f"status {number}, {name}: no scene ends so, and no test"
+
+
 def met():
     """The endings of the commands of all scenes, and which of them have a sentence."""
     ended, told, names = set(), set(), None
@@ -99,9 +122,10 @@ def list_missing():
     wrong = {names: why_missing(names, ended, told) for names in wanted}
     listed = {tuple(name.split()) for unmet in UNMET.values() for name in unmet}
     wrong.update((names, "there is no such ending") for names in (ended | listed) - set(wanted) - {("Done",)})
-    for names, why in sorted(wrong.items()):
-        if why:
-            print(f"{' '.join(names)}: {why}")
-    count = sum(why is not None for why in wrong.values())
-    print(f"{len(wanted)} endings, {sum(map(len, UNMET.values()))} that no scene meets, {count} not as they are to be")
+    untried = list(untried_statuses(ended))
+    for line in [f"{' '.join(names)}: {why}" for names, why in sorted(wrong.items()) if why] + untried:
+        print(line)
+    count = sum(why is not None for why in wrong.values()) + len(untried)
+    print(f"{len(wanted)} endings of {len(statuses())} statuses, {sum(map(len, UNMET.values()))} endings that no scene meets, "
+          f"{count} not as they are to be")
     return 1 if count else 0

@@ -20,7 +20,7 @@ def parser():
     words = Parser("compare", "[OPTIONS] RECORD OTHER [MEMORY OTHER-MEMORY]", TEXT, EPILOG)
     words.word_of("RECORD", "a load record")
     words.word_of("OTHER", "another one")
-    words.word_of("MEMORY", "the memory file of each, both or none", nargs="*")
+    words.word_of("MEMORY", "the memory file of each, both or none", nargs="*", default=[])
     reports.option_json(words)
     return words
 

@@ -4,7 +4,7 @@ from companion.lists import address_of, kind_of, walk
 from companion.numbers import END, PAGE, address, counted, number_of, runs, size_of, size_text
 from companion.parsers import Parser, choose
 from companion.progress import Progress
-from companion.refusals import Wrong
+from companion.refusals import WrongWords
 from companion.written import write_bytes
 
 TEXT = """Shows what stands in memory files, load records and lists.
@@ -81,7 +81,7 @@ def show_bytes(given):
     memory = memory_files.Memory(given.memory)
     at, size = number_of(given.address, 16, "ADDRESS"), size_of(given.size, "SIZE")
     if at + size > END:
-        raise Wrong(f"ADDRESS and SIZE must end at {END:#x} or below")
+        raise WrongWords(f"ADDRESS and SIZE must end at {END:#x} or below")
     parts = [{"start": first, "hex": data.hex()} for first, data in held_parts(memory, at, at + size)]
     reports.show(given, "look bytes", {"start": at, "end": at + size, "parts": parts}, dump_lines(memory, at, at + size))
     return 0
@@ -164,11 +164,11 @@ def make_record(given):
     for word in given.address:
         start, equals, path = word.partition("=")
         if not equals:
-            raise Wrong(f"{word!r} is not a segment: give ADDRESS=FILE")
+            raise WrongWords(f"{word!r} is not a segment: give ADDRESS=FILE")
         with open(path, "rb") as file:
             segments.append((number_of(start, 16, "a segment's address"), file.read()))
     if len(segments) > records.MOST_SEGMENTS or any(at % PAGE for at, _ in segments):
-        raise Wrong(f"a load has at most {records.MOST_SEGMENTS} segments, each at a multiple of {address(PAGE)}")
+        raise WrongWords(f"a load has at most {records.MOST_SEGMENTS} segments, each at a multiple of {address(PAGE)}")
     made = records.record_bytes(numbers.pop("head"), numbers.pop("control"), segments, **numbers)
     write_bytes(given.record, made)
     print(f"{given.record}: {counted(len(segments), 'segment')}, {size_text(len(made))}")

@@ -6,7 +6,7 @@ from companion.lists import address_of
 from companion.memory_files import Memory
 from companion.numbers import END, PAGE, number_of
 from companion.parsers import Parser
-from companion.refusals import Wrong
+from companion.refusals import WrongWords
 
 
 def parser():
@@ -102,7 +102,7 @@ def lines_of(rows, ending, first, place):
 def show_steps(given):
     swap = None if given.swap is None else number_of(given.swap, 16, "--swap")
     if swap is not None and (swap % PAGE or swap >= END):
-        raise Wrong(f"--swap is not a page's address: a multiple of {PAGE:#x} below {END:#x}")
+        raise WrongWords(f"--swap is not a page's address: a multiple of {PAGE:#x} below {END:#x}")
     machine, word = Machine(Memory(given.memory), swap), number_of(given.head, 16, "HEAD")
     first, count = number_of(getattr(given, "from"), 10, "FROM"), number_of(given.count, 10, "COUNT")
     rows = list(steps_of(machine, word, first + count))

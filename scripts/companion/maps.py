@@ -1,6 +1,6 @@
 """Memory maps, the text of /proc/iomem: docs/FORMATS.md has their format."""
 from companion.numbers import END, PAGE, UNITS, without
-from companion.refusals import Wrong
+from companion.refusals import Wrong, WrongWords
 from companion.written import write_text
 
 RAM, CRASH, RESERVED = "System RAM", "Crash kernel", "Reserved"
@@ -121,13 +121,13 @@ def made_up(ram, crash):
     """The map of a PC with so many bytes of RAM: a hole below 4 GiB where there are more than 3 GiB."""
     low = min(ram, 3 << 30)
     if low < 4 << 20:
-        raise Wrong("--ram: a made-up PC has 4 MiB of RAM or more")
+        raise WrongWords("--ram: a made-up PC has 4 MiB of RAM or more")
     rows = [(0, 0xFFF, RESERVED), (0x1000, 0x9FBFF, RAM), (0x9FC00, 0xFFFFF, RESERVED),
             (0x100000, low - 0x21001, RAM)]
     if crash:
         end = (low - min(64 << 20, low // 4)) & -MIB
         if end - crash < 16 << 20:
-            raise Wrong(f"--crash: {crash} bytes do not fit into {low} bytes of RAM below 3 GiB")
+            raise WrongWords(f"--crash: {crash} bytes do not fit into {low} bytes of RAM below 3 GiB")
         rows.append((end - crash, end - 1, CRASH, 2))
     rows += [(low - 0x21000, low - 0x1001, "ACPI Tables"), (low - 0x1000, low - 1, "ACPI Non-volatile Storage"),
              (0xFEC00000, 0xFEC003FF, "IOAPIC 0"), (0xFFFC0000, 0xFFFFFFFF, RESERVED)]

@@ -2,7 +2,7 @@
 
 Addresses and page numbers are printed in hexadecimal with 0x, and taken with it or without. Sizes have binary units.
 """
-from companion.refusals import Wrong
+from companion.refusals import WrongWords
 
 PAGE = 4096
 # one more than the last address and the last page number that the program takes
@@ -19,7 +19,7 @@ def number_of(text, base, what):
             raise ValueError
         return int(digits, base)
     except ValueError:
-        raise Wrong(f"{what} is not a {'hexadecimal ' * (base == 16)}number: {text!r}") from None
+        raise WrongWords(f"{what} is not a {'hexadecimal ' * (base == 16)}number: {text!r}") from None
 
 
 def size_of(text, what="the size"):
@@ -28,7 +28,7 @@ def size_of(text, what="the size"):
     unit = UNITS.get(word[-1:].upper())
     digits = word[:-1] if unit else text
     if not (digits.isascii() and digits.isdigit()) or int(digits) == 0:
-        raise Wrong(f"{what} {text!r} is not a size: give a number of bytes, or 256M, 8G")
+        raise WrongWords(f"{what} {text!r} is not a size: give a number of bytes, or 256M, 8G")
     return int(digits) << (unit or 0)
 
 

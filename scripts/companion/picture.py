@@ -8,7 +8,7 @@ from companion.memory_files import Memory
 from companion.parsers import Parser, choose
 from companion.progress import Progress
 from companion.records import Record
-from companion.refusals import Wrong
+from companion.refusals import Wrong, WrongWords
 from companion.scene import scene_of
 from companion.written import write_text
 
@@ -108,7 +108,7 @@ def example_pictures():
     """Each example's picture: its file, and what it is to be."""
     folder = f"{program.TOP}/examples"
     if program.IS_INSTALLED or not os.path.isdir(folder):
-        raise Wrong("--check and --make are for the source tree: there are no examples with pictures here")
+        raise WrongWords("--check and --make are for the source tree: there are no examples with pictures here")
     for name, is_kept in EXAMPLES:
         with open(f"{folder}/{name}/dump", encoding="ascii") as dump:
             yield f"{folder}/{name}/list.svg", picture_list.draw(picture_list.List(dump.read()), is_kept)

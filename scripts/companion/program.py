@@ -3,7 +3,7 @@ import os
 import subprocess
 import sys
 
-from companion.refusals import Wrong
+from companion.refusals import NothingTried, Wrong
 
 HERE = os.path.dirname(os.path.realpath(__file__))
 # Where the package lies: scripts/ of the source tree, or share/kernelyet/ of where it is installed.
@@ -69,7 +69,7 @@ def tool(words, folder):
     try:
         ended = subprocess.run(words, cwd=folder, stdin=subprocess.DEVNULL, capture_output=True, text=True)
     except OSError:
-        raise Wrong(f"there is no {words[0]}: gcc and binutils are needed") from None
+        raise NothingTried(f"there is no {words[0]}: gcc and binutils are needed") from None
     if ended.returncode:
         lines = ended.stderr.strip().splitlines() or ["it said nothing"]
         told = next((line for line in lines if "error" in line or "fail" in line), lines[0])

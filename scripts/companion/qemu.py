@@ -10,7 +10,7 @@ import time
 from companion import endings
 from companion.numbers import PAGE, runs, span
 from companion.progress import Silence
-from companion.refusals import Wrong
+from companion.refusals import NothingTried, Wrong
 from companion.written import to_write
 
 QEMU = "qemu-system-x86_64"
@@ -55,7 +55,7 @@ class Machine:
         try:
             self.run = subprocess.Popen(words, stdin=subprocess.DEVNULL, stdout=subprocess.PIPE, stderr=subprocess.PIPE)
         except OSError:
-            raise Wrong(f"there is no {QEMU}: Debian's package qemu-system-x86 has it") from None
+            raise NothingTried(f"there is no {QEMU}: Debian's package qemu-system-x86 has it") from None
         self.reader = threading.Thread(target=self._read, daemon=True)
         self.reader.start()
         self.events, self.answers = [], self.connect("qmp").makefile("rw", encoding="utf-8")

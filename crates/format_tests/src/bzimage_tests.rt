@@ -45,8 +45,11 @@ fn each_prefix_of_a_file_is_refused(rt: HostRuntime) -> Result<(), Fail> {
             } else {
                 BzFault::Truncated { at: at as u64 }
             };
-            assert_eq!(rt; fault(alloc, &file[..at]), Some(wanted));
-            assert_eq!(rt; is_bzimage(&file[..at]), at >= 0x206);
+            let found = (fault(alloc, &file[..at]), is_bzimage(&file[..at]));
+            assert!(rt;
+                found == (Some(wanted), at >= 0x206),
+                "{at} bytes, {sectors} sectors"
+            );
         }
         let kernel = read(alloc, &file)?;
         assert_eq!(rt; kernel.start, 0xa00);

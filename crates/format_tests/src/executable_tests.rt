@@ -85,7 +85,7 @@ fn a_file_is_refused_at_each_length(rt: HostRuntime) -> Result<(), Fail> {
     let file = file(alloc)?;
     for length in 0..=0x1c00 {
         let front = file.get(..length).ok_or("the front of the file")?;
-        assert_eq!(rt; fault_of(alloc, front), cut_fault(length));
+        assert_eq!(rt; fault_of(alloc, front), cut_fault(length), "{length} bytes");
     }
     Ok(())
 }
@@ -107,7 +107,11 @@ fn an_elf32_file_is_refused_at_each_length(rt: HostRuntime) -> Result<(), Fail> 
     let file = narrow_file(alloc)?;
     for length in 0..=120 {
         let front = file.get(..length).ok_or("the front of the file")?;
-        assert_eq!(rt; fault_of(alloc, front), narrow_cut_fault(length));
+        assert_eq!(rt;
+            fault_of(alloc, front),
+            narrow_cut_fault(length),
+            "{length} bytes"
+        );
     }
     Ok(())
 }

@@ -35,7 +35,7 @@ fn a_length_is_that_of_the_parameters(rt: HostRuntime) -> Result<(), Fail> {
 fn a_length_of_headers_has_an_end(rt: HostRuntime) -> Result<(), Fail> {
     let map = Map::read(rt.alloc(), b"0-fff : System RAM\n4000-4fff : System RAM\n")?;
     for (notes, wanted) in [(0, 176), (1023, 57_464), (usize::MAX, u64::MAX)] {
-        assert_eq!(rt; crash_headers::length(&map, notes), wanted);
+        assert_eq!(rt; crash_headers::length(&map, notes), wanted, "{notes} notes");
     }
     Ok(())
 }
@@ -48,6 +48,10 @@ fn a_length_of_information_has_an_end(rt: HostRuntime) {
         (0, usize::MAX, u64::MAX),
         (usize::MAX, 0, u64::MAX),
     ] {
-        assert_eq!(rt; info_length(rows, command, &[]), wanted);
+        assert_eq!(rt;
+            info_length(rows, command, &[]),
+            wanted,
+            "{rows} rows, {command} bytes"
+        );
     }
 }

@@ -78,7 +78,8 @@ fn each_prefix_of_a_file_is_read_as_far_as_it_goes(rt: HostRuntime) -> Result<()
     let kernel = file(rt.alloc(), 64, &[(0, &KERNEL)])?;
     for length in 0..65 {
         let front = kernel.get(..length).ok_or("a prefix")?;
-        assert_eq!(rt; loaded_length(rt.alloc(), front), loaded_front(length));
+        let found = loaded_length(rt.alloc(), front);
+        assert_eq!(rt; found, loaded_front(length), "{length} bytes");
     }
     Ok(())
 }
@@ -92,7 +93,7 @@ fn headers_at_each_place_around_the_end_of_the_search(rt: HostRuntime) -> Result
         } else {
             Err(MbFault::NoHeader)
         };
-        assert_eq!(rt; found(rt.alloc(), at)?, wanted);
+        assert_eq!(rt; found(rt.alloc(), at)?, wanted, "at {at}");
     }
     Ok(())
 }

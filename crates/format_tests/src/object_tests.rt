@@ -91,7 +91,8 @@ fn an_object_is_refused_at_each_length(rt: HostRuntime) -> Result<(), Fail> {
     let file = object_file(rt.alloc())?;
     for length in 0..=600 {
         let front = file.get(..length).ok_or("the front of the file")?;
-        assert_eq!(rt; read_object(rt.alloc(), front).err(), cut_fault(length));
+        let found = read_object(rt.alloc(), front).err();
+        assert_eq!(rt; found, cut_fault(length), "{length} bytes");
     }
     Ok(())
 }

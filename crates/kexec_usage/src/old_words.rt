@@ -1,7 +1,7 @@
 //! The words of kexec(8), which is another program, and what stands here in their place.
 
 ghost use Rattle.std.specs.Prelude.{◌≡◌, option_map};
-ghost use Rattle.kexec_usage.specs.inner.OldWords.{command_for, option_for};
+ghost use Rattle.kexec_usage.specs.inner.OldWords.{command_for, option_for, type_for};
 
 // Options of kexec(8) that act on the running machine, or on how the program does so.
 const WITHOUT_COUNTERPART: [&str; 21] = [
@@ -63,6 +63,23 @@ pub(crate) fn option_for(option: &str) -> Option<&'static str>
         Some("--initrd")
     } else if option == "--load-preserve-context" {
         Some("--kept")
+    } else {
+        None
+    }
+}
+
+/// The type of kernels that a type of kexec(8) is here.
+pub(crate) fn type_for(kind: &str) -> Option<&'static str>
+    ensures { option_map (λ s. s.now) result ≡ type_for kind.now }
+{
+    if kind == "bzImage" {
+        Some("bzimage")
+    } else if kind == "bzImage64" {
+        Some("bzimage")
+    } else if kind == "elf-x86_64" {
+        Some("elf")
+    } else if kind == "multiboot-x86" {
+        Some("multiboot")
     } else {
         None
     }

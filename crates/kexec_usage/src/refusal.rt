@@ -7,7 +7,7 @@ use crate::files::shared_file;
 use crate::given::{Answer, Given, text_of};
 use crate::lookup::option_in;
 use crate::mistake::Mistake;
-use crate::old_words::{command_for, has_no_counterpart, option_for};
+use crate::old_words::{command_for, has_no_counterpart, option_for, type_for};
 use command_table::{Argument, UsageWhy, Which, arguments_of};
 use std::fmt::{self, Display, Formatter, Write};
 
@@ -143,6 +143,16 @@ fn write_number<W: Write>(
     Ok(())
 }
 
+// A type that has not the form of one: it may be that of kexec(8).
+fn write_type<W: Write>(why: &UsageWhy, given: &[Given<'_>], f: &mut Formatter<W>) -> fmt::Result {
+    let text = text_of(given, "--type").unwrap_or("");
+    write!(f, "{why}: {text:?} is given")?;
+    match type_for(text) {
+        Some(kind) => write!(f, "; this type of kexec(8) is {kind} here"),
+        None => Ok(()),
+    }
+}
+
 fn write_same_name<W: Write>(given: &[Given<'_>], f: &mut Formatter<W>) -> fmt::Result {
     let Some((file, other)) = shared_file(given) else {
         return write!(f, "{}", UsageWhy::SameName);
@@ -188,6 +198,7 @@ impl Display for Refusal<'_> {
                 Some(mistake) => write_mistake(mistake, arguments_of(self.words), f),
                 None => write!(f, "{why}"),
             },
+            UsageWhy::Number { which: Which::Type } => write_type(why, given, f),
             UsageWhy::Number { which } => write_number(why, *which, given, f),
             UsageWhy::SameName => write_same_name(given, f),
             UsageWhy::TooManyModules => write_modules(given, f),

@@ -107,13 +107,18 @@ fn cut_after(bytes: usize) -> RecFault {
     }
 }
 
-// Whether each prefix of a file is refused as cut off, the file is read, and a byte more is refused where it stands.
-fn ends_where_it_must(rt: &HostRuntime, mut file: Vec<u8>) -> Result<bool, Fail> {
+// The length of the first prefix of a file that is not refused as cut off, if there is one.
+fn odd_prefix(rt: &HostRuntime, file: &[u8]) -> Result<Option<usize>, Fail> {
     for bytes in 0..file.len() {
         if faults(rt, &file[..bytes])? != [Some(cut_after(bytes)); 2] {
-            return Ok(false);
+            return Ok(Some(bytes));
         }
     }
+    Ok(None)
+}
+
+// Whether the file is read, and a byte more is refused where it stands.
+fn ends_there(rt: &HostRuntime, mut file: Vec<u8>) -> Result<bool, Fail> {
     let whole = faults(rt, &file)?;
     let trailing = RecFault::Trailing {
         at: file.len() as u64,
@@ -128,8 +133,10 @@ fn each_prefix_of_a_file_is_refused(rt: HostRuntime) -> Result<(), Fail> {
         let one = file_of(&rt, version, 1)?;
         let two = file_of_two(&rt, version)?;
         assert_eq!(rt; (one.len(), two.len()), lengths);
-        assert!(rt; ends_where_it_must(&rt, one)?);
-        assert!(rt; ends_where_it_must(&rt, two)?);
+        let odd = (odd_prefix(&rt, &one)?, odd_prefix(&rt, &two)?);
+        assert_eq!(rt; odd, (None, None), "{} bytes", lengths.0);
+        let ends = (ends_there(&rt, one)?, ends_there(&rt, two)?);
+        assert_eq!(rt; ends, (true, true), "{} bytes", lengths.0);
     }
     Ok(())
 }
@@ -155,7 +162,7 @@ fn room_of_two(segments: &Segments) -> Option<usize> {
 #[test]
 fn the_first_segment_keeps_the_buffer_of_its_file(rt: HostRuntime) -> Result<(), Fail> {
     let written = file_of_two(&rt, Version::Second)?;
-    for version in [Version::First, Version::Second] {
+    for (version, name) in [(Version::First, "first"), (Version::Second, "second")] {
         let file = file_of_two(&rt, version)?;
         let (front, rest) = in_two(&rt, &file)?;
         let room = rest.capacity();
@@ -163,8 +170,9 @@ fn the_first_segment_keeps_the_buffer_of_its_file(rt: HostRuntime) -> Result<(),
             .ok()
             .ok_or("a record")?;
         let found = room_of_two(&record.segments).ok_or("two segments")?;
-        assert!(rt; version == Version::First || found == room);
-        assert!(rt; record.write(rt.alloc())? == written);
+        let is_kept = version == Version::First || found == room;
+        let is_written = record.write(rt.alloc())? == written;
+        assert_eq!(rt; (is_kept, is_written), (true, true), "{name}");
     }
     Ok(())
 }

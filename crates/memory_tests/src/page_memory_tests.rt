@@ -86,7 +86,7 @@ fn each_prefix_of_a_file_is_refused(rt: HostRuntime) -> Result<(), Fail> {
         } else {
             MemFault::Truncated { at: at as u64 }
         };
-        assert_eq!(rt; fault(&rt, &file[..at]), Some(wanted));
+        assert_eq!(rt; fault(&rt, &file[..at]), Some(wanted), "{at} bytes");
     }
     assert_eq!(rt; fault(&rt, &file), None);
     Ok(())

@@ -5,14 +5,25 @@ use kx_pages::{Page, Wish};
 use segments::{SegFault, Segment, Segments};
 use std::test::*;
 
-// The numbers of Linux's errors: EADDRNOTAVAIL and EINVAL.
+// The numbers of Linux's errors: ENOMEM, EINVAL and EADDRNOTAVAIL; 0 where kexec_load(2) does not refuse so.
+const ERRNOS: [(SegFault, u8); 10] = [
+    (SegFault::Memory, 12),
+    (SegFault::NoSegments, 0),
+    (SegFault::TooMany, 22),
+    (SegFault::BadAddress { i: 0 }, 99),
+    (SegFault::Overlap { i: 1, j: 0 }, 22),
+    (SegFault::TooFull { i: 0 }, 22),
+    (SegFault::HalfOfMemory, 22),
+    (SegFault::OutsideReserved { i: 0 }, 99),
+    (SegFault::NotRam { i: 0 }, 0),
+    (SegFault::TooLarge { pages: 65_537 }, 0),
+];
+
 #[test]
 fn each_fault_has_its_errno(rt: HostRuntime) {
-    let found = (
-        SegFault::BadAddress { i: 0 }.errno(),
-        SegFault::HalfOfMemory.errno(),
-    );
-    assert_eq!(rt; found, (99, 22));
+    for (fault, errno) in ERRNOS {
+        assert_eq!(rt; fault.errno(), errno, "{fault}");
+    }
 }
 
 #[test]
@@ -38,7 +49,7 @@ fn a_page_has_its_bytes(rt: HostRuntime) -> Result<(), Fail> {
     let rows: [(u64, Option<&[u8]>); 3] = [(2, Some(b"abd")), (3, Some(b"")), (4, None)];
     for (number, wanted) in rows {
         let page = Page::new(number).ok_or("a page")?;
-        assert!(rt; segments.wanted(page) == wanted);
+        assert!(rt; segments.wanted(page) == wanted, "page {number}");
     }
     Ok(())
 }

@@ -42,24 +42,28 @@ fn fault(alloc: Global, asked: Request, text: &[u8]) -> Result<Option<PlanFault>
 }
 
 /// The type of a crash kernel, of which `load-panic` takes the type by its file alone.
-const TYPES: [(ImageType, PlanFault); 5] = [
-    (RAW, PlanFault::CrashNeedsBzimage),
-    (ImageType::Elf, PlanFault::CrashNeedsBzimage),
-    (ImageType::Multiboot, PlanFault::CrashNeedsBzimage),
-    (ImageType::Auto, PlanFault::UnknownImage),
-    (ImageType::Bzimage, PlanFault::NoReserved),
+const TYPES: [(&str, ImageType, PlanFault); 5] = [
+    ("raw", RAW, PlanFault::CrashNeedsBzimage),
+    ("elf", ImageType::Elf, PlanFault::CrashNeedsBzimage),
+    (
+        "multiboot",
+        ImageType::Multiboot,
+        PlanFault::CrashNeedsBzimage,
+    ),
+    ("by the file", ImageType::Auto, PlanFault::UnknownImage),
+    ("bzimage", ImageType::Bzimage, PlanFault::NoReserved),
 ];
 
 #[test]
 fn a_crash_kernel_of_another_type_is_refused_before_the_area(rt: HostRuntime) -> Result<(), Fail> {
-    for (image, wanted) in TYPES {
+    for (name, image, wanted) in TYPES {
         let mut asked = request(rt.alloc(), image, b"abc")?;
         asked.crash = true;
         asked.notes.push(Note {
             start: 0x400_0000,
             size: 0x400,
         })?;
-        assert_eq!(rt; fault(rt.alloc(), asked, SMALL)?, Some(wanted));
+        assert_eq!(rt; fault(rt.alloc(), asked, SMALL)?, Some(wanted), "{name}");
     }
     Ok(())
 }
@@ -85,7 +89,11 @@ fn there_are_14_modules_at_most(rt: HostRuntime) -> Result<(), Fail> {
     for (count, wanted) in [(14, None), (15, Some(many))] {
         let mut asked = request(rt.alloc(), ImageType::Multiboot, MULTIBOOT)?;
         asked.modules = modules(rt.alloc(), count)?;
-        assert_eq!(rt; fault(rt.alloc(), asked, LITTLE)?, wanted);
+        assert_eq!(rt;
+            fault(rt.alloc(), asked, LITTLE)?,
+            wanted,
+            "{count} modules"
+        );
     }
     Ok(())
 }

@@ -108,6 +108,18 @@ fn names_the_word_that_is_refused(rt: HostRuntime) -> Result<(), Fail> {
             "--reuse-cmdline is not an option of this command: the option of kexec(8) has no counterpart here",
         ),
         (
+            "boot --map f --type bzImage64 m p o k",
+            "--type must be raw, elf, bzimage or multiboot: \"bzImage64\" is given; this type of kexec(8) is bzimage here",
+        ),
+        (
+            "load --map f --type=elf-x86_64 m p o r k",
+            "--type must be raw, elf, bzimage or multiboot: \"elf-x86_64\" is given; this type of kexec(8) is elf here",
+        ),
+        (
+            "boot --map f --type=multiboot2-x86 m p o k",
+            "--type must be raw, elf, bzimage or multiboot: \"multiboot2-x86\" is given",
+        ),
+        (
             "sample 0x10",
             "NUMBER must be a decimal number of 1 to 18 digits: \"0x10\" is given",
         ),

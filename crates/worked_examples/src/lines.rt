@@ -2,14 +2,14 @@
 
 ghost use Rattle.std.specs.Prelude.{◌≡◌, ◌∷◌, [], Some, None, Ok, Err, codes, map, true, false};
 ghost use Rattle.memory_map.specs.Maps.{is_ram, is_taken, is_whole, nothing, reserved_area, with_area, with_row};
-ghost use Rattle.memory_map.specs.Text.{class_of, line_onto};
+ghost use Rattle.memory_map.specs.Text.{line_onto};
 ghost use Rattle.memory_map.specs.declared.fault.MapFault.TheVariants as faults;
-ghost use Rattle.memory_map.specs.declared.row.Class.TheVariants as classes;
 
 /// Lines: one without a space before its name, one whose range lies past the limit, one that is cut at it, one byte, and
-/// one of a name that says nothing of RAM.
+/// each name that says what a range is; others say nothing.
 pub fn lines_of_a_map()
-    ensures no_space { line_onto 2 nothing (codes "1000-1fff :System RAM") ≡ Err (faults.BadLine 2) }
+    ensures no_space { line_onto 2 nothing (codes "1000-1fff :System RAM")
+        ≡ Err (faults.BadLine 2) }
     ensures past_the_limit { line_onto 1 nothing (codes "400000000000-400000000fff : System RAM")
         ≡ Ok nothing }
     ensures cut { line_onto 1 nothing (codes "3ffffffff000-400000000fff : System RAM")
@@ -19,11 +19,13 @@ pub fn lines_of_a_map()
     ensures area { line_onto 1 nothing (codes "1000-2fff : Crash kernel")
         ≡ Ok (with_area (record { start = 0x1000; size = 0x2000; kind = 0 }) nothing) }
     ensures other { line_onto 1 nothing (codes "1000-2fff : PCI Bus 0000:00") ≡ Ok nothing }
-    ensures names { map class_of
-        (codes "System RAM" ∷ codes "Reserved" ∷ codes "reserved" ∷ codes "ACPI Tables"
-        ∷ codes "ACPI Non-volatile Storage" ∷ codes "Crash kernel" ∷ codes "system RAM" ∷ [])
-        ≡ classes.Listed 1 ∷ classes.Listed 2 ∷ classes.Listed 2 ∷ classes.Listed 3
-        ∷ classes.Listed 4 ∷ classes.CrashArea ∷ classes.Other ∷ [] }
+    ensures small_letters { line_onto 1 nothing (codes "1000-1fff : reserved")
+        ≡ Ok (with_row (record { start = 0x1000; size = 0x1000; kind = 2 }) nothing) }
+    ensures acpi_tables { line_onto 1 nothing (codes "1000-1fff : ACPI Tables")
+        ≡ Ok (with_row (record { start = 0x1000; size = 0x1000; kind = 3 }) nothing) }
+    ensures acpi_storage { line_onto 1 nothing (codes "1000-1fff : ACPI Non-volatile Storage")
+        ≡ Ok (with_row (record { start = 0x1000; size = 0x1000; kind = 4 }) nothing) }
+    ensures other_letters { line_onto 1 nothing (codes "1000-1fff : system RAM") ≡ Ok nothing }
 {}
 
 /// RAM from 1800 on, to the end of page 4, with a reserved byte in page 3: page 1 is not whole, page 3 is taken. Of two
@@ -40,8 +42,8 @@ pub fn pages_of_a_map()
           areas = [];
         })) (1 ∷ 2 ∷ 3 ∷ 4 ∷ 5 ∷ []) ≡ false ∷ true ∷ false ∷ true ∷ false ∷ [] }
     ensures taken_by_an_area { map
-        (is_taken (record { rows = []; areas = record { start = 0x2fff; size = 2; kind = 0 } ∷ [] }))
-        (1 ∷ 2 ∷ 3 ∷ 4 ∷ []) ≡ false ∷ true ∷ true ∷ false ∷ [] }
+        (is_taken
+        (record { rows = []; areas = record { start = 0x2fff; size = 2; kind = 0 } ∷ [] })) (1 ∷ 2 ∷ 3 ∷ 4 ∷ []) ≡ false ∷ true ∷ true ∷ false ∷ [] }
     ensures last_area { reserved_area
         (record {
           rows = [];

@@ -44,7 +44,8 @@ pub fn memory_files_at_their_limits()
     ensures next_page { read_pages
         (text_of ((2, page_of (codes "a")) ∷ (3, page_of (codes "b")) ∷ []))
         ≡ Ok
-        (finite.insert (finite.insert finite.empty 2 (page_of (codes "a"))) 3 (page_of (codes "b"))) }
+        (finite.insert (finite.insert finite.empty 2 (page_of (codes "a"))) 3
+        (page_of (codes "b"))) }
 {}
 
 /// A block has as many bytes as it says, and each is less than 256.

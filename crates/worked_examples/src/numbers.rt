@@ -47,8 +47,8 @@ pub fn numbers_of_boot_parameters()
 
 /// A setup header at its limits: no setup sectors stand for four, and version 2.12 is the first that passes.
 pub fn limits_of_a_setup_header()
-    ensures no_sectors { kernel_start (read setup_header (take 0x264 (with_field 0x1f1 1 0 bzimage_file)))
-        ≡ 2560 }
+    ensures no_sectors { kernel_start
+        (read setup_header (take 0x264 (with_field 0x1f1 1 0 bzimage_file))) ≡ 2560 }
     ensures one_sector { kernel_start (read setup_header (take 0x264 bzimage_file)) ≡ 1024 }
     ensures oldest { header_fault 1025
         (read setup_header (take 0x264 (with_field 0x206 2 0x20c bzimage_file))) ≡ None }
@@ -60,6 +60,7 @@ pub fn limits_of_a_setup_header()
 
 /// The length of crash headers: 64 bytes, and 56 for each note and each range.
 pub fn length_of_crash_headers()
-    ensures two_notes { length_for 2 (record { start = 0x1000; size = 0x1000; kind = 1 } ∷ []) ≡ 232 }
+    ensures two_notes { length_for 2 (record { start = 0x1000; size = 0x1000; kind = 1 } ∷ [])
+        ≡ 232 }
     ensures nothing { length_for 0 [] ≡ 64 }
 {}

@@ -13,9 +13,11 @@ ghost use Rattle.worked_examples.specs.Kernels.{pages_at, two_pages};
 pub fn spans_of_pages()
     ensures one { map (in_span (record { first = 2; count = 3 })) (1 ∷ 2 ∷ 4 ∷ 5 ∷ [])
         ≡ false ∷ true ∷ true ∷ false ∷ [] }
-    ensures two { map (in_spans (record { first = 2; count = 3 } ∷ record { first = 9; count = 1 } ∷ []))
+    ensures two { map
+        (in_spans (record { first = 2; count = 3 } ∷ record { first = 9; count = 1 } ∷ []))
         (1 ∷ 4 ∷ 5 ∷ 8 ∷ 9 ∷ 10 ∷ []) ≡ false ∷ true ∷ false ∷ false ∷ true ∷ false ∷ [] }
-    ensures pages { pages (record { first = 2; count = 3 } ∷ record { first = 9; count = 1 } ∷ []) ≡ 4 }
+    ensures pages { pages (record { first = 2; count = 3 } ∷ record { first = 9; count = 1 } ∷ [])
+        ≡ 4 }
     ensures none { pages [] ≡ 0 }
 {}
 
@@ -39,8 +41,8 @@ pub fn pages_of_bytes()
 pub fn pages_of_segments()
     ensures one { map (is_page_of_segment (pages_at 2 2)) (1 ∷ 2 ∷ 3 ∷ 4 ∷ [])
         ≡ false ∷ true ∷ true ∷ false ∷ [] }
-    ensures some { map (is_destination (pages_at 0x100 1 ∷ two_pages 2)) (1 ∷ 2 ∷ 3 ∷ 4 ∷ 0x100 ∷ [])
-        ≡ false ∷ true ∷ true ∷ false ∷ true ∷ [] }
+    ensures some { map (is_destination (pages_at 0x100 1 ∷ two_pages 2))
+        (1 ∷ 2 ∷ 3 ∷ 4 ∷ 0x100 ∷ []) ≡ false ∷ true ∷ true ∷ false ∷ true ∷ [] }
     ensures link_pages { map link_pages_for (0 ∷ 1 ∷ 511 ∷ 512 ∷ 1022 ∷ 1023 ∷ [])
         ≡ 0 ∷ 1 ∷ 1 ∷ 2 ∷ 2 ∷ 3 ∷ [] }
 {}

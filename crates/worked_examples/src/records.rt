@@ -7,7 +7,6 @@ ghost use Rattle.segments.specs.declared.fault.SegFault.TheVariants as segment_f
 ghost use Rattle.load_record.specs.File.{head_of_record, record_file, record_reading, record_text};
 ghost use Rattle.load_record.specs.Head.{head_text, version_of};
 ghost use Rattle.load_record.specs.declared.fault.RecFault.TheVariants as faults;
-ghost use Rattle.load_record.specs.declared.version.Version.TheVariants.{Second};
 ghost use Rattle.worked_examples.specs.Records.{kept_record, three_bytes_file, three_bytes_first, three_bytes_record};
 
 /// The record of a kernel of three bytes has 155 bytes, and is read as it was written; so is one with context preserved.
@@ -78,9 +77,13 @@ pub fn changed_bytes()
 /// Each number of a record with context preserved at its place: kind and mode, and then head, control page, swap page, entry,
 /// rax, rbx, rsi, table of regions, digest and the number of segments. Sixteen segments are read, and seventeen refused.
 pub fn numbers_of_a_record()
-    ensures kinds { map (λ place. field place 4 (head_text Second (head_of_record kept_record)))
-        (8 ∷ 12 ∷ []) ≡ 0 ∷ 1 ∷ [] }
-    ensures numbers { map (λ place. field place 8 (head_text Second (head_of_record kept_record)))
+    ensures kinds { map
+        (λ place. field place 4
+        (head_text (version_of three_bytes_file) (head_of_record kept_record))) (8 ∷ 12 ∷ [])
+        ≡ 0 ∷ 1 ∷ [] }
+    ensures numbers { map
+        (λ place. field place 8
+        (head_text (version_of three_bytes_file) (head_of_record kept_record)))
         (16 ∷ 24 ∷ 32 ∷ 40 ∷ 48 ∷ 56 ∷ 64 ∷ 72 ∷ 80 ∷ 88 ∷ [])
         ≡ 0x12002 ∷ 0x10000 ∷ 0x11000 ∷ 0x2000 ∷ 0xa ∷ 0xb ∷ 0xc ∷ 0xd ∷ 0xe ∷ 1 ∷ [] }
     ensures sixteen { record_reading (take 88 three_bytes_file ++ little_bytes 8 16)

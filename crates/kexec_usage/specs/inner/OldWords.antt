@@ -22,6 +22,13 @@ option_for w = if bytes_eq w (codes "-t") then Some (codes "--type")
     else (if bytes_eq w (codes "--ramdisk") then Some (codes "--initrd")
     else (if bytes_eq w (codes "--load-preserve-context") then Some (codes "--kept") else None))))
 
+-- the type of kernels that a type of kexec(8) is
+abbrev pub type_for : Text → Option Text
+type_for w = if bytes_eq w (codes "bzImage") then Some (codes "bzimage")
+    else (if bytes_eq w (codes "bzImage64") then Some (codes "bzimage")
+    else (if bytes_eq w (codes "elf-x86_64") then Some (codes "elf")
+    else (if bytes_eq w (codes "multiboot-x86") then Some (codes "multiboot") else None)))
+
 -- the command whose usage line belongs to these words
 abbrev pub meant_of : List Text → Text
 meant_of [] = []

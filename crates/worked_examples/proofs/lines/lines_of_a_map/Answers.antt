@@ -28,6 +28,18 @@ pub returns-clause-other : goal.returns-clause-other
 unfolding checked_entry class_of cut entry_of line_onto number number_of
 returns-clause-other c = refl
 
-pub returns-clause-names : goal.returns-clause-names
+pub returns-clause-small_letters : goal.returns-clause-small_letters
 unfolding checked_entry class_of cut entry_of line_onto number number_of
-returns-clause-names c = refl
+returns-clause-small_letters c = refl
+
+pub returns-clause-acpi_tables : goal.returns-clause-acpi_tables
+unfolding checked_entry class_of cut entry_of line_onto number number_of
+returns-clause-acpi_tables c = refl
+
+pub returns-clause-acpi_storage : goal.returns-clause-acpi_storage
+unfolding checked_entry class_of cut entry_of line_onto number number_of
+returns-clause-acpi_storage c = refl
+
+pub returns-clause-other_letters : goal.returns-clause-other_letters
+unfolding checked_entry class_of cut entry_of line_onto number number_of
+returns-clause-other_letters c = refl

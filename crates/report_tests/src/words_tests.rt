@@ -1,7 +1,6 @@
 //! What is said where the system does not give the words.
 
-use crate::ending::Ending;
-use crate::words::{LONGEST_NAME, WordsError, name_called, read_words};
+use kexec_report::{Ending, LONGEST_NAME, WordsError, name_called, read_words};
 use std::env::{Env, FillError};
 use std::test::Fail;
 
@@ -84,6 +83,7 @@ fn without_words_there_is_a_sentence(rt: HostRuntime) -> Result<(), Fail> {
         let ending = Ending::without_words("kexec", error);
         assert_eq!(rt; ending.code, 65);
         let notice = ending.notice.ok_or("a sentence")?;
+        assert!(rt; !notice.is_asked_for());
         assert_eq!(rt; notice.to_string(rt.alloc())?.as_str(), wanted);
     }
     Ok(())

@@ -1,10 +1,10 @@
 //! The first page of a kernel that is not System RAM. The fault of the segments names the segment alone, so that the
 //! sentence can name the page, the map and the kernel are read once more.
 
+use command_parts::Status;
 use elf_image::{image_pages, read_exec};
-use kexec_main::Status;
 use kexec_plan::PlanFault;
-use kexec_usage::{Given, read_answer, text_of};
+use kexec_usage::{Given, text_of};
 use kx_pages::{PageSet, Span};
 use memory_map::Map;
 use multiboot_image::{find_header, load_parts};
@@ -80,7 +80,7 @@ fn first_page<R: Files + AllocGlobal>(rt: &R, given: &[Given<'_>], i: usize) -> 
 /// files once more.
 pub(crate) fn page_outside_ram<R: Files + AllocGlobal>(
     rt: &R,
-    words: &[String],
+    given: &[Given<'_>],
     status: &Status,
 ) -> Option<u64> {
     match status {
@@ -88,7 +88,7 @@ pub(crate) fn page_outside_ram<R: Files + AllocGlobal>(
             fault: PlanFault::Segments {
                 fault: SegFault::NotRam { i },
             },
-        } => first_page(rt, &read_answer(rt.alloc(), words).given, *i),
+        } => first_page(rt, given, *i),
         _ => None,
     }
 }

@@ -121,10 +121,11 @@ fn write_unused<W: Write>(part: &Part, given: &[Given<'_>], f: &mut Formatter<W>
     }
 }
 
-/// Why a request has no plan.
+/// Why a request has no plan. Where it is known what the kernel's file is, no type is asked for.
 pub(crate) fn write_plan<W: Write>(
     fault: &PlanFault,
     is_crash: bool,
+    is_known: bool,
     page: Option<u64>,
     given: &[Given<'_>],
     f: &mut Formatter<W>,
@@ -140,6 +141,9 @@ pub(crate) fn write_plan<W: Write>(
         ),
         PlanFault::UnknownImage if is_crash => {
             f.write_str("the kernel file is not a bzImage, and a crash kernel must be one")
+        }
+        PlanFault::UnknownImage if is_known => {
+            f.write_str("the kernel file is not a bzImage, a Multiboot kernel or an ELF file")
         }
         PlanFault::Unused { part } => write_unused(part, given, f),
         PlanFault::NoReserved => f.write_str(

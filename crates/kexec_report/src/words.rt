@@ -9,14 +9,14 @@ use std::io::ErrorKind;
 const LONGEST: usize = 131_072;
 
 /// The most bytes of the program's name that are read: PATH_MAX of linux/limits.h.
-pub(crate) const LONGEST_NAME: usize = 4096;
+pub const LONGEST_NAME: usize = 4096;
 
 /// The name that is said where the system gives none that is short enough and text.
 const NAME: &str = "kexec";
 
 /// Why the system does not give the words.
 #[derive(Clone, Copy, Debug, PartialEq, Eq)]
-pub(crate) enum WordsError {
+pub enum WordsError {
     /// Memory is wanting.
     Memory,
     /// An argument is not UTF-8, the first such one of this number; the program's name has number 0. None where the
@@ -59,7 +59,7 @@ fn first_not_text(rt: &impl Env) -> Option<usize> {
 }
 
 /// The last part of the name by which the program was called, which is laid into `room`.
-pub(crate) fn name_called<'a>(rt: &impl Env, room: &'a mut [u8]) -> &'a str {
+pub fn name_called<'a>(rt: &impl Env, room: &'a mut [u8]) -> &'a str {
     let Ok(length) = rt.arg(0, room) else {
         return NAME;
     };
@@ -74,7 +74,7 @@ pub(crate) fn name_called<'a>(rt: &impl Env, room: &'a mut [u8]) -> &'a str {
 }
 
 /// The words after the program's name.
-pub(crate) fn read_words(rt: &(impl Env + AllocGlobal)) -> Result<Vec<String>, WordsError> {
+pub fn read_words(rt: &(impl Env + AllocGlobal)) -> Result<Vec<String>, WordsError> {
     match env::args(rt) {
         Ok(words) => match words.skip(1).collect(rt.alloc()) {
             Ok(words) => Ok(words),

@@ -2,8 +2,8 @@
 
 use boot_params::ParamsFault;
 use bzimage::BzFault;
+use command_parts::{InputFault, Status};
 use elf_image::ElfFault;
-use kexec_main::{InputFault, Status};
 use kexec_plan::PlanFault;
 use load_record::RecFault;
 use page_pool::PoolFault;

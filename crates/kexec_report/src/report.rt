@@ -1,37 +1,30 @@
 //! The sentence about a command that was refused.
 
 use crate::causes::Cause;
-use crate::files::file_of;
+use crate::fronts::Front;
 use crate::plans::write_plan;
 use crate::remedies::{budget_remedy, remedy_of};
-use kexec_main::Status;
-use kexec_usage::{Answer, Refusal, file_with, text_of};
+use command_parts::Status;
+use kexec_usage::{Answer, Given, Refusal, text_of};
 use std::fmt::{self, Display, Formatter, Write};
-use std::io::{self, ErrorKind};
 
 /// One sentence: what was wrong, in which file, option or word, and what is wanted.
 #[derive(Drop)]
-pub(crate) struct Report<'a> {
+pub struct Report<'a> {
     /// The name by which the program was called.
     pub(crate) program: &'a str,
     pub(crate) status: &'a Status,
     pub(crate) words: &'a [String],
     /// The words as the command takes them.
     pub(crate) answer: Answer<'a>,
+    /// The file that was refused, with its word or option, where it is one file's fault.
+    pub(crate) file: Option<Given<'a>>,
     /// Why the file or the output failed.
     pub(crate) cause: Option<Cause<'a>>,
-    /// What the front of the refused file tells.
-    pub(crate) hint: Option<&'static str>,
+    /// What the front of the refused file shows.
+    pub(crate) hint: Option<Front>,
     /// The first page of the kernel that is not System RAM.
     pub(crate) page: Option<u64>,
-}
-
-// Standard output failed. A reader that has closed the pipe, as `head` does, is not a want of room.
-fn write_unsaid<W: Write>(cause: io::Error, f: &mut Formatter<W>) -> fmt::Result {
-    if cause.kind() == ErrorKind::BrokenPipe {
-        return f.write_str("standard output cannot be written: its reader has closed the pipe");
-    }
-    write!(f, "standard output cannot be written: {cause}")
 }
 
 // The pool has too few pages below the limit that was given.
@@ -53,26 +46,14 @@ impl Report<'_> {
 
     // The word that gives the file at fault, and the file's name where the sentence does not begin with it.
     fn write_file<W: Write>(&self, f: &mut Formatter<W>) -> fmt::Result {
-        let given = &self.answer.given;
+        let Some(file) = self.file else {
+            return Ok(());
+        };
         match self.status {
-            Status::Unread { name } | Status::Unwritten { name } | Status::TooLong { name, .. } => {
-                match file_with(given, name) {
-                    Some(word) => write!(f, "{word} "),
-                    None => Ok(()),
-                }
+            Status::Unread { .. } | Status::Unwritten { .. } | Status::TooLong { .. } => {
+                write!(f, "{} ", file.name)
             }
-            status => match file_of(status, given) {
-                Some(file) => write!(f, "{} {:?}: ", file.name, file.text),
-                None => Ok(()),
-            },
-        }
-    }
-
-    // What helps, where the sentence does not say so yet.
-    fn remedy(&self) -> Option<&'static str> {
-        match self.status {
-            Status::TooLong { name, .. } => budget_remedy(file_with(&self.answer.given, name)?),
-            status => remedy_of(status, self.is_crash()),
+            _ => write!(f, "{} {:?}: ", file.name, file.text),
         }
     }
 
@@ -83,15 +64,34 @@ impl Report<'_> {
             (Status::Unwritten { name }, Some(cause)) => {
                 write!(f, "{name:?} cannot be written: {cause}")
             }
-            (Status::Unsaid, Some(Cause::System { error })) => write_unsaid(error, f),
+            (Status::Unsaid, Some(cause)) => {
+                write!(f, "standard output cannot be written: {cause}")
+            }
             (Status::Plan { fault }, _) => {
-                write_plan(fault, self.is_crash(), self.page, given, f)
-            },
+                let is_known = self.hint.is_some();
+                write_plan(fault, self.is_crash(), is_known, self.page, given, f)
+            }
             (Status::NoPages { pool, need }, _) => match text_of(given, "--below") {
                 Some(limit) => write_below(*pool, *need, limit, f),
                 None => write!(f, "{}", self.status),
             },
             (status, _) => write!(f, "{status}"),
+        }
+    }
+
+    // What helps, where the sentence does not say so yet.
+    fn remedy(&self) -> Option<&'static str> {
+        match self.status {
+            Status::TooLong { .. } => budget_remedy(self.file?.name),
+            status => remedy_of(status, self.is_crash()),
+        }
+    }
+
+    fn write_remedy<W: Write>(&self, f: &mut Formatter<W>) -> fmt::Result {
+        match (self.hint, self.remedy()) {
+            (Some(front), _) => write!(f, "; {front}"),
+            (None, Some(remedy)) => write!(f, "; {remedy}"),
+            (None, None) => Ok(()),
         }
     }
 }
@@ -109,9 +109,6 @@ impl Display for Report<'_> {
         }
         self.write_file(f)?;
         self.write_status(f)?;
-        match self.hint.or(self.remedy()) {
-            Some(remedy) => write!(f, "; {remedy}"),
-            None => Ok(()),
-        }
+        self.write_remedy(f)
     }
 }

@@ -1,12 +1,51 @@
-//! Why a file or the standard output failed.
+//! Why a file or standard output failed.
 
-use kexec_main::Status;
-use kexec_usage::{Given, read_answer};
+ghost use Rattle.std.specs.Prelude.{◌≡◌, IfSome, Some};
+ghost use Rattle.std.specs.IoError.{error_kind};
+
+use command_parts::Status;
+use kexec_usage::Given;
 use kx_edge::HostCause;
 use std::fmt::{self, Display, Formatter, Write};
+use std::io::ErrorKind;
 use std::os::unix::fs::MetadataExt;
 use std::rt::Files;
 use std::{fs, io};
+
+/// What the edge keeps of the call that failed.
+#[derive(Clone, Copy, Debug)]
+pub enum Failure {
+    /// A file was not read, or not written.
+    File { cause: HostCause },
+    /// Standard output took not all of the text.
+    Output { error: io::Error },
+    /// Nobody reads standard output any more: the other end of the pipe is closed, as `head` does it.
+    ClosedPipe,
+}
+
+impl Failure {
+    // A failure of standard output.
+    fn of_output(error: io::Error) -> Failure
+        ensures { result ≡ Failure.ClosedPipe → error_kind error ≡ ErrorKind.BrokenPipe }
+    {
+        match error.kind() {
+            ErrorKind::BrokenPipe => Failure::ClosedPipe,
+            _ => Failure::Output { error },
+        }
+    }
+
+    /// What the shelf and the sink keep: the shelf's, where both do.
+    pub fn of(file: Option<HostCause>, output: Option<io::Error>) -> Option<Failure>
+        ensures closed { result ≡ Some Failure.ClosedPipe
+            → IfSome output (λ e. error_kind e ≡ ErrorKind.BrokenPipe) }
+    {
+        match (file, output) {
+            (Some(cause), _) => Some(Failure::File { cause }),
+            (None, Some(error)) => Some(Failure::of_output(error)),
+            (None, None) => None,
+        }
+    }
+}
 
 /// Why a file could not be read or written, or the text not be said.
 #[derive(Clone, Copy)]
@@ -57,10 +96,10 @@ fn other_name<'a, R: Files>(rt: &R, given: &[Given<'a>], name: &str) -> Option<G
     None
 }
 
-/// Why the shelf's last call failed, where one did.
-pub(crate) fn cause_of<'a, R: Files + AllocGlobal>(
+// Why the shelf's last call failed.
+fn file_cause<'a, R: Files>(
     rt: &R,
-    words: &'a [String],
+    given: &[Given<'a>],
     status: &Status,
     cause: HostCause,
 ) -> Cause<'a> {
@@ -68,8 +107,22 @@ pub(crate) fn cause_of<'a, R: Files + AllocGlobal>(
         (HostCause::System { error }, _) => Cause::System { error },
         (HostCause::StandardOutput, _) => Cause::StandardOutput,
         (HostCause::KnownFile, Status::Unwritten { name }) => Cause::SameFile {
-            other: other_name(rt, &read_answer(rt.alloc(), words).given, name),
+            other: other_name(rt, given, name),
         },
         (HostCause::KnownFile, _) => Cause::SameFile { other: None },
+    }
+}
+
+/// Why the call failed, where one did and the edge says why.
+pub(crate) fn cause_of<'a, R: Files>(
+    rt: &R,
+    given: &[Given<'a>],
+    status: &Status,
+    failure: Option<Failure>,
+) -> Option<Cause<'a>> {
+    match failure? {
+        Failure::File { cause } => Some(file_cause(rt, given, status, cause)),
+        Failure::Output { error } => Some(Cause::System { error }),
+        Failure::ClosedPipe => None,
     }
 }

@@ -1,0 +1,291 @@
+//! What the front of a refused file shows that it is, where its reader cannot say it: a file of another kind.
+
+use bzimage::{BzFault, is_bzimage};
+use command_parts::{InputFault, Status};
+use elf_image::ElfFault;
+use kexec_plan::PlanFault;
+use kexec_usage::Given;
+use memory_map::MapFault;
+use multiboot_image::MbFault;
+use page_pool::PoolFault;
+use resident_planner::PairsFault;
+use std::fmt::{self, Display, Formatter, Write};
+use std::fs;
+use std::io::Read;
+use std::rt::Files;
+
+/// How many bytes of a file are looked at.
+const FRONT: usize = 4096;
+
+/// What a memory file begins with.
+const MEMORY_MAGIC: &[u8] = b"KXMEM001";
+
+/// Where the header of an arm64 Image has its magic number: Linux, Documentation/arch/arm64/booting.rst.
+const ARM_PLACE: usize = 0x38;
+
+/// What a file seems to be, and what helps.
+#[derive(Clone, Copy)]
+pub(crate) enum Front {
+    /// Compressed, by a program of this name.
+    Compressed { tool: &'static str },
+    /// The same, where a kernel is wanted: it may be a compressed initrd as well.
+    CompressedKernel { tool: &'static str },
+    /// A memory file.
+    Memory,
+    /// A load record.
+    Record,
+    /// A Linux kernel.
+    Bzimage,
+    /// An archive of cpio, as an initrd is.
+    Initrd,
+    /// A kernel for arm64.
+    ArmKernel,
+    /// An ELF file, as a core dump is.
+    Dump,
+    /// Bytes that are no text.
+    RawDump,
+    /// A text.
+    Text,
+    /// A text whose lines end with carriage returns.
+    CarriageReturns,
+    /// A text in which numbers have 0x in front.
+    Prefixed,
+}
+
+impl Display for Front {
+    fn fmt<W: Write>(&self, f: &mut Formatter<W>) -> fmt::Result {
+        match self {
+            Front::Compressed { tool } => {
+                write!(f, "it is compressed: decompress it first, with {tool} -dc")
+            }
+            Front::CompressedKernel { tool } => write!(
+                f,
+                "it is compressed: a kernel is decompressed first, with {tool} -dc, and an initrd is given by --initrd"
+            ),
+            Front::Memory => f.write_str("it is a memory file"),
+            Front::Record => f.write_str("it is a load record"),
+            Front::Bzimage => f.write_str("it is a bzImage, which is a kernel"),
+            Front::Initrd => {
+                f.write_str(
+                    "it looks like an initrd, since it is a cpio archive: --initrd gives one",
+                )
+            }
+            Front::ArmKernel => f.write_str(
+                "it is a kernel for arm64, and one for x86-64 is wanted",
+            ),
+            Front::Dump => f.write_str(
+                "it is an ELF file: of the dump of a machine's memory, kernelyet machine --core makes a memory file",
+            ),
+            Front::RawDump => f.write_str("a raw dump of memory is not a memory file"),
+            Front::Text => f.write_str("it looks like a text, as a pool and a memory map are"),
+            Front::CarriageReturns => {
+                f.write_str("its lines end with carriage returns: remove these with tr -d '\\r'")
+            }
+            Front::Prefixed => f.write_str("leave out 0x"),
+        }
+    }
+}
+
+// The program that decompresses a file, by the magic number in front: RFC 1952, section 2.3.1; the .xz file format, section
+// 2.1.1.1; RFC 8878, section 3.1.1.
+fn tool_for(front: &[u8]) -> Option<&'static str> {
+    if front.starts_with(&[0x1f, 0x8b]) {
+        return Some("gzip");
+    }
+    if front.starts_with(b"\xfd7zXZ\0") {
+        return Some("xz");
+    }
+    if front.starts_with(&[0x28, 0xb5, 0x2f, 0xfd]) {
+        return Some("zstd");
+    }
+    None
+}
+
+// A file of this program.
+fn own_kind(front: &[u8]) -> Option<Front> {
+    if front.starts_with(MEMORY_MAGIC) {
+        return Some(Front::Memory);
+    }
+    if front.starts_with(b"KXREC00") {
+        return Some(Front::Record);
+    }
+    None
+}
+
+// The same, or a Linux kernel.
+fn known_kind(front: &[u8]) -> Option<Front> {
+    if is_bzimage(front) {
+        return Some(Front::Bzimage);
+    }
+    own_kind(front)
+}
+
+// A file that stands beside kernels: an archive of cpio, by its magic number in initramfs(5) form (Linux,
+// Documentation/driver-api/early-userspace/buffer-format.rst), or a kernel for arm64.
+fn kernel_kind(front: &[u8]) -> Option<Front> {
+    if front.starts_with(b"070701") || front.starts_with(b"070702") {
+        return Some(Front::Initrd);
+    }
+    if front.get(ARM_PLACE..)?.starts_with(b"ARM\x64") {
+        return Some(Front::ArmKernel);
+    }
+    None
+}
+
+// Whether a byte may stand in a text.
+fn is_text_byte(byte: u8) -> bool {
+    matches!(byte, b'\t' | b'\n' | b'\r' | b' '..=b'~')
+}
+
+fn is_text(front: &[u8]) -> bool {
+    !front.is_empty() && front.iter().all(|byte| is_text_byte(*byte))
+}
+
+// What is given as a kernel, or as a purgatory.
+fn kernel_front(is_kernel: bool, front: &[u8]) -> Option<Front> {
+    match tool_for(front) {
+        Some(tool) if is_kernel => Some(Front::CompressedKernel { tool }),
+        Some(tool) => Some(Front::Compressed { tool }),
+        None => own_kind(front).or(kernel_kind(front)),
+    }
+}
+
+// What is given as a memory file. Fewer bytes than the magic number has may be the front of one, as none are, which is what
+// a pipe shows.
+fn memory_front(front: &[u8]) -> Option<Front> {
+    if MEMORY_MAGIC.starts_with(front) || front.starts_with(MEMORY_MAGIC) {
+        return None;
+    }
+    if front.starts_with(b"\x7fELF") {
+        return Some(Front::Dump);
+    }
+    if is_text(front) {
+        return Some(Front::Text);
+    }
+    known_kind(front).or(Some(Front::RawDump))
+}
+
+// What is given as a load record.
+fn record_front(front: &[u8]) -> Option<Front> {
+    match known_kind(front) {
+        Some(Front::Record) => None,
+        Some(kind) => Some(kind),
+        None if is_text(front) => Some(Front::Text),
+        None => None,
+    }
+}
+
+// What is given as a text: a line ends with a carriage return, which no text file here may have. What has a 0 is no text.
+fn text_front(front: &[u8]) -> Option<Front> {
+    let has_such_a_line = front.windows(2).any(|pair| pair == b"\r\n".as_slice());
+    if has_such_a_line && !front.contains(&0) {
+        return Some(Front::CarriageReturns);
+    }
+    known_kind(front)
+}
+
+// What the front of a file that was taken for this word shows. That it is compressed is asked first: its bytes may look like
+// anything. An initrd and modules may be compressed.
+fn file_front(word: &str, front: &[u8]) -> Option<Front> {
+    if matches!(word, "KERNEL" | "--initrd" | "--purgatory" | "MODULES") {
+        return own_kind(front);
+    }
+    if let Some(tool) = tool_for(front) {
+        return Some(Front::Compressed { tool });
+    }
+    match word {
+        "MEMORY" => memory_front(front),
+        "RECORD" => record_front(front),
+        _ => text_front(front),
+    }
+}
+
+// The kernel's or the purgatory's file has not the mark of its type, or of any.
+fn is_unmarked(fault: &PlanFault) -> bool {
+    matches!(
+        fault,
+        PlanFault::UnknownImage
+            | PlanFault::CrashNeedsBzimage
+            | PlanFault::Elf {
+                fault: ElfFault::NotElf,
+            }
+            | PlanFault::Bzimage {
+                fault: BzFault::NotKernel,
+            }
+            | PlanFault::Multiboot {
+                fault: MbFault::NoHeader,
+            }
+            | PlanFault::Object {
+                fault: ElfFault::NotElf,
+            }
+    )
+}
+
+// The line that has not the form of a line of numbers.
+fn line_of(fault: &InputFault) -> Option<u64> {
+    match fault {
+        InputFault::Pool {
+            fault: PoolFault::BadLine { line },
+        }
+        | InputFault::Map {
+            fault: MapFault::BadLine { line },
+        }
+        | InputFault::Pairs {
+            fault: PairsFault::BadLine { line },
+        } => Some(*line),
+        _ => None,
+    }
+}
+
+// Whether this line of the front has 0x before a number.
+fn has_prefix(front: &[u8], line: u64) -> bool {
+    let mut lines = front.split(|byte| *byte == b'\n');
+    match lines.nth((line as usize).saturating_sub(1)) {
+        Some(text) => text.windows(2).any(|pair| pair.eq_ignore_ascii_case(b"0x")),
+        None => false,
+    }
+}
+
+// What the front of a file shows that its reader refused.
+fn refused_front(fault: &InputFault, word: &str, front: &[u8]) -> Option<Front> {
+    if let Some(kind) = file_front(word, front) {
+        return Some(kind);
+    }
+    if has_prefix(front, line_of(fault)?) {
+        Some(Front::Prefixed)
+    } else {
+        None
+    }
+}
+
+// What these first bytes of the refused file of this word show.
+fn front_of(status: &Status, word: &str, front: &[u8]) -> Option<Front> {
+    match status {
+        Status::Plan { fault } if is_unmarked(fault) => kernel_front(word == "KERNEL", front),
+        Status::Input { fault } => refused_front(fault, word, front),
+        Status::TooLong { .. } => file_front(word, front),
+        _ => None,
+    }
+}
+
+// The first bytes of a regular file, as many as one read gives.
+fn read_front<R: Files>(rt: &R, name: &str, front: &mut [u8; FRONT]) -> usize {
+    let Ok(about) = fs::metadata(rt, name) else {
+        return 0;
+    };
+    if !about.is_file() {
+        return 0;
+    }
+    match fs::open(rt, name) {
+        Ok(mut file) => file.read(front).unwrap_or(0),
+        Err(_) => 0,
+    }
+}
+
+/// What the front of the refused file shows, where the system gives it once more.
+pub(crate) fn hint_of<R: Files>(rt: &R, status: &Status, file: Option<Given<'_>>) -> Option<Front> {
+    let file = file?;
+    let mut room = [0u8; FRONT];
+    let count = read_front(rt, file.text, &mut room);
+    front_of(status, file.name, room.get(..count)?)
+}
