@@ -133,7 +133,6 @@ pub use runs::first_page_first_runs;
 pub use runs::head_that_is_no_link;
 pub use runs::kept_list_runs;
 pub use runs::last_page_first_runs;
-pub use runs::list_over_two_pages_runs;
 pub use runs::off_past_the_limit;
 pub use runs::one_page_runs;
 pub use runs::round_and_round;

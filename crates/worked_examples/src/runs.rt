@@ -86,10 +86,3 @@ pub fn head_that_is_no_link()
     ensures run { (m : Contents) → HasWords (at m) 0 (0x12008 ∷ 4 ∷ [])
         → ComesOut m 0x2001 Plain 10 (Done 3) (copied_page (at m) 0x12 2) }
 {}
-
-/// A list that goes on in a second page: a link in the list is a step of its own.
-pub fn list_over_two_pages_runs()
-    ensures run { (m : Contents) → HasWords (at m) 0x11000 (0x2001 ∷ 0x12008 ∷ 0x13002 ∷ [])
-        → HasWords (at m) 0x13000 (0x14008 ∷ 4 ∷ [])
-        → ComesOut m 0x11002 Plain 10 (Done 6) (copied_page (copied_page (at m) 0x12 2) 0x14 3) }
-{}
