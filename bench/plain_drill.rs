@@ -11,6 +11,7 @@ mod plain_memory;
 use plain_memory::{file, held, read, Pages, PAGE};
 use std::collections::{HashSet, VecDeque};
 use std::fmt::Write;
+use std::ops::RangeInclusive;
 use std::{env, fs};
 
 struct Segment {
@@ -36,6 +37,12 @@ struct Slots {
 
 fn hexadecimal(text: &str) -> u64 {
     u64::from_str_radix(text, 16).unwrap()
+}
+
+// The pages of a line of the pool: one, or the first and the last of a run.
+fn pages_of(line: &str) -> RangeInclusive<u64> {
+    let (first, last) = line.split_once('-').unwrap_or((line, line));
+    hexadecimal(first)..=hexadecimal(last)
 }
 
 fn bytes_of(text: &str) -> Vec<u8> {
@@ -116,7 +123,7 @@ fn main() {
     let pool = fs::read_to_string(&words[1]).unwrap();
     let mut slots = Slots {
         memory: read(&fs::read(&words[0]).unwrap()),
-        pool: pool.lines().map(hexadecimal).collect(),
+        pool: pool.lines().flat_map(pages_of).collect(),
         ..Slots::default()
     };
     let mut text = String::new();
