@@ -42,7 +42,7 @@ def commands_text():
     """The program's own list of its commands."""
     from companion import program
 
-    told = program.run(["--help"])[2]
+    told = program.run(["--help"])[1]
     return told.partition("\nCommands:\n")[2].partition("\n\n")[0]
 
 
