@@ -4,10 +4,10 @@ import shutil
 
 HERE = os.path.dirname(os.path.realpath(__file__))
 
-LAW = """ghost use Rattle.small.specs.Boot.{boot_files};
+LAW = """ghost use Rattle.small.specs.Inputs.{load_inputs};
 
 pub fn files_are_planned()
-    ensures { boot_files 1 ≡ 1 }
+    ensures { load_inputs 1 ≡ 1 }
 {
 }
 """
@@ -44,16 +44,18 @@ plan n = n
 pub MemoryStarts : ℕ → Set
 MemoryStarts n = n ≡ n
 """,
-    "crates/small/specs/Boot.antt": """use Rattle.kexec_plan.specs.Plan.{plan};
-use Rattle.small.specs.Booted.{MemoryStarts};
+    "crates/small/specs/Inputs.antt": """use Rattle.kexec_plan.specs.Plan.{plan};
 
 -- The files.
-pub boot_files : ℕ → ℕ
-boot_files n = plan n
+pub load_inputs : ℕ → ℕ
+load_inputs n = plan n
+""",
+    "crates/small/specs/Boot.antt": """use Rattle.small.specs.Booted.{MemoryStarts};
+use Rattle.small.specs.Inputs.{load_inputs};
 
 -- What stands after a boot.
 pub HasBooted : ℕ → Set
-HasBooted n = MemoryStarts (boot_files n)
+HasBooted n = MemoryStarts (load_inputs n)
 """,
     "crates/small/specs/inner/Hidden.antt": """-- What laws speak of.
 pub hidden : ℕ → ℕ
@@ -64,7 +66,7 @@ hidden n = n
 <!-- quote Boot.HasBooted -->
 <!-- end -->
 
-It speaks of `boot_files`, the files, and of `small Booted.MemoryStarts`:
+It speaks of `load_inputs`, the files, and of `small Booted.MemoryStarts`:
 
 <!-- lines small Booted: MemoryStarts -->
 <!-- end -->
@@ -87,14 +89,15 @@ Some <!-- first -->0<!-- end --> and <!-- whole -->0<!-- end --> minutes.
     "README.md": "| docs/BELIEVED.md | what must be believed; some 0 minutes for the shortest boot, 0 for all |\n",
 }
 BOOT = "crates/small/specs/Boot.antt"
+INPUTS = "crates/small/specs/Inputs.antt"
 # What is changed in which file, and what --check then says.
 FAULTS = [
-    (BOOT, "MemoryStarts (boot_files n)", "MemoryStarts (boot_files (n + 1))", "docs/BELIEVED.md is not as it must be"),
-    (BOOT, "boot_files n = plan n", "boot_files n = n", "kexec_plan Plan.plan\n"),
-    (BOOT, "use Rattle", "use Rattle.small.specs.inner.Hidden.{hidden};\nuse Rattle", ""),
-    (BOOT, "boot_files n = plan n", "boot_files n = plan (hidden n)", "hidden belongs into specs/"),
-    (BOOT, "-- The files", "-- Of no use.\npub idle : ℕ → ℕ\nidle n = n\n\n-- The files", "idle belongs into specs/inner/"),
-    ("docs/BELIEVED.md", "`boot_files`, ", "files, ", "quotes small Boot.HasBooted, and says nothing of small Boot.boot_files"),
+    (BOOT, "MemoryStarts (load_inputs n)", "MemoryStarts (load_inputs (n + 1))", "docs/BELIEVED.md is not as it must be"),
+    (INPUTS, "load_inputs n = plan n", "load_inputs n = n", "kexec_plan Plan.plan\n"),
+    (INPUTS, "use Rattle", "use Rattle.small.specs.inner.Hidden.{hidden};\nuse Rattle", ""),
+    (INPUTS, "load_inputs n = plan n", "load_inputs n = plan (hidden n)", "hidden belongs into specs/"),
+    (INPUTS, "-- The files", "-- Of no use.\npub idle : ℕ → ℕ\nidle n = n\n\n-- The files", "idle belongs into specs/inner/"),
+    ("docs/BELIEVED.md", "`load_inputs`, ", "files, ", "quotes small Boot.HasBooted, and says nothing of small Inputs.load_inputs"),
     ("docs/BELIEVED.md", "`small Booted.MemoryStarts`", "`MemoryStarts`, `small Boot.none`",
      "names small Boot.none, which is not reached"),
     ("docs/DEFINITIONS.md", "† ", "", "docs/DEFINITIONS.md is not as it must be"),
@@ -124,13 +127,13 @@ def test_believed(tests):
     tests.same("believed --write", call("--write"), (0, "", ""))
     tests.same("what it wrote stands", call("--check"), (0, "", ""))
     listed = tests.read("believed/docs/BELIEVED.list").decode().split("\n")
-    names = ["command_parts ExitStatuses.code_of", "kexec_plan Plan.plan", "small Boot.HasBooted", "small Boot.boot_files",
-             "small Booted.MemoryStarts"]
+    names = ["command_parts ExitStatuses.code_of", "kexec_plan Plan.plan", "small Boot.HasBooted", "small Booted.MemoryStarts",
+             "small Inputs.load_inputs"]
     tests.same("what the clauses reach", [line for line in listed if line and not line.startswith("#")], names)
     tests.same("by which names", [" ".join(line.split()[:2]) for line in call("--path", "Plan.plan")[1].splitlines()],
-               ["small Boot.boot_files", "kexec_plan Plan.plan"])
+               ["small Inputs.load_inputs", "kexec_plan Plan.plan"])
     guide = tests.read("believed/docs/BELIEVED.md").decode()
-    tests.same("the quote", "HasBooted n = MemoryStarts (boot_files n)\n```" in guide, True)
+    tests.same("the quote", "HasBooted n = MemoryStarts (load_inputs n)\n```" in guide, True)
     tests.same("the lines alone", "```\nMemoryStarts n = n ≡ n\n```" in guide, True)
     try_faults(tests, call)
     tests.write("believed/crates/boot_laws/src/laws.rt", "")

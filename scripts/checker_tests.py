@@ -23,7 +23,7 @@ PLANTED = [  # the check, the file, what stands in it, what is planted there, an
      "status 12, Memory: no scene ends so, and no test"),
     ("scripts/run-scenes --faults", "crates/scenes/data/below.scenes", "\ntells POOL ", "\n# tells POOL ",
      ": no scene tells its sentence"),
-    ("scripts/believed --check", "docs/BELIEVED.list", "boot_params Numbers.high\n", "", "  + boot_params Numbers.high"),
+    ("scripts/believed --check", "docs/BELIEVED.list", "boot_params ZeroPage.zero_page\n", "", "  + boot_params ZeroPage.zero_page"),
     ("scripts/believed --check", "docs/DEFINITIONS.md", "† kx_pages", "kx_pages", "docs/DEFINITIONS.md is not as it must be"),
     ("scripts/documents-against-sources", "README.md", "docs/REFUSALS.md", "docs/REFUSED.md", "docs/REFUSED.md is not there"),
     ("scripts/documents-against-sources", "README.md", "(docs/KEXEC-TOOLS.md#where-the-parts-lie)",
