@@ -80,7 +80,9 @@ fn refuses_words_of_each_command(rt: HostRuntime) -> Result<(), Fail> {
             "load-panic m o r k --map f --at 2000",
             Some(UsageWhy::Parse),
         ),
+        ("boot m p o", Some(UsageWhy::Parse)),
         ("check m r o", Some(UsageWhy::Parse)),
+        ("dump m r o", Some(UsageWhy::Parse)),
         ("exec m r r", Some(UsageWhy::SameName)),
         ("exec m r o --twice --twice", Some(UsageWhy::Parse)),
         ("trace m m x 100000001 --swap 1000", number(Which::Head)),
@@ -170,6 +172,7 @@ fn has_no_limit_where_all_pages_lie_below_it(rt: HostRuntime) -> Result<(), Fail
 fn reads_each_command(rt: HostRuntime) -> Result<(), Fail> {
     let alloc = rt.alloc();
     for line in [
+        "boot m p o k --kept 2 --type raw --at 2000 --below 100000",
         "load m p o r k --kept --type raw --at 2000 --entry 2004",
         "load-panic m o r k --map f --command=-x --initrd i --purgatory u --notes n",
         "check m r",
@@ -221,13 +224,13 @@ fn usage_names_the_arguments_in_their_order(rt: HostRuntime) -> Result<(), Fail>
         ),
     ] {
         let said = usage_of("kexec", name).to_string(rt.alloc())?;
-        assert!(rt; said.as_str() == want, "{said}");
+        assert!(rt; said.as_str() == want, "{name}: {said}");
     }
     Ok(())
 }
 
 #[test]
-fn help_says_what_each_argument_is(rt: HostRuntime) -> Result<(), Fail> {
+fn help_of_exec_says_what_each_argument_is(rt: HostRuntime) -> Result<(), Fail> {
     let words = split(rt.alloc(), "exec")?;
     let said = help_of("kexec", &words).to_string(rt.alloc())?;
     let want = "\
