@@ -6,12 +6,11 @@ ghost use Rattle.std.specs.Prelude.{Ok, map, ◌≡◌, ℕ, List, ◌+◌, ◌-
 ghost use Rattle.std.specs.List.{slice_get};
 ghost use Rattle.std.specs.List.Sorted.{IsPermutation, IsNonDecreasingBy};
 ghost use Rattle.kx_pages.specs.Spans.{Run, in_span, in_spans};
-ghost use Rattle.segments.specs.Values.{SegmentValue};
 ghost use Rattle.elf_image.specs.declared.load.Load.{Load};
 ghost use Rattle.elf_image.specs.Loads.{load_stop, exec_reading};
 ghost use Rattle.elf_image.specs.Image.{load_meets_page, is_met, segments_of, image};
 ghost use Rattle.elf_image.specs.inner.Image.{run_of, AreRuns};
-ghost use Rattle.elf_image.specs.inner.Joined.{IsLoad, AreLoads, AreSound, Rise, first_of, end_of, grown, part, joined_to, join};
+ghost use Rattle.elf_image.specs.inner.Joined.{IsLoad, AreLoads, AreSound, first_of, end_of, grown, part, joined_to, join};
 
 use crate::exec::Exec;
 use crate::fault::ElfFault;

@@ -7,10 +7,9 @@ ghost use Rattle.kx_fields.specs.Formats.{read};
 ghost use Rattle.kx_laws.specs.inner.Results.{Gives};
 ghost use Rattle.elf_image.specs.declared.fault.ElfFault.TheVariants.{Memory};
 ghost use Rattle.elf_image.specs.Gathered.{each};
-ghost use Rattle.elf_image.specs.Section.{section_of, place_of};
-ghost use Rattle.elf_image.specs.inner.Section.{IsTable, IsInside};
+ghost use Rattle.elf_image.specs.inner.Section.{IsTable};
 ghost use Rattle.elf_image.specs.inner.Symbol.{called, named, IsToLastNul};
-ghost use Rattle.elf_image.specs.Symbol.{symbol_entry, is_index, symbol_in, entries_in, strings_of, symbols_in, refuse_second, symbols_at, read_symbols};
+ghost use Rattle.elf_image.specs.Symbol.{symbol_entry, is_index, symbol_in, entries_in, strings_of, symbols_in, refuse_second, read_symbols};
 
 use crate::fault::ElfFault;
 use crate::numbers::{SHN_ABS, SHN_COMMON, SHT_STRTAB, SHT_SYMTAB};

@@ -1,6 +1,6 @@
 //! A command: what it takes, what it makes of that, and how it is run.
 
-ghost use Rattle.std.specs.Prelude.{◌≡◌, IfSome, Result};
+ghost use Rattle.std.specs.Prelude.{IfSome, Result};
 ghost use Rattle.file_commands.specs.Taking.{Refusal, Take};
 ghost use Rattle.file_commands.specs.Answers.{Goods as GoodsOf, Meets, MeetsTold, command_of};
 ghost use Rattle.file_commands.specs.inner.Calls.{Makes, Takes, call_answer};

@@ -1,6 +1,6 @@
 //! Files are taken in their turn, each with a limit: one byte more is asked for, so that a longer file shows.
 
-ghost use Rattle.std.specs.Prelude.{◌≡◌, ◌+◌, ◌<◌, ◌≤◌, ◌^◌, ◌++◌, length, map, option_map, is_some, string_bytes, IfOk, IfSome};
+ghost use Rattle.std.specs.Prelude.{◌≡◌, ◌+◌, ◌<◌, ◌≤◌, ◌^◌, length, map, option_map, is_some, string_bytes, IfOk, IfSome};
 ghost use Rattle.kx_laws.specs.inner.Cuts.{IsCutAt};
 ghost use Rattle.file_commands.specs.Files.{all_files, optional_file, whole_file};
 ghost use Rattle.file_commands.specs.inner.Calls.{Takes, bytes_of, file_of};

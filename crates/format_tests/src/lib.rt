@@ -7,6 +7,7 @@
 //! | Module | What it has |
 //! |---|---|
 //! | `bytes` | files, byte by byte |
+//! | `fields_tests`, `range_index_tests` | blocks of fields, and ranges that meet |
 //! | `elf_headers_tests` | ELF64's headers |
 //! | `executable_tests`, `object_tests`, `multiboot_tests`, `bzimage_tests` | each prefix of a file |
 //! | `length_tests` | lengths that 64 bits do not hold |
@@ -23,11 +24,15 @@ mod elf_headers_tests;
 #[cfg(test)]
 mod executable_tests;
 #[cfg(test)]
+mod fields_tests;
+#[cfg(test)]
 mod length_tests;
 #[cfg(test)]
 mod multiboot_tests;
 #[cfg(test)]
 mod object_tests;
+#[cfg(test)]
+mod range_index_tests;
 #[cfg(test)]
 mod region_tests;
 #[cfg(test)]

@@ -7,11 +7,7 @@
 
 mod bounds;
 mod downwards;
-#[cfg(test)]
-mod many_spans_tests;
 mod search;
-#[cfg(test)]
-mod tests;
 mod upwards;
 
 pub use search::{End, find, holes_speak_of_pages};

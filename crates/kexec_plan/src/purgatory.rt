@@ -1,6 +1,6 @@
 //! A purgatory that is read, and linked at its place.
 
-ghost use Rattle.std.specs.Prelude.{◌≡◌, ◌+◌, ◌-◌, ◌≤◌, option_map, length, Some, IfOk};
+ghost use Rattle.std.specs.Prelude.{◌≡◌, ◌-◌, option_map, length, Some, IfOk};
 ghost use Rattle.kx_laws.specs.inner.Results.{Gives};
 ghost use Rattle.kexec_plan.specs.Purgatory.{read_purgatory, some_purgatory, purgatory_rule, linked_at, arm};
 ghost use Rattle.kexec_plan.specs.inner.Purgatory.{HasSymbols, IsLinkable};

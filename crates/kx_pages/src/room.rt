@@ -22,20 +22,3 @@ pub fn room_for(bytes: usize) -> usize
     let behind = bytes.saturating_add(BESIDE + HUGE_PAGE_SIZE - 1);
     (behind - behind % HUGE_PAGE_SIZE - BESIDE).max(bytes)
 }
-
-#[cfg(test)]
-mod tests {
-    use super::*;
-    use std::test::Fail;
-
-    #[test]
-    fn large_buffers_get_whole_huge_pages_but_for_one_page(rt: HostRuntime) -> Result<(), Fail> {
-        assert_eq!(rt; room_for(3), 3);
-        assert_eq!(rt; room_for(0x1f_ffff), 0x1f_ffff);
-        assert_eq!(rt; room_for(0x20_0000), 0x3f_f000);
-        assert_eq!(rt; room_for(0x3f_f000), 0x3f_f000);
-        assert_eq!(rt; room_for(0x3f_f001), 0x5f_f000);
-        assert_eq!(rt; room_for(usize::MAX), usize::MAX);
-        Ok(())
-    }
-}

@@ -6,6 +6,7 @@
 //!
 //! | Module | What it has |
 //! |---|---|
+//! | `item_tests` | a word by itself |
 //! | `machine_tests` | a step by itself |
 //! | `load_record_tests` | each prefix of a record, and its first segment's buffer |
 //! | `load_states_tests`, `exchange_tests` | a load from its segments to its run, and the one with most exchanges |
@@ -13,6 +14,8 @@
 
 #[cfg(test)]
 mod exchange_tests;
+#[cfg(test)]
+mod item_tests;
 #[cfg(test)]
 mod load_record_tests;
 #[cfg(test)]

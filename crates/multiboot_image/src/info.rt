@@ -1,6 +1,6 @@
 //! The information that a Multiboot kernel finds at its start.
 
-ghost use Rattle.std.specs.Prelude.{◌≡◌, ◌+◌, ◌*◌, ◌-◌, ◌^◌, ◌<◌, ◌≤◌, length, min, IfOk};
+ghost use Rattle.std.specs.Prelude.{◌≡◌, ◌+◌, ◌*◌, ◌-◌, ◌^◌, ◌<◌, length, min, IfOk};
 ghost use Rattle.multiboot_image.specs.MapRows.{mem_lower, mem_upper};
 ghost use Rattle.multiboot_image.specs.Info.{info_of, info_text, name_place, places_of, info, info_size};
 ghost use Rattle.multiboot_image.specs.inner.Info.{AreRising, IsInReach, info_length_of};

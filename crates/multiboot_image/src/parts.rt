@@ -1,6 +1,6 @@
 //! The segments that a Multiboot kernel is loaded as.
 
-ghost use Rattle.std.specs.Prelude.{◌≡◌, ◌+◌, ◌++◌, ◌≤◌, ◌<◌, ◌^◌, false, length, take, drop, replicate, ℕ, IfOk};
+ghost use Rattle.std.specs.Prelude.{◌≡◌, ◌+◌, ◌++◌, ◌≤◌, ◌<◌, ◌^◌, false, length, replicate, ℕ, IfOk};
 ghost use Rattle.kx_laws.specs.inner.Results.{Gives};
 ghost use Rattle.segments.specs.Values.{is_destination};
 ghost use Rattle.multiboot_image.specs.declared.fault.MbFault.TheVariants.{Memory};

@@ -1,9 +1,13 @@
-//! Tests of requests that no words can make. Places, starts and refusals are shown by crates/scenes/data: places.scenes,
+//! Tests of requests that no words can make, and of places among given spans. Places, starts and refusals are shown by crates/scenes/data: places.scenes,
 //! requests.scenes, crash-areas.scenes, information.scenes.
 //!
 //! Tests that call only what their crates export stand in crates of their own: a build of tests proves their crate once
 //! more, and so the crates are proved once.
 #![tactic(auto)]
 
+#[cfg(test)]
+mod hole_tests;
+#[cfg(test)]
+mod many_spans_tests;
 #[cfg(test)]
 mod request_tests;

@@ -1,6 +1,6 @@
 //! What relocations compute.
 
-ghost use Rattle.std.specs.Prelude.{◌≡◌, ℕ, ◌^◌, ◌+◌, ◌<◌, ◌≤◌, ◌≤ℤ◌, pos, negsuc, neg_ℤ, Some, None, if◌then◌else◌};
+ghost use Rattle.std.specs.Prelude.{◌≡◌, ◌^◌, ◌+◌, ◌<◌, ◌≤◌, ◌≤ℤ◌, pos, neg_ℤ, Some, None, if◌then◌else◌};
 ghost use Rattle.purgatory_link.specs.Formulas.{form_of, wide, formula, fits, modulo};
 
 /// The type of a relocation that puts nothing.

@@ -1,6 +1,6 @@
 //! All relocations.
 
-ghost use Rattle.std.specs.Prelude.{◌≡◌, ℕ, List, ◌<◌, ◌≤◌, ◌^◌, true, length, [], IfErr, IfOk, IfSome, OnOk};
+ghost use Rattle.std.specs.Prelude.{◌≡◌, List, ◌<◌, ◌≤◌, ◌^◌, true, length, [], IfErr, IfOk, IfSome, OnOk};
 ghost use Rattle.elf_image.specs.inner.Object.{IsObject};
 ghost use Rattle.elf_image.specs.Reloc.{entries_of};
 ghost use Rattle.elf_image.specs.inner.Reloc.{AreInside};

@@ -12,8 +12,6 @@ ghost use Rattle.std.specs.List.{position_or_len};
 ghost use Rattle.text_lines.specs.Lines.{lines, cut, number, decimal, two_numbers, both, number_in, number_of};
 
 mod reader;
-#[cfg(test)]
-mod tests;
 
 pub use reader::{LineReader, read_lines};
 

@@ -1,6 +1,6 @@
 //! Readers of texts that take one line after another.
 
-ghost use Rattle.std.specs.Prelude.{ℕ, List, Result, ◌+◌, ◌≤◌, length};
+ghost use Rattle.std.specs.Prelude.{ℕ, List, Result, ◌+◌};
 ghost use Rattle.kx_laws.specs.inner.Results.{Gives};
 ghost use Rattle.text_lines.specs.Lines.{lines, lines_onto};
 

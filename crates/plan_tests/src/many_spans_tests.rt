@@ -1,6 +1,6 @@
 //! Searches over many spans, which bench/holes.py also runs by their names, to see how their time grows.
 
-use crate::{End, find};
+use hole_search::{End, find};
 use kx_pages::{ADDRESS_LIMIT, PAGE_SIZE, PageSet, Span};
 use std::alloc::Global;
 use std::test::Fail;

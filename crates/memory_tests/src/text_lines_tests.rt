@@ -1,5 +1,7 @@
-use super::*;
-use std::test::*;
+//! Lines, cuts at a byte, and numbers of a text, each at the ends of its form.
+
+use std::test::Fail;
+use text_lines::{cut, decimal, next_line, number, two_numbers};
 
 #[test]
 fn lines_end_at_newlines(rt: HostRuntime) -> Result<(), Fail> {
