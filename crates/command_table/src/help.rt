@@ -5,10 +5,10 @@ ghost use Rattle.command_table.specs.Names.{name_of};
 ghost use Rattle.command_table.specs.inner.Table.{argument_values};
 ghost use Rattle.command_table.specs.inner.Texts.{first_name, arguments_of};
 
+use crate::commands;
 use crate::layout::{write_arguments, write_entry, write_paragraph, write_usage};
 use crate::names::{NAMES, Name, name_of};
 use crate::table::Argument;
-use crate::texts;
 use std::fmt::{self, Display, Formatter, Write};
 
 /// The usage line of a command, or of all commands where none is named, under the name by which the program was called.
@@ -56,34 +56,33 @@ fn write_notes<W: Write>(notes: &[&str], f: &mut Formatter<W>) -> fmt::Result {
 
 // What is said of a command after its usage line.
 fn write_command<W: Write>(name: Name, f: &mut Formatter<W>) -> fmt::Result {
-    let text = name.said();
-    let arguments = name.arguments();
-    write_paragraph(text.about, f)?;
-    write_arguments("Arguments", arguments, false, f)?;
-    write_arguments("Options", arguments, true, f)?;
-    write_notes(text.notes, f)
+    let row = name.row();
+    write_paragraph(row.about, f)?;
+    write_arguments("Arguments", row.arguments, false, f)?;
+    write_arguments("Options", row.arguments, true, f)?;
+    write_notes(row.notes, f)
 }
 
 fn write_commands<W: Write>(f: &mut Formatter<W>) -> fmt::Result {
     f.write_str("\n\nCommands:")?;
     for name in NAMES {
-        let text = name.said();
-        write_entry(text.name, text.brief, texts::LONGEST_NAME, f)?;
+        let row = name.row();
+        write_entry(row.name, row.brief, commands::LONGEST_NAME, f)?;
     }
     Ok(())
 }
 
 fn write_files<W: Write>(f: &mut Formatter<W>) -> fmt::Result {
     f.write_str("\n\nFiles:")?;
-    for (name, text) in texts::FILES {
-        write_entry(name, text, texts::LONGEST_FILE, f)?;
+    for (name, text) in commands::FILES {
+        write_entry(name, text, commands::LONGEST_FILE, f)?;
     }
     Ok(())
 }
 
 // What is said where no command is named.
 fn write_program<W: Write>(program: &str, f: &mut Formatter<W>) -> fmt::Result {
-    write_paragraph(texts::PROGRAM, f)?;
+    write_paragraph(commands::PROGRAM, f)?;
     write_commands(f)?;
     write_files(f)?;
     write!(f, "\n\n{program} COMMAND --help describes a command.")

@@ -5,8 +5,8 @@ ghost use Rattle.command_table.specs.Arguments.{arguments_by};
 ghost use Rattle.command_table.specs.Names.{name_text, name_of};
 ghost use Rattle.command_table.specs.inner.Table.{argument_values};
 
-use crate::table::{Argument, CommandText};
-use crate::{arguments, texts};
+use crate::commands;
+use crate::table::{Argument, Command};
 use std::fmt::{self, Display, Formatter, Write};
 
 /// A command.
@@ -71,45 +71,34 @@ impl Name {
     pub fn text(self) -> &'static str
         ensures { result.now ≡ name_text self }
     {
-        self.said().name
+        self.row().name
     }
 
     /// The arguments of the command, in their order.
     pub fn arguments(self) -> &'static [Argument]
         ensures { argument_values result.now ≡ arguments_by self }
     {
-        match self {
-            Name::Boot => arguments::BOOT,
-            Name::Load => arguments::LOAD,
-            Name::LoadPanic => arguments::LOAD_PANIC,
-            Name::Check | Name::Dump => arguments::LOADED,
-            Name::Exec => arguments::EXEC,
-            Name::Trace => arguments::TRACE,
-            Name::Migrate => arguments::MIGRATE,
-            Name::Sample => arguments::SAMPLE,
-            Name::BootResident => arguments::BOOT_RESIDENT,
-            Name::Drill => arguments::DRILL,
-            Name::Core => arguments::CORE,
-        }
+        self.row().arguments
     }
 
-    // What is said of the command, beside its arguments.
-    pub(crate) fn said(self) -> CommandText
-        ensures { result.name.now ≡ name_text self }
+    // The command as it stands in the table.
+    pub(crate) fn row(self) -> Command
+        ensures name { result.name.now ≡ name_text self }
+        ensures arguments { argument_values result.arguments.now ≡ arguments_by self }
     {
         match self {
-            Name::Boot => texts::BOOT,
-            Name::Load => texts::LOAD,
-            Name::LoadPanic => texts::LOAD_PANIC,
-            Name::Check => texts::CHECK,
-            Name::Dump => texts::DUMP,
-            Name::Exec => texts::EXEC,
-            Name::Trace => texts::TRACE,
-            Name::Migrate => texts::MIGRATE,
-            Name::Sample => texts::SAMPLE,
-            Name::BootResident => texts::BOOT_RESIDENT,
-            Name::Drill => texts::DRILL,
-            Name::Core => texts::CORE,
+            Name::Boot => commands::BOOT,
+            Name::Load => commands::LOAD,
+            Name::LoadPanic => commands::LOAD_PANIC,
+            Name::Check => commands::CHECK,
+            Name::Dump => commands::DUMP,
+            Name::Exec => commands::EXEC,
+            Name::Trace => commands::TRACE,
+            Name::Migrate => commands::MIGRATE,
+            Name::Sample => commands::SAMPLE,
+            Name::BootResident => commands::BOOT_RESIDENT,
+            Name::Drill => commands::DRILL,
+            Name::Core => commands::CORE,
         }
     }
 }

@@ -1,5 +1,6 @@
 //! The table: the options of the commands.
 
+use crate::roles::Role;
 use crate::table::{Argument, Form, Kind};
 
 /// The words that `--type` takes, as a sentence lists them.
@@ -14,7 +15,8 @@ pub(crate) const RUNS: Argument = Argument {
     value: "RUNS",
     form: Form::Value,
     kind: Kind::Choice,
-    what: RUNS_WORDS,
+    role: None,
+    choices: RUNS_WORDS,
     text: "preserve context and run the list this many times: into the new kernel, and with 2 back again; default: one run in plain mode",
 };
 
@@ -24,7 +26,8 @@ pub(crate) const KEPT: Argument = Argument {
     value: "",
     form: Form::Flag,
     kind: Kind::Presence,
-    what: "",
+    role: None,
+    choices: "",
     text: "preserve context, so that the list can be run a second time, back into the old kernel; default: plain mode",
 };
 
@@ -34,7 +37,8 @@ pub(crate) const BELOW: Argument = Argument {
     value: "ADDRESS",
     form: Form::Value,
     kind: Kind::Address,
-    what: "",
+    role: None,
+    choices: "",
     text: "use only pages of the pool below this address, a multiple of 0x1000 up to 0x400000000000; default: all pages of the pool",
 };
 
@@ -44,18 +48,15 @@ pub(crate) const MAP: Argument = Argument {
     value: "FILE",
     form: Form::Value,
     kind: Kind::Input,
-    what: "file",
+    role: Some(Role::Map),
+    choices: "",
     text: "the memory map, as /proc/iomem prints it; required for every type but raw, and with --purgatory",
 };
 
 pub(crate) const NEEDED_MAP: Argument = Argument {
-    id: "map",
-    name: "--map",
-    value: "FILE",
     form: Form::Needed,
-    kind: Kind::Input,
-    what: "file",
     text: "the memory map, as /proc/iomem prints it; required",
+    ..MAP
 };
 
 pub(crate) const TYPE: Argument = Argument {
@@ -64,7 +65,8 @@ pub(crate) const TYPE: Argument = Argument {
     value: "TYPE",
     form: Form::Value,
     kind: Kind::Choice,
-    what: TYPE_WORDS,
+    role: None,
+    choices: TYPE_WORDS,
     text: "the type of the kernel; default: the type that the file's header shows",
 };
 
@@ -74,18 +76,15 @@ pub(crate) const AT: Argument = Argument {
     value: "ADDRESS",
     form: Form::Value,
     kind: Kind::Address,
-    what: "",
+    role: None,
+    choices: "",
     text: "the address of a raw kernel; required for it, and without effect for the other types",
 };
 
 pub(crate) const NEEDED_AT: Argument = Argument {
-    id: "at",
-    name: "--at",
-    value: "ADDRESS",
     form: Form::Needed,
-    kind: Kind::Address,
-    what: "",
     text: "the address of the kernel, where it is entered: a hexadecimal number of 1 to 16 digits, without 0x; required",
+    ..AT
 };
 
 pub(crate) const ENTRY: Argument = Argument {
@@ -94,7 +93,8 @@ pub(crate) const ENTRY: Argument = Argument {
     value: "ADDRESS",
     form: Form::Value,
     kind: Kind::Address,
-    what: "",
+    role: None,
+    choices: "",
     text: "the address where a raw kernel is entered; default: the address of --at; without effect for the other types",
 };
 
@@ -104,7 +104,8 @@ pub(crate) const COMMAND: Argument = Argument {
     value: "TEXT",
     form: Form::Value,
     kind: Kind::Text,
-    what: "",
+    role: None,
+    choices: "",
     text: "the kernel's command line; default: none",
 };
 
@@ -114,7 +115,8 @@ pub(crate) const INITRD: Argument = Argument {
     value: "FILE",
     form: Form::Value,
     kind: Kind::Input,
-    what: "file",
+    role: Some(Role::Initrd),
+    choices: "",
     text: "the initial RAM disk; default: none",
 };
 
@@ -124,7 +126,8 @@ pub(crate) const PURGATORY: Argument = Argument {
     value: "FILE",
     form: Form::Value,
     kind: Kind::Input,
-    what: "file",
+    role: Some(Role::Purgatory),
+    choices: "",
     text: "the purgatory, an ELF64 object for x86-64 that runs before the kernel; default: none",
 };
 
@@ -134,7 +137,8 @@ pub(crate) const NOTES: Argument = Argument {
     value: "FILE",
     form: Form::Value,
     kind: Kind::Input,
-    what: "file",
+    role: Some(Role::Notes),
+    choices: "",
     text: "the places of the ELF notes for the crash headers; on each line an address and a size in bytes, both hexadecimal; default: none",
 };
 
@@ -144,7 +148,8 @@ pub(crate) const TWICE: Argument = Argument {
     value: "",
     form: Form::Flag,
     kind: Kind::Presence,
-    what: "",
+    role: None,
+    choices: "",
     text: "run the list a second time, back into the old kernel, which the load must have preserved; default: one run",
 };
 
@@ -154,6 +159,7 @@ pub(crate) const SWAP: Argument = Argument {
     value: "ADDRESS",
     form: Form::Value,
     kind: Kind::Address,
-    what: "",
+    role: None,
+    choices: "",
     text: "the address of the swap page, for moves with context preserved: a hexadecimal number of 1 to 16 digits, without 0x, that is a multiple of 0x1000 below 0x400000000000; default: plain mode",
 };

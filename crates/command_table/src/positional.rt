@@ -1,5 +1,6 @@
 //! The table: the positional words of the commands.
 
+use crate::roles::Role;
 use crate::table::{Argument, Form, Kind};
 
 pub(crate) const MEMORY: Argument = Argument {
@@ -8,48 +9,29 @@ pub(crate) const MEMORY: Argument = Argument {
     value: "",
     form: Form::Word,
     kind: Kind::Input,
-    what: "memory file",
+    role: Some(Role::Memory),
+    choices: "",
     text: "the memory before the load",
 };
 
 pub(crate) const LOADED_MEMORY: Argument = Argument {
-    id: "MEMORY",
-    name: "MEMORY",
-    value: "",
-    form: Form::Word,
-    kind: Kind::Input,
-    what: "memory file",
     text: "the memory after the load",
+    ..MEMORY
 };
 
 pub(crate) const TRACED_MEMORY: Argument = Argument {
-    id: "MEMORY",
-    name: "MEMORY",
-    value: "",
-    form: Form::Word,
-    kind: Kind::Input,
-    what: "memory file",
     text: "the memory before the first step",
+    ..MEMORY
 };
 
 pub(crate) const DRILLED_MEMORY: Argument = Argument {
-    id: "MEMORY",
-    name: "MEMORY",
-    value: "",
-    form: Form::Word,
-    kind: Kind::Input,
-    what: "memory file",
     text: "the memory before the first event",
+    ..MEMORY
 };
 
 pub(crate) const STOPPED_MEMORY: Argument = Argument {
-    id: "MEMORY",
-    name: "MEMORY",
-    value: "",
-    form: Form::Word,
-    kind: Kind::Input,
-    what: "memory file",
     text: "the memory of the stopped machine",
+    ..MEMORY
 };
 
 pub(crate) const POOL: Argument = Argument {
@@ -58,7 +40,8 @@ pub(crate) const POOL: Argument = Argument {
     value: "",
     form: Form::Word,
     kind: Kind::Input,
-    what: "pool file",
+    role: Some(Role::Pool),
+    choices: "",
     text: "the free pages in the order of their use; on each line a hexadecimal page number or a range first-last",
 };
 
@@ -68,58 +51,36 @@ pub(crate) const RUN_OUT: Argument = Argument {
     value: "",
     form: Form::Word,
     kind: Kind::Output,
-    what: "memory file",
+    role: Some(Role::MemoryOut),
+    choices: "",
     text: "the memory after the last run; not a file that is read",
 };
 
 pub(crate) const LOADED_OUT: Argument = Argument {
-    id: "OUT",
-    name: "OUT",
-    value: "",
-    form: Form::Word,
-    kind: Kind::Output,
-    what: "memory file",
     text: "the memory after the load; not a file that is read",
+    ..RUN_OUT
 };
 
 pub(crate) const TRACED_OUT: Argument = Argument {
-    id: "OUT",
-    name: "OUT",
-    value: "",
-    form: Form::Word,
-    kind: Kind::Output,
-    what: "memory file",
     text: "the memory after the last step; not MEMORY",
+    ..RUN_OUT
 };
 
 pub(crate) const DRILLED_OUT: Argument = Argument {
-    id: "OUT",
-    name: "OUT",
-    value: "",
-    form: Form::Word,
-    kind: Kind::Output,
-    what: "memory file",
     text: "the memory after the last event; not a file that is read",
+    ..RUN_OUT
 };
 
 pub(crate) const MIGRATED_OUT: Argument = Argument {
-    id: "OUT",
-    name: "OUT",
-    value: "",
-    form: Form::Word,
-    kind: Kind::Output,
-    what: "load record",
+    role: Some(Role::RecordOut),
     text: "the load in version 2; not RECORD",
+    ..RUN_OUT
 };
 
 pub(crate) const CORE_OUT: Argument = Argument {
-    id: "OUT",
-    name: "OUT",
-    value: "",
-    form: Form::Word,
-    kind: Kind::Output,
-    what: "core file",
+    role: Some(Role::CoreOut),
     text: "the memory as one ELF core file; not MEMORY",
+    ..RUN_OUT
 };
 
 pub(crate) const RECORD: Argument = Argument {
@@ -128,18 +89,16 @@ pub(crate) const RECORD: Argument = Argument {
     value: "",
     form: Form::Word,
     kind: Kind::Input,
-    what: "load record",
+    role: Some(Role::Record),
+    choices: "",
     text: "the load, as load or load-panic wrote it",
 };
 
 pub(crate) const LOADED_RECORD: Argument = Argument {
-    id: "RECORD",
-    name: "RECORD",
-    value: "",
-    form: Form::Word,
     kind: Kind::Output,
-    what: "load record",
+    role: Some(Role::RecordOut),
     text: "the load, as check, dump and exec read it; neither OUT nor a file that is read",
+    ..RECORD
 };
 
 pub(crate) const KERNEL: Argument = Argument {
@@ -148,18 +107,14 @@ pub(crate) const KERNEL: Argument = Argument {
     value: "",
     form: Form::Word,
     kind: Kind::Input,
-    what: "file",
+    role: Some(Role::Kernel),
+    choices: "",
     text: "the kernel",
 };
 
 pub(crate) const CRASH_KERNEL: Argument = Argument {
-    id: "KERNEL",
-    name: "KERNEL",
-    value: "",
-    form: Form::Word,
-    kind: Kind::Input,
-    what: "file",
     text: "the crash kernel, a bzImage",
+    ..KERNEL
 };
 
 pub(crate) const MODULES: Argument = Argument {
@@ -168,7 +123,8 @@ pub(crate) const MODULES: Argument = Argument {
     value: "",
     form: Form::Words,
     kind: Kind::Input,
-    what: "files",
+    role: Some(Role::Module),
+    choices: "",
     text: "Multiboot modules, at most 12",
 };
 
@@ -178,7 +134,8 @@ pub(crate) const PAIRS: Argument = Argument {
     value: "",
     form: Form::Word,
     kind: Kind::Input,
-    what: "file",
+    role: Some(Role::Pairs),
+    choices: "",
     text: "on each line the number of a page of the kernel and the number of the page of memory that has its bytes, both hexadecimal",
 };
 
@@ -188,7 +145,8 @@ pub(crate) const EVENTS: Argument = Argument {
     value: "",
     form: Form::Word,
     kind: Kind::Input,
-    what: "file",
+    role: Some(Role::Events),
+    choices: "",
     text: "on each line an event, such as open 1 normal or panic",
 };
 
@@ -198,7 +156,8 @@ pub(crate) const HEAD: Argument = Argument {
     value: "",
     form: Form::Word,
     kind: Kind::ListWord,
-    what: "",
+    role: None,
+    choices: "",
     text: "the head word of the list: a hexadecimal number of 1 to 16 digits, without 0x",
 };
 
@@ -208,7 +167,8 @@ pub(crate) const LIMIT: Argument = Argument {
     value: "",
     form: Form::Word,
     kind: Kind::Count,
-    what: "",
+    role: None,
+    choices: "",
     text: "the maximum number of steps: a decimal number of 1 to 9 digits, at most 100000000",
 };
 
@@ -218,7 +178,8 @@ pub(crate) const NUMBER: Argument = Argument {
     value: "",
     form: Form::Word,
     kind: Kind::Count,
-    what: "",
+    role: None,
+    choices: "",
     text: "the number that the sample is made from: a decimal number of 1 to 18 digits",
 };
 
@@ -228,6 +189,7 @@ pub(crate) const ADDRESS: Argument = Argument {
     value: "",
     form: Form::Word,
     kind: Kind::Address,
-    what: "",
+    role: None,
+    choices: "",
     text: "the address of the crash headers: a hexadecimal number of 1 to 16 digits, without 0x, that is a multiple of 8 below 0x400000000000",
 };

@@ -3,6 +3,8 @@
 ghost use Rattle.std.specs.Prelude.{◌≡◌};
 ghost use Rattle.command_table.specs.inner.Table.{is_file, is_hexadecimal, is_number, is_option};
 
+use crate::roles::Role;
+
 /// How an argument is given.
 #[derive(Clone, Copy, Debug, PartialEq, Eq)]
 pub enum Form {
@@ -52,15 +54,17 @@ pub struct Argument {
     pub form: Form,
     /// What it is.
     pub kind: Kind,
-    /// Which file it is, or which words there are to choose from; else empty.
-    pub what: &'static str,
+    /// Which file it gives; None where it gives none.
+    pub role: Option<Role>,
+    /// The words that there are to choose from; else empty.
+    pub choices: &'static str,
     /// What the help says of it.
     pub text: &'static str,
 }
 
-/// What is said of a command, beside its arguments.
+/// A command: what is said of it, and its arguments.
 #[derive(Clone, Copy)]
-pub(crate) struct CommandText {
+pub(crate) struct Command {
     pub(crate) name: &'static str,
     // in the list of the commands
     pub(crate) brief: &'static str,
@@ -68,6 +72,8 @@ pub(crate) struct CommandText {
     pub(crate) about: &'static str,
     // behind the arguments, each a paragraph
     pub(crate) notes: &'static [&'static str],
+    // in their order
+    pub(crate) arguments: &'static [Argument],
 }
 
 impl Kind {
