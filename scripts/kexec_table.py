@@ -10,7 +10,7 @@ OPTIONS = ("Value", "Needed", "Flag")
 FILES = ("Input", "Output")
 
 # The name for people, the name of an option's value, how it is given, what it is, and the words to choose from.
-Argument = namedtuple("Argument", "name value form kind what")
+Argument = namedtuple("Argument", "name value form kind choices")
 
 
 def read_source(name):
@@ -22,18 +22,26 @@ def read_texts(source):
     return dict(re.findall(r'^pub\(crate\) const (\w+): &str =\s+"([^"]*)";', source, re.M))
 
 
+def read_fields(source):
+    """The fields of each argument by the name of its constant; one that is like another but for some fields has the others
+    of that one, which stands before it."""
+    fields = {}
+    for constant, body in re.findall(r"^pub\(crate\) const (\w+): Argument = Argument \{\n(.*?)^\};", source, re.S | re.M):
+        like = re.search(r"^    \.\.(\w+)$", body, re.M)
+        fields[constant] = {**(fields[like[1]] if like else {}), **dict(re.findall(r"^    (\w+): (.*?),$", body, re.M))}
+    return fields
+
+
 def read_arguments():
     """Each argument by the name of its constant."""
     arguments = {}
     for source in (read_source("positional.rt"), read_source("options.rt")):
         texts = read_texts(source)
-        for constant, body in re.findall(r"^pub\(crate\) const (\w+): Argument = Argument \{\n(.*?)^\};", source,
-                                         re.S | re.M):
-            fields = dict(re.findall(r"^    (\w+): (.*?),$", body, re.M))
-            what = fields["what"]
+        for constant, fields in read_fields(source).items():
+            choices = fields["choices"]
             arguments[constant] = Argument(fields["name"].strip('"'), fields["value"].strip('"'),
                                            fields["form"].partition("::")[2], fields["kind"].partition("::")[2],
-                                           texts.get(what, what.strip('"')))
+                                           texts.get(choices, choices.strip('"')))
     return arguments
 
 
@@ -42,14 +50,20 @@ def command_name(variant):
     return re.sub(r"(?<!^)(?=[A-Z])", "-", variant).lower()
 
 
+def read_rows():
+    """The arguments of each command by the name of its constant; what stands between the brackets of `[..]`, or is named."""
+    source = read_source("commands.rt")
+    lists = dict(re.findall(r"^const (\w+): &\[Argument\] = &\[(.*?)\];", source, re.S | re.M))
+    rows = {}
+    for constant, body in re.findall(r"^pub\(crate\) const (\w+): Command = Command \{\n(.*?)^\};", source, re.S | re.M):
+        listed, named = re.search(r"^    arguments: (?:&\[(.*?)\]|(\w+)),$", body, re.S | re.M).groups()
+        rows[constant] = re.findall(r"\w+", lists[named] if named else listed)
+    return rows
+
+
 def read_commands():
-    """The arguments of each command, in their order."""
-    arguments = read_arguments()
-    rows = {constant: [arguments[name] for name in re.findall(r"\w+", body)]
-            for constant, body in re.findall(r"^pub\(crate\) const (\w+): &\[Argument\] = &\[(.*?)\];",
-                                             read_source("arguments.rt"), re.S | re.M)}
-    commands = {}
-    for variants, constant in re.findall(r"^ +(Name::[\w: |]+) => arguments::(\w+),$", read_source("names.rt"), re.M):
-        for variant in re.findall(r"Name::(\w+)", variants):
-            commands[command_name(variant)] = rows[constant]
+    """The arguments of each command, in their order; the commands in the order in which they are listed."""
+    arguments, rows, commands = read_arguments(), read_rows(), {}
+    for variant, constant in re.findall(r"^ +Name::(\w+) => commands::(\w+),$", read_source("names.rt"), re.M):
+        commands[command_name(variant)] = [arguments[name] for name in rows[constant]]
     return commands

@@ -65,7 +65,7 @@ impl Display for Cause<'_> {
             Cause::SameFile { other: Some(other) } => write!(
                 f,
                 "it is the same file as {} {:?}; give it a file of its own",
-                other.name, other.text
+                other.argument.name, other.text
             ),
             Cause::SameFile { other: None } => f.write_str(
                 "it is the same file as another input or output; give it a file of its own",
@@ -89,7 +89,10 @@ fn place_of<R: Files>(rt: &R, name: &str) -> Option<(u64, u64)> {
 fn other_name<'a, R: Files>(rt: &R, given: &[Given<'a>], name: &str) -> Option<Given<'a>> {
     let place = place_of(rt, name)?;
     for one in given {
-        if one.kind.is_file() && one.text != name && place_of(rt, one.text) == Some(place) {
+        if one.argument.kind.is_file()
+            && one.text != name
+            && place_of(rt, one.text) == Some(place)
+        {
             return Some(*one);
         }
     }

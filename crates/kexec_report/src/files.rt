@@ -1,142 +1,123 @@
 //! Which file a refusal speaks of.
 
 use boot_params::ParamsFault;
-use command_parts::{InputFault, Status};
+use command_parts::{InputFault, Status, TEXT_LIMIT};
+use command_table::Role;
 use crash_headers::CrashFault;
 use kexec_plan::PlanFault;
 use kexec_usage::{Given, file_with};
+use kx_pages::KERNEL_LIMIT;
 use resident_planner::ResidentFault;
 
-/// A file that commands take.
-struct Input {
-    /// The word or option that gives it.
-    word: &'static str,
-    /// The most bytes that it may have; 0 where it may have what others leave of a limit that they share.
-    most: u64,
-}
+/// The most bytes of a memory file, as command_parts takes it.
+const MEMORY_FILE_LIMIT: u64 = 537_919_504;
 
-/// The files that are taken, in the order in which every command takes those that it has.
-const INPUTS: [Input; 11] = [
-    Input {
-        word: "MEMORY",
-        most: 537_919_504,
-    },
-    Input {
-        word: "RECORD",
-        most: 268_436_448,
-    },
-    Input {
-        word: "POOL",
-        most: 1_048_576,
-    },
-    Input {
-        word: "--map",
-        most: 1_048_576,
-    },
-    Input {
-        word: "--notes",
-        most: 1_048_576,
-    },
-    Input {
-        word: "KERNEL",
-        most: 268_435_456,
-    },
-    Input {
-        word: "--initrd",
-        most: 0,
-    },
-    Input {
-        word: "--purgatory",
-        most: 16_777_216,
-    },
-    Input {
-        word: "MODULES",
-        most: 0,
-    },
-    Input {
-        word: "PAIRS",
-        most: 1_048_576,
-    },
-    Input {
-        word: "EVENTS",
-        most: 1_048_576,
-    },
-];
+/// The most bytes of a load record, as list_commands takes it.
+const RECORD_LIMIT: u64 = 268_436_448;
 
-// The word or option of the file that its reader refused.
-fn input_word(fault: &InputFault) -> &'static str {
-    match fault {
-        InputFault::Mem { .. } => "MEMORY",
-        InputFault::Pool { .. } => "POOL",
-        InputFault::Map { .. } => "--map",
-        InputFault::Rec { .. } => "RECORD",
-        InputFault::Notes { .. } => "--notes",
-        InputFault::Pairs { .. } => "PAIRS",
-        InputFault::Events { .. } => "EVENTS",
+/// The most bytes of a purgatory, as load_commands takes it.
+const PURGATORY_LIMIT: u64 = 16_777_216;
+
+// The most bytes that a file of this role may have; 0 where it may have what others leave of a limit that they share. None
+// where it is written.
+fn limit_of(role: Role) -> Option<u64> {
+    match role {
+        Role::Memory => Some(MEMORY_FILE_LIMIT),
+        Role::Record => Some(RECORD_LIMIT),
+        Role::Pool | Role::Map | Role::Notes | Role::Pairs | Role::Events => {
+            Some(TEXT_LIMIT as u64)
+        }
+        Role::Kernel => Some(KERNEL_LIMIT as u64),
+        Role::Initrd | Role::Module => Some(0),
+        Role::Purgatory => Some(PURGATORY_LIMIT),
+        Role::MemoryOut | Role::RecordOut | Role::CoreOut => None,
     }
 }
 
-// The word or option of the file that has no plan.
-fn plan_word(fault: &PlanFault) -> Option<&'static str> {
+// The file that its reader refused.
+fn input_role(fault: &InputFault) -> Role {
+    match fault {
+        InputFault::Mem { .. } => Role::Memory,
+        InputFault::Pool { .. } => Role::Pool,
+        InputFault::Map { .. } => Role::Map,
+        InputFault::Rec { .. } => Role::Record,
+        InputFault::Notes { .. } => Role::Notes,
+        InputFault::Pairs { .. } => Role::Pairs,
+        InputFault::Events { .. } => Role::Events,
+    }
+}
+
+// The file that has no plan.
+fn plan_role(fault: &PlanFault) -> Option<Role> {
     match fault {
         PlanFault::UnknownImage
         | PlanFault::CrashNeedsBzimage
         | PlanFault::Elf { .. }
         | PlanFault::Bzimage { .. }
-        | PlanFault::Multiboot { .. } => Some("KERNEL"),
-        PlanFault::Object { .. } | PlanFault::Link { .. } => Some("--purgatory"),
+        | PlanFault::Multiboot { .. } => Some(Role::Kernel),
+        PlanFault::Object { .. } | PlanFault::Link { .. } => Some(Role::Purgatory),
         PlanFault::NoReserved
         | PlanFault::Params {
             fault: ParamsFault::TooManyRanges { .. },
-        } => Some("--map"),
+        } => Some(Role::Map),
         PlanFault::Crash {
             fault: CrashFault::NotesOutside { .. },
-        } => Some("--notes"),
+        } => Some(Role::Notes),
         _ => None,
     }
 }
 
-// The word of the file for which no list is made.
-fn resident_word(fault: &ResidentFault) -> &'static str {
+// The file for which no list is made.
+fn resident_role(fault: &ResidentFault) -> Role {
     match fault {
-        ResidentFault::NoPages { .. } => "POOL",
-        _ => "PAIRS",
+        ResidentFault::NoPages { .. } => Role::Pool,
+        _ => Role::Pairs,
     }
 }
 
-// The word or option of the file that was refused, where it is one file's fault and the status tells which.
-fn word_of(status: &Status) -> Option<&'static str> {
+// The file that was refused, where it is one file's fault and the status tells which.
+fn role_of(status: &Status) -> Option<Role> {
     match status {
-        Status::Input { fault } => Some(input_word(fault)),
-        Status::Plan { fault } => plan_word(fault),
-        Status::NoPages { .. } | Status::Slots { .. } => Some("POOL"),
-        Status::NotKept => Some("RECORD"),
-        Status::Resident { fault } => Some(resident_word(fault)),
-        Status::Core { .. } => Some("MEMORY"),
+        Status::Input { fault } => Some(input_role(fault)),
+        Status::Plan { fault } => plan_role(fault),
+        Status::NoPages { .. } | Status::Slots { .. } => Some(Role::Pool),
+        Status::NotKept => Some(Role::Record),
+        Status::Resident { fault } => Some(resident_role(fault)),
+        Status::Core { .. } => Some(Role::Memory),
         _ => None,
     }
 }
 
-// The file of this word and this name; a word may be given several times.
-fn file_named<'a>(given: &[Given<'a>], word: &str, name: &str) -> Option<Given<'a>> {
+/// The first file of this role.
+pub(crate) fn file_for<'a>(given: &[Given<'a>], role: Role) -> Option<Given<'a>> {
     given
         .iter()
         .copied()
-        .find(|one| one.name == word && one.text == name)
+        .find(|one| one.argument.role == Some(role))
+}
+
+/// The name of the first file of this role.
+pub(crate) fn name_for<'a>(given: &[Given<'a>], role: Role) -> Option<&'a str> {
+    let file = file_for(given, role)?;
+    Some(file.text)
+}
+
+// Whether a file has this name, and may not have more bytes than this.
+fn may_be_refused(one: &Given<'_>, name: &str, most: u64) -> bool {
+    let Some(role) = one.argument.role else {
+        return false;
+    };
+    one.text == name && limit_of(role).is_some_and(|limit| limit <= most)
 }
 
 // The first file of this name that is taken, among those that may not have more bytes than this: one file may be given by
-// several words, and a word that allows more bytes was not the one that refused them.
+// several words, and a word that allows more bytes was not the one that refused them. Roles stand in the order of the takes.
 fn taken_file<'a>(given: &[Given<'a>], name: &str, most: u64) -> Option<Given<'a>> {
-    for input in &INPUTS {
-        if input.most <= most {
-            let file = file_named(given, input.word, name);
-            if file.is_some() {
-                return file;
-            }
-        }
-    }
-    None
+    given
+        .iter()
+        .copied()
+        .filter(|one| may_be_refused(one, name, most))
+        .min_by_key(|one| one.argument.role)
 }
 
 /// The file that was refused, with its word or option, where it is one file's fault.
@@ -144,10 +125,7 @@ pub(crate) fn file_of<'a>(status: &Status, given: &[Given<'a>]) -> Option<Given<
     match status {
         Status::Unread { name } => taken_file(given, name, u64::MAX),
         Status::TooLong { name, limit } => taken_file(given, name, *limit),
-        Status::Unwritten { name } => file_named(given, file_with(given, name)?, name),
-        status => {
-            let word = word_of(status)?;
-            given.iter().copied().find(|one| one.name == word)
-        }
+        Status::Unwritten { name } => file_with(given, name),
+        status => file_for(given, role_of(status)?),
     }
 }

@@ -2,6 +2,7 @@
 
 use bzimage::{BzFault, is_bzimage};
 use command_parts::{InputFault, Status};
+use command_table::Role;
 use elf_image::ElfFault;
 use kexec_plan::PlanFault;
 use kexec_usage::Given;
@@ -184,18 +185,21 @@ fn text_front(front: &[u8]) -> Option<Front> {
     known_kind(front)
 }
 
-// What the front of a file that was taken for this word shows. That it is compressed is asked first: its bytes may look like
+// What the front of a file that was taken in this role shows. That it is compressed is asked first: its bytes may look like
 // anything. An initrd and modules may be compressed.
-fn file_front(word: &str, front: &[u8]) -> Option<Front> {
-    if matches!(word, "KERNEL" | "--initrd" | "--purgatory" | "MODULES") {
+fn file_front(role: Role, front: &[u8]) -> Option<Front> {
+    if matches!(
+        role,
+        Role::Kernel | Role::Initrd | Role::Purgatory | Role::Module
+    ) {
         return own_kind(front);
     }
     if let Some(tool) = tool_for(front) {
         return Some(Front::Compressed { tool });
     }
-    match word {
-        "MEMORY" => memory_front(front),
-        "RECORD" => record_front(front),
+    match role {
+        Role::Memory => memory_front(front),
+        Role::Record => record_front(front),
         _ => text_front(front),
     }
 }
@@ -247,8 +251,8 @@ fn has_prefix(front: &[u8], line: u64) -> bool {
 }
 
 // What the front of a file shows that its reader refused.
-fn refused_front(fault: &InputFault, word: &str, front: &[u8]) -> Option<Front> {
-    if let Some(kind) = file_front(word, front) {
+fn refused_front(fault: &InputFault, role: Role, front: &[u8]) -> Option<Front> {
+    if let Some(kind) = file_front(role, front) {
         return Some(kind);
     }
     if has_prefix(front, line_of(fault)?) {
@@ -258,12 +262,14 @@ fn refused_front(fault: &InputFault, word: &str, front: &[u8]) -> Option<Front> 
     }
 }
 
-// What these first bytes of the refused file of this word show.
-fn front_of(status: &Status, word: &str, front: &[u8]) -> Option<Front> {
+// What these first bytes of the refused file of this role show.
+fn front_of(status: &Status, role: Role, front: &[u8]) -> Option<Front> {
     match status {
-        Status::Plan { fault } if is_unmarked(fault) => kernel_front(word == "KERNEL", front),
-        Status::Input { fault } => refused_front(fault, word, front),
-        Status::TooLong { .. } => file_front(word, front),
+        Status::Plan { fault } if is_unmarked(fault) => {
+            kernel_front(role == Role::Kernel, front)
+        }
+        Status::Input { fault } => refused_front(fault, role, front),
+        Status::TooLong { .. } => file_front(role, front),
         _ => None,
     }
 }
@@ -287,5 +293,5 @@ pub(crate) fn hint_of<R: Files>(rt: &R, status: &Status, file: Option<Given<'_>>
     let file = file?;
     let mut room = [0u8; FRONT];
     let count = read_front(rt, file.text, &mut room);
-    front_of(status, file.name, room.get(..count)?)
+    front_of(status, file.argument.role?, room.get(..count)?)
 }

@@ -3,6 +3,7 @@
 use boot_params::ParamsFault;
 use bzimage::BzFault;
 use command_parts::{InputFault, Status};
+use command_table::Role;
 use elf_image::ElfFault;
 use kexec_plan::PlanFault;
 use load_record::RecFault;
@@ -113,11 +114,11 @@ fn core_remedy(fault: &CoreFault) -> Option<&'static str> {
     }
 }
 
-/// What is said of a file that is too long, where this word gives it: the rest of what several files have together may be
-/// less than the file's own limit.
-pub(crate) fn budget_remedy(word: &str) -> Option<&'static str> {
-    match word {
-        "KERNEL" | "--initrd" | "MODULES" => Some(
+/// What is said of a file of this role that is too long: the rest of what several files have together may be less than the
+/// file's own limit.
+pub(crate) fn budget_remedy(role: Role) -> Option<&'static str> {
+    match role {
+        Role::Kernel | Role::Initrd | Role::Module => Some(
             "the kernel, the initrd and the modules may have 268435456 bytes together",
         ),
         _ => None,

@@ -5,6 +5,7 @@ use crate::fronts::Front;
 use crate::plans::write_plan;
 use crate::remedies::{budget_remedy, remedy_of};
 use command_parts::Status;
+use command_table::{Name, name_of};
 use kexec_usage::{Answer, Given, Refusal, text_of};
 use std::fmt::{self, Display, Formatter, Write};
 
@@ -39,9 +40,10 @@ fn write_below<W: Write>(pool: u64, need: u64, limit: &str, f: &mut Formatter<W>
 impl Report<'_> {
     // Whether a crash kernel was to be loaded.
     fn is_crash(&self) -> bool {
-        self.words
-            .first()
-            .is_some_and(|word| word.as_str() == "load-panic")
+        match self.words.first() {
+            Some(word) => matches!(name_of(word), Some(Name::LoadPanic)),
+            None => false,
+        }
     }
 
     // The word that gives the file at fault, and the file's name where the sentence does not begin with it.
@@ -51,9 +53,9 @@ impl Report<'_> {
         };
         match self.status {
             Status::Unread { .. } | Status::Unwritten { .. } | Status::TooLong { .. } => {
-                write!(f, "{} ", file.name)
+                write!(f, "{} ", file.argument.name)
             }
-            _ => write!(f, "{} {:?}: ", file.name, file.text),
+            _ => write!(f, "{} {:?}: ", file.argument.name, file.text),
         }
     }
 
@@ -82,7 +84,7 @@ impl Report<'_> {
     // What helps, where the sentence does not say so yet.
     fn remedy(&self) -> Option<&'static str> {
         match self.status {
-            Status::TooLong { .. } => budget_remedy(self.file?.name),
+            Status::TooLong { .. } => budget_remedy(self.file?.argument.role?),
             status => remedy_of(status, self.is_crash()),
         }
     }

@@ -14,25 +14,24 @@ fn first_with<'b, 'a>(given: &'b [Given<'a>], text: &str) -> Option<&'b Given<'a
 {
     given
         .iter()
-        .find(|one| one.kind.is_file() && one.text == text)
+        .find(|one| one.argument.kind.is_file() && one.text == text)
 }
 
-/// The name of the first file with this text.
-pub fn file_with<'a>(given: &[Given<'a>], text: &str) -> Option<&'a str>
-    ensures { option_map (λ name. name.now) result
-        ≡ file_with (map given_value given.now) text.now }
+/// The first file with this text.
+pub fn file_with<'a>(given: &[Given<'a>], text: &str) -> Option<Given<'a>>
+    ensures { option_map given_value result ≡ file_with (map given_value given.now) text.now }
 {
     let file = first_with(given, text)?;
-    Some(file.name)
+    Some(*file)
 }
 
 // Whether one is another file, with the text of this one.
 fn is_other_with(file: &Given<'_>, one: &Given<'_>) -> bool
     ensures { result ≡ is_other_with (given_value file.now) (given_value one.now) }
 {
-    let is_other = one.name != file.name;
+    let is_other = one.argument.name != file.argument.name;
     let is_same = one.text == file.text;
-    is_other && one.kind.is_file() && is_same
+    is_other && one.argument.kind.is_file() && is_same
 }
 
 // Another file with the text of this one.
@@ -51,13 +50,13 @@ fn is_written(kind: Kind) -> bool
 }
 
 /// The first file that is written and has the text of another file, and that one's name.
-pub(crate) fn shared_file<'a>(given: &[Given<'a>]) -> Option<(Given<'a>, &'a str)>
+pub(crate) fn shared_file<'a>(given: &[Given<'a>]) -> Option<(Given<'a>, &'static str)>
     ensures { option_map shared_value result ≡ shared_file (map given_value given.now) }
 {
     for file in given {
-        if is_written(file.kind) {
+        if is_written(file.argument.kind) {
             if let Some(other) = other_with(given, file) {
-                return Some((*file, other.name));
+                return Some((*file, other.argument.name));
             }
         }
     }

@@ -8,18 +8,16 @@ ghost use Rattle.kexec_usage.specs.inner.Words.{given_value, text_in};
 
 use crate::lookup::{is_repeated, next_word, option_in};
 use crate::mistake::Mistake;
-use command_table::{Argument, Form, Kind, arguments_of};
+use command_table::{Argument, Form, arguments_of};
 use std::alloc::{AllocError, Global};
 
 /// A word that is given: the text of a positional word, or of an option's value.
 #[derive(Clone, Copy, Debug)]
 pub struct Given<'a> {
-    /// The name in the help, as MEMORY or --at.
-    pub name: &'a str,
+    /// The argument of the table: its name in the help, what it is, and its role where it gives a file.
+    pub argument: &'static Argument,
     /// What is given; empty for an option without a value.
     pub text: &'a str,
-    /// What it is.
-    pub kind: Kind,
 }
 
 // What was read so far of the words after a command.
@@ -73,11 +71,7 @@ impl<'a> Reading<'a> {
         ensures { IfOk result (λ m. (reading_value self.new, option_map mistake_value m)
             ≡ value_step (reading_value self.old) (argument_value argument.now) text.now) }
     {
-        self.given.push(Given {
-            name: argument.name,
-            text,
-            kind: argument.kind,
-        })?;
+        self.given.push(Given { argument, text })?;
         Ok(None)
     }
 
@@ -288,7 +282,7 @@ fn one_of<'b, 'a>(given: &'b [Given<'a>], name: &str) -> Option<&'b Given<'a>>
     ensures { option_map (λ one. given_value one.now) result
         ≡ find (λ one. bytes_eq one.name name.now) (map given_value given.now) }
 {
-    given.iter().find(|one| one.name == name)
+    given.iter().find(|one| one.argument.name == name)
 }
 
 /// The text that is given under this name of the help; the first, where there are several.

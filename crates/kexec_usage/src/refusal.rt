@@ -8,7 +8,7 @@ use crate::given::{Answer, Given, text_of};
 use crate::lookup::option_in;
 use crate::mistake::Mistake;
 use crate::old_words::{command_for, has_no_counterpart, option_for, type_for};
-use command_table::{Argument, UsageWhy, Which, arguments_of};
+use command_table::{Argument, Role, UsageWhy, Which, arguments_of};
 use std::fmt::{self, Display, Formatter, Write};
 
 // A sign is not part of a number.
@@ -121,9 +121,7 @@ fn write_mistake<W: Write>(
 
 // Whether the argument of this name is a hexadecimal number.
 fn is_hexadecimal(given: &[Given<'_>], name: &str) -> bool {
-    given
-        .iter()
-        .any(|one| one.name == name && one.kind.is_hexadecimal())
+    given.iter().any(|one| one.argument.name == name && one.argument.kind.is_hexadecimal())
 }
 
 fn write_number<W: Write>(
@@ -157,7 +155,7 @@ fn write_same_name<W: Write>(given: &[Given<'_>], f: &mut Formatter<W>) -> fmt::
     let Some((file, other)) = shared_file(given) else {
         return write!(f, "{}", UsageWhy::SameName);
     };
-    let name = file.name;
+    let name = file.argument.name;
     let text = file.text;
     write!(
         f,
@@ -167,7 +165,10 @@ fn write_same_name<W: Write>(given: &[Given<'_>], f: &mut Formatter<W>) -> fmt::
 
 // The words that may be given several times.
 fn write_modules<W: Write>(given: &[Given<'_>], f: &mut Formatter<W>) -> fmt::Result {
-    let count = given.iter().filter(|one| one.name == "MODULES").count();
+    let count = given
+        .iter()
+        .filter(|one| one.argument.role == Some(Role::Module))
+        .count();
     write!(
         f,
         "{count} modules are given, but a kernel takes at most 12"

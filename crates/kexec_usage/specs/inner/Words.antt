@@ -16,7 +16,11 @@ pub record GivenValue : Type 0 where
   pub kind : Kind
 
 abbrev pub given_value : Given → GivenValue
-given_value g = record { name = g.name.now; text = g.text.now; kind = g.kind }
+given_value g = record {
+  name = g.argument.now.name.now;
+  text = g.text.now;
+  kind = g.argument.now.kind;
+}
 
 -- the text that is given under this name: the first, where there are several
 abbrev pub text_in : List GivenValue → Text → Option Text
