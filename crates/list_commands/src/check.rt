@@ -19,7 +19,7 @@ use std::alloc::Global;
 
 /// How `check` is done: its words say nothing of it.
 #[derive(Drop)]
-pub(crate) struct CheckCommand;
+pub(crate) struct CheckList;
 
 /// What is made of a load that is not accepted: its first fault's line alone, and the fault.
 pub(crate) fn fault_goods(
@@ -91,7 +91,7 @@ fn make_check(alloc: Global, load: TakenLoad) -> Result<Goods<ListFault>, MakeFa
     }
 }
 
-impl Command for CheckCommand {
+impl Command for CheckList {
     type Names = LoadNames;
 
     type Taken = TakenLoad;
@@ -133,5 +133,5 @@ pub fn run_check<S: Shelf, O: Sink>(
     ensures { Meets S.Shelf O.Sink (check_entry (load_names_value words)).command shelf.old out.old
         (call_answer result) shelf.new out.new }
 {
-    run(alloc, words, CheckCommand, shelf, out)
+    run(alloc, words, CheckList, shelf, out)
 }

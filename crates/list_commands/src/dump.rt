@@ -24,7 +24,7 @@ use std::alloc::{AllocError, Global};
 
 /// How `dump` is done: its words say nothing of it.
 #[derive(Drop)]
-pub(crate) struct DumpCommand;
+pub(crate) struct PrintLoad;
 
 /// What `dump` took: the memory, and the record with the digests that are printed.
 #[derive(Drop)]
@@ -187,7 +187,7 @@ fn make_dump(alloc: Global, dump: DumpInputs) -> Result<Goods<ListFault>, MakeFa
     }
 }
 
-impl Command for DumpCommand {
+impl Command for PrintLoad {
     type Names = LoadNames;
 
     type Taken = DumpInputs;
@@ -229,5 +229,5 @@ pub fn run_dump<S: Shelf, O: Sink>(
     ensures { Meets S.Shelf O.Sink (dump_entry (load_names_value words)).command shelf.old out.old
         (call_answer result) shelf.new out.new }
 {
-    run(alloc, words, DumpCommand, shelf, out)
+    run(alloc, words, PrintLoad, shelf, out)
 }

@@ -24,7 +24,7 @@ use std::alloc::Global;
 
 /// How `exec` is done: whether the list is to run twice, and the name of the output.
 #[derive(Drop)]
-pub(crate) struct ExecCommand {
+pub(crate) struct RunLoad {
     pub(crate) twice: bool,
     pub(crate) out: String,
 }
@@ -96,7 +96,7 @@ fn exec_list(
     }
 }
 
-impl Command for ExecCommand {
+impl Command for RunLoad {
     type Names = LoadNames;
 
     type Taken = TakenLoad;
@@ -124,7 +124,7 @@ impl Command for ExecCommand {
     }
 
     fn make(self, alloc: Global, load: TakenLoad) -> Result<Goods<ListFault>, MakeFault<Reason>> {
-        let ExecCommand { twice, out } = self;
+        let RunLoad { twice, out } = self;
         match load {
             TakenLoad::Normal(files) => exec_list(alloc, files, twice, out),
             TakenLoad::Crash(files) => exec_in_place(alloc, files, twice, out),
@@ -152,5 +152,5 @@ pub fn run_exec<S: Shelf, O: Sink>(
         memory,
         load_record,
     };
-    run(alloc, names, ExecCommand { twice, out: name }, shelf, out)
+    run(alloc, names, RunLoad { twice, out: name }, shelf, out)
 }

@@ -19,7 +19,7 @@ use std::alloc::{AllocError, Global};
 
 /// How `migrate` is done: the name of the output.
 #[derive(Drop)]
-pub(crate) struct MigrateCommand {
+pub(crate) struct RewriteRecord {
     pub(crate) out: String,
 }
 
@@ -30,7 +30,7 @@ fn segments_line(alloc: Global, count: usize) -> Result<String, AllocError>
     format!(in alloc; "record segments {count}\n")
 }
 
-impl Command for MigrateCommand {
+impl Command for RewriteRecord {
     type Names = String;
 
     type Taken = ReadRecord;
@@ -85,5 +85,5 @@ pub fn run_migrate<S: Shelf, O: Sink>(
         load_record,
         out: name,
     } = words;
-    run(alloc, load_record, MigrateCommand { out: name }, shelf, out)
+    run(alloc, load_record, RewriteRecord { out: name }, shelf, out)
 }

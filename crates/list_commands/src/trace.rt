@@ -21,7 +21,7 @@ use std::alloc::{AllocError, Global};
 /// How `trace` is done: from which head word on, by the moves of which mode, for how many steps at most, and the name of
 /// the output.
 #[derive(Drop)]
-pub(crate) struct TraceCommand {
+pub(crate) struct RunSteps {
     pub(crate) head: u64,
     pub(crate) mode: Mode,
     pub(crate) limit: u64,
@@ -55,13 +55,13 @@ fn mode_by(swap: Option<u64>) -> Mode
 // Runs the list, and makes the file of the memory after the steps and the line that tells how the run came out.
 fn make_trace(
     alloc: Global,
-    trace: TraceCommand,
+    trace: RunSteps,
     mut memory: Memory,
 ) -> Result<Goods<ListFault>, MakeFault<Reason>>
     ensures { Makes (traces trace.head trace.mode trace.limit (string_bytes trace.out)) memory
         result }
 {
-    let TraceCommand {
+    let RunSteps {
         head,
         mode,
         limit,
@@ -77,7 +77,7 @@ fn make_trace(
     })
 }
 
-impl Command for TraceCommand {
+impl Command for RunSteps {
     type Names = String;
 
     type Taken = Memory;
@@ -126,7 +126,7 @@ pub fn run_trace<S: Shelf, O: Sink>(
         swap,
     } = words;
     let mode = mode_by(swap);
-    let trace = TraceCommand {
+    let trace = RunSteps {
         head,
         mode,
         limit,
