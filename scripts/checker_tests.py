@@ -10,6 +10,13 @@ TOP = os.path.dirname(os.path.dirname(os.path.realpath(__file__)))
 PLANTED = [  # the check, the file, what stands in it, what is planted there, and what is then told
     ("scripts/manual-against-help", "docs/kexec.1", ".Op Fl -below Ar ADDRESS", ".Op Fl -below Ar LIMIT", "boot: the manual has"),
     ("scripts/manual-against-help", "docs/kernelyet.1", ".Op Fl -map Ar FILE", ".Op Fl -maps Ar FILE", ": the manual has"),
+    ("scripts/manual-against-help", "docs/kexec.1", ".Cm check\n.Ar MEMORY RECORD\n.Nm\n.Cm dump\n",
+     ".Cm dump\n.Ar MEMORY RECORD\n.Nm\n.Cm check\n", "the synopsis has the commands in the order boot, load, load-panic, dump, check"),
+    ("scripts/manual-against-help", "docs/FORMATS.md", "kexec migrate       RECORD OUT", "kexec migrate       OUT RECORD",
+     "migrate: docs/FORMATS.md has"),
+    ("scripts/manual-against-help", "README.md", "| `migrate` |", "| `migrates` |", "migrate is not both in the table of README.md"),
+    ("scripts/completion --check", "scripts/companion/commands.py", '    "migrate",\n', "",
+     "scripts/companion/commands.py is not that of the table"),
     ("scripts/completion --check", "docs/kexec.bash", "'plan:--map') said='files'", "'plan:--map') said='nothing'",
      "docs/kexec.bash is not that of the table"),
     ("scripts/help-texts --check", "docs/help/check.txt", "MEMORY RECORD", "RECORD MEMORY",

@@ -6,6 +6,7 @@ import sys
 from typing import NamedTuple
 
 from companion import refusals
+from companion.commands import COMMANDS
 
 
 class Word(NamedTuple):
@@ -27,10 +28,6 @@ WORDS = {
     "loaded": Word("companion.loaded", "read the image that a running Linux has loaded from its memory"),
     "guest": Word("companion.guest", "follow a guest from its panic to its vmcore, in QEMU"),
 }
-
-# The program's own commands.
-COMMANDS = ("boot", "load", "load-panic", "check", "dump", "exec", "trace", "migrate", "sample", "boot-resident", "drill",
-            "core")
 
 
 def name_called():
