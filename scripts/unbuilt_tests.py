@@ -5,8 +5,9 @@ import re
 import shutil
 
 TOP = os.path.dirname(os.path.dirname(os.path.realpath(__file__)))
-# The scripts that run the program of ./kexec where no other is named, and the words with which they would.
+# The scripts that run the program of ./kexec, where no other is named or where ./kexec is, and the words with which they would.
 WORDS = {
+    "bench/hostile": ["unbuilt/kexec"],
     "bench/run": [""],
     "examples/run": [""],
     "scripts/attack-devices": [""],
@@ -23,6 +24,7 @@ WORDS = {
     "scripts/purgatory-against-ld": [""],
     "scripts/refused-memory": [""],
     "scripts/resident-against-all-choices": [""],
+    "scripts/run-scenes": ["unbuilt/kexec"],
     "scripts/sample-numbers": ["2"],
     "scripts/test-scripts": [""],
 }
