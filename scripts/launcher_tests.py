@@ -39,7 +39,7 @@ class Tree:
         self.script("bin/rt", "#!/bin/sh\n")
         self.script("scripts/build-crates", BUILD)
         os.chmod(tests.folder, 0o755)
-        self.env = {**os.environ, "PATH": f"{self.top}/bin:{os.environ['PATH']}"}
+        self.env = {**os.environ, "KEXEC_BUILD": "", "PATH": f"{self.top}/bin:{os.environ['PATH']}"}
 
     def write(self, name, text):
         self.tests.write(f"tree/{name}", text)
