@@ -15,8 +15,8 @@ MIB = 1 << 20
 RUNS = 5
 # what ./kexec asks the C library for
 HUGE_PAGES = ["env", "GLIBC_TUNABLES=glibc.malloc.hugetlb=1"]
-# KEXEC names a program that is built already
-PROGRAM = [*HUGE_PAGES, kexec_files.KEXEC]
+# the program of KEXEC, or ./kexec, which builds nothing here
+PROGRAM = [*HUGE_PAGES, "KEXEC_BUILD=no", kexec_files.KEXEC]
 # what is touched before the runs of a command: more than a command and its outputs take
 TOUCHED = 2 << 30
 

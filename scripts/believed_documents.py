@@ -7,6 +7,7 @@ import sys
 from believed_definitions import TOP, Definition
 from believed_reach import INNER, TOP_CALL, Reached, clauses, definitions_named, examples, misplaced, reached_from, starts_of
 from believed_tries import reached_by, refused_by, row_of_list, table_of_tries
+from companion.refusals import Wrong
 
 LIST = TOP / "docs" / "BELIEVED.list"
 GUIDE = TOP / "docs" / "BELIEVED.md"
@@ -85,7 +86,7 @@ def lined(library, found):
     for it, head in in_lines(library, found[1]):
         lines = it.said(head)
         if not lines:
-            sys.exit(f"believed: {it.title()} has no line that begins with {head}")
+            raise Wrong(f"{it.title()} has no line that begins with {head}")
         text += ("\n\n" if apart or len(lines) > 1 else "\n") + "\n".join(lines)
         apart = len(lines) > 1
     return block("lines", found[1], it.path, text.strip())

@@ -3,9 +3,9 @@ to the next."""
 import collections
 import fnmatch
 import re
-import sys
 
 from believed_definitions import CRATES, TOP, Uses
+from companion.refusals import Wrong, WrongWords
 
 ROOTS = {  # what people rely on, in the order of reading: a call with its file, or a crate of laws
     "kexec": CRATES / "kexec_main" / "src" / "run.rt",
@@ -77,7 +77,7 @@ def functions_of(root):
     """The functions of a root whose clauses count, each with its file: a call, or each public law of a crate."""
     place = ROOTS[root]
     if not place.exists():
-        sys.exit(f"believed: {place.relative_to(TOP)} is missing, where {root} stands")
+        raise Wrong(f"{place.relative_to(TOP)} is missing, where {root} stands")
     if place.is_file():
         yield root, place
         return
@@ -124,7 +124,7 @@ def starts_of(library, names):
         if kind == "root" and rest in ROOTS:
             its = [f"clause {it}" for it, (root, _path, _lines) in known.items() if root == rest]
             if not its:
-                sys.exit(f"believed: {rest} has no clause")
+                raise Wrong(f"{rest} has no clause")
             found += starts_of(library, its)
             found += definitions_named(library, STATUS) if rest == TOP_CALL else []
         elif kind == "clause" and rest in known:
@@ -132,7 +132,7 @@ def starts_of(library, names):
             code = [line for line in lines if not line.strip().startswith("//")]
             found += library.named("", uses_of(path.read_text(encoding="utf8")), code)
         elif kind in ("clause", "root"):
-            sys.exit(f"believed: there is no {name}; there are {', '.join(known if kind == 'clause' else ROOTS)}")
+            raise WrongWords(f"there is no {name}; there are {', '.join(known if kind == 'clause' else ROOTS)}")
         else:
             found += definitions_named(library, name)
     return list(dict.fromkeys(found))
@@ -151,7 +151,7 @@ def reached_from(library):
 def definitions_named(library, name):
     found = library.named_so(name)
     if not found:
-        sys.exit(f"believed: no spec file has a definition {name}")
+        raise WrongWords(f"no spec file has a definition {name}")
     return found
 
 

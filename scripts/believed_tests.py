@@ -113,10 +113,7 @@ FAULTS = [
 def test_believed(tests):
     """What is reached, what is written, and what --check says of each fault."""
     tree = f"{tests.folder}/believed"
-    os.makedirs(f"{tree}/scripts")
-    for name in os.listdir(HERE):
-        if name.startswith("believed") and not name.endswith("_tests.py"):
-            shutil.copy(f"{HERE}/{name}", f"{tree}/scripts")
+    shutil.copytree(HERE, f"{tree}/scripts", ignore=shutil.ignore_patterns("__pycache__"))
     for name, text in TREE.items():
         os.makedirs(os.path.dirname(f"{tree}/{name}"), exist_ok=True)
         tests.write(f"believed/{name}", text)
@@ -138,6 +135,7 @@ def test_believed(tests):
     try_faults(tests, call)
     tests.write("believed/crates/boot_laws/src/laws.rt", "")
     tests.same("a root without a clause", call("--check"), (1, "", "believed: boot_laws has no clause\n"))
+    tests.same("a name that is none", call("--of", "nothing"), (2, "", "believed: no spec file has a definition nothing\n"))
     os.remove(f"{tree}/crates/recorded_kexec/src/run.rt")
     wanted = "believed: crates/recorded_kexec/src/run.rt is missing, where kexec_recorded stands\n"
     tests.same("a root without its file", call("--check"), (1, "", wanted))

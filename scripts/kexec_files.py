@@ -14,14 +14,14 @@ from companion.maps import RAM, write_map
 from companion.memory_files import Memory, memory_bytes, write_memory
 from companion.numbers import END, PAGE
 from companion.parsers import integer, sentence_of
-from companion.program import KEXEC, TOP, build, tool
+from companion.program import KEXEC, LAUNCHER, TOP, ready, tool
 from companion.records import DIGESTS, NUMBERS, Record, Segment, segments_of, without_digests
 from companion.refusals import Wrong, WrongWords, call
 from companion.written import to_write
 
-__all__ = ["DIGESTS", "END", "KEXEC", "Memory", "NUMBERS", "PAGE", "Parser", "Record", "Segment", "TOP", "Wrong",
-           "WrongWords", "build", "call", "integer", "memory_bytes", "module_of", "numbers", "program_given", "random_bytes",
-           "read_record", "run", "segments_of", "to_write", "tool", "unknown", "without_digests", "words_given",
+__all__ = ["DIGESTS", "END", "KEXEC", "LAUNCHER", "Memory", "NUMBERS", "PAGE", "Parser", "Record", "Segment", "TOP", "Wrong",
+           "WrongWords", "call", "integer", "memory_bytes", "module_of", "numbers", "program_given", "random_bytes",
+           "read_record", "ready", "run", "segments_of", "to_write", "tool", "unknown", "without_digests", "words_given",
            "write_memory", "write_pool", "write_ram_map"]
 
 

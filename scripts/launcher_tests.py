@@ -39,7 +39,7 @@ class Tree:
         self.script("bin/rt", "#!/bin/sh\n")
         self.script("scripts/build-crates", BUILD)
         os.chmod(tests.folder, 0o755)
-        self.env = {**os.environ, "PATH": f"{self.top}/bin:{os.environ['PATH']}"}
+        self.env = {**os.environ, "KEXEC_BUILD": "", "PATH": f"{self.top}/bin:{os.environ['PATH']}"}
 
     def write(self, name, text):
         self.tests.write(f"tree/{name}", text)
@@ -76,6 +76,9 @@ def test_before_a_build(tests, tree):
     for words, said in ((["--help"], "all\n"), (["x", "m", "-h"], "one\n"), (["../help/x", "--help"], "all\n")):
         ended = tree.run(f"{tree.top}/kexec", *words)
         tests.same("help needs no build", (ended.returncode, ended.stdout, ended.stderr), (2, said, ""))
+    ended = tree.run(f"{tree.top}/kexec", "x", KEXEC_BUILD="no")
+    tests.same("where no build is wanted", (ended.returncode, ended.stdout, ended.stderr), (
+        70, "", f"kexec: the program is not built for these sources: {tree.top}/kexec, called by itself, proves and builds it\n"))
     os.rename(f"{tree.top}/bin/rt", f"{tree.top}/rt")
     here = ":".join(place for place in os.environ["PATH"].split(":") if not os.path.exists(f"{place}/rt"))
     ended = tree.run(f"{tree.top}/kexec", "x", PATH=here)
@@ -93,6 +96,8 @@ def test_what_stands(tests, tree):
     """The program is built for other sources of its own crates alone."""
     tests.same("the first call builds", tree.call(), BUILT)
     tests.same("the next one runs", tree.call(), RAN)
+    ended = tree.run(f"{tree.top}/kexec", "x", KEXEC_BUILD="no")
+    tests.same("also where no build is wanted", (ended.returncode, ended.stdout, ended.stderr), (0, "ran x\n", ""))
     tests.same("nothing is left", sorted(os.listdir(f"{tree.top}/crates/kexec/out")), ["kexec", "kexec.sources"])
     tree.write("crates/word_tests/src/lib.rt", "mod more;\n")
     tree.write("crates/text/must-fail/wrong.edit", "file: a\n")

@@ -74,6 +74,9 @@ def sentence_of(message, word=""):
     found = re.fullmatch(r"argument (\S+): expected (.*)", message)
     if found:
         return f"{found[1]} takes {found[2].replace('argument', 'value')}"
+    found = re.fullmatch(r"argument (\S+): invalid int value: (.*)", message)
+    if found:
+        return f"{found[1]} must be a whole number, and {found[2]} is given"
     found = re.fullmatch(r"argument (\S+): (must .*)", message)
     if found:
         return f"{found[1]} {found[2]}"

@@ -12,14 +12,19 @@ IS_INSTALLED = os.path.basename(PLACE) == "kernelyet"
 TOP = os.path.dirname(os.path.dirname(PLACE)) if IS_INSTALLED else os.path.dirname(PLACE)
 # Where the documents are.
 DOCUMENTS = f"{TOP}/share/doc/kernelyet" if IS_INSTALLED else "docs"
-# The program; tests name the one that the gate built. ./kexec builds it.
-KEXEC = os.environ.get("KEXEC") or (f"{TOP}/libexec/kernelyet/kexec" if IS_INSTALLED else f"{TOP}/kexec")
+# The launcher of the source tree.
+LAUNCHER = f"{TOP}/kexec"
+# The program, by a name that holds in every folder; tests name the one that the gate built.
+KEXEC = os.path.abspath(os.environ.get("KEXEC") or (f"{TOP}/libexec/kernelyet/kexec" if IS_INSTALLED else LAUNCHER))
+# The status of the launcher where the program is not built.
+NOT_BUILT = 70
 # The C library asks for huge pages behind large buffers; what the caller has set comes later, and counts.
 TUNABLES = ":".join(["glibc.malloc.hugetlb=1", *filter(None, [os.environ.get("GLIBC_TUNABLES")])])
 
 
 def environment():
-    return {**os.environ, "GLIBC_TUNABLES": TUNABLES}
+    """What the program runs in: the launcher does not build it, which takes long, and nobody asked for it here."""
+    return {**os.environ, "GLIBC_TUNABLES": TUNABLES, "KEXEC_BUILD": "no"}
 
 
 def become(words, name):
@@ -32,10 +37,13 @@ def become(words, name):
         return 70
 
 
-def run(words, folder=None, given=None):
-    """Runs the program: its status, what it printed, and what it said on standard error."""
-    ended = subprocess.run([KEXEC, *words], cwd=folder, input=given or "", capture_output=True, text=True,
+def run(words, folder=None, given=None, path=None):
+    """Runs the program, KEXEC where none is named: its status, what it printed, and what it said on standard
+    error. Refused where the launcher would have to build it first."""
+    ended = subprocess.run([path or KEXEC, *words], cwd=folder, input=given or "", capture_output=True, text=True,
                            env=environment(), errors="replace")
+    if ended.returncode == NOT_BUILT:
+        raise NothingTried(sentence(ended.stderr))
     return ended.returncode, ended.stdout, ended.stderr
 
 
@@ -45,23 +53,11 @@ def sentence(said):
     return lines[-1].partition(": ")[2] or lines[-1]
 
 
-def build():
-    """Builds the program where that has not been done, and passes on what the build prints: without words the program
-    refuses with status 2."""
-    said = []
-    with subprocess.Popen([KEXEC], stdin=subprocess.DEVNULL, stderr=subprocess.PIPE, text=True) as run_of_it:
-        for line in run_of_it.stderr:
-            said.append(line)
-            if line.startswith("kexec: ") and "the first argument must be a command" not in line:
-                print(line, end="", file=sys.stderr, flush=True)
-    if run_of_it.returncode != 2:
-        raise Wrong("".join(said).strip() or f"{KEXEC} ended with status {run_of_it.returncode}")
-
-
-def ready():
-    """Builds the program, where it is the one of the source tree and stands for other sources."""
-    if KEXEC == f"{TOP}/kexec":
-        build()
+def ready(path=None):
+    """Refuses a program that does not run: without words the program itself refuses, with status 2."""
+    status = run([], path=path)[0]
+    if status != 2:
+        raise NothingTried(f"{path or KEXEC} does not run: it ended with status {status}")
 
 
 def tool(words, folder):

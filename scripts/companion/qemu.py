@@ -154,13 +154,13 @@ class Machine:
                     ram.seek(offset)
                     ram.write(memory.page(page))
             ram.flush()
-            for page in pages_with_data(ram, self.ram):
+            for page in pages_with_data(ram):
                 if page not in memory.place and page not in keep and offset_of(page, self.ram) is not None:
                     foreign.append(page)
         return missing, foreign
 
 
-def pages_with_data(file, ram):
+def pages_with_data(file):
     """The pages of a machine's memory that are not all zeros."""
     at, none = 0, bytes(PAGE)
     while True:

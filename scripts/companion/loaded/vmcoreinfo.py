@@ -5,7 +5,6 @@ from companion.refusals import Wrong
 
 NAME = b"VMCOREINFO"
 # an ELF note: the sizes of name and text, a type, the name in whole words of four bytes, then the text
-FRONT = struct.pack("<I", len(NAME) + 1)
 BEGIN = NAME + b"\0\0OSRELEASE="
 TEXT_BEHIND_NAME, MOST = 12, 1 << 16
 
