@@ -1,7 +1,7 @@
 """Times the search for a place along 100,000 spans of RAM and as many of taken pages, beside the same at 50,000.
 
 The program itself cannot be given so many spans, since a memory map has at most 1 MiB of text. So these are tests of
-hole_search, as `rt test` builds them: each makes both sets and searches ten times from each end, and each search goes
+plan_tests, as `rt test` builds them: each makes both sets and searches ten times from each end, and each search goes
 along all spans. The time is that of the whole process.
 """
 import os
@@ -9,7 +9,7 @@ import subprocess
 import sys
 
 TOP = os.path.dirname(os.path.dirname(os.path.realpath(__file__)))
-CRATE = f"{TOP}/crates/hole_search"
+CRATE = f"{TOP}/crates/plan_tests"
 SIZES = [50_000, 100_000]
 
 
@@ -21,10 +21,10 @@ def build():
         print("bench: rt is not on the PATH, so the search for a place is not measured", file=sys.stderr)
         return False
     if built.returncode:
-        sys.exit("bench: the tests of hole_search are not proved, or do not pass: rt test in crates/hole_search says why")
+        sys.exit("bench: the tests of plan_tests are not proved, or do not pass: rt test in crates/plan_tests says why")
     return True
 
 
 def words(size):
     """The words that search along so many spans of each set."""
-    return [f"{CRATE}/out/hole_search_tests", f"many_spans_tests::along_{size}_spans"]
+    return [f"{CRATE}/out/plan_tests_tests", f"many_spans_tests::along_{size}_spans"]
