@@ -28,6 +28,7 @@ PLANTED = [  # the check, the file, what stands in it, what is planted there, an
      "pub enum Status {\n    Planted,\n", "Planted: no scene ends so"),
     ("scripts/run-scenes --faults", "crates/command_tests/src/refused_memory_tests.rt", "Status::Memory", "Status::Done",
      "status 12, Memory: no scene ends so, and no test"),
+    ("scripts/run-scenes --faults", "scripts/limits", '"9"], HEAVY, ', '"9"], 9, ', "status 10, Heavy: no scene ends so, and no test"),
     ("scripts/run-scenes --faults", "crates/scenes/data/below.scenes", "\ntells POOL ", "\n# tells POOL ",
      ": no scene tells its sentence"),
     ("scripts/believed --check", "docs/BELIEVED.list", "boot_params ZeroPage.zero_page\n", "", "  + boot_params ZeroPage.zero_page"),
@@ -136,6 +137,9 @@ def test_programs(tests):
     status, out, _ = tests.run("examples/run", f"{tests.folder}/idle")
     tried, failed = map(int, re.search(r"examples: (\d+) tried, (\d+) failed\n$", out).groups())
     tests.same("examples/run of an idle program: each row fails", (status, tried > 100, failed >= tried), (1, True, True))
+    status, out, _ = tests.run("scripts/limits", f"{tests.folder}/idle")
+    tried, failed = map(int, re.search(r"^limits: (\d+) runs, (\d+) not as they are to be$", out, re.M).groups())
+    tests.same("limits of an idle program: each row fails", (status, tried > 10, failed), (1, True, tried))
 
 
 def test_misuses(tests):
@@ -170,7 +174,7 @@ def test_gate(tests):
     with open(f"{TOP}/.ci/run", encoding="utf-8") as file:
         checks = re.findall(r"^((?:scripts|examples|tests)/[\w/-]+).* \|\| status=1$", file.read(), re.M)
     shown = {row[0].split(" ")[0] for row in PLANTED}
-    shown |= {"examples/run", "tests/must-not-compile/run", "scripts/test-scripts"}
+    shown |= {"examples/run", "scripts/limits", "tests/must-not-compile/run", "scripts/test-scripts"}
     tests.same("checks of .ci/run that are not shown to fail", sorted(set(checks) - shown), [])
     probe = type(tests)(tests.folder, tests.env["KEXEC"])
     probe.same("test-scripts itself", 1, 2, is_told=False)

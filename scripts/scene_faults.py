@@ -12,7 +12,7 @@ LEFT_OUT = {"Memory", "Done"}
 FILLER = "Page"
 # Endings that no scene meets, by the reason.
 UNMET = {
-    "a memory of 512 MB, which is a test of crates/command_tests": ["Heavy"],
+    "a memory of 512 MB, which scripts/limits has": ["Heavy"],
     "nothing is known of RAM where a record is read": [
         "Input Rec Segments HalfOfMemory", "Input Rec Segments OutsideReserved", "Input Rec Segments NotRam"],
     "the sections of an executable are not read": [
@@ -33,8 +33,8 @@ UNMET = {
 
 # Statuses that no scene ends with, the tests that do, and how these name them.
 TESTED = {
-    "Heavy": ("command_tests/src/limit_tests.rt", '"Heavy { count: '),
-    "Memory": ("command_tests/src/refused_memory_tests.rt", "let Status::Memory = status")}
+    "Heavy": ("scripts/limits", '"9"], HEAVY, '),
+    "Memory": ("crates/command_tests/src/refused_memory_tests.rt", "let Status::Memory = status")}
 
 # Endings that a scene meets inside alone, where no sentence is said.
 UNTOLD = {
@@ -84,7 +84,7 @@ def untried_statuses(ended):
         is_tried = name == "Done" or any(names[:1] == (name,) for names in ended)
         if name in TESTED:
             path, line = TESTED[name]
-            with open(f"{CRATES}/{path}", encoding="utf-8") as file:
+            with open(f"{files.TOP}/{path}", encoding="utf-8") as file:
                 is_tried = line in file.read()
         if not is_tried:
             yield f"status {number}, {name}: no scene ends so, and no test"

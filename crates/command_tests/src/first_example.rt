@@ -10,9 +10,6 @@ pub(crate) const ABC: Pieces = &[Bytes(b"abc")];
 /// A memory without pages, a pool of three pages, and the kernel.
 pub(crate) const FILES: Files = &[("m", NO_PAGES), ("p", &[Bytes(b"10-12\n")]), ("k", ABC)];
 
-/// All RAM, up to 32 MiB.
-pub(crate) const MAP: Pieces = &[Bytes(b"00000000-01ffffff : System RAM\n")];
-
 /// The memory after the load: the list and the source page.
 pub(crate) const LOADED: Pieces = &[
     Bytes(b"KXMEM001"),
@@ -59,16 +56,12 @@ pub(crate) const BOOT_TEXT: &str =
 
 pub(crate) const BOOT: Step = Step {
     line: "boot --type raw --at 2000 m p o k",
-    code: 0,
-    status: "Done",
     said: BOOT_TEXT,
     outputs: [Some(RUN), None, None],
 };
 
 pub(crate) const LOAD: Step = Step {
     line: "load --type raw --at 2000 m p o r k",
-    code: 0,
-    status: "Done",
     said: LOAD_TEXT,
     outputs: [Some(LOADED), Some(RECORD), None],
 };
@@ -76,8 +69,6 @@ pub(crate) const LOAD: Step = Step {
 /// What runs the load.
 pub(crate) const EXEC: Step = Step {
     line: "exec o r x",
-    code: 0,
-    status: "Done",
     said: BOOT_TEXT,
     outputs: [Some(LOADED), Some(RECORD), Some(RUN)],
 };

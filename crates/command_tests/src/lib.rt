@@ -1,18 +1,16 @@
-//! Tests over the top call that no scene can have: files of hundreds of MB, growth of memory that is refused, a text of
-//! hundreds of lines, the call over files in memory alone, and the logs of the call that the program makes. All other
-//! commands are scenes: docs/SCENES.md.
+//! Tests over the top call that no scene can have: growth of memory that is refused, the call over files in memory alone, and
+//! the logs of the call that the program makes. All other commands are scenes (docs/SCENES.md), but for files and memories
+//! of hundreds of MB, which scripts/limits tries.
 //!
 //! Tests that call only what their crates export stand in crates of their own: a build of tests proves their crate once
 //! more, and so the crates are proved once.
 //!
 //! | Module | What it has |
 //! |---|---|
-//! | `scene` | files in memory, the commands that are run over them, and what must come of each |
+//! | `scene` | files in memory, and a command over them |
 //! | `first_example` | the files of the first example, and what is made of them |
 //! | `in_memory_tests` | the call over files in memory alone |
 //! | `call_log_tests`, `host_log_tests` | the first example over devices that keep a log, and a log over the host's files |
-//! | `long_list_tests` | a list of two link pages, word by word |
-//! | `limit_tests` | files and memories past their limits |
 //! | `refused_memory_tests` | each growth of memory is refused |
 #![tactic(auto)]
 
@@ -24,10 +22,6 @@ mod first_example;
 mod host_log_tests;
 #[cfg(test)]
 mod in_memory_tests;
-#[cfg(test)]
-mod limit_tests;
-#[cfg(test)]
-mod long_list_tests;
 #[cfg(test)]
 mod refused_memory_tests;
 #[cfg(test)]

@@ -31,7 +31,7 @@ fn play_in_want(
     let mut shelf = shelf(alloc, make_files(alloc, files)?, &[])?;
     let mut outputs: Outputs = [None; 3];
     for step in steps {
-        let (status, sink) = run(alloc, step.line, &mut shelf, &[])?;
+        let (status, sink) = run(alloc, step.line, &mut shelf)?;
         let done = is_done(rt, step, status, sink);
         if done {
             outputs = step.outputs;
@@ -69,8 +69,6 @@ const BACK: Pieces = &[
 
 const KEPT_BOOT: Step = Step {
     line: "boot --kept 2 --type raw --at 2000 m p o k",
-    code: 0,
-    status: "Done",
     said: "accepted words 5 links 1 pairs 2\nhead 12002 control 10000 swap 11000\nstart entry 2000 rax 0 rbx 0 rsi 0\nran 5\nran 5\n",
     outputs: [Some(BACK), None, None],
 };

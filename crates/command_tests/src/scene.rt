@@ -1,10 +1,8 @@
-//! Files in memory, commands that are run over them, and what must come of each.
+//! Files in memory, and a command that is run over them.
 
 use kexec_main::{Status, kexec};
 use kx_edge::{MemoryShelf, MemorySink, Shelf, ShelfFault};
 use std::alloc::{AllocError, Global};
-use std::process::Abort;
-use std::test::Fail;
 
 /// A piece of a file.
 #[derive(Clone, Copy)]
@@ -39,15 +37,11 @@ const ROOM: usize = 10_000_000;
 /// The most bytes that a text can have.
 const TEXT_ROOM: usize = 20_000;
 
-/// A command of a scene, and what must come of it.
+/// A command that is to be done, and what must come of it.
 #[derive(Clone, Copy)]
 pub(crate) struct Step {
     /// Its words.
     pub(crate) line: &'static str,
-    /// The exit status.
-    pub(crate) code: u8,
-    /// The status.
-    pub(crate) status: &'static str,
     /// The text that is said.
     pub(crate) said: &'static str,
     /// The outputs that are there then, of this command and of those before it.
@@ -62,15 +56,6 @@ fn push_numbers(file: &mut Vec<u8>, numbers: &[u64]) -> Result<(), AllocError> {
     Ok(())
 }
 
-// Adds a byte so many times, by pages: some files have hundreds of millions of them.
-fn push_repeated(file: &mut Vec<u8>, byte: u8, count: usize) -> Result<(), AllocError> {
-    let page = [byte; 4096];
-    for _ in 0..count / 4096 {
-        file.extend_from_slice(&page)?;
-    }
-    file.extend_from_slice(&page[..count % 4096])
-}
-
 // Adds zeros up to this length.
 fn pad(file: &mut Vec<u8>, length: usize) -> Result<(), AllocError> {
     if file.len() < length {
@@ -79,8 +64,8 @@ fn pad(file: &mut Vec<u8>, length: usize) -> Result<(), AllocError> {
     Ok(())
 }
 
-/// Adds a page to the file of a memory.
-pub(crate) fn push_page(file: &mut Vec<u8>, number: u64, bytes: &[u8]) -> Result<(), AllocError> {
+// Adds a page to the file of a memory.
+fn push_page(file: &mut Vec<u8>, number: u64, bytes: &[u8]) -> Result<(), AllocError> {
     let end = file.len().saturating_add(8 + 4096);
     file.extend_from_slice(&number.to_le_bytes())?;
     file.extend_from_slice(bytes)?;
@@ -97,7 +82,7 @@ fn push_list(file: &mut Vec<u8>, number: u64, words: &[u64]) -> Result<(), Alloc
 fn push_piece(file: &mut Vec<u8>, piece: Piece) -> Result<(), AllocError> {
     match piece {
         Piece::Bytes(bytes) => file.extend_from_slice(bytes),
-        Piece::Repeated(byte, count) => push_repeated(file, byte, count),
+        Piece::Repeated(byte, count) => file.resize(file.len().saturating_add(count), byte),
         Piece::Numbers(numbers) => push_numbers(file, numbers),
         Piece::Page(number, bytes) => push_page(file, number, bytes),
         Piece::List(number, words) => push_list(file, number, words),
@@ -120,20 +105,9 @@ pub(crate) fn make_files(
 ) -> Result<Vec<(String, Vec<u8>)>, AllocError> {
     let mut all = Vec::new(alloc);
     for (name, pieces) in files {
-        add(alloc, &mut all, name, join(alloc, pieces)?)?;
+        all.push((String::from_str(alloc, name)?, join(alloc, pieces)?))?;
     }
     Ok(all)
-}
-
-/// Adds a file.
-pub(crate) fn add(
-    alloc: Global,
-    files: &mut Vec<(String, Vec<u8>)>,
-    name: &str,
-    bytes: Vec<u8>,
-) -> Result<(), AllocError> {
-    files.push((String::from_str(alloc, name)?, bytes))?;
-    Ok(())
 }
 
 /// A shelf with these files, and with room for the outputs. The calls with these numbers fail.
@@ -158,25 +132,17 @@ pub(crate) fn words(alloc: Global, line: &str) -> Result<Vec<String>, AllocError
     Ok(words)
 }
 
-/// How the command ended over this shelf, and what was said to a sink whose calls with these numbers fail.
+/// How the command ended over this shelf, and what was said.
 pub(crate) fn run(
     alloc: Global,
     line: &str,
     shelf: &mut MemoryShelf,
-    failing: &[u64],
 ) -> Result<(Status, MemorySink), AllocError> {
     let words = words(alloc, line)?;
-    let mut sink = MemorySink::new(alloc, failing.to_vec(alloc)?);
+    let mut sink = MemorySink::new(alloc, Vec::new(alloc));
     sink.reserve(TEXT_ROOM)?;
     let status = kexec(alloc, &words, shelf, &mut sink);
     Ok((status, sink))
-}
-
-// The exit status and the status with which the command ended, and below them what was said.
-fn ending(alloc: Global, line: &str, shelf: &mut MemoryShelf) -> Result<String, AllocError> {
-    let (status, sink) = run(alloc, line, shelf, &[])?;
-    let said = str::from_utf8(sink.said()).unwrap_or("other bytes than a text");
-    format!(in alloc; "{} {status:?}\n{said}", status.code())
 }
 
 // The file of this name, or None where there is none.
@@ -231,35 +197,4 @@ pub(crate) fn has_outputs(
         }
     }
     Ok(true)
-}
-
-/// Runs a command, which must end with this exit status and this status, and say this text.
-pub(crate) fn expect(
-    rt: &impl Abort,
-    alloc: Global,
-    shelf: &mut MemoryShelf,
-    line: &str,
-    code: u8,
-    status: &str,
-    said: &str,
-) -> Result<(), Fail> {
-    let found = ending(alloc, line, shelf)?;
-    let wanted = format!(in alloc; "{code} {status}\n{said}")?;
-    assert!(rt; found == wanted, "{line}: {found}");
-    Ok(())
-}
-
-/// Runs a command that is refused, and may say why: nothing is written.
-pub(crate) fn refuse(
-    rt: &impl Abort,
-    alloc: Global,
-    shelf: &mut MemoryShelf,
-    line: &str,
-    code: u8,
-    status: &str,
-    said: &str,
-) -> Result<(), Fail> {
-    expect(rt, alloc, shelf, line, code, status, said)?;
-    assert!(rt; has_outputs(alloc, shelf, [None; 3])?, "{line}: outputs");
-    Ok(())
 }

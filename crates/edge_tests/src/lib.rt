@@ -1,4 +1,5 @@
-//! Tests of the edge between the program and the outside, and of a command over it.
+//! Tests of the edge between the program and the outside. What commands do over it is shown by scenes, each device that fails
+//! by crates/scenes/data/devices.scenes.
 //!
 //! Tests that call only what their crates export stand in crates of their own: a build of tests proves their crate once
 //! more, and so the crates are proved once.
@@ -7,12 +8,9 @@
 //! |---|---|
 //! | `device_tests` | shelves and sinks, in memory and of the host |
 //! | `faulty_files` | files of a host that fail in mid-file |
-//! | `joining_tests` | a command that joins files: how it ends, and what was put and said |
 #![tactic(auto)]
 
 #[cfg(test)]
 mod device_tests;
 #[cfg(test)]
 mod faulty_files;
-#[cfg(test)]
-mod joining_tests;

@@ -1,172 +1,81 @@
-//! How commands end: the exit status, and what is said.
+//! How commands end that want memory, or one of whose devices fails as no file of a scene can: the exit status, and what is
+//! said.
 
-use crate::told::{is_told, words_of};
-use boot_params::ParamsFault;
+use crate::told::is_told;
 use command_parts::Status;
-use kexec_plan::{Part, PlanFault};
-use kexec_report::{Ending, Failure};
-use list_checker::{ListFault, Why};
-use segments::SegFault;
+use kexec_report::Failure;
+use kx_edge::HostCause;
 use std::io;
 use std::test::Fail;
 
-// The number that Linux gives to a failed call, of errno-base.h.
-fn output_failure(number: i32) -> Option<Failure> {
-    Failure::of(None, Some(io::Error::from_raw_os_error(number)))
+// Standard output failed with this number of Linux's, of errno-base.h; with no number nothing is known.
+fn output_failure(number: Option<i32>) -> Option<Failure> {
+    Failure::of(None, Some(io::Error::from_raw_os_error(number?)))
 }
 
-// Exit statuses as docs/FORMATS.md lists them.
-#[test]
-fn each_answer_has_its_status_and_sentence(rt: HostRuntime) -> Result<(), Fail> {
-    let rows = [
-        (Status::Done, (0, "")),
-        (
-            Status::NotAccepted {
-                fault: ListFault {
-                    word: 3,
-                    why: Why::Flags,
-                },
-            },
-            (
-                1,
-                "kexec: the list is not accepted: word 3: Flags, since its low twelve bits are not exactly one of the flags 1, 2, 4 and 8",
-            ),
-        ),
-        (
-            Status::Unsaid,
-            (
-                5,
-                "kexec: standard output cannot be written: it must be open and have room",
-            ),
-        ),
-        (
-            Status::NoPages { pool: 2, need: 5 },
-            (
-                9,
-                "kexec: POOL \"p\": the pool has too few usable pages: 2 where the load takes 5; give it at least 3 more",
-            ),
-        ),
-        (
-            Status::Memory,
-            (
-                12,
-                "kexec: there is not enough memory for the work: free some and try again",
-            ),
-        ),
-    ];
-    for (status, wanted) in &rows {
-        assert!(rt; is_told(&rt, "boot m p o k", status, None, *wanted)?);
-    }
-    Ok(())
+// The same of a file.
+fn file_failure(number: i32) -> Option<Failure> {
+    let error = io::Error::from_raw_os_error(number);
+    Failure::of(Some(HostCause::System { error }), None)
 }
 
 // A full device has number 28. A pipe whose reader is gone has number 32, and then there is nothing to say of the text; any
 // other answer is told all the same.
 #[test]
-fn a_text_that_nobody_reads_is_not_told(rt: HostRuntime) -> Result<(), Fail> {
+fn a_text_that_is_not_said_is_told_unless_nobody_reads_it(rt: HostRuntime) -> Result<(), Fail> {
     let memory = "kexec: there is not enough memory for the work: free some and try again";
+    let unknown = "kexec: standard output cannot be written: it must be open and have room";
     let full = "kexec: standard output cannot be written: No space left on device (os error 28)";
     let rows = [
-        (Status::Unsaid, 28, (5, full)),
-        (Status::Unsaid, 32, (5, "")),
-        (Status::Done, 32, (0, "")),
-        (Status::Memory, 32, (12, memory)),
+        (Status::Unsaid, None, (5, unknown)),
+        (Status::Unsaid, Some(28), (5, full)),
+        (Status::Unsaid, Some(32), (5, "")),
+        (Status::Done, Some(32), (0, "")),
+        (Status::Memory, Some(32), (12, memory)),
+        (Status::Memory, None, (12, memory)),
     ];
     for (status, number, wanted) in &rows {
         let failure = output_failure(*number);
-        assert!(rt; is_told(&rt, "dump m r", status, failure, *wanted)?);
-    }
-    Ok(())
-}
-
-#[test]
-fn the_pool_below_a_limit_is_told(rt: HostRuntime) -> Result<(), Fail> {
-    let status = Status::NoPages { pool: 2, need: 5 };
-    let wanted = (
-        9,
-        "kexec: POOL \"p\": the pool has too few usable pages below the limit 100000: 2 where the load takes 5; give it at least 3 more there, or raise --below",
-    );
-    let line = "boot --below 100000 m p o k";
-    assert!(rt; is_told(&rt, line, &status, None, wanted)?);
-    Ok(())
-}
-
-#[test]
-fn a_request_without_a_plan_says_what_is_in_the_way(rt: HostRuntime) -> Result<(), Fail> {
-    let rows = [
-        (
-            PlanFault::Unused { part: Part::Initrd },
-            "kexec: --initrd \"i\": a kernel of type elf takes no initrd",
-        ),
-        (
-            PlanFault::Segments {
-                fault: SegFault::NotRam { i: 1 },
-            },
-            "kexec: segment 1 of the kernel has a page that is not System RAM in the memory map \"map\"",
-        ),
-        (
-            PlanFault::Params {
-                fault: ParamsFault::CommandTooLong {
-                    length: 21,
-                    most: 20,
-                },
-            },
-            "kexec: the kernel's command has 21 bytes, and the kernel takes 20 or fewer",
-        ),
-        (
-            PlanFault::NoHole { part: Part::Kernel },
-            "kexec: there is no place for the kernel: the memory map has no free run of pages where it may lie; for a Linux kernel, kernelyet plan prints the sizes and the largest holes",
-        ),
-    ];
-    for (fault, wanted) in rows {
-        let line = "boot --map map --type elf --initrd i m p o k";
-        assert!(rt; is_told(&rt, line, &Status::Plan { fault }, None, (8, wanted))?);
-    }
-    Ok(())
-}
-
-// What is said behind these words, and whether it goes to standard output.
-fn said_of(rt: &HostRuntime, line: &str) -> Result<(bool, String), Fail> {
-    let words = words_of(rt.alloc(), line)?;
-    let why = match kexec_words::read(rt.alloc(), &words) {
-        Err(kexec_words::WordsFault::Usage { why }) => why,
-        _ => return Err(Fail::from("the words are taken")),
-    };
-    let status = Status::Usage { why };
-    let ending = Ending::of(rt, "kexec", &words, &status, None);
-    let notice = ending.notice.as_ref().ok_or("a notice")?;
-    Ok((notice.is_asked_for(), notice.to_string(rt.alloc())?))
-}
-
-#[test]
-fn what_is_asked_for_goes_to_standard_output(rt: HostRuntime) -> Result<(), Fail> {
-    let check = "Usage: kexec check MEMORY RECORD\n";
-    let rows = [
-        ("check --help", true, check),
-        ("check m -h r", true, check),
-        ("-h", true, "Usage: kexec COMMAND [OPTIONS] ARGUMENTS..\n"),
-        (
-            "--version",
-            true,
-            "Kernelyet 1.0, a kexec over memory files\n",
-        ),
-        ("-V", true, "Kernelyet 1.0, a kexec over memory files\n"),
-        (
-            "check m",
-            false,
-            "Usage: kexec check MEMORY RECORD\nkexec: RECORD is missing",
-        ),
-        (
-            "check m -- --help more",
-            false,
-            "Usage: kexec check MEMORY RECORD\nkexec: \"more\" is one argument too many",
-        ),
-    ];
-    for (line, is_asked_for, front) in rows {
-        let (is_so, said) = said_of(&rt, line)?;
         assert!(rt;
-            is_so == is_asked_for && said.starts_with(front),
-            "{line}: {said}"
+            is_told(&rt, "dump m r", status, failure, *wanted)?,
+            "{}, {number:?}",
+            status.code()
+        );
+    }
+    Ok(())
+}
+
+// A pipe in place of a file, number 32, is a file that was not written.
+#[test]
+fn what_the_system_said_of_a_file_is_told(rt: HostRuntime) -> Result<(), Fail> {
+    let rows = [
+        (
+            3,
+            5,
+            "kexec: POOL \"p\" cannot be read: Input/output error (os error 5)",
+        ),
+        (
+            4,
+            28,
+            "kexec: OUT \"p\" cannot be written: No space left on device (os error 28)",
+        ),
+        (
+            4,
+            32,
+            "kexec: OUT \"p\" cannot be written: Broken pipe (os error 32)",
+        ),
+    ];
+    for (code, number, sentence) in rows {
+        let name = String::from_str(rt.alloc(), "p")?;
+        let (line, status) = if code == 3 {
+            ("boot m p o k", Status::Unread { name })
+        } else {
+            ("boot m q p k", Status::Unwritten { name })
+        };
+        let failure = file_failure(number);
+        assert!(rt;
+            is_told(&rt, line, &status, failure, (code, sentence))?,
+            "{sentence}"
         );
     }
     Ok(())
