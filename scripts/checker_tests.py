@@ -9,7 +9,7 @@ from kexec_files import memory_bytes
 TOP = os.path.dirname(os.path.dirname(os.path.realpath(__file__)))
 PLANTED = [  # the check, the file, what stands in it, what is planted there, and what is then told
     ("scripts/manual-against-help", "docs/kexec.1", ".Op Fl -below Ar ADDRESS", ".Op Fl -below Ar LIMIT", "boot: the manual has"),
-    ("scripts/manual-against-help", "docs/kernelyet.1", ".Op Fl -map Ar FILE", ".Op Fl -maps Ar FILE", ": the manual has"),
+    ("scripts/manual-against-help", "docs/kernelyet.1", ".Op Fl -map Ar FILE", ".Op Fl -maps Ar FILE", "plan: the manual has"),
     ("scripts/manual-against-help", "docs/kexec.1", ".Cm check\n.Ar MEMORY RECORD\n.Nm\n.Cm dump\n",
      ".Cm dump\n.Ar MEMORY RECORD\n.Nm\n.Cm check\n", "the synopsis has the commands in the order boot, load, load-panic, dump, check"),
     ("scripts/manual-against-help", "docs/FORMATS.md", "kexec migrate       RECORD OUT", "kexec migrate       OUT RECORD",
@@ -29,8 +29,8 @@ PLANTED = [  # the check, the file, what stands in it, what is planted there, an
     ("scripts/run-scenes --faults", "crates/command_tests/src/refused_memory_tests.rt", "Status::Memory", "Status::Done",
      "status 12, Memory: no scene ends so, and no test"),
     ("scripts/run-scenes --faults", "scripts/limits", '"9"], HEAVY, ', '"9"], 9, ', "status 10, Heavy: no scene ends so, and no test"),
-    ("scripts/run-scenes --faults", "crates/scenes/data/below.scenes", "\ntells POOL ", "\n# tells POOL ",
-     ": no scene tells its sentence"),
+    ("scripts/run-scenes --faults", "crates/scenes/data/faults.scenes", '\ntells MEMORY "truncated"', '\n# tells MEMORY "truncated"',
+     "Input Mem Truncated: no scene tells its sentence"),
     ("scripts/believed --check", "docs/BELIEVED.list", "boot_params ZeroPage.zero_page\n", "", "  + boot_params ZeroPage.zero_page"),
     ("scripts/believed --check", "docs/DEFINITIONS.md", "† kx_pages", "kx_pages", "docs/DEFINITIONS.md is not as it must be"),
     ("scripts/documents-against-sources", "README.md", "docs/REFUSALS.md", "docs/REFUSED.md", "docs/REFUSED.md is not there"),

@@ -36,8 +36,8 @@ fn play_in_want(
         if done {
             outputs = step.outputs;
         }
-        assert!(rt; has_files(alloc, &mut shelf, files)?);
-        assert!(rt; has_outputs(alloc, &mut shelf, outputs)?);
+        assert!(rt; has_files(alloc, &mut shelf, files)?, "{}", step.line);
+        assert!(rt; has_outputs(alloc, &mut shelf, outputs)?, "{}", step.line);
         let _ = rt.println(if done { "Done" } else { "Memory" });
         if !done {
             return Ok(());

@@ -52,7 +52,7 @@ fn each_prefix_of_a_file_is_refused(rt: HostRuntime) -> Result<(), Fail> {
             );
         }
         let kernel = read(alloc, &file)?;
-        assert_eq!(rt; kernel.start, 0xa00);
+        assert_eq!(rt; kernel.start, 0xa00, "{sectors} sectors");
     }
     Ok(())
 }
