@@ -20,6 +20,7 @@ WORDS = {
     "scripts/install": ["prefix"],
     "scripts/kernel-against-protocol": [""],
     "scripts/kernelyet": ["check memory record", "plan kernel", "picture plan kernel"],
+    "scripts/limits": ["unbuilt/kexec"],
     "scripts/lists-by-linux": [""],
     "scripts/purgatory-against-ld": [""],
     "scripts/refused-memory": [""],
