@@ -77,7 +77,8 @@ fn files_that_cannot_be_read_or_written_are_told(rt: HostRuntime) -> Result<(), 
     } else {
         6
     };
-    for (line, wanted) in &ROWS[..count] {
+    let rows = ROWS;
+    for (line, wanted) in &rows[..count] {
         assert!(rt; ends_so(&rt, line, *wanted)?, "{line}");
     }
     assert!(rt; fs::read(&rt, "memory")?.as_slice() == NO_PAGES);
