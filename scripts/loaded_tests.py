@@ -362,7 +362,7 @@ def test_runs(tests):
                [["--way", "load"], ["--kernel", "a b", "--way", "file"]])
     tests.write("runs", "# none\n")
     tests.refuses("has no run", "scripts/kernelyet", "guest", "--loaded", "--runs", "runs")
-    tests.refuses("there is no kernel (--kernel)", "scripts/kernelyet", "guest", "--loaded", "--kernel", "nothing")
+    tests.refuses("no kernel (--kernel)", "scripts/kernelyet", "guest", "--loaded", "--kernel", "nothing")
 
 
 def in_folder(test):
