@@ -1,9 +1,9 @@
 """The documents that are made of what is reached: docs/BELIEVED.list, the quotes, counts and times of docs/BELIEVED.md, and the
 marks of docs/DEFINITIONS.md."""
-import math
 import re
 import sys
 
+from believed_aloud import minutes_of, parts_of
 from believed_definitions import TOP, Definition
 from believed_reach import INNER, TOP_CALL, Reached, clauses, definitions_named, examples, misplaced, reached_from, starts_of
 from believed_tries import reached_by, refused_by, row_of_list, table_of_tries
@@ -13,8 +13,6 @@ LIST = TOP / "docs" / "BELIEVED.list"
 GUIDE = TOP / "docs" / "BELIEVED.md"
 ENTRIES = TOP / "docs" / "DEFINITIONS.md"
 README = TOP / "README.md"
-WORDS_A_MINUTE = 150  # read aloud, the words of a quote too
-
 ENTRY = re.compile(r"^(- |\| )(?:† )?(?=(\w+) ((?:`[^`\n]+`[,;]?\s+)*`[^`\n]+`))", re.M)
 
 
@@ -92,17 +90,9 @@ def lined(library, found):
     return block("lines", found[1], it.path, text.strip())
 
 
-def minutes_of(text):
-    """How long it takes to read this aloud, quotes and all, to the next five minutes; tables that are counted are left out."""
-    text = re.sub(r"<!-- (numbers|tries) -->\n.*?<!-- end -->", "", text, flags=re.S)
-    words = len(re.findall(r"[^\s|`]*\w[^\s|`]*|[×→≡⊎]", re.sub(r"<!--.*?-->", "", text, flags=re.S)))
-    return 5 * math.ceil(words / WORDS_A_MINUTE / 5)
-
-
 def timed(text):
-    """The guide with the time that it takes up to its second half, and whole."""
-    first = text[: text.index("<!-- half -->")]
-    for name, part in (("first", first), ("whole", text)):
+    """The guide with the time that it takes to read it aloud up to its second half, and whole."""
+    for name, part in parts_of(text).items():
         text = re.sub(rf"<!-- {name} -->\d+<!-- end -->", f"<!-- {name} -->{minutes_of(part)}<!-- end -->", text)
     return text
 

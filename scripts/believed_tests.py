@@ -131,6 +131,10 @@ def test_believed(tests):
                ["small Inputs.load_inputs", "kexec_plan Plan.plan"])
     guide = tests.read("believed/docs/BELIEVED.md").decode()
     tests.same("the quote", "HasBooted n = MemoryStarts (load_inputs n)\n```" in guide, True)
+    aloud = call("--aloud", "first")[1]
+    tests.same("a quote read aloud", "Has Booted n Memory Starts (load inputs n)" in aloud, True)
+    tests.same("a sign read aloud", ["Memory Starts n n equals n" in aloud, "`" in aloud, "<!--" in aloud], [True, False, False])
+    tests.same("the second half", ["What stands after it" in call("--aloud", part)[1] for part in ("first", "whole")], [False, True])
     tests.same("the lines alone", "```\nMemoryStarts n = n ≡ n\n```" in guide, True)
     try_faults(tests, call)
     tests.write("believed/crates/boot_laws/src/laws.rt", "")

@@ -28,6 +28,7 @@ pub fn nothing()
 {}
 """
 IMPORT = re.compile(r"^(?:pub |ghost )*use (Rattle\.[\w.+-]+?)(?=\.\{|;?$| as )", re.M)
+ALONE = "Alone"  # the record of a clause that is alone
 SHARED = "shared"  # the group of what is copied and does not lead to a change
 EXAMPLES = re.compile(r"Rattle\.worked_\w+\.(?!specs\.declared)")
 TOLD = re.compile(r"(?:\./)?proofs/(\w+?)__(\w+)\.antt:(\d+):\d+: error: (.*)")
@@ -92,9 +93,14 @@ class Sources:
 
 
 def goals_of(text, clauses):
-    """The module of an example's goals: each clause as a type, with the imports of the example's file."""
+    """The module of an example's goals: each clause as a type, with the imports of the example's file. A clause that is alone and
+    has a name is the one field of a record."""
     many = re.compile(r"^ghost use ([^;]*);", re.M)
     lines = ["use " + " ".join(found.split()).replace("{ ", "{").replace(", }", "}").replace(" }", "}") for found in many.findall(text)]
+    if len(clauses) == 1 and "" not in clauses:
+        ((name, body),) = clauses.items()
+        lines += ["", f"pub record {ALONE} : Type 0 where", f"  pub {name} : {body}"]
+        clauses = {"": ALONE}
     for name, body in clauses.items():
         goal = f"returns-clause-{name}" if name else "returns"
         lines += ["", f"abbrev pub {goal} : Type 0", f"{goal} = Unit {{0}} → ({body})"]
@@ -103,9 +109,10 @@ def goals_of(text, clauses):
 
 def answers_for(module, goals):
     """The proofs of an example that has none written by hand."""
-    lines = [f"use {module}.Goals as goal"]
+    lines, alone = [f"use {module}.Goals as goal"], re.search(r"^  pub (\S+) : ", goals, re.M)
     for goal in re.findall(r"^abbrev pub (\S+)", goals, re.M):
-        lines += ["", f"pub {goal} : goal.{goal}", f"{goal} c = search"]
+        answer = f"record {{ {alone[1]} = search }}" if alone else "search"
+        lines += ["", f"pub {goal} : goal.{goal}", f"{goal} c = {answer}"]
     return "\n".join(lines) + "\n"
 
 

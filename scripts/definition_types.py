@@ -4,8 +4,9 @@ import re
 from believed_definitions import CRATES
 
 DECLARED = re.compile(r"Rattle\.(\w+)\.specs\.declared\.([\w.]+)\.(\w+)$")
-NUMBERS = ("u8", "u16", "u32", "u64", "u128", "usize", "i8", "i16", "i32", "i64", "isize")
-PRELUDE = "use Rattle.std.specs.Prelude.{ℕ, Bool, List, Option, Result}"
+NUMBERS = ("u8", "u16", "u32", "u64", "u128", "usize")
+SIGNED = ("i8", "i16", "i32", "i64", "i128", "isize")
+PRELUDE = "use Rattle.std.specs.Prelude.{ℕ, ℤ, Bool, List, Option, Result}"
 
 
 def own_module(module):
@@ -41,8 +42,8 @@ def type_of(text, crate, imports):
     """A type of Rust as the logic has it; the modules of types that it names are put among the imports."""
     text = re.sub(r"&('\w+ )?", "", text.strip())
     many = re.match(r"(Option|Vec)<(.*)>$|\[(.*?)(?:; .*)?\]$", text)
-    if text in NUMBERS:
-        return "ℕ"
+    if text in NUMBERS + SIGNED:
+        return "ℕ" if text in NUMBERS else "ℤ"
     if many:
         return f"({'Option' if many[1] == 'Option' else 'List'} {type_of(many[2] or many[3], crate, imports)})"
     owner = crate_of(crate, text) if text.isidentifier() else None

@@ -2,6 +2,7 @@ pub mod Kernels
 pub mod Loads
 pub mod Lists
 pub mod Runs
+pub mod Memories
 pub mod Maps
 pub mod Records
 pub mod Conditions

@@ -27,10 +27,12 @@ pub fn two_pages_are_wanted()
     ensures first { want (two_pages 2) 2 ≡ Some (codes "b" ++ replicate 4095 0) }
     ensures second { want (two_pages 2) 3 ≡ Some (codes "c" ++ replicate 4095 0) }
     ensures behind { want (two_pages 2) 4 ≡ None }
+    ensures behind_another_segment { pages (pages_at 0x100 1 ∷ two_pages 2) ≡ 0x100 ∷ 2 ∷ 3 ∷ [] }
 {}
 
 /// How many pages a load takes: one for each page of the kernel, a link page for each 511 entries, a control page, and
-/// a swap page where context is preserved. Of 510 pages the 511 entries fit one link page, and of 511 pages they do not.
+/// a swap page where context is preserved. Of 510 pages the 511 entries fit one link page, and of 511 pages they do not, nor of
+/// 510 pages in two segments.
 pub fn pages_needed()
     ensures one { need Plain three_bytes ≡ 3 }
     ensures two { need Plain (two_pages 2) ≡ 4 }
@@ -38,6 +40,7 @@ pub fn pages_needed()
     ensures none { need Plain no_bytes ≡ 2 }
     ensures one_link_page { need Plain (zeros 510) ≡ 512 }
     ensures two_link_pages { need Plain (zeros 511) ≡ 514 }
+    ensures two_segments { need Plain (pages_at 0x1000 1 ∷ zeros 509) ≡ 513 }
 {}
 
 /// Segments that touch pass, segments that share a page overlap, and an empty segment overlaps a segment that it lies in,

@@ -7,8 +7,10 @@ ghost use Rattle.kx_fields.specs.Fields.{IsBlock};
 ghost use Rattle.kx_pages.specs.Bytes.{page_of};
 ghost use Rattle.page_memory.specs.Addresses.{bytes_in};
 ghost use Rattle.page_memory.specs.Contents.{Contents, at, copy_page, swap_pages};
-ghost use Rattle.page_memory.specs.File.{is_stored, read_pages, text_of};
+ghost use Rattle.page_memory.specs.File.{file, is_stored, read_pages, stored_pages, text_of};
+ghost use Rattle.page_memory.specs.Memory.{Agree, put};
 ghost use Rattle.page_memory.specs.declared.fault.MemFault.TheVariants as faults;
+ghost use Rattle.worked_examples.specs.Memories.{three_held};
 
 /// A page that a memory does not hold reads as zeros. A copy goes one way, and an exchange leaves in the swap page what the
 /// source had.
@@ -27,6 +29,22 @@ pub fn bytes_of_pages()
     ensures stored { map is_stored
         ((5, replicate 4096 0) ∷ (5, page_of (codes "a")) ∷ (5, replicate 4095 0 ++ 1 ∷ []) ∷ [])
         ≡ false ∷ true ∷ true ∷ [] }
+{}
+
+/// A memory in which page 3 was set before page 2, and page 5 has zeros: its file has pages 2 and 3, in this order.
+pub fn file_of_a_memory()
+    ensures stored { stored_pages three_held
+        ≡ (2, page_of (codes "a")) ∷ (3, page_of (codes "b")) ∷ [] }
+    ensures bytes { file three_held
+        ≡ codes "KXMEM001"
+        ++ (little_bytes 8 2
+        ++ ((little_bytes 8 2 ++ page_of (codes "a")) ++ (little_bytes 8 3 ++ page_of (codes "b")))) }
+{}
+
+/// Two memories agree where they have the same bytes in every page: one page that differs is enough.
+pub fn memories_that_agree()
+    ensures same { Agree (λ p. replicate 4096 p) (put (λ p. replicate 4096 p) 7 (replicate 4096 7)) }
+    ensures one_page { Agree (λ p. replicate 4096 0) (put (λ p. replicate 4096 0) 7 []) → ⊥ }
 {}
 
 /// Memory files at their limits: a file that is a byte short, the greatest count, the last page of all, and two pages of

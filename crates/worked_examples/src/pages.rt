@@ -1,7 +1,7 @@
 //! Pages and their numbers at the limits: the first and the last that pass, and those beside them.
 
 ghost use Rattle.std.specs.Prelude.{◌≡◌, ◌∷◌, [], true, false, map, slice_index};
-ghost use Rattle.kx_pages.specs.Lists.{count, destinations, has, sources};
+ghost use Rattle.kx_pages.specs.Lists.{Distinct, Has, count, destinations, has, sources};
 ghost use Rattle.kx_pages.specs.Needs.{link_pages_for};
 ghost use Rattle.kx_pages.specs.Numbers.{is_page_address};
 ghost use Rattle.kx_pages.specs.Ranges.{count_met, meets_page, pages_for, whole_pages};
@@ -51,6 +51,12 @@ pub fn pages_of_segments()
 pub fn numbers_in_lists()
     ensures counted { map (λ n. count n (3 ∷ 4 ∷ 3 ∷ [])) (2 ∷ 3 ∷ 4 ∷ []) ≡ 0 ∷ 2 ∷ 1 ∷ [] }
     ensures there { map (λ n. has n (3 ∷ 4 ∷ 3 ∷ [])) (2 ∷ 3 ∷ 4 ∷ []) ≡ false ∷ true ∷ true ∷ [] }
+    ensures first { Has 3 (3 ∷ 4 ∷ []) }
+    ensures last { Has 4 (3 ∷ 4 ∷ []) }
+    ensures no_other { Has 5 (3 ∷ 4 ∷ []) → ⊥ }
+    ensures none_twice { Distinct (3 ∷ 4 ∷ 5 ∷ []) }
+    ensures first_twice { Distinct (3 ∷ 4 ∷ 3 ∷ []) → ⊥ }
+    ensures second_twice { Distinct (3 ∷ 4 ∷ 4 ∷ []) → ⊥ }
     ensures places { map (slice_index (5 ∷ 6 ∷ [])) (0 ∷ 1 ∷ 2 ∷ []) ≡ 5 ∷ 6 ∷ 0 ∷ [] }
     ensures destinations { destinations ((2, 0x12) ∷ (3, 0x13) ∷ []) ≡ 2 ∷ 3 ∷ [] }
     ensures sources { sources ((2, 0x12) ∷ (3, 0x13) ∷ []) ≡ 0x12 ∷ 0x13 ∷ [] }

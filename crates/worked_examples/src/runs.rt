@@ -8,9 +8,10 @@ ghost use Rattle.page_memory.specs.inner.Memory.{copied_page};
 ghost use Rattle.segments.specs.Values.{want, overlay};
 ghost use Rattle.relocate_machine.specs.declared.step.Outcome.TheVariants.{Done, Running, Off};
 ghost use Rattle.load_states.specs.Exchange.{exchange};
+ghost use Rattle.load_states.specs.Runs.{EndsAfter};
 ghost use Rattle.worked_examples.specs.Kernels.{three_bytes, two_pages};
 ghost use Rattle.worked_examples.specs.Lists.{HasWords};
-ghost use Rattle.worked_examples.specs.Runs.{ComesOut, one_pair_at_home, moved_in_turn};
+ghost use Rattle.worked_examples.specs.Runs.{ComesOut, load_with, moved_in_turn, one_pair_at_home};
 
 /// The list of a kernel of three bytes takes four steps, and copies page 12 to page 2: memory is then what the kernel
 /// wants, page for page.
@@ -73,6 +74,17 @@ pub fn round_and_round()
 pub fn destination_flag_comes_first()
     ensures run { (m : Contents) → HasWords (at m) 0x20000 (0x2009 ∷ 0x30008 ∷ 4 ∷ [])
         → ComesOut m 0x20002 Plain 0x10 (Done 4) (copied_page (at m) 0x30 2) }
+{}
+
+/// A load whose list has four words ends after four steps, and not after three. A head that is the done word is the whole
+/// list.
+pub fn load_that_ends()
+    ensures four { (m : Contents) → HasWords (at m) 0x11000 (0x2001 ∷ 0x12008 ∷ 4 ∷ [])
+        → EndsAfter (load_with m 0x11002) 4 }
+    ensures not_three { (m : Contents) → HasWords (at m) 0x11000 (0x2001 ∷ 0x12008 ∷ 4 ∷ [])
+        → EndsAfter (load_with m 0x11002) 3 → ⊥ }
+    ensures one { (m : Contents) → EndsAfter (load_with m 4) 1 }
+    ensures not_two { (m : Contents) → EndsAfter (load_with m 4) 2 → ⊥ }
 {}
 
 /// A head that links to the first address past the limit: the step after it cannot be taken.

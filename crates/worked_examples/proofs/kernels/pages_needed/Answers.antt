@@ -27,3 +27,7 @@ returns-clause-one_link_page c = refl
 pub returns-clause-two_link_pages : goal.returns-clause-two_link_pages
 unfolding page_of bare_refusal refusal shape_refusal
 returns-clause-two_link_pages c = refl
+
+pub returns-clause-two_segments : goal.returns-clause-two_segments
+unfolding page_of bare_refusal refusal shape_refusal
+returns-clause-two_segments c = refl

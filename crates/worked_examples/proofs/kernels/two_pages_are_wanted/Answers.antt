@@ -19,3 +19,7 @@ returns-clause-second c = refl
 pub returns-clause-behind : goal.returns-clause-behind
 unfolding page_of bare_refusal refusal shape_refusal
 returns-clause-behind c = refl
+
+pub returns-clause-behind_another_segment : goal.returns-clause-behind_another_segment
+unfolding page_of bare_refusal refusal shape_refusal
+returns-clause-behind_another_segment c = refl

@@ -14,3 +14,7 @@ returns-clause-total c = refl
 pub returns-clause-first : goal.returns-clause-first
 unfolding first_wild_region
 returns-clause-first c = refl
+
+pub returns-clause-behind_the_rows : goal.returns-clause-behind_the_rows
+unfolding first_wild_region
+returns-clause-behind_the_rows c = refl
