@@ -1,5 +1,7 @@
 //! Files, byte by byte.
 
+use kx_pages::Page;
+use page_memory::Memory;
 use std::alloc::{AllocError, Global};
 use std::test::Fail;
 
@@ -8,6 +10,16 @@ pub(crate) fn put(file: &mut [u8], at: usize, bytes: &[u8]) {
     if at <= file.len() && bytes.len() <= file.len() - at {
         file[at..at + bytes.len()].copy_from_slice(bytes);
     }
+}
+
+/// Holds these bytes in the page of this number, and zeros behind them.
+pub(crate) fn put_page(memory: &mut Memory, number: u64, bytes: &[u8]) -> Result<(), Fail> {
+    let page = Page::new(number).ok_or("a page")?;
+    memory.hold(page)?;
+    if memory.held(page) && bytes.len() <= 4096 {
+        memory.set(page, bytes);
+    }
+    Ok(())
 }
 
 /// A file of so many bytes: zeros, and these bytes at their places.

@@ -1,7 +1,7 @@
 //! Which of the regions that a purgatory tests is wild. That one is, and the digest of the others, is shown by
 //! crates/scenes/data/regions.scenes.
 
-use kx_pages::Page;
+use crate::bytes::put_page;
 use page_memory::Memory;
 use purgatory_link::{RegionTest, test_regions};
 use std::alloc::Global;
@@ -21,21 +21,11 @@ fn table(alloc: Global, regions: &[(u64, u64)]) -> Result<Vec<u8>, Fail> {
     Ok(table)
 }
 
-// Holds these bytes in the page of this number, and zeros behind them.
-fn put(memory: &mut Memory, number: u64, bytes: &[u8]) -> Result<(), Fail> {
-    let page = Page::new(number).ok_or("a page")?;
-    memory.hold(page)?;
-    if memory.held(page) && bytes.len() <= 4096 {
-        memory.set(page, bytes);
-    }
-    Ok(())
-}
-
 // A memory that holds such bytes in pages of these numbers.
 fn memory_of(alloc: Global, pages: &[(u64, &[u8])]) -> Result<Memory, Fail> {
     let mut memory = Memory::empty(alloc);
     for (number, bytes) in pages {
-        put(&mut memory, *number, bytes)?;
+        put_page(&mut memory, *number, bytes)?;
     }
     Ok(memory)
 }

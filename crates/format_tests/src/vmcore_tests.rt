@@ -1,7 +1,6 @@
 //! The greatest core file. Its rows and its notes are shown by crates/scenes/data/core-rows.scenes and core-notes.scenes.
 
-use crate::bytes::{first_other, spell};
-use kx_pages::Page;
+use crate::bytes::{first_other, put_page, spell};
 use page_memory::Memory;
 use std::test::Fail;
 use vmcore_file::make;
@@ -33,24 +32,14 @@ const HEADERS: [u64; 22] = [
     0,
 ];
 
-// Puts bytes into the page of this number, and zeros behind them.
-fn put(memory: &mut Memory, number: u64, bytes: &[u8]) -> Result<(), Fail> {
-    let page = Page::new(number).ok_or("a page")?;
-    memory.hold(page)?;
-    if memory.held(page) && bytes.len() <= 4096 {
-        memory.set(page, bytes);
-    }
-    Ok(())
-}
-
 // All bytes of the loads together may be 512 MiB. The page stands in both: 0x102000 bytes behind the start of the first one,
 // and its third byte at the start of the second.
 #[test]
 fn the_greatest_file_is_made(rt: HostRuntime) -> Result<(), Fail> {
     let alloc = rt.alloc();
     let mut memory = Memory::empty(alloc);
-    put(&mut memory, 0x101, &spell(alloc, &HEADERS)?)?;
-    put(&mut memory, 0x102, b"the last page")?;
+    put_page(&mut memory, 0x101, &spell(alloc, &HEADERS)?)?;
+    put_page(&mut memory, 0x102, b"the last page")?;
     let core = make(alloc, &memory, 0x10_1000)?;
     assert_eq!(rt;
         (core.bytes.len(), core.loads, core.notes),

@@ -1,5 +1,5 @@
-//! Tests of pages, texts, memories, pools and segments that no scene can have: calls of the library, and each prefix of a file. What commands
-//! make of their files, and of a memory map, is shown by crates/scenes/data.
+//! Tests of pages, texts, memories, pools and segments that no scene can have: calls of the library, and each prefix of a
+//! file. What commands make of their files, and of a memory map, is shown by crates/scenes/data.
 //!
 //! Tests that call only what their crates export stand in crates of their own: a build of tests proves their crate once
 //! more, and so the crates are proved once.

@@ -43,7 +43,8 @@ pub fn pages_of_a_map()
         })) (1 ∷ 2 ∷ 3 ∷ 4 ∷ 5 ∷ []) ≡ false ∷ true ∷ false ∷ true ∷ false ∷ [] }
     ensures taken_by_an_area { map
         (is_taken
-        (record { rows = []; areas = record { start = 0x2fff; size = 2; kind = 0 } ∷ [] })) (1 ∷ 2 ∷ 3 ∷ 4 ∷ []) ≡ false ∷ true ∷ true ∷ false ∷ [] }
+        (record { rows = []; areas = record { start = 0x2fff; size = 2; kind = 0 } ∷ [] }))
+        (1 ∷ 2 ∷ 3 ∷ 4 ∷ []) ≡ false ∷ true ∷ true ∷ false ∷ [] }
     ensures last_area { reserved_area
         (record {
           rows = [];

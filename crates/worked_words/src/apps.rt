@@ -70,9 +70,11 @@ pub fn commands_of_the_parser()
     ensures load_panic_rules { rule_names_in (app_by name.LoadPanic).top.rules
         ≡ words (codes "MEMORY OUT RECORD KERNEL map command initrd purgatory notes") }
     ensures check { (app_by name.Check).top.name ≡ codes "check" }
-    ensures check_rules { rule_names_in (app_by name.Check).top.rules ≡ words (codes "MEMORY RECORD") }
+    ensures check_rules { rule_names_in (app_by name.Check).top.rules
+        ≡ words (codes "MEMORY RECORD") }
     ensures dump { (app_by name.Dump).top.name ≡ codes "dump" }
-    ensures dump_rules { rule_names_in (app_by name.Dump).top.rules ≡ words (codes "MEMORY RECORD") }
+    ensures dump_rules { rule_names_in (app_by name.Dump).top.rules
+        ≡ words (codes "MEMORY RECORD") }
     ensures exec { (app_by name.Exec).top.name ≡ codes "exec" }
     ensures exec_rules { rule_names_in (app_by name.Exec).top.rules
         ≡ words (codes "MEMORY RECORD OUT twice") }
@@ -80,7 +82,8 @@ pub fn commands_of_the_parser()
     ensures trace_rules { rule_names_in (app_by name.Trace).top.rules
         ≡ words (codes "MEMORY OUT HEAD LIMIT swap") }
     ensures migrate { (app_by name.Migrate).top.name ≡ codes "migrate" }
-    ensures migrate_rules { rule_names_in (app_by name.Migrate).top.rules ≡ words (codes "RECORD OUT") }
+    ensures migrate_rules { rule_names_in (app_by name.Migrate).top.rules
+        ≡ words (codes "RECORD OUT") }
     ensures sample { (app_by name.Sample).top.name ≡ codes "sample" }
     ensures sample_rules { rule_names_in (app_by name.Sample).top.rules ≡ words (codes "NUMBER") }
     ensures boot_resident { (app_by name.BootResident).top.name ≡ codes "boot-resident" }
@@ -90,7 +93,8 @@ pub fn commands_of_the_parser()
     ensures drill_rules { rule_names_in (app_by name.Drill).top.rules
         ≡ words (codes "MEMORY POOL OUT EVENTS map") }
     ensures core { (app_by name.Core).top.name ≡ codes "core" }
-    ensures core_rules { rule_names_in (app_by name.Core).top.rules ≡ words (codes "MEMORY OUT ADDRESS") }
+    ensures core_rules { rule_names_in (app_by name.Core).top.rules
+        ≡ words (codes "MEMORY OUT ADDRESS") }
 {}
 
 /// Each command is one of those of which the parser states which words it takes, and what it finds in them.

@@ -1,5 +1,5 @@
 -- Page by page.
-use Rattle.std.proofs.Common.{◌≡◌, ◌∙◌, ℕ, List, [], length, refl, sym, ap, arith, inl, inr, cond}
+use Rattle.std.proofs.Common.{◌≡◌, ◌∙◌, ℕ, [], length, refl, sym, ap, arith, inl, inr, cond}
 use Rattle.std.specs.Prelude.{◌≢◌, codes}
 use Rattle.std.proofs.lemmas.Bool.Decides.{eqb_tells}
 use Rattle.kx_pages.specs.Bytes.{page_of}
