@@ -17,7 +17,7 @@ WORDS = {
     "scripts/drill-against-table": ["1"],
     "scripts/elf-against-objcopy": [""],
     "scripts/fresh-clone": [""],
-    "scripts/install": ["prefix"],
+    "scripts/install": ["unbuilt-prefix"],
     "scripts/kernel-against-protocol": [""],
     "scripts/kernelyet": ["check memory record", "plan kernel", "picture plan kernel"],
     "scripts/limits": ["unbuilt/kexec"],
@@ -65,6 +65,6 @@ def test_unbuilt(tests, names):
             status, out, said = tests.run(script, *words.split(), env=env, top=tree)
             found = status in (1, 2, 70), out, said.count("\n"), said if wanted not in said else ""
             tests.same(f"{script} {words} without a program", found, (True, "", 1, ""))
-    left = [name for name in ("built", "prefix") if os.path.exists(f"{tests.folder}/{name}")]
+    left = [name for name in ("built", "unbuilt-prefix") if os.path.exists(f"{tests.folder}/{name}")]
     tests.same("nothing was built or installed", (left, os.path.exists(f"{tree}/built")), ([], False))
     tests.same("the scripts that run the program", sorted(that_run_it(names)), sorted(set(WORDS) - {"scripts/kernelyet"}))
