@@ -43,7 +43,8 @@ pub fn file_of_a_memory()
 
 /// Two memories agree where they have the same bytes in every page: one page that differs is enough.
 pub fn memories_that_agree()
-    ensures same { Agree (λ p. replicate 4096 p) (put (λ p. replicate 4096 p) 7 (replicate 4096 7)) }
+    ensures same { Agree (λ p. replicate 4096 p)
+        (put (λ p. replicate 4096 p) 7 (replicate 4096 7)) }
     ensures one_page { Agree (λ p. replicate 4096 0) (put (λ p. replicate 4096 0) 7 []) → ⊥ }
 {}
 

@@ -44,7 +44,8 @@ pub fn limits_of_regions()
         (record { start = 0x1000; size = 0x800_0000 }
         ∷ record { start = 0x1000_0000; size = 0x800_0000 } ∷ record { start = 0; size = 1 } ∷ []))
         (0 ∷ 1 ∷ 2 ∷ []) ≡ false ∷ false ∷ true ∷ [] }
-    ensures behind_the_rows { is_wild (record { start = 0x1000; size = 0x800_0000 } ∷ []) 1 ≡ false }
+    ensures behind_the_rows { is_wild (record { start = 0x1000; size = 0x800_0000 } ∷ []) 1
+        ≡ false }
     ensures first { first_wild_region
         (record { start = 0x1000; size = 0x800_0000 }
         ∷ record { start = 0x1000_0000; size = 0x800_0000 } ∷ record { start = 0; size = 1 } ∷ [])
