@@ -1,6 +1,6 @@
 //! The PT_LOADs of a file, one after another.
 
-ghost use Rattle.std.specs.Prelude.{◌≡◌, List, ◌+◌, ◌++◌, ◌∷◌, ◌<◌, ◌≤◌, ◌^◌, [], false, filter, length, OnOk};
+ghost use Rattle.std.specs.Prelude.{◌≡◌, ◌+◌, ◌++◌, ◌∷◌, ◌<◌, ◌≤◌, ◌^◌, [], false, filter, length, OnOk};
 ghost use Rattle.std.specs.List as lists;
 ghost use Rattle.elf_image.specs.declared.load.Load.{Load};
 ghost use Rattle.kx_laws.specs.Results.{unless};

@@ -6,7 +6,6 @@ ghost use Rattle.kx_fields.specs.Fields.{bytes_at};
 ghost use Rattle.kx_fields.specs.Formats.{read};
 ghost use Rattle.kx_laws.specs.inner.Results.{Gives};
 ghost use Rattle.elf_image.specs.declared.fault.ElfFault.TheVariants.{Memory};
-ghost use Rattle.elf_image.specs.Gathered.{each};
 ghost use Rattle.elf_image.specs.inner.Section.{IsTable};
 ghost use Rattle.elf_image.specs.inner.Symbol.{called, named, IsToLastNul};
 ghost use Rattle.elf_image.specs.Symbol.{symbol_entry, is_index, symbol_in, entries_in, strings_of, symbols_in, refuse_second, read_symbols};

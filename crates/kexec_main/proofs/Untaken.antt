@@ -1,5 +1,5 @@
 -- Want of memory before any take was made: it is one of the answers of every command, and leaves shelf and sink as they were.
-use Rattle.std.proofs.Common.{◌≡◌, ◌⊎◌, Result, Ok, Err, refl, inl}
+use Rattle.std.proofs.Common.{Result, Ok, Err, refl, inl}
 use Rattle.kx_edge.specs.declared.edge.Shelf.{Ghosts as Shelf}
 use Rattle.kx_edge.specs.declared.edge.Sink.{Ghosts as Sink}
 use Rattle.file_commands.specs.Answers.{Meets, memory}

@@ -1,6 +1,6 @@
 //! The end of every plan: the purgatory is linked, the segments are tested, and the purgatory gets what it is to find.
 
-ghost use Rattle.std.specs.Prelude.{◌≡◌, ◌<◌, length, List, Some, IfOk, OnOk};
+ghost use Rattle.std.specs.Prelude.{◌≡◌, ◌<◌, length, Some, IfOk, OnOk};
 ghost use Rattle.std.specs.List.{slice_set};
 ghost use Rattle.kx_laws.specs.inner.Results.{Gives};
 ghost use Rattle.kexec_plan.specs.inner.Requests.{planned_of};

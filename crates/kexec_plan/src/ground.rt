@@ -50,7 +50,8 @@ impl<'a> Model for Ground<'a> {
 
     ghost view = { λ g. ground_of g.known };
 
-    ghost invariant = { λ g. (q : ℕ) → in_spans g.reserved q ≡ reserved_pages (ground_of g.known) q };
+    ghost invariant = { λ g. (q : ℕ)
+        → in_spans g.reserved q ≡ reserved_pages (ground_of g.known) q };
 }
 
 impl<'a> Ground<'a> {

@@ -1,6 +1,6 @@
 //! The symbols of a linked purgatory.
 
-ghost use Rattle.std.specs.Prelude.{◌≡◌, ◌+◌, ◌≤◌, codes, length, IfOk};
+ghost use Rattle.std.specs.Prelude.{◌≡◌, ◌+◌, ◌≤◌, length, IfOk};
 ghost use Rattle.kexec_plan.specs.Purgatory.{symbol_place, symbol_address, symbols_of, registers_text};
 ghost use Rattle.kexec_plan.specs.inner.Purgatory.{HasSymbols};
 

@@ -1,6 +1,6 @@
 //! The words of `boot-resident`.
 
-ghost use Rattle.std.specs.Prelude.{◌≡◌, map, string_bytes};
+ghost use Rattle.std.specs.Prelude.{◌≡◌, string_bytes};
 ghost use Rattle.kexec_words.specs.Meaning.{resident_address_by, boot_resident_with, boot_resident_in};
 ghost use Rattle.kexec_words.specs.inner.Given.{given_values};
 ghost use Rattle.kexec_words.specs.inner.Meaning.{Answers};

@@ -1,6 +1,6 @@
 //! All commands.
 
-ghost use Rattle.std.specs.Prelude.{◌≡◌, IfOk, map, string_bytes, Some};
+ghost use Rattle.std.specs.Prelude.{IfOk, map, string_bytes, Some};
 ghost use Rattle.kexec_words.specs.Meaning.{command_of, command_by_name, command_in};
 ghost use Rattle.kexec_words.specs.inner.Given.{given_values};
 ghost use Rattle.kexec_words.specs.inner.Meaning.{Answers};

@@ -1,6 +1,6 @@
 //! The words of `load-panic`, `check`, `dump`, `exec`, `trace`, `migrate`, `sample` and `core`.
 
-ghost use Rattle.std.specs.Prelude.{◌≡◌, IfOk, map, option_map, string_bytes, codes};
+ghost use Rattle.std.specs.Prelude.{◌≡◌, IfOk, map, option_map, string_bytes};
 ghost use Rattle.kexec_words.specs.Meaning.{crash_inputs_of, load_panic_with, load_panic_in, load_names_of, load_names_in, exec_of, exec_with, exec_in, trace_numbers_by, trace_with, trace_in, migrate_of, migrate_with, migrate_in, sample_by, sample_in, core_by, core_with, core_in};
 ghost use Rattle.kexec_words.specs.inner.Given.{given_values};
 ghost use Rattle.kexec_words.specs.inner.Meaning.{Answers};

@@ -42,11 +42,16 @@ abbrev pub in_bytes : List ℕ → List ℕ
 in_bytes [] = []
 in_bytes (w ∷ ws) = little_bytes 8 w ++ in_bytes ws
 
--- each link page with its bytes: its words, then the next link or done word, then zeros
+-- the items of a link page: as many of these as it has entries for, then the next link or the done word
+abbrev pub link_page_items : List ℕ → List Item → List Item
+link_page_items ls is =
+    take link_page_entries is ++ take 1 (chain ls (drop link_page_entries is))
+
+-- each link page with its bytes: its words, then zeros
 abbrev pub link_pages : List ℕ → List Item → List (ℕ × List ℕ)
 link_pages [] is = []
 link_pages (l ∷ ls) is =
-    (l, page_of (in_bytes (map code (take link_page_entries is ++ take 1 (chain ls (drop link_page_entries is))))))
+    (l, page_of (in_bytes (map code (link_page_items ls is))))
     ∷ link_pages ls (drop link_page_entries is)
 
 -- each source page with the bytes of its destination

@@ -33,7 +33,8 @@ own_request (Move p) = Some p ∷ []
 abbrev pub requests_from : ℕ → List Entry → List Request
 requests_from n [] = []
 requests_from n (e ∷ es) =
-    (if n % link_page_entries == 0 then None ∷ [] else []) ++ (own_request e ++ requests_from (suc n) es)
+    (if n % link_page_entries == 0 then None ∷ [] else [])
+    ++ (own_request e ++ requests_from (suc n) es)
 
 -- the requests of a load, in order
 abbrev pub requests : Wish → List Entry → List Request

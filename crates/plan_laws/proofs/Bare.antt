@@ -1,5 +1,5 @@
 -- What a plan of a kernel without parts of its own is made of: an ELF executable, and a raw kernel.
-use Rattle.std.proofs.Common.{◌≡◌, ◌∙◌, ℕ, ◌++◌, List, [], ◌∷◌, Bool, true, false, cond, Option, Some, None, Result, Ok, Err, refl, sym, ap, subst, inl, inr}
+use Rattle.std.proofs.Common.{◌≡◌, ◌∙◌, ℕ, List, [], Bool, true, false, cond, Option, Some, None, Ok, refl, sym, ap, subst, inl, inr}
 use Rattle.std.specs.Prelude.{nat_lt, option_map}
 use Rattle.std.specs.List.{starts_with}
 use Rattle.std.specs.Prelude.{nat_eq}
@@ -24,7 +24,7 @@ use Rattle.kexec_plan.specs.Faults.{of_elf, told_by}
 use Rattle.kexec_plan.specs.Formats.{format_of, given_format, ground_for, has_header, shown_format, unused_part}
 use Rattle.kexec_plan.specs.Ground.{Ground, most, ram}
 use Rattle.kexec_plan.specs.Kernels.{Kernel, elf_kernel, raw_kernel, read_kernel}
-use Rattle.kexec_plan.specs.Laying.{PlanPart, place_parts}
+use Rattle.kexec_plan.specs.Laying.{place_parts}
 use Rattle.kexec_plan.specs.Modules.{AskedModule}
 use Rattle.kexec_plan.specs.Parts.{start_at}
 use Rattle.kexec_plan.specs.Places.{place_some}
@@ -33,9 +33,9 @@ use Rattle.kexec_plan.specs.Purgatory.{purgatory_rule, some_purgatory}
 use Rattle.kexec_plan.specs.Requests.{Asked, Plan}
 use Rattle.kexec_plan.proofs.Bare.{plain_as}
 use Rattle.plan_laws.specs.Executable.{AreLoaded64, ElfIsLoaded, IsElf, RawIsLoaded, StartsElf, StartsRaw}
-use Rattle.plan_laws.proofs.Headers.{Parts, entry64, loads64, parts_of}
+use Rattle.plan_laws.proofs.Headers.{entry64, loads64, parts_of}
 use Rattle.plan_laws.proofs.Laying.{none_more, told_ok}
-use Rattle.plan_laws.proofs.Planning.{ends_plain, no_purgatory, unfaulted}
+use Rattle.plan_laws.proofs.Planning.{ends_plain, no_purgatory}
 use Rattle.plan_laws.proofs.Private.{Format, choose_false, choose_true}
 
 -- ---- a kernel that was read and has no parts: its segments are those of the plan, its entry is where the plan starts

@@ -1,13 +1,11 @@
 -- The laws of the types put together.
-use Rattle.std.proofs.Common.{◌≡◌, ◌∙◌, ℕ, ◌^◌, ◌≤◌, ◌+◌, List, Option, Some, None, Ok, refl, sym, ap, subst, arith}
+use Rattle.std.proofs.Common.{◌∙◌, sym, ap, arith}
 use Rattle.kx_pages.proofs.Lists.{Each-slice_get}
-use Rattle.memory_map.specs.Maps.{MapValue}
 use Rattle.memory_map.specs.declared.row.Row.{Row}
 use Rattle.memory_map.specs.inner.Rows.{IsListed}
 use Rattle.memory_map.proofs.Listed.{rows_listed}
 use Rattle.kexec_plan.specs.Plan.{plan}
-use Rattle.kexec_plan.specs.Requests.{Asked, Plan}
-use Rattle.plan_laws.specs.Kernels.{EveryKernelFinds, KernelFinds, RowsOfFilesFit}
+use Rattle.plan_laws.specs.Kernels.{EveryKernelFinds, RowsOfFilesFit}
 use Rattle.plan_laws.specs.Linux.{FitsEntry}
 use Rattle.plan_laws.proofs.Bare.{elf_is_loaded, raw_is_loaded}
 use Rattle.plan_laws.proofs.HandedOn.{crash_purgatory_hands_on, multiboot_purgatory_hands_on, purgatory_hands_on}

@@ -1,7 +1,7 @@
 -- The byte at each address of a load of an executable.
-use Rattle.std.proofs.Common.{◌≡◌, ◌∙◌, ℕ, zero, suc, ◌+◌, ◌-◌, ◌*◌, ◌/◌, ◌^◌, ◌<◌, ◌≤◌, ◌++◌, ◌⊎◌, List, [], ◌∷◌, append-nil, append_assoc, length, map, Bool, true, false, cond, Option, Some, None, Result, Ok, refl, sym, ap, subst, arith, inl, inr}
-use Rattle.std.specs.Prelude.{nat_le, nat_lt, option_map, slice_index, ◌&&◌, ◌||◌}
-use Rattle.std.specs.List.{cons_option, count_by, filter, filter_map, list_any, range_with_len, slice_get}
+use Rattle.std.proofs.Common.{◌≡◌, ◌∙◌, ℕ, zero, suc, ◌+◌, ◌-◌, ◌*◌, ◌/◌, ◌^◌, ◌<◌, ◌≤◌, ◌++◌, ◌⊎◌, List, [], ◌∷◌, append-nil, append_assoc, Bool, true, false, cond, Option, Some, None, Ok, refl, sym, ap, subst, arith, inl, inr}
+use Rattle.std.specs.Prelude.{nat_lt, option_map, slice_index, ◌||◌}
+use Rattle.std.specs.List.{cons_option, count_by, filter, filter_map, range_with_len, slice_get}
 use Rattle.std.proofs.Math.ListN.{get_or-eq_default}
 use Rattle.std.proofs.lemmas.Bool.{cases_lt, cond-true, cond-false, or_parts}
 use Rattle.std.proofs.lemmas.Bool.Decides.{nat_tests}
@@ -9,19 +9,17 @@ use Rattle.std.proofs.lemmas.List.FromFn.{get_or-map-range_with_len, length-map-
 use Rattle.std.proofs.lemmas.Option.{slice_get-map}
 use Rattle.kx_laws.specs.Results.{unless}
 use Rattle.kx_laws.proofs.Results.{bind_ok, ok_same}
-use Rattle.kx_pages.specs.Spans.{Run, end, in_span, in_spans}
-use Rattle.segments.specs.Values.{SegmentValue}
+use Rattle.kx_pages.specs.Spans.{Run, in_span, in_spans}
 use Rattle.elf_image.specs.declared.load.Load.{Load}
 use Rattle.elf_image.specs.declared.fault.ElfFault.{ElfFault}
-use Rattle.elf_image.specs.Image.{byte_at, bytes_of, image, is_file, is_file_of, is_met, load_meets_page, runs, segment_of, segments_of, up_to_last}
-use Rattle.elf_image.specs.Loads.{has_memory, is_bad, load_fault, load_onto, load_stop, loads_onto}
+use Rattle.elf_image.specs.Image.{byte_at, bytes_of, is_file, is_file_of, is_met, load_meets_page, runs, segment_of, segments_of, up_to_last}
+use Rattle.elf_image.specs.Loads.{has_memory, is_bad, load_fault, load_onto, loads_onto}
 use Rattle.elf_image.specs.inner.Joined.{AreLoads, AreSound, IsLoad, is_memory_of}
 use Rattle.elf_image.proofs.Bytes.{byte_none}
 use Rattle.elf_image.proofs.Order.{count_cons}
 use Rattle.elf_image.proofs.Pages.{runs_has}
 use Rattle.elf_image.proofs.Walk.{fit}
 use Rattle.plan_laws.specs.Executable.{HasByte, IsLoaded}
-use Rattle.plan_laws.specs.Places.{IsIn, IsOne}
 
 -- ---- l is one of these loads
 abbrev pub Among : Load → List Load → Type 0

@@ -1,6 +1,6 @@
 -- The program headers of an executable that was read, by their places in the file.
-use Rattle.std.proofs.Common.{◌≡◌, ◌∙◌, ℕ, suc, ◌+◌, ◌*◌, ◌<◌, ◌≤◌, List, [], length, take, drop, Bool, true, false, cond, Option, Some, None, Result, Ok, Err, refl, sym, ap, subst, arith}
-use Rattle.std.specs.Prelude.{min, nat_lt, ◌-◌}
+use Rattle.std.proofs.Common.{◌≡◌, ◌∙◌, ℕ, suc, ◌+◌, ◌*◌, ◌<◌, ◌≤◌, List, [], length, drop, Bool, true, false, Option, Some, Ok, refl, sym, ap, subst, arith}
+use Rattle.std.specs.Prelude.{nat_lt, ◌-◌}
 use Rattle.std.specs.List.{filter}
 use Rattle.std.proofs.Math.Nat.{mul-le-mul_left, mul-suc}
 use Rattle.std.proofs.lemmas.Bool.{cond-true, eq-eqb, ltb-false}
@@ -10,7 +10,7 @@ use Rattle.kx_laws.proofs.Results.{bind_ok, guard_ok, ok_same}
 use Rattle.kx_fields.specs.Fields.{bytes_at, field}
 use Rattle.kx_fields.specs.Formats.{read}
 use Rattle.elf_image.specs.FileHeader.{entry_size, exec_fault, exec_header, header_format, header_of, header_size, read_class, read_header}
-use Rattle.elf_image.specs.Image.{image, segments_of}
+use Rattle.elf_image.specs.Image.{segments_of}
 use Rattle.elf_image.specs.Loads.{Executable, exec_reading, has_memory, loads_onto, read_loads}
 use Rattle.elf_image.specs.ProgramHeader.{load_at, load_of, loads_of, row_format}
 use Rattle.elf_image.specs.declared.fault.ElfFault.{ElfFault}

@@ -1,21 +1,21 @@
 -- Where a Multiboot kernel is loaded.
-use Rattle.std.proofs.Common.{◌≡◌, ◌∙◌, ℕ, ◌+◌, ◌-◌, ◌*◌, ◌/◌, ◌%◌, ◌^◌, ◌<◌, ◌≤◌, ◌++◌, List, [], ◌∷◌, drop, length, length-append, take, replicate, Bool, true, false, cond, Option, Some, None, Result, Ok, Err, refl, sym, ap, subst, arith, inl, inr}
-use Rattle.std.specs.Prelude.{min, nat_le, nat_lt, slice_index, ◌==◌, ◌&&◌, ◌||◌, not}
+use Rattle.std.proofs.Common.{◌≡◌, ◌∙◌, ℕ, ◌+◌, ◌-◌, ◌*◌, ◌/◌, ◌%◌, ◌^◌, ◌<◌, ◌≤◌, ◌++◌, List, [], ◌∷◌, drop, length, take, replicate, Bool, true, false, cond, Option, Some, None, Result, Ok, Err, refl, sym, ap, subst, arith, inl, inr}
+use Rattle.std.specs.Prelude.{nat_le, nat_lt, slice_index, ◌==◌, ◌&&◌, not}
 use Rattle.std.specs.List.{find, range_with_len}
 use Rattle.std.proofs.Math.ListN.{get_or-eq_default}
-use Rattle.std.proofs.lemmas.Bool.{cases_eq, cases_lt, cond-false, cond-true, eq-eqb, ltb-false, ne_eqb, or_parts}
+use Rattle.std.proofs.lemmas.Bool.{cases_eq, cond-false, cond-true, eq-eqb, ltb-false, ne_eqb, or_parts}
 use Rattle.std.proofs.lemmas.Bool.Decides.{nat_tests}
-use Rattle.std.proofs.lemmas.List.{get_or-drop, get_or-take, get_or-append_right, length-drop, length-replicate, length-take, take-append-drop}
-use Rattle.kx_laws.proofs.Results.{bind_ok, guard_ok, ok_same}
+use Rattle.std.proofs.lemmas.List.{get_or-drop, get_or-take, get_or-append_right, length-replicate, length-take, take-append-drop}
+use Rattle.kx_laws.proofs.Results.{guard_ok, ok_same}
 use Rattle.kx_fields.specs.Fields.{bytes_at, field}
 use Rattle.kx_fields.specs.Formats.{read}
 use Rattle.kx_fields.proofs.Fields.{field-append}
 use Rattle.kx_pages.specs.Limits.{segment_page_limit}
 use Rattle.segments.specs.Values.{SegmentValue}
 use Rattle.elf_image.specs.Loads.{Executable, exec_reading}
-use Rattle.elf_image.specs.Image.{image, segments_of}
+use Rattle.elf_image.specs.Image.{image}
 use Rattle.elf_image.specs.declared.fault.ElfFault.{ElfFault}
-use Rattle.multiboot_image.specs.Header.{find_header, has_bit, head, head_at, header_in, header_of, header_place, is_header_at, kludge, kludge_in, unknown_bit, unless_unknown, with_kludge}
+use Rattle.multiboot_image.specs.Header.{find_header, has_bit, head_at, header_in, header_of, header_place, is_header_at, kludge, kludge_in, unknown_bit, unless_unknown, with_kludge}
 use Rattle.multiboot_image.specs.Parts.{Loaded, elf_parts, exec_parts, image_parts, is_bad, kludge_parts, load_stop, loaded_length, memory_stop, page_count, parts, parts_by, place, segment, segments, site}
 use Rattle.multiboot_image.specs.declared.fault.MbFault.{MbFault}
 use Rattle.multiboot_image.specs.declared.header.Header.{Header}

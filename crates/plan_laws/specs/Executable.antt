@@ -1,6 +1,6 @@
 -- What an ELF executable and a raw kernel are loaded as (ELF gABI, chapter 4, "ELF Header", and chapter 5, "Program Header"
 -- and "Program Loading"): read from the segments of a plan. Places count bytes from the start of the file.
-use Rattle.std.specs.Prelude.{◌≡◌, ◌⊎◌, ℕ, ◌+◌, ◌-◌, ◌*◌, ◌<◌, ◌≤◌, codes, false, List, [], ◌∷◌, Option, None, Some, Ok, slice_index, true}
+use Rattle.std.specs.Prelude.{◌≡◌, ◌⊎◌, ℕ, ◌+◌, ◌-◌, ◌*◌, ◌<◌, ◌≤◌, false, List, [], ◌∷◌, Option, None, Ok, slice_index, true}
 use Rattle.std.specs.List.{starts_with}
 use Rattle.std.specs.Prelude.{nat_eq}
 use Rattle.kx_fields.specs.Fields.{field}

@@ -1,5 +1,5 @@
 -- The values of symbols, and their names, one behind another.
-use Rattle.std.proofs.Common.{◌≡◌, ℕ, ◌+◌, ◌<◌, List, [], ◌∷◌, ◌++◌, append_assoc, append-nil, length, take, get_or, map, Bool, true, false, cond, refl, sym, ap, ◌∙◌, Option, Some, None, Result, Ok, Err, arith}
+use Rattle.std.proofs.Common.{◌≡◌, ℕ, ◌+◌, ◌<◌, List, [], ◌∷◌, ◌++◌, append_assoc, append-nil, length, take, get_or, map, false, cond, sym, ap, ◌∙◌, Option, Some, None, Result, Ok, Err, arith}
 use Rattle.std.specs.Prelude.{◌==◌, OnOk}
 use Rattle.std.proofs.lemmas.Bool.Decides.{nat_tests}
 use Rattle.std.specs.List.{slice_get, flat_map}
@@ -8,7 +8,6 @@ use Rattle.std.proofs.lemmas.List.Concat.{flat_map-append}
 use Rattle.elf_image.specs.declared.symbol.Symbol.{Symbol}
 use Rattle.elf_image.specs.inner.Symbol.{named}
 use Rattle.elf_image.specs.Sym.{Sym}
-use Rattle.elf_image.specs.Numbers.{shn_abs, shn_common}
 use Rattle.purgatory_link.specs.declared.fault.LinkFault.{LinkFault}
 use Rattle.purgatory_link.specs.declared.fault.LinkFault.TheVariants as faults
 use Rattle.purgatory_link.specs.Sym.{Named}

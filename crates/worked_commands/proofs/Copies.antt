@@ -1,10 +1,10 @@
 -- The copies of the examples: what they read, make and leave.
-use Rattle.std.proofs.Common.{◌≡◌, ◌∙◌, ℕ, List, [], ◌∷◌, ◌++◌, Option, Some, Ok, Err, sym, ap, subst}
+use Rattle.std.proofs.Common.{◌≡◌, ◌∙◌, ℕ, List, [], ◌∷◌, Option, Some, Ok, Err, sym, ap, subst}
 use Rattle.std.specs.Prelude.{codes}
 use Rattle.kx_laws.proofs.Options.{some_same}
 use Rattle.kx_laws.proofs.Results.{ok_same}
-use Rattle.kx_edge.specs.Edge.{Files, Said}
-use Rattle.file_commands.specs.Answers.{FilesPut, Goods, with_outputs}
+use Rattle.kx_edge.specs.Edge.{Said}
+use Rattle.file_commands.specs.Answers.{FilesPut, Goods}
 use Rattle.file_commands.specs.Files.{whole_file}
 use Rattle.file_commands.specs.Taking.{Refusal, reads}
 use Rattle.worked_commands.specs.Shelves.{holding}

@@ -1,5 +1,5 @@
 -- What is replayed of files that are written down.
-use Rattle.std.proofs.Common.{◌≡◌, ◌≤◌, ℕ, zero, suc, List, [], ◌∷◌, Option, Ok, Err, length, take, arith, refl}
+use Rattle.std.proofs.Common.{◌≤◌, ℕ, zero, suc, List, [], ◌∷◌, Option, length, take, arith, refl}
 use Rattle.std.specs.Prelude.{unwrap_or}
 use Rattle.file_commands.specs.Taking.{Take, file, ok, refuse}
 use Rattle.call_log.specs.Calls.{Call, taken}

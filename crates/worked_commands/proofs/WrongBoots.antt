@@ -3,7 +3,6 @@ use Rattle.std.proofs.Common.{◌≡◌, ◌∙◌, ℕ, List, [], Option, Some,
 use Rattle.std.specs.FinMap.{empty}
 use Rattle.std.specs.Fmt.{digits}
 use Rattle.std.specs.Prelude.{codes}
-use Rattle.kx_pages.specs.Bytes.{Mem}
 use Rattle.kx_pages.specs.declared.image.Mode.TheVariants as modes
 use Rattle.page_memory.specs.Contents.{at}
 use Rattle.segments.specs.Values.{SegmentValue, want}

@@ -1,6 +1,6 @@
 //! What the answers of a command say: a copy of `a` to `o`, with a second output `r` and a text.
 
-ghost use Rattle.std.specs.Prelude.{◌≡◌, ◌∷◌, [], List, ℕ, Some, None, codes};
+ghost use Rattle.std.specs.Prelude.{◌≡◌, ◌∷◌, [], Some, None, codes};
 ghost use Rattle.file_commands.specs.Answers.{FilesCut, FilesPut, FilesUpTo, done, memory, not_accepted, refused, unread, unsaid, unwritten, with_outputs};
 ghost use Rattle.file_commands.specs.Taking.{by, too_long};
 ghost use Rattle.worked_commands.specs.Answers.{MeetsByCalls, MeetsHere, MeetsOver, long_file, one_file, slate_with, shelf};

@@ -1,6 +1,6 @@
 //! What `check` tells: of the list that moves page 12 to page 2, for the bytes `abc`, in every memory that has it.
 
-ghost use Rattle.std.specs.Prelude.{◌≡◌, ◌∷◌, [], List, ℕ, Some, Ok, Err, codes};
+ghost use Rattle.std.specs.Prelude.{◌≡◌, [], Ok, Err, codes};
 ghost use Rattle.kx_pages.specs.Bytes.{page_of};
 ghost use Rattle.page_memory.specs.Contents.{Contents, at};
 ghost use Rattle.list_checker.specs.declared.fault.Why.TheVariants.{HeadKind, Missing, WrongBytes};

@@ -2,7 +2,7 @@
 
 ghost use Rattle.std.specs.Prelude.{◌≡◌, ◌++◌, ◌∷◌, [], Some, None, codes};
 ghost use Rattle.list_checker.specs.declared.fault.Why.TheVariants.{Flags, HeadKind, LinkAgain, PastLimit};
-ghost use Rattle.kx_pages.specs.declared.item.Item.TheVariants.{Link, Destination, Source, Done};
+ghost use Rattle.kx_pages.specs.declared.item.Item.TheVariants.{Source};
 ghost use Rattle.list_commands.specs.Dump.{head_fault, head_text, item_text, lines_of, segment_line, walk_text, word_line, word_lines};
 
 /// The line of a word: its number in decimal, what it is, and the address in it. A word that is none has no line.

@@ -1,6 +1,6 @@
 //! The replies of `drill` as lines.
 
-ghost use Rattle.std.specs.Prelude.{◌≡◌, ◌++◌, ◌∷◌, [], codes};
+ghost use Rattle.std.specs.Prelude.{◌≡◌, ◌∷◌, [], codes};
 ghost use Rattle.image_slots.specs.declared.reply.Reply.TheVariants as replies;
 ghost use Rattle.load_commands.specs.Replies.{reply_line, reply_lines, segments_fault};
 ghost use Rattle.segments.specs.declared.fault.SegFault.TheVariants as faults;

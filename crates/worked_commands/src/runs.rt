@@ -1,17 +1,17 @@
 //! Runs of a list: how often, what is said of them, and what they leave. The list moves page 13 to page 2, and has swap
 //! page 11.
 
-ghost use Rattle.std.specs.Prelude.{◌≡◌, ◌≢◌, ◌++◌, ◌∷◌, [], ℕ, Some, None, true, false, codes};
-ghost use Rattle.kx_pages.specs.Bytes.{Mem, page_of};
+ghost use Rattle.std.specs.Prelude.{◌≡◌, ◌++◌, Some, None, true, false, codes};
+ghost use Rattle.kx_pages.specs.Bytes.{page_of};
 ghost use Rattle.kx_pages.specs.declared.image.Mode.TheVariants as mode;
 ghost use Rattle.kx_pages.specs.declared.image.Wish.TheVariants as wish;
 ghost use Rattle.page_memory.specs.Contents.{Contents, at};
 ghost use Rattle.purgatory_link.specs.RegionTest.{test};
 ghost use Rattle.purgatory_link.specs.declared.region_test.RegionTest.TheVariants as tests;
 ghost use Rattle.kexec_words.specs.declared.commands.Runs.TheVariants.{Once, Twice};
-ghost use Rattle.list_commands.specs.Exec.{is_not_kept, lacks_swap_page, load_of, runs_asked, runs_of};
+ghost use Rattle.list_commands.specs.Exec.{is_not_kept, lacks_swap_page, runs_asked, runs_of};
 ghost use Rattle.list_commands.specs.Records.{list_files};
-ghost use Rattle.command_parts.specs.Runs.{IsOnce, after_runs, checked_with, run_text, wish_of};
+ghost use Rattle.command_parts.specs.Runs.{IsOnce, after_runs, run_text, wish_of};
 ghost use Rattle.load_commands.specs.Startup.{planned_startup};
 ghost use Rattle.command_parts.specs.Startup.{purgatory_places, recorded_startup};
 ghost use Rattle.worked_commands.specs.Inputs.{three_bytes_record};

@@ -2,8 +2,8 @@
 
 ghost use Rattle.std.specs.Prelude.{◌≡◌, ◌+◌, ◌∷◌, [], List, ℕ, Ok, Err, Some, None, codes};
 ghost use Rattle.file_commands.specs.Files.{all_files, check_length, from_reader, more_files, optional_file, whole_file};
-ghost use Rattle.file_commands.specs.Taking.{FailedAt, FailsFile, GivesFile, Refusal, Same, Take, Took, WantedAt, WantsFile, by, ok, reads, refuse, too_long};
-ghost use Rattle.worked_commands.specs.Shelves.{Desk, desk, two_files};
+ghost use Rattle.file_commands.specs.Taking.{FailedAt, FailsFile, GivesFile, Same, Took, WantedAt, WantsFile, by, ok, refuse, too_long};
+ghost use Rattle.worked_commands.specs.Shelves.{desk};
 ghost use Rattle.worked_commands.specs.Takes.{a_then_b, a_then_rest, calm, failed_once, no_take, read_as, refused_as, untold};
 
 /// A whole file has at most as many bytes as its limit.

@@ -1,6 +1,6 @@
 //! The lines that commands say. The numbers of a line are all different, so that none can stand in another's place.
 
-ghost use Rattle.std.specs.Prelude.{◌≡◌, ◌++◌, ◌∷◌, [], ℕ, Some, None, codes};
+ghost use Rattle.std.specs.Prelude.{◌≡◌, ◌++◌, ◌∷◌, [], Some, None, codes};
 ghost use Rattle.kx_pages.specs.Bytes.{Mem};
 ghost use Rattle.kx_pages.specs.declared.image.Mode.TheVariants as mode;
 ghost use Rattle.purgatory_link.specs.RegionTest.{test};

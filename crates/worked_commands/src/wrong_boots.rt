@@ -1,6 +1,6 @@
 //! Boots of which all that is promised is so but one field; and which fields follow from the others.
 
-ghost use Rattle.std.specs.Prelude.{◌≡◌, ℕ, List, [], None};
+ghost use Rattle.std.specs.Prelude.{◌≡◌, []};
 ghost use Rattle.std.specs.FinMap.{empty};
 ghost use Rattle.load_states.specs.States.{Checked};
 ghost use Rattle.kexec_words.specs.Values.{BootValue};

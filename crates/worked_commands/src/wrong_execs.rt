@@ -1,6 +1,6 @@
 //! Runs of `exec` of which all that is promised is so but one field; and which fields follow from the others.
 
-ghost use Rattle.std.specs.Prelude.{◌≡◌, ℕ, List, [], None};
+ghost use Rattle.std.specs.Prelude.{◌≡◌, []};
 ghost use Rattle.std.specs.FinMap.{empty};
 ghost use Rattle.segments.specs.inner.Rules.{IsBare};
 ghost use Rattle.load_states.specs.Ready.{Told};

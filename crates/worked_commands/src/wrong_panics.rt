@@ -10,7 +10,6 @@ ghost use Rattle.kexec_plan.specs.Plan.{plan};
 ghost use Rattle.kexec_plan.specs.Requests.{Plan};
 ghost use Rattle.kexec_plan.specs.declared.fault.PlanFault.TheVariants as plans;
 ghost use Rattle.load_commands.specs.CrashInputs.{CrashInputs};
-ghost use Rattle.worked_commands.specs.Loads.{few_plan};
 ghost use Rattle.worked_commands.specs.Memories.{loaded};
 ghost use Rattle.worked_commands.specs.Panics.{IsAsked, crash_load};
 ghost use Rattle.worked_commands.specs.Wrong.{PanicNeeds, no_segments, nothing_in_place, one_page_more, other_head};

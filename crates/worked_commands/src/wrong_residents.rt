@@ -1,6 +1,6 @@
 //! Runs of `boot-resident` of which all that is promised is so but one field; and which fields follow from the others.
 
-ghost use Rattle.std.specs.Prelude.{◌≡◌, List, [], None};
+ghost use Rattle.std.specs.Prelude.{◌≡◌, [], None};
 ghost use Rattle.std.specs.FinMap.{empty};
 ghost use Rattle.load_states.specs.Runs.{EndsAfter};
 ghost use Rattle.load_states.specs.States.{Checked};

@@ -1,6 +1,6 @@
 -- A Multiboot kernel of 64 bytes with the addresses in its header (Multiboot Specification 0.6.96, section 3.1), and the
 -- information that it is handed (section 3.3), byte for byte.
-use Rattle.std.specs.Prelude.{ℕ, ◌++◌, ◌^◌, List, [], ◌∷◌, codes, replicate, Some}
+use Rattle.std.specs.Prelude.{ℕ, ◌++◌, List, [], ◌∷◌, codes, replicate, Some}
 use Rattle.byteorder.specs.Endian.{little_bytes}
 use Rattle.memory_map.specs.declared.row.Row.{Row}
 use Rattle.multiboot_image.specs.declared.header.Header.{Header}

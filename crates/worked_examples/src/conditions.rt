@@ -1,6 +1,6 @@
 //! Each condition of acceptance: a list that breaks it is not accepted.
 
-ghost use Rattle.std.specs.Prelude.{◌≡◌, None, Some};
+ghost use Rattle.std.specs.Prelude.{None, Some};
 ghost use Rattle.kx_pages.specs.Bytes.{Mem, Wants};
 ghost use Rattle.segments.specs.Values.{want};
 ghost use Rattle.list_checker.specs.Walk.{Accepted, IsAccepted};

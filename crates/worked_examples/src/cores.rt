@@ -1,6 +1,6 @@
 //! Core files: where their parts stand, and one byte for byte.
 
-ghost use Rattle.std.specs.Prelude.{◌≡◌, ◌∷◌, [], Ok, Err, map, codes, take};
+ghost use Rattle.std.specs.Prelude.{◌≡◌, ◌∷◌, [], Ok, Err, map, take};
 ghost use Rattle.vmcore_file.specs.File.{core_reading};
 ghost use Rattle.vmcore_file.specs.Layout.{place_for, notes_place, loads_in_file};
 ghost use Rattle.vmcore_file.specs.Notes.{kept_size};

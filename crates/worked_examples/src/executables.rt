@@ -1,7 +1,7 @@
 //! ELF executables: what their headers say, which bytes stand where, and the first refusals.
 
-ghost use Rattle.std.specs.Prelude.{◌≡◌, ◌++◌, ◌∷◌, [], true, false, Ok, Err, codes, map, take};
-ghost use Rattle.elf_image.specs.Image.{byte_at, bytes_of, is_met, runs, up_to_last, is_file};
+ghost use Rattle.std.specs.Prelude.{◌≡◌, ◌++◌, ◌∷◌, [], true, Ok, Err, codes, map, take};
+ghost use Rattle.elf_image.specs.Image.{byte_at, bytes_of, is_met, runs};
 ghost use Rattle.elf_image.specs.Loads.{exec_reading};
 ghost use Rattle.elf_image.specs.declared.fault.ElfFault.TheVariants as faults;
 ghost use Rattle.elf_image.specs.declared.fault.ElfPart.TheVariants as parts;

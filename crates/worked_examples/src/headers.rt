@@ -1,7 +1,6 @@
 //! The headers that a crash kernel finds memory by, byte for byte.
 
-ghost use Rattle.std.specs.Prelude.{◌≡◌, ◌++◌, ◌∷◌, [], Ok, Err, codes, length, replicate};
-ghost use Rattle.byteorder.specs.Endian.{little_bytes};
+ghost use Rattle.std.specs.Prelude.{◌≡◌, ◌++◌, ◌∷◌, [], Ok, Err, length, replicate};
 ghost use Rattle.crash_headers.specs.Headers.{headers, headers_or_fault};
 ghost use Rattle.crash_headers.specs.declared.fault.CrashFault.TheVariants as faults;
 ghost use Rattle.worked_examples.specs.Cores.{core_file_header, load_header, note_header, one_note, two_ranges};

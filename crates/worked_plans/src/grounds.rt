@@ -1,6 +1,6 @@
 //! What is known of memory: where parts may lie, the rows that a kernel gets, and the rules of segments.
 
-ghost use Rattle.std.specs.Prelude.{◌≡◌, ◌∷◌, [], true, false, Some, None, Ok, Err, codes, map};
+ghost use Rattle.std.specs.Prelude.{◌≡◌, ◌∷◌, [], true, false, Some, None, Ok, Err, map};
 ghost use Rattle.kx_pages.specs.declared.image.ImageType.TheVariants as types;
 ghost use Rattle.segments.specs.declared.fault.SegFault.TheVariants as rules;
 ghost use Rattle.kexec_plan.specs.Formats.{open_ground, reserved_ground, crash_ground};

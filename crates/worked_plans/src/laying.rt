@@ -1,6 +1,6 @@
 //! The parts of a plan, placed one after another.
 
-ghost use Rattle.std.specs.Prelude.{◌≡◌, ◌∷◌, [], Some, None, Ok, Err, codes, map, replicate};
+ghost use Rattle.std.specs.Prelude.{◌≡◌, ◌∷◌, [], Some, Ok, Err, codes, map, replicate};
 ghost use Rattle.boot_params.specs.Params.{params_text};
 ghost use Rattle.boot_params.specs.declared.fault.ParamsFault.TheVariants as params;
 ghost use Rattle.crash_headers.specs.Headers.{headers};
@@ -8,7 +8,7 @@ ghost use Rattle.crash_headers.specs.declared.fault.CrashFault.TheVariants as cr
 ghost use Rattle.memory_map.specs.Maps.{core_ranges};
 ghost use Rattle.multiboot_image.specs.Info.{info};
 ghost use Rattle.kexec_plan.specs.Laying.{Image, Initrd, Headers, Parameters, Module, Information, rule_of};
-ghost use Rattle.kexec_plan.specs.Table.{highest, parameters_rule, information_rule};
+ghost use Rattle.kexec_plan.specs.Table.{highest};
 ghost use Rattle.kexec_plan.specs.declared.fault.Part.TheVariants as parts;
 ghost use Rattle.kexec_plan.specs.declared.fault.PlanFault.TheVariants as faults;
 ghost use Rattle.worked_plans.specs.Laid.{laid, tell_here, bytes_here, push_here};

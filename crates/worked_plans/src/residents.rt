@@ -1,6 +1,6 @@
 //! Kernels whose pages lie in memory already: the order of the pairs, the memory, and a pool with too few pages.
 
-ghost use Rattle.std.specs.Prelude.{◌≡◌, ◌∷◌, [], Some, codes};
+ghost use Rattle.std.specs.Prelude.{◌≡◌, ◌∷◌, [], codes};
 ghost use Rattle.kx_pages.specs.Bytes.{page_of};
 ghost use Rattle.resident_planner.specs.Laid.{plan_memory};
 ghost use Rattle.resident_planner.specs.Plan.{Before, Falling, Planned};

@@ -1,6 +1,6 @@
 //! The table of places: the rule of each part.
 
-ghost use Rattle.std.specs.Prelude.{◌≡◌, ◌++◌, ◌∷◌, [], true, false, codes, map, replicate};
+ghost use Rattle.std.specs.Prelude.{◌≡◌, ◌∷◌, [], true, false, codes, map, replicate};
 ghost use Rattle.hole_search.specs.declared.search.End.TheVariants.{Least, Greatest};
 ghost use Rattle.kexec_plan.specs.Parts.{whole_pages, part_size, start_at, segment_at};
 ghost use Rattle.kexec_plan.specs.Table.{last_address, highest, kernel_rule, initrd_most, initrd_rule, headers_rule, parameters_rule, module_rule, information_rule};

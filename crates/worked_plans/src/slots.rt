@@ -1,7 +1,7 @@
 //! Several callers: where the pages of the pool are, and who is busy. Parts of the states of a load.
 
 ghost use Rattle.std.specs.Prelude.{◌≡◌, ◌∷◌, ℕ, [], Some, None, true, false, map};
-ghost use Rattle.image_slots.specs.Events.{Open, Panic, Store, Write};
+ghost use Rattle.image_slots.specs.Events.{Panic, Write};
 ghost use Rattle.image_slots.specs.Pages.{all_pages, in_area, load_pages};
 ghost use Rattle.image_slots.specs.Soundness.{IsBusy, Meets, WhereSome};
 ghost use Rattle.image_slots.specs.States.{Draft, Placed, Written};

@@ -38,7 +38,9 @@ next_place (l ∷ (k ∷ ks)) n = next_place (k ∷ ks) (n - link_page_entries)
 
 -- the link pages are just enough, or have room for the next entry
 abbrev pub Tight : List ℕ → ℕ → Type 0
-Tight ls n = (link_page_entries * length ls ≤ n + link_page_entries) × (n ≤ link_page_entries * length ls)
+Tight ls n =
+    (link_page_entries * length ls ≤ n + link_page_entries)
+    × (n ≤ link_page_entries * length ls)
 
 -- the number of page p's entry
 abbrev pub number : ℕ → List Entry → ℕ

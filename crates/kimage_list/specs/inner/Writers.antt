@@ -182,5 +182,6 @@ pub record KeepsPages (h : History) (l : Loading) : Type 0 where
   pub ends : h.pool ≡ drawn ++ l.left
   pub in_use : (x : ℕ)
       → count x drawn ≡ count x l.filed + count x l.spare + count x (sources l.pairs)
-  pub filed : AllByRecursion (λ p. (is_wanted h p ≡ true) × (Has p (pages_of h.entries) → ⊥)) l.filed
+  pub filed :
+      AllByRecursion (λ p. (is_wanted h p ≡ true) × (Has p (pages_of h.entries) → ⊥)) l.filed
   pub sources : AllByRecursion (λ q. (q.1 ≡ q.0) ⊎ (is_wanted h q.1 ≡ false)) l.pairs

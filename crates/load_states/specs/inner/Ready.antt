@@ -22,7 +22,8 @@ written_pages (Kept swap) qs = destinations qs ++ (sources qs ++ swap ∷ [])
 
 -- each page that the pairs' moves write is held
 abbrev pub HoldsPairs : Contents → Mode → List (ℕ × ℕ) → Type 0
-HoldsPairs m mode qs = AllByRecursion (λ q. (q.0 < 2 ^ 34) × AreHeld m (move_writes mode q.0 q.1)) qs
+HoldsPairs m mode qs =
+    AllByRecursion (λ q. (q.0 < 2 ^ 34) × AreHeld m (move_writes mode q.0 q.1)) qs
 
 -- a plain list is accepted in the memory that the state owns, and each page that its run writes is held
 pub record IsReadyPlain (c : Checked) : Type 0 where

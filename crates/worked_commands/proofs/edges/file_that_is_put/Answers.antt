@@ -1,7 +1,6 @@
 -- Shelves are one where they have the same files in the order of their names.
-use Rattle.std.proofs.Common.{◌≡◌, ◌∙◌, ℕ, List, [], ◌∷◌, Option, Some, None, refl, sym, ap}
+use Rattle.std.proofs.Common.{◌≡◌, ℕ, List, [], ◌∷◌, Some, None, refl, sym, ap}
 use Rattle.std.specs.Prelude.{codes}
-use Rattle.std.specs.FinMap.{insert}
 use Rattle.kx_laws.proofs.Options.{none_some, some_same}
 use Rattle.kx_edge.specs.Edge.{Files, PutFile}
 use Rattle.worked_commands.specs.Shelves.{holding}

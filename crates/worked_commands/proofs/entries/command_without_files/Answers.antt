@@ -1,10 +1,8 @@
 -- By what was put.
-use Rattle.std.proofs.Common.{◌≡◌, ◌∙◌, ℕ, List, [], ◌∷◌, Some, None, Bool, true, false, refl, sym, ap, subst, arith, inl, inr}
+use Rattle.std.proofs.Common.{◌≡◌, ℕ, List, [], ◌∷◌, Some, None, Bool, true, false, refl, ap, subst, arith, inl, inr}
 use Rattle.std.specs.Prelude.{codes}
-use Rattle.std.specs.FinMap.{insert}
 use Rattle.kx_laws.proofs.Options.{some_same}
 use Rattle.kx_laws.proofs.Results.{ok_same}
-use Rattle.kx_edge.specs.Edge.{Files}
 use Rattle.file_commands.specs.Answers.{CutsFile, FilesPut, Goods, PutUpTo}
 use Rattle.file_commands.specs.Files.{whole_file}
 use Rattle.file_commands.specs.Taking.{Refusal, Take, file, ok, refuse}

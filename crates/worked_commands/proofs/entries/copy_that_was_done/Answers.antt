@@ -1,9 +1,8 @@
 -- By what was put and said.
-use Rattle.std.proofs.Common.{◌≡◌, ◌∙◌, ℕ, List, [], ◌∷◌, Some, refl, sym, ap, subst}
+use Rattle.std.proofs.Common.{◌≡◌, ℕ, List, [], ◌∷◌, Some, refl, ap, subst}
 use Rattle.std.specs.Prelude.{codes}
 use Rattle.kx_laws.proofs.Options.{some_same}
-use Rattle.kx_edge.specs.Edge.{Files}
-use Rattle.file_commands.specs.Answers.{FilesPut, with_outputs}
+use Rattle.file_commands.specs.Answers.{FilesPut}
 use Rattle.worked_commands.specs.Shelves.{holding}
 use Rattle.worked_commands.specs.Answers.{one_file}
 use Rattle.worked_commands.proofs.Shelves.{apart, one_shelf}

@@ -1,5 +1,5 @@
 -- By computing.
-use Rattle.std.proofs.Common.{◌≡◌, ℕ, [], ◌∷◌, refl, ap, arith}
+use Rattle.std.proofs.Common.{◌≡◌, ◌∷◌, refl, ap, arith}
 use Rattle.std.specs.Prelude.{codes}
 use Rattle.worked_commands.specs.Answers.{one_file, shelf, slate_with}
 use Rattle.worked_commands.specs.Shelves.{Desk, holding}

@@ -1,5 +1,5 @@
 -- By what is held, and then by computing.
-use Rattle.std.proofs.Common.{◌≡◌, ◌∙◌, ℕ, List, [], ◌∷◌, ap, arith, refl, sym, take}
+use Rattle.std.proofs.Common.{◌≡◌, ◌∙◌, ℕ, List, [], ap, arith, refl, sym, take}
 use Rattle.std.specs.Prelude.{codes, get_or, unwrap_or}
 use Rattle.kx_edge.specs.Edge.{read_of}
 use Rattle.worked_commands.specs.Answers.{long_file, one_file}

@@ -1,13 +1,13 @@
 -- By what was taken, made and put.
-use Rattle.std.proofs.Common.{◌≡◌, ◌∙◌, ◌≤◌, ℕ, List, [], ◌∷◌, Some, None, Result, Ok, Err, Bool, true, false, cond, length, refl, sym, ap, arith, inl, inr}
-use Rattle.std.specs.Prelude.{◌⊎◌, codes, nat_lt}
+use Rattle.std.proofs.Common.{◌≡◌, ◌∙◌, ◌≤◌, ℕ, List, [], ◌∷◌, Some, None, Ok, Bool, true, false, cond, length, refl, sym, ap, arith, inl, inr}
+use Rattle.std.specs.Prelude.{codes, nat_lt}
 use Rattle.call_log.specs.Calls.{Call, put, said, taken, unput, wanting}
 use Rattle.call_log.specs.Replays.{EndsUntaken, EndsWanting, Replays, puts_of}
 use Rattle.file_commands.specs.Answers.{Goods}
 use Rattle.file_commands.specs.Files.{whole_file}
-use Rattle.file_commands.specs.Taking.{Refusal, Take, by, ok, refuse, too_long}
+use Rattle.file_commands.specs.Taking.{Take, ok, refuse, too_long}
 use Rattle.worked_commands.specs.Answers.{copy_goods, copies}
-use Rattle.worked_commands.specs.Logs.{a_taken, copy_calls, copy_text}
+use Rattle.worked_commands.specs.Logs.{a_taken, copy_calls}
 use Rattle.worked_commands.proofs.logs.logs_of_a_copy.Goals as goal
 
 abbrev took : Take ℕ (List ℕ)

@@ -1,6 +1,5 @@
 -- A shelf that is written down stays as it is where memory is wanting.
-use Rattle.std.proofs.Common.{◌≡◌, ◌∙◌, ℕ, refl, ap, arith, inl, inr}
-use Rattle.std.specs.Prelude.{codes}
+use Rattle.std.proofs.Common.{◌≡◌, ◌∙◌, refl, ap, arith, inl, inr}
 use Rattle.file_commands.specs.Taking.{Take, WantedAt, and_then, file, ok, refuse}
 use Rattle.worked_commands.specs.Shelves.{Desk, desk}
 use Rattle.worked_commands.specs.Takes.{a_then_b, calm, failed_once}
