@@ -8,13 +8,29 @@ from kexec_files import memory_bytes
 
 TOP = os.path.dirname(os.path.dirname(os.path.realpath(__file__)))
 PLANTED = [  # the check, the file, what stands in it, what is planted there, and what is then told
-    ("scripts/manual-against-help", "docs/kexec.1", ".Op Fl -below Ar ADDRESS", ".Op Fl -below Ar LIMIT", "boot: the manual has"),
+    ("scripts/manual-against-help", "docs/kexec.1", ".It Fl -below Ar ADDRESS", ".It Fl -below Ar LIMIT",
+     "--below ADDRESS is not both in the table and explained"),
+    ("scripts/manual-against-help", "docs/kexec.1", ".It Cm migrate\n", ".It Cm migrates\n",
+     "Cm migrate is not both in the table and explained"),
     ("scripts/manual-against-help", "docs/kernelyet.1", ".Op Fl -map Ar FILE", ".Op Fl -maps Ar FILE", "plan: the manual has"),
-    ("scripts/manual-against-help", "docs/kexec.1", ".Cm check\n.Ar MEMORY RECORD\n.Nm\n.Cm dump\n",
-     ".Cm dump\n.Ar MEMORY RECORD\n.Nm\n.Cm check\n", "the synopsis has the commands in the order boot, load, load-panic, dump, check"),
-    ("scripts/manual-against-help", "docs/FORMATS.md", "kexec migrate       RECORD OUT", "kexec migrate       OUT RECORD",
-     "migrate: docs/FORMATS.md has"),
-    ("scripts/manual-against-help", "README.md", "| `migrate` |", "| `migrates` |", "migrate is not both in the table of README.md"),
+    ("scripts/command-rows --check", "README.md", "| `migrate` | write", "| `migrate` | writes", "README.md is not that of the table"),
+    ("scripts/command-rows --check", "docs/FORMATS.md", "kexec migrate       RECORD OUT", "kexec migrate       OUT RECORD",
+     "docs/FORMATS.md is not that of the table"),
+    ("scripts/command-rows --check", "docs/kexec.1", ".Op Fl -below Ar ADDRESS", ".Op Fl -below Ar LIMIT",
+     "docs/kexec.1 is not that of the table"),
+    ("scripts/command-rows --check", "crates/scenes/data/unknown-command.lines", "drill or core", "core or drill",
+     "crates/scenes/data/unknown-command.lines is not that of the table"),
+    ("scripts/command-rows --check", "crates/kexec_words/proofs/Taken.antt", "simple name.Migrate = refl\n", "",
+     "crates/kexec_words/proofs/Taken.antt is not that of the table"),
+    ("scripts/command-rows --check", "crates/kexec_main/proofs/Commands.antt", "keeps (words.migrate v) = migrate_keeps v\n", "",
+     "crates/kexec_main/proofs/Commands.antt is not that of the table"),
+    ("scripts/module-lists --check", "crates/list_commands/proofs/Commands.antt", "pub mod Trace\n", "",
+     "crates/list_commands/proofs/Commands.antt is not that of its folder"),
+    ("scripts/module-lists --check", "crates/list_commands/specs/Planted.antt", None, "",
+     "crates/list_commands/specs/Lib.antt is not that of its folder"),
+    ("scripts/run-scenes --check", "crates/scenes/args", "drill.scenes\n", "", "crates/scenes/args is not that of crates/scenes/data"),
+    ("scripts/run-scenes --check", "crates/scenes/stdout", "ok the first boot is done\n", "",
+     "crates/scenes/stdout is not that of crates/scenes/data"),
     ("scripts/completion --check", "scripts/companion/commands.py", '    "migrate",\n', "",
      "scripts/companion/commands.py is not that of the table"),
     ("scripts/completion --check", "docs/kexec.bash", "'plan:--map') said='files'", "'plan:--map') said='nothing'",
@@ -32,6 +48,7 @@ PLANTED = [  # the check, the file, what stands in it, what is planted there, an
     ("scripts/run-scenes --faults", "crates/scenes/data/faults.scenes", '\ntells MEMORY "truncated"', '\n# tells MEMORY "truncated"',
      "Input Mem Truncated: no scene tells its sentence"),
     ("scripts/believed --check", "docs/BELIEVED.list", "boot_params ZeroPage.zero_page\n", "", "  + boot_params ZeroPage.zero_page"),
+    ("scripts/believed --check", "docs/BELIEVED.md", "`drill_entry`, `core_entry`", "`drill_entry`", "  + `migrate_entry`, "),
     ("scripts/believed --check", "docs/DEFINITIONS.md", "† kx_pages", "kx_pages", "docs/DEFINITIONS.md is not as it must be"),
     ("scripts/documents-against-sources", "README.md", "docs/REFUSALS.md", "docs/REFUSED.md", "docs/REFUSED.md is not there"),
     ("scripts/documents-against-sources", "README.md", "(docs/KEXEC-TOOLS.md#where-the-parts-lie)",
@@ -51,6 +68,10 @@ PLANTED = [  # the check, the file, what stands in it, what is planted there, an
     ("scripts/attack-devices boot", "scripts/attack_cases.py", 'Case("boot-resident", ["boot-resident",',
      'Case("boot-resident", ["boot",', "no case is of boot-resident"),
 ]
+# What writes the files that a check compares.
+WRITERS = {"scripts/command-rows --check": "scripts/command-rows", "scripts/module-lists --check": "scripts/module-lists",
+           "scripts/run-scenes --check": "scripts/run-scenes --write", "scripts/completion --check": "scripts/completion",
+           "scripts/believed --check": "scripts/believed --write"}
 
 # A program that does what the real one does, and says that all is well where standard output cannot be written.
 SILENT = '#!/bin/sh\n"{program}" "$@"\nstatus=$?\n[ $status -eq 5 ] && exit 0\nexit $status\n'
@@ -109,7 +130,8 @@ def runs(tests, tree, words, env=None):
 
 
 def test_planted(tests):
-    """The checks that compare files: all differences of one are planted together, and each is told."""
+    """The checks that compare files: all differences of one are planted together, and each is told; what writes these files
+    mends them."""
     tree = copied(tests.folder)
     for words in dict.fromkeys(row[0] for row in PLANTED):
         status, told = runs(tests, tree, words)
@@ -120,8 +142,14 @@ def test_planted(tests):
         for name, _, new, wanted in rows:
             found = status, wanted in told, "" if wanted in told else told
             tests.same(f"{words} with {new!r} in {name}", found, (1, True, ""))
+        if words in WRITERS:
+            mended = runs(tests, tree, WRITERS[words])[0], runs(tests, tree, words)[0]
+            tests.same(f"{WRITERS[words]} mends what {words} tells", mended, (0, 0))
         for path, text in reversed(before):
             put_back(path, text)
+        if words in WRITERS:
+            # what was written where nothing was planted
+            runs(tests, tree, WRITERS[words])
 
 
 def test_programs(tests):
