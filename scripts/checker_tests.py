@@ -18,6 +18,8 @@ PLANTED = [  # the check, the file, what stands in it, what is planted there, an
      "docs/FORMATS.md is not that of the table"),
     ("scripts/command-rows --check", "docs/kexec.1", ".Op Fl -below Ar ADDRESS", ".Op Fl -below Ar LIMIT",
      "docs/kexec.1 is not that of the table"),
+    ("scripts/command-rows --check", "crates/command_table/src/names.rt", "    Name::Migrate,\n", "",
+     "crates/command_table/src/names.rt is not that of the table"),
     ("scripts/command-rows --check", "crates/scenes/data/unknown-command.lines", "drill or core", "core or drill",
      "crates/scenes/data/unknown-command.lines is not that of the table"),
     ("scripts/command-rows --check", "crates/kexec_words/proofs/Taken.antt", "simple name.Migrate = refl\n", "",
