@@ -74,6 +74,48 @@ PLANTED = [  # the check, the file, what stands in it, what is planted there, an
 WRITERS = {"scripts/command-rows --check": "scripts/command-rows", "scripts/module-lists --check": "scripts/module-lists",
            "scripts/run-scenes --check": "scripts/run-scenes --write", "scripts/completion --check": "scripts/completion",
            "scripts/believed --check": "scripts/believed --write"}
+# A command that is added by hand: behind what stands in these files, or in new ones.
+ENTRY = "use Rattle.list_commands.specs.Dump.{dump_entry}\nabbrev pub count_pages_entry : LoadNames\ncount_pages_entry = dump_entry\n"
+ADDED = [
+    ("crates/command_table/src/commands.rt", "    arguments: &[STOPPED_MEMORY, CORE_OUT, ADDRESS],\n};\n", """
+pub(crate) const COUNT_PAGES: Command = Command {
+    name: "count-pages",
+    brief: "count the pages of a memory",
+    about: "Counts the pages of a memory. It writes no file.",
+    notes: &[],
+    arguments: &[TRACED_MEMORY, SWAP],
+};
+"""),
+    ("crates/kexec_main/specs/Commands.antt", "use Rattle.list_commands.specs.Trace.{trace_entry}\n",
+     "use Rattle.list_commands.specs.CountPages.{count_pages_entry}\n"),
+    ("crates/kexec_main/specs/Commands.antt", "entry_of (words.core c) = core_entry c\n",
+     "entry_of (words.count_pages c) = count_pages_entry c\n"),
+    ("crates/list_commands/specs/CountPages.antt", None, ENTRY),
+    ("crates/list_commands/proofs/Commands/CountPages.antt", None, ""),
+    ("crates/scenes/data/count-pages.scenes", None, "scene pages are counted\nkexec count-pages m\n"),
+]
+# What is then written of it.
+OF_ADDED = [
+    ("README.md", "| `count-pages` | count the pages of a memory |\n"),
+    ("docs/FORMATS.md", f"kexec count-pages   MEMORY{' ' * 38}--swap ADDRESS\nplan options: "),
+    ("docs/kexec.1", ".Nm\n.Cm count-pages\n.Op Fl -swap Ar ADDRESS\n.Ar MEMORY\n.Sh DESCRIPTION\n"),
+    ("docs/kexec.bash", "'count-pages') options='--swap' words=(files) ;;\n"),
+    ("scripts/companion/commands.py", '    "count-pages",\n'),
+    ("crates/command_table/src/names.rt", "    Core,\n    CountPages,\n}\n"),
+    ("crates/command_table/src/names.rt", "const NAMES: [Name; 13] = [\n    Name::Boot,\n"),
+    ("crates/command_table/src/names.rt", "    Name::Core,\n    Name::CountPages,\n];\n"),
+    ("crates/command_table/src/names.rt", "            Name::CountPages => commands::COUNT_PAGES,\n        }\n"),
+    ("crates/kexec_words/proofs/Taken.antt", "simple name.CountPages = refl\n"),
+    ("crates/kexec_main/proofs/Commands.antt", "use Rattle.list_commands.proofs.Commands.CountPages.{count_pages_keeps}\n"),
+    ("crates/kexec_main/proofs/Commands.antt", "keeps (words.count_pages v) = count_pages_keeps v\n"),
+    ("crates/list_commands/specs/Lib.antt", "pub mod CountPages\n"),
+    ("crates/list_commands/proofs/Commands.antt", "pub mod CountPages\n"),
+    ("crates/scenes/data/unknown-command.lines", ", drill, core or count-pages\n"),
+    ("crates/scenes/args", "core.scenes\ncount-pages.scenes\n"),
+    ("crates/scenes/stdout", "ok pages are counted\n"),
+    ("docs/BELIEVED.md", "`core_entry`, `count_pages_entry`\n"),
+    ("docs/BELIEVED.list", "list_commands CountPages.count_pages_entry\n"),
+]
 
 # A program that does what the real one does, and says that all is well where standard output cannot be written.
 SILENT = '#!/bin/sh\n"{program}" "$@"\nstatus=$?\n[ $status -eq 5 ] && exit 0\nexit $status\n'
@@ -95,14 +137,14 @@ sys.exit(1)
 """
 
 
-def copied(folder):
+def copied(folder, name="repository"):
     """A copy of what the checks read of the repository."""
-    tree = f"{folder}/repository"
+    tree = f"{folder}/{name}"
     os.makedirs(tree)
-    for name in ("CONTRIBUTING.md", "README.md", "crates.txt", "kexec"):
-        shutil.copy(f"{TOP}/{name}", tree)
-    for name in (".ci", "bench", "crates", "docs", "examples", "scripts", "tests"):
-        shutil.copytree(f"{TOP}/{name}", f"{tree}/{name}", ignore=shutil.ignore_patterns("out", "__pycache__"))
+    for part in ("CONTRIBUTING.md", "README.md", "crates.txt", "kexec"):
+        shutil.copy(f"{TOP}/{part}", tree)
+    for part in (".ci", "bench", "crates", "docs", "examples", "scripts", "tests"):
+        shutil.copytree(f"{TOP}/{part}", f"{tree}/{part}", ignore=shutil.ignore_patterns("out", "__pycache__"))
     return tree
 
 
@@ -152,6 +194,21 @@ def test_planted(tests):
         if words in WRITERS:
             # what was written where nothing was planted
             runs(tests, tree, WRITERS[words])
+
+
+def test_added(tests):
+    """A command that is added: each check tells what is old, and what only repeats it is then written by scripts."""
+    tree = copied(tests.folder, "added")
+    for name, behind, new in ADDED:
+        plant(tests, f"{tree}/{name}", behind, (behind or "") + new)
+    for check, writer in WRITERS.items():
+        found = [runs(tests, tree, words)[0] for words in (check, writer, check)]
+        tests.same(f"{check} and {writer} of a command that is added", found, [1, 0, 0])
+    for name, text in OF_ADDED:
+        with open(f"{tree}/{name}", encoding="utf-8") as file:
+            tests.same(f"{name} of a command that is added has {text!r}", text in file.read(), True)
+    status, told = runs(tests, tree, "scripts/manual-against-help")
+    tests.same("the manual forgets it", (status, "Cm count-pages is not both" in told), (1, True))
 
 
 def test_programs(tests):
@@ -211,4 +268,4 @@ def test_gate(tests):
     tests.same("test-scripts counts what is wrong", (probe.count, probe.failed), (1, 1))
 
 
-ALL = (test_planted, test_programs, test_misuses, test_tools, test_gate)
+ALL = (test_planted, test_added, test_programs, test_misuses, test_tools, test_gate)
