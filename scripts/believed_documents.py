@@ -2,6 +2,7 @@
 marks of docs/DEFINITIONS.md."""
 import re
 import sys
+import textwrap
 
 from believed_aloud import minutes_of, parts_of
 from believed_definitions import TOP, Definition
@@ -90,6 +91,12 @@ def lined(library, found):
     return block("lines", found[1], it.path, text.strip())
 
 
+def names_of_entries(library):
+    """The entries of all commands, as the table of them has them."""
+    (it,) = definitions_named(library, "kexec_main Commands.entry_of")[:1]
+    return textwrap.wrap(", ".join(f"`{name}`" for name in re.findall(r"= (\w+)", it.text())), 120)
+
+
 def timed(text):
     """The guide with the time that it takes to read it aloud up to its second half, and whole."""
     for name, part in parts_of(text).items():
@@ -101,9 +108,10 @@ def filled(library, tries, text):
     """The guide with its quotes, places, counts and times as they are now."""
     text = re.sub(r"<!-- (quote|clause) (.*?) -->\n.*?<!-- end -->", lambda found: quoted(library, found), text, flags=re.S)
     text = re.sub(r"<!-- lines (.*?) -->\n.*?<!-- end -->", lambda found: lined(library, found), text, flags=re.S)
-    for name, rows in (("numbers", table_of_numbers(library)), ("tries", table_of_tries(*tries))):
-        rows = "\n".join(rows)
-        text = re.sub(rf"<!-- {name} -->\n.*?<!-- end -->", f"<!-- {name} -->\n{rows}\n<!-- end -->", text, flags=re.S)
+    made = {"numbers": lambda: table_of_numbers(library), "tries": lambda: table_of_tries(*tries),
+            "entries": lambda: names_of_entries(library)}
+    text = re.sub(rf"<!-- ({'|'.join(made)}) -->\n.*?<!-- end -->",
+                  lambda found: "\n".join([f"<!-- {found[1]} -->", *made[found[1]](), "<!-- end -->"]), text, flags=re.S)
     return timed(text)
 
 

@@ -8,13 +8,31 @@ from kexec_files import memory_bytes
 
 TOP = os.path.dirname(os.path.dirname(os.path.realpath(__file__)))
 PLANTED = [  # the check, the file, what stands in it, what is planted there, and what is then told
-    ("scripts/manual-against-help", "docs/kexec.1", ".Op Fl -below Ar ADDRESS", ".Op Fl -below Ar LIMIT", "boot: the manual has"),
+    ("scripts/manual-against-help", "docs/kexec.1", ".It Fl -below Ar ADDRESS", ".It Fl -below Ar LIMIT",
+     "--below ADDRESS is not both in the table and explained"),
+    ("scripts/manual-against-help", "docs/kexec.1", ".It Cm migrate\n", ".It Cm migrates\n",
+     "Cm migrate is not both in the table and explained"),
     ("scripts/manual-against-help", "docs/kernelyet.1", ".Op Fl -map Ar FILE", ".Op Fl -maps Ar FILE", "plan: the manual has"),
-    ("scripts/manual-against-help", "docs/kexec.1", ".Cm check\n.Ar MEMORY RECORD\n.Nm\n.Cm dump\n",
-     ".Cm dump\n.Ar MEMORY RECORD\n.Nm\n.Cm check\n", "the synopsis has the commands in the order boot, load, load-panic, dump, check"),
-    ("scripts/manual-against-help", "docs/FORMATS.md", "kexec migrate       RECORD OUT", "kexec migrate       OUT RECORD",
-     "migrate: docs/FORMATS.md has"),
-    ("scripts/manual-against-help", "README.md", "| `migrate` |", "| `migrates` |", "migrate is not both in the table of README.md"),
+    ("scripts/command-rows --check", "README.md", "| `migrate` | write", "| `migrate` | writes", "README.md is not that of the table"),
+    ("scripts/command-rows --check", "docs/FORMATS.md", "kexec migrate       RECORD OUT", "kexec migrate       OUT RECORD",
+     "docs/FORMATS.md is not that of the table"),
+    ("scripts/command-rows --check", "docs/kexec.1", ".Op Fl -below Ar ADDRESS", ".Op Fl -below Ar LIMIT",
+     "docs/kexec.1 is not that of the table"),
+    ("scripts/command-rows --check", "crates/command_table/src/names.rt", "    Name::Migrate,\n", "",
+     "crates/command_table/src/names.rt is not that of the table"),
+    ("scripts/command-rows --check", "crates/scenes/data/unknown-command.lines", "drill or core", "core or drill",
+     "crates/scenes/data/unknown-command.lines is not that of the table"),
+    ("scripts/command-rows --check", "crates/kexec_words/proofs/Taken.antt", "simple name.Migrate = refl\n", "",
+     "crates/kexec_words/proofs/Taken.antt is not that of the table"),
+    ("scripts/command-rows --check", "crates/kexec_main/proofs/Commands.antt", "keeps (words.migrate v) = migrate_keeps v\n", "",
+     "crates/kexec_main/proofs/Commands.antt is not that of the table"),
+    ("scripts/module-lists --check", "crates/list_commands/proofs/Commands.antt", "pub mod Trace\n", "",
+     "crates/list_commands/proofs/Commands.antt is not that of its folder"),
+    ("scripts/module-lists --check", "crates/list_commands/specs/Planted.antt", None, "",
+     "crates/list_commands/specs/Lib.antt is not that of its folder"),
+    ("scripts/run-scenes --check", "crates/scenes/args", "drill.scenes\n", "", "crates/scenes/args is not that of crates/scenes/data"),
+    ("scripts/run-scenes --check", "crates/scenes/stdout", "ok the first boot is done\n", "",
+     "crates/scenes/stdout is not that of crates/scenes/data"),
     ("scripts/completion --check", "scripts/companion/commands.py", '    "migrate",\n', "",
      "scripts/companion/commands.py is not that of the table"),
     ("scripts/completion --check", "docs/kexec.bash", "'plan:--map') said='files'", "'plan:--map') said='nothing'",
@@ -32,6 +50,7 @@ PLANTED = [  # the check, the file, what stands in it, what is planted there, an
     ("scripts/run-scenes --faults", "crates/scenes/data/faults.scenes", '\ntells MEMORY "truncated"', '\n# tells MEMORY "truncated"',
      "Input Mem Truncated: no scene tells its sentence"),
     ("scripts/believed --check", "docs/BELIEVED.list", "boot_params ZeroPage.zero_page\n", "", "  + boot_params ZeroPage.zero_page"),
+    ("scripts/believed --check", "docs/BELIEVED.md", "`drill_entry`, `core_entry`", "`drill_entry`", "  + `migrate_entry`, "),
     ("scripts/believed --check", "docs/DEFINITIONS.md", "† kx_pages", "kx_pages", "docs/DEFINITIONS.md is not as it must be"),
     ("scripts/documents-against-sources", "README.md", "docs/REFUSALS.md", "docs/REFUSED.md", "docs/REFUSED.md is not there"),
     ("scripts/documents-against-sources", "README.md", "(docs/KEXEC-TOOLS.md#where-the-parts-lie)",
@@ -50,6 +69,52 @@ PLANTED = [  # the check, the file, what stands in it, what is planted there, an
      "CONTRIBUTING.md, Scripts, does not name scripts/sample-numbers"),
     ("scripts/attack-devices boot", "scripts/attack_cases.py", 'Case("boot-resident", ["boot-resident",',
      'Case("boot-resident", ["boot",', "no case is of boot-resident"),
+]
+# What writes the files that a check compares.
+WRITERS = {"scripts/command-rows --check": "scripts/command-rows", "scripts/module-lists --check": "scripts/module-lists",
+           "scripts/run-scenes --check": "scripts/run-scenes --write", "scripts/completion --check": "scripts/completion",
+           "scripts/believed --check": "scripts/believed --write"}
+# A command that is added by hand: behind what stands in these files, or in new ones.
+ENTRY = "use Rattle.list_commands.specs.Dump.{dump_entry}\nabbrev pub count_pages_entry : LoadNames\ncount_pages_entry = dump_entry\n"
+ADDED = [
+    ("crates/command_table/src/commands.rt", "    arguments: &[STOPPED_MEMORY, CORE_OUT, ADDRESS],\n};\n", """
+pub(crate) const COUNT_PAGES: Command = Command {
+    name: "count-pages",
+    brief: "count the pages of a memory",
+    about: "Counts the pages of a memory. It writes no file.",
+    notes: &[],
+    arguments: &[TRACED_MEMORY, SWAP],
+};
+"""),
+    ("crates/kexec_main/specs/Commands.antt", "use Rattle.list_commands.specs.Trace.{trace_entry}\n",
+     "use Rattle.list_commands.specs.CountPages.{count_pages_entry}\n"),
+    ("crates/kexec_main/specs/Commands.antt", "entry_of (words.core c) = core_entry c\n",
+     "entry_of (words.count_pages c) = count_pages_entry c\n"),
+    ("crates/list_commands/specs/CountPages.antt", None, ENTRY),
+    ("crates/list_commands/proofs/Commands/CountPages.antt", None, ""),
+    ("crates/scenes/data/count-pages.scenes", None, "scene pages are counted\nkexec count-pages m\n"),
+]
+# What is then written of it.
+OF_ADDED = [
+    ("README.md", "| `count-pages` | count the pages of a memory |\n"),
+    ("docs/FORMATS.md", f"kexec count-pages   MEMORY{' ' * 38}--swap ADDRESS\nplan options: "),
+    ("docs/kexec.1", ".Nm\n.Cm count-pages\n.Op Fl -swap Ar ADDRESS\n.Ar MEMORY\n.Sh DESCRIPTION\n"),
+    ("docs/kexec.bash", "'count-pages') options='--swap' words=(files) ;;\n"),
+    ("scripts/companion/commands.py", '    "count-pages",\n'),
+    ("crates/command_table/src/names.rt", "    Core,\n    CountPages,\n}\n"),
+    ("crates/command_table/src/names.rt", "const NAMES: [Name; 13] = [\n    Name::Boot,\n"),
+    ("crates/command_table/src/names.rt", "    Name::Core,\n    Name::CountPages,\n];\n"),
+    ("crates/command_table/src/names.rt", "            Name::CountPages => commands::COUNT_PAGES,\n        }\n"),
+    ("crates/kexec_words/proofs/Taken.antt", "simple name.CountPages = refl\n"),
+    ("crates/kexec_main/proofs/Commands.antt", "use Rattle.list_commands.proofs.Commands.CountPages.{count_pages_keeps}\n"),
+    ("crates/kexec_main/proofs/Commands.antt", "keeps (words.count_pages v) = count_pages_keeps v\n"),
+    ("crates/list_commands/specs/Lib.antt", "pub mod CountPages\n"),
+    ("crates/list_commands/proofs/Commands.antt", "pub mod CountPages\n"),
+    ("crates/scenes/data/unknown-command.lines", ", drill, core or count-pages\n"),
+    ("crates/scenes/args", "core.scenes\ncount-pages.scenes\n"),
+    ("crates/scenes/stdout", "ok pages are counted\n"),
+    ("docs/BELIEVED.md", "`core_entry`, `count_pages_entry`\n"),
+    ("docs/BELIEVED.list", "list_commands CountPages.count_pages_entry\n"),
 ]
 
 # A program that does what the real one does, and says that all is well where standard output cannot be written.
@@ -72,14 +137,14 @@ sys.exit(1)
 """
 
 
-def copied(folder):
+def copied(folder, name="repository"):
     """A copy of what the checks read of the repository."""
-    tree = f"{folder}/repository"
+    tree = f"{folder}/{name}"
     os.makedirs(tree)
-    for name in ("CONTRIBUTING.md", "README.md", "crates.txt", "kexec"):
-        shutil.copy(f"{TOP}/{name}", tree)
-    for name in (".ci", "bench", "crates", "docs", "examples", "scripts", "tests"):
-        shutil.copytree(f"{TOP}/{name}", f"{tree}/{name}", ignore=shutil.ignore_patterns("out", "__pycache__"))
+    for part in ("CONTRIBUTING.md", "README.md", "crates.txt", "kexec"):
+        shutil.copy(f"{TOP}/{part}", tree)
+    for part in (".ci", "bench", "crates", "docs", "examples", "scripts", "tests"):
+        shutil.copytree(f"{TOP}/{part}", f"{tree}/{part}", ignore=shutil.ignore_patterns("out", "__pycache__"))
     return tree
 
 
@@ -109,7 +174,8 @@ def runs(tests, tree, words, env=None):
 
 
 def test_planted(tests):
-    """The checks that compare files: all differences of one are planted together, and each is told."""
+    """The checks that compare files: all differences of one are planted together, and each is told; what writes these files
+    mends them."""
     tree = copied(tests.folder)
     for words in dict.fromkeys(row[0] for row in PLANTED):
         status, told = runs(tests, tree, words)
@@ -120,8 +186,29 @@ def test_planted(tests):
         for name, _, new, wanted in rows:
             found = status, wanted in told, "" if wanted in told else told
             tests.same(f"{words} with {new!r} in {name}", found, (1, True, ""))
+        if words in WRITERS:
+            mended = runs(tests, tree, WRITERS[words])[0], runs(tests, tree, words)[0]
+            tests.same(f"{WRITERS[words]} mends what {words} tells", mended, (0, 0))
         for path, text in reversed(before):
             put_back(path, text)
+        if words in WRITERS:
+            # what was written where nothing was planted
+            runs(tests, tree, WRITERS[words])
+
+
+def test_added(tests):
+    """A command that is added: each check tells what is old, and what only repeats it is then written by scripts."""
+    tree = copied(tests.folder, "added")
+    for name, behind, new in ADDED:
+        plant(tests, f"{tree}/{name}", behind, (behind or "") + new)
+    for check, writer in WRITERS.items():
+        found = [runs(tests, tree, words)[0] for words in (check, writer, check)]
+        tests.same(f"{check} and {writer} of a command that is added", found, [1, 0, 0])
+    for name, text in OF_ADDED:
+        with open(f"{tree}/{name}", encoding="utf-8") as file:
+            tests.same(f"{name} of a command that is added has {text!r}", text in file.read(), True)
+    status, told = runs(tests, tree, "scripts/manual-against-help")
+    tests.same("the manual forgets it", (status, "Cm count-pages is not both" in told), (1, True))
 
 
 def test_programs(tests):
@@ -181,4 +268,4 @@ def test_gate(tests):
     tests.same("test-scripts counts what is wrong", (probe.count, probe.failed), (1, 1))
 
 
-ALL = (test_planted, test_programs, test_misuses, test_tools, test_gate)
+ALL = (test_planted, test_added, test_programs, test_misuses, test_tools, test_gate)

@@ -45,25 +45,32 @@ def read_arguments():
     return arguments
 
 
-def command_name(variant):
-    """The name of the command, as LoadPanic is that of load-panic."""
-    return re.sub(r"(?<!^)(?=[A-Z])", "-", variant).lower()
+def bodies(source):
+    """The fields of each command as they stand, by the name of its constant."""
+    return re.findall(r"^pub\(crate\) const (\w+): Command = Command \{\n(.*?)^\};", source, re.S | re.M)
 
 
-def read_rows():
-    """The arguments of each command by the name of its constant; what stands between the brackets of `[..]`, or is named."""
-    source = read_source("commands.rt")
-    lists = dict(re.findall(r"^const (\w+): &\[Argument\] = &\[(.*?)\];", source, re.S | re.M))
-    rows = {}
-    for constant, body in re.findall(r"^pub\(crate\) const (\w+): Command = Command \{\n(.*?)^\};", source, re.S | re.M):
-        listed, named = re.search(r"^    arguments: (?:&\[(.*?)\]|(\w+)),$", body, re.S | re.M).groups()
-        rows[constant] = re.findall(r"\w+", lists[named] if named else listed)
-    return rows
+def read_names():
+    """The variant of each command with the name of its constant, as LoadPanic with LOAD_PANIC, in their order."""
+    return [(constant.title().replace("_", ""), constant) for constant, _ in bodies(read_source("commands.rt"))]
+
+
+def read_text(field, body):
+    return re.search(rf'^    {field}:\s+"(.*?)",$', body, re.M)[1]
+
+
+def read_briefs():
+    """What the list of the commands says of each, in their order."""
+    return {read_text("name", body): read_text("brief", body) for _, body in bodies(read_source("commands.rt"))}
 
 
 def read_commands():
-    """The arguments of each command, in their order; the commands in the order in which they are listed."""
-    arguments, rows, commands = read_arguments(), read_rows(), {}
-    for variant, constant in re.findall(r"^ +Name::(\w+) => commands::(\w+),$", read_source("names.rt"), re.M):
-        commands[command_name(variant)] = [arguments[name] for name in rows[constant]]
+    """The arguments of each command, in their order; the commands in the order in which they are listed. Between the brackets
+    of `[..]` stand the names of the arguments, or else the name of such a list."""
+    source, arguments, commands = read_source("commands.rt"), read_arguments(), {}
+    lists = dict(re.findall(r"^const (\w+): &\[Argument\] = &\[(.*?)\];", source, re.S | re.M))
+    for _, body in bodies(source):
+        listed, named = re.search(r"^    arguments: (?:&\[(.*?)\]|(\w+)),$", body, re.S | re.M).groups()
+        row = lists[named] if named else listed
+        commands[read_text("name", body)] = [arguments[name] for name in re.findall(r"\w+", row)]
     return commands
