@@ -11,7 +11,7 @@ pub(crate) const LOAD_RECORD: &str = "load record";
 
 /// The role of a file in a command. The files that are read stand first, in the order in which every command takes those that
 /// it has; behind them those that are written.
-#[derive(Clone, Copy, Debug, PartialEq, Eq, PartialOrd, Ord)]
+#[derive(Clone, Copy, Debug, PartialEq, Eq)]
 pub enum Role {
     /// MEMORY: the memory that the command begins with.
     Memory,

@@ -22,8 +22,8 @@ module _ {S O X F R : Type 0} (D : Shelf S) (E : Sink O) (c : Command X F R) (s 
   untaken_as : {T : Type 0} (view : T → X) (s' : S) (f : TakeFault R) → Takes D c.takes view s (Err f) s' → Meets D E c s o (take_answer f) s' o
   unfolding TakesNot
   untaken_as view s' (takes.Refused why) h = (inl h, refl)
-  untaken_as view s' (takes.TooLong name limit) h = (inl h, refl)
-  untaken_as view s' (takes.Unread name) h = (h, refl)
+  untaken_as view s' (takes.TooLong role name limit) h = (inl h, refl)
+  untaken_as view s' (takes.Unread role name) h = (h, refl)
   untaken_as view s' takes.Memory h = (h, refl)
 
   pub meets_untaken : {T : Type 0} (view : T → X) (s' : S) (a : Answer F R) (f : TakeFault R) → a ≡ take_answer f → Takes D c.takes view s (Err f) s' → Meets D E c s o a s' o

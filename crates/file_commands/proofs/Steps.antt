@@ -135,8 +135,8 @@ module _ {S : Type 0} (D : Shelf S) where
   stopped_by : {R X Y : Type 0} (t : Take R Y) (s mid new : S) (first : Take R X) (f : X → Take R Y) (e : TakeFault R) → Left t s (and_then first f) mid → TakesNot D first mid e new → TakesNot D t s e new
   unfolding TakesNot
   stopped_by t s mid new first f (takes.Refused why) l h = l.took _ new (took_stop first f mid new _ h)
-  stopped_by t s mid new first f (takes.TooLong name limit) l h = l.took _ new (took_stop first f mid new _ h)
-  stopped_by t s mid new first f (takes.Unread name) l h = l.failed _ new (failed_stop first f mid new _ h)
+  stopped_by t s mid new first f (takes.TooLong role name limit) l h = l.took _ new (took_stop first f mid new _ h)
+  stopped_by t s mid new first f (takes.Unread role name) l h = l.failed _ new (failed_stop first f mid new _ h)
   stopped_by t s mid new first f takes.Memory l h = l.wanted new (wanted_stop first f mid new h)
 
   pub stopped : {R X Y Z : Type 0} {t : Take R Y} {s mid : S} {e : TakeFault R} (new : S) (first : Take R X) (f : X → Take R Y) (look : Z → Y) (result : Result Z (TakeFault R))

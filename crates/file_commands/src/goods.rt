@@ -5,11 +5,13 @@ ghost use Rattle.file_commands.specs.Answers.{Delivers, PutAll, PutUpTo};
 ghost use Rattle.file_commands.specs.inner.Calls.{call_answer, goods_of, file_of};
 
 use crate::stop::Stop;
+use command_table::Role;
 use kx_edge::{PutFailed, SayFailed, Shelf, Sink};
 
-/// A file: its name and its bytes.
+/// A file: its role in the command, its name and its bytes.
 #[derive(Drop)]
 pub struct File {
+    pub role: Role,
     pub name: String,
     pub bytes: Vec<u8>,
 }
@@ -22,16 +24,16 @@ pub struct Goods<F> {
     pub fault: Option<F>,
 }
 
-// Puts the outputs in their order, up to the first that fails, whose name is answered.
-fn put_all<S: Shelf>(outputs: Vec<File>, shelf: &mut S) -> Result<(), String>
+// Puts the outputs in their order, up to the first that fails, which is answered.
+fn put_all<S: Shelf>(outputs: Vec<File>, shelf: &mut S) -> Result<(), File>
     ensures whole { OnOk result (PutAll S.Shelf (map file_of outputs.items) shelf.old shelf.new) }
     ensures cut { IfErr result
-        (λ name. PutUpTo S.Shelf (map file_of outputs.items) shelf.old (string_bytes name)
+        (λ file. PutUpTo S.Shelf (map file_of outputs.items) shelf.old (string_bytes file.name)
         shelf.new) }
 {
     for file in outputs {
         if let Err(PutFailed) = shelf.put(&file.name, &file.bytes) {
-            return Err(file.name);
+            return Err(file);
         }
     }
     Ok(())
@@ -51,8 +53,8 @@ pub fn deliver<S: Shelf, O: Sink, F: Drop, R>(
         text,
         fault,
     } = goods;
-    if let Err(name) = put_all(outputs, shelf) {
-        return Err(Stop::Unwritten { name });
+    if let Err(File { role, name, .. }) = put_all(outputs, shelf) {
+        return Err(Stop::Unwritten { role, name });
     }
     if let Err(SayFailed) = out.say(text.as_bytes()) {
         return Err(Stop::Unsaid);

@@ -18,6 +18,9 @@
 //! | too long, refused | the takes, or the goods, refuse for exactly this; nothing was put or said |
 //! | memory | some of the takes were made, in their order; nothing was put or said |
 //!
+//! A take is told the role of its file (`Role` of command_table), and an output has one: it stands in each fault that names
+//! the file, for people, who know the file by its word. No definition of what a command takes or makes speaks of it.
+//!
 //! The crate knows no command and no file format: `kexec_main` has them. All of this is this project's own.
 #![tactic(auto)]
 

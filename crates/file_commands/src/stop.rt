@@ -2,17 +2,27 @@
 
 ghost use Rattle.std.specs.Prelude.{◌≡◌};
 
+use command_table::Role;
 use std::alloc::{AllocError, AllocFailed};
 
 /// Why files could not be taken.
 #[derive(Debug, Drop)]
 pub enum TakeFault<R> {
     /// The take of this file failed.
-    Unread { name: String },
+    Unread {
+        role: Role,
+        name: String,
+    },
     /// The file is longer than it can be here.
-    TooLong { name: String, limit: u64 },
+    TooLong {
+        role: Role,
+        name: String,
+        limit: u64,
+    },
     /// What was read is refused.
-    Refused { why: R },
+    Refused {
+        why: R,
+    },
     /// There was not enough memory.
     Memory,
 }
@@ -30,17 +40,31 @@ pub enum MakeFault<R> {
 #[derive(Debug, Drop)]
 pub enum Stop<F, R> {
     /// What was made has a fault, and went out.
-    NotAccepted { fault: F },
+    NotAccepted {
+        fault: F,
+    },
     /// The take of this file failed.
-    Unread { name: String },
+    Unread {
+        role: Role,
+        name: String,
+    },
     /// The put of this file failed. The outputs before it are whole, and it has a prefix of its bytes.
-    Unwritten { name: String },
+    Unwritten {
+        role: Role,
+        name: String,
+    },
     /// The text could not be said whole. The outputs are whole.
     Unsaid,
     /// The file is longer than it can be here.
-    TooLong { name: String, limit: u64 },
+    TooLong {
+        role: Role,
+        name: String,
+        limit: u64,
+    },
     /// The command is refused.
-    Refused { why: R },
+    Refused {
+        why: R,
+    },
     /// There was not enough memory.
     Memory,
 }
@@ -92,8 +116,8 @@ impl<F, R> From<TakeFault<R>> for Stop<F, R> {
 
     fn from(fault: TakeFault<R>) -> Self {
         match fault {
-            TakeFault::Unread { name } => Stop::Unread { name },
-            TakeFault::TooLong { name, limit } => Stop::TooLong { name, limit },
+            TakeFault::Unread { role, name } => Stop::Unread { role, name },
+            TakeFault::TooLong { role, name, limit } => Stop::TooLong { role, name, limit },
             TakeFault::Refused { why } => Stop::Refused { why },
             TakeFault::Memory => Stop::Memory,
         }

@@ -1,13 +1,14 @@
 //! Files are taken in their turn, each with a limit: one byte more is asked for, so that a longer file shows.
 
-ghost use Rattle.std.specs.Prelude.{◌≡◌, ◌+◌, ◌<◌, ◌≤◌, ◌^◌, length, map, option_map, is_some, string_bytes, IfOk, IfSome};
+ghost use Rattle.std.specs.Prelude.{◌≡◌, ◌+◌, ◌<◌, ◌≤◌, ◌^◌, length, map, option_map, is_some, string_bytes, IfErr, IfOk, IfSome};
 ghost use Rattle.kx_laws.specs.inner.Cuts.{IsCutAt};
 ghost use Rattle.file_commands.specs.Files.{all_files, optional_file, whole_file};
-ghost use Rattle.file_commands.specs.inner.Calls.{Takes, bytes_of, file_of};
+ghost use Rattle.file_commands.specs.inner.Calls.{IsOfRole, Takes, bytes_of, file_of};
 ghost use Rattle.file_commands.specs.inner.Taking.{file_at};
 
 use crate::goods::File;
 use crate::stop::TakeFault;
+use command_table::Role;
 use kx_edge::{Shelf, ShelfFault};
 use std::alloc::Global;
 
@@ -24,6 +25,7 @@ pub struct FileParts {
 #[tactic(auto, unfolding(crate::specs::Taking::and_then, crate::specs::Taking::Took, crate::specs::Taking::FailedAt, crate::specs::Taking::WantedAt, crate::specs::inner::Calls::TakesNot))]
 pub fn take_apart<S: Shelf, R>(
     alloc: Global,
+    role: Role,
     name: String,
     at: usize,
     limit: usize,
@@ -32,6 +34,7 @@ pub fn take_apart<S: Shelf, R>(
     requires { limit < 2 ^ 63 }
     ensures takes { Takes S.Shelf (whole_file limit (string_bytes name)) bytes_of shelf.old
         result shelf.new }
+    ensures role { IfErr result (IsOfRole role) }
     ensures named { IfOk result (λ f. f.name ≡ name) }
     ensures apart { IfOk result (λ f. IsCutAt at f.front.items f.rest.items) }
     ensures within { IfOk result (λ f. length f.front.items + length f.rest.items ≤ limit) }
@@ -41,17 +44,19 @@ pub fn take_apart<S: Shelf, R>(
             Ok(FileParts { name, front, rest })
         }
         Ok(_) => Err(TakeFault::TooLong {
+            role,
             name,
             limit: limit as u64,
         }),
         Err(ShelfFault::Memory) => Err(TakeFault::Memory),
-        Err(ShelfFault::Failed) => Err(TakeFault::Unread { name }),
+        Err(ShelfFault::Failed) => Err(TakeFault::Unread { role, name }),
     }
 }
 
 // Takes a file of at most `limit` bytes, with its name.
 fn take_named<S: Shelf, R>(
     alloc: Global,
+    role: Role,
     name: String,
     limit: usize,
     shelf: &mut S,
@@ -59,16 +64,22 @@ fn take_named<S: Shelf, R>(
     requires { limit < 2 ^ 63 }
     ensures takes { Takes S.Shelf (whole_file limit (string_bytes name)) (λ f. f.bytes.items)
         shelf.old result shelf.new }
+    ensures role { IfErr result (IsOfRole role) }
     ensures named { IfOk result (λ f. f.name ≡ name) }
     ensures within { IfOk result (λ f. length f.bytes.items ≤ limit) }
 {
-    let FileParts { name, rest, .. } = take_apart(alloc, name, 0, limit, shelf)?;
-    Ok(File { name, bytes: rest })
+    let FileParts { name, rest, .. } = take_apart(alloc, role, name, 0, limit, shelf)?;
+    Ok(File {
+        role,
+        name,
+        bytes: rest,
+    })
 }
 
 /// Takes a file of at most `limit` bytes.
 pub fn take_file<S: Shelf, R>(
     alloc: Global,
+    role: Role,
     name: String,
     limit: usize,
     shelf: &mut S,
@@ -76,12 +87,13 @@ pub fn take_file<S: Shelf, R>(
     requires { limit < 2 ^ 63 }
     ensures takes { Takes S.Shelf (whole_file limit (string_bytes name)) (λ bytes. bytes.items)
         shelf.old result shelf.new }
+    ensures role { IfErr result (IsOfRole role) }
     ensures whole { IfOk result
         (λ bytes. IfSome (S.files shelf.old)
         (λ held. bytes.items ≡ file_at held (string_bytes name))) }
     ensures within { IfOk result (λ bytes. length bytes.items ≤ limit) }
 {
-    let file = take_named(alloc, name, limit, shelf)?;
+    let file = take_named(alloc, role, name, limit, shelf)?;
     Ok(file.bytes)
 }
 
@@ -89,6 +101,7 @@ pub fn take_file<S: Shelf, R>(
 #[tactic(auto, unfolding(crate::specs::Taking::and_then, crate::specs::Taking::Took, crate::specs::Taking::FailedAt, crate::specs::Taking::WantedAt, crate::specs::inner::Calls::TakesNot))]
 pub fn take_optional<S: Shelf, R>(
     alloc: Global,
+    role: Role,
     name: Option<String>,
     limit: usize,
     shelf: &mut S,
@@ -96,10 +109,11 @@ pub fn take_optional<S: Shelf, R>(
     requires { limit < 2 ^ 63 }
     ensures takes { Takes S.Shelf (optional_file (whole_file limit) (option_map string_bytes name))
         (option_map (λ bytes. bytes.items)) shelf.old result shelf.new }
+    ensures role { IfErr result (IsOfRole role) }
     ensures named { IfOk result (λ r. is_some r ≡ is_some name) }
 {
     match name {
-        Some(name) => Ok(Some(take_file(alloc, name, limit, shelf)?)),
+        Some(name) => Ok(Some(take_file(alloc, role, name, limit, shelf)?)),
         None => Ok(None),
     }
 }
@@ -107,18 +121,20 @@ pub fn take_optional<S: Shelf, R>(
 /// Takes files that have at most so many bytes together.
 pub fn take_all<S: Shelf, R>(
     alloc: Global,
+    role: Role,
     names: Vec<String>,
     budget: usize,
     shelf: &mut S,
 ) -> Result<Vec<File>, TakeFault<R>>
     requires { budget < 2 ^ 63 }
-    ensures { Takes S.Shelf (all_files budget (map string_bytes names.items))
+    ensures takes { Takes S.Shelf (all_files budget (map string_bytes names.items))
         (λ files. map file_of files.items) shelf.old result shelf.new }
+    ensures role { IfErr result (IsOfRole role) }
 {
     let mut left = budget;
     let mut files = Vec::new(alloc);
     for name in names {
-        let file = take_named(alloc, name, left, shelf)?;
+        let file = take_named(alloc, role, name, left, shelf)?;
         left -= file.bytes.len();
         files.push(file)?;
     }

@@ -1,7 +1,9 @@
--- What the calls that take, make and deliver answer, read plainly: names are the bytes of the names. This project's own.
+-- What the calls that take, make and deliver answer, read plainly: names are the bytes of the names, and the role of a file
+-- is not seen. This project's own.
 -- No clause of `kexec` reaches what stands here: it serves laws, and contracts inside the crates.
-use Rattle.std.specs.Prelude.{ℕ, List, ◌++◌, map, string_bytes, Result, Ok, Err}
+use Rattle.std.specs.Prelude.{◌≡◌, ℕ, List, ◌++◌, map, string_bytes, Result, Ok, Err}
 use Rattle.file_commands.specs.declared.take.FileParts.{FileParts}
+use Rattle.command_table.specs.declared.roles.Role.{Role}
 use Rattle.kx_edge.specs.declared.edge.Shelf.{Ghosts as Shelf}
 use Rattle.file_commands.specs.declared.stop.TakeFault.{TakeFault}
 use Rattle.file_commands.specs.declared.stop.TakeFault.TheVariants as takes
@@ -17,10 +19,10 @@ use Rattle.file_commands.specs.Answers.{Answer, Goods, done, not_accepted, unrea
 -- how a call ended
 abbrev pub answer_of : {F R : Type 0} → Stop F R → Answer F R
 answer_of (stop.NotAccepted fault) = not_accepted fault
-answer_of (stop.Unread name) = unread (string_bytes name)
-answer_of (stop.Unwritten name) = unwritten (string_bytes name)
+answer_of (stop.Unread role name) = unread (string_bytes name)
+answer_of (stop.Unwritten role name) = unwritten (string_bytes name)
 answer_of stop.Unsaid = unsaid
-answer_of (stop.TooLong name limit) = refused (too_long (string_bytes name) limit)
+answer_of (stop.TooLong role name limit) = refused (too_long (string_bytes name) limit)
 answer_of (stop.Refused why) = refused (by why)
 answer_of stop.Memory = memory
 
@@ -30,8 +32,8 @@ call_answer (Err s) = answer_of s
 
 -- the answers that hand on why files were not taken, and why nothing was made
 abbrev pub take_answer : {F R : Type 0} → TakeFault R → Answer F R
-take_answer (takes.Unread name) = unread (string_bytes name)
-take_answer (takes.TooLong name limit) = refused (too_long (string_bytes name) limit)
+take_answer (takes.Unread role name) = unread (string_bytes name)
+take_answer (takes.TooLong role name limit) = refused (too_long (string_bytes name) limit)
 take_answer (takes.Refused why) = refused (by why)
 take_answer takes.Memory = memory
 
@@ -42,9 +44,9 @@ make_answer makes.Memory = memory
 -- files that were not taken
 unfoldable pub TakesNot : {S R X : Type 0} → Shelf S → Take R X → S → TakeFault R → S → Type 0
 TakesNot D t old (takes.Refused why) new = Took D t old (Err (by why)) new
-TakesNot D t old (takes.TooLong name limit) new =
+TakesNot D t old (takes.TooLong role name limit) new =
     Took D t old (Err (too_long (string_bytes name) limit)) new
-TakesNot D t old (takes.Unread name) new = FailedAt D t old (string_bytes name) new
+TakesNot D t old (takes.Unread role name) new = FailedAt D t old (string_bytes name) new
 TakesNot D t old takes.Memory new = WantedAt D t old new
 
 -- a call that takes files, and makes a value of them that is seen so
@@ -52,6 +54,13 @@ abbrev pub Takes : {S R X T : Type 0} → Shelf S → Take R X → (T → X) →
     → S → Type 0
 Takes D t view old (Ok v) new = Took D t old (Ok (view v)) new
 Takes D t view old (Err e) new = TakesNot D t old e new
+
+-- a file that was not taken has this role
+abbrev pub IsOfRole : {R : Type 0} → Role → TakeFault R → Type 0
+IsOfRole asked (takes.Unread role name) = role ≡ asked
+IsOfRole asked (takes.TooLong role name limit) = role ≡ asked
+IsOfRole asked (takes.Refused why) = Unit {0}
+IsOfRole asked takes.Memory = Unit {0}
 
 -- files and goods, read plainly
 abbrev pub file_of : MadeFile → File

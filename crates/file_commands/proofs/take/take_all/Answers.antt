@@ -20,21 +20,21 @@ loop-name-preserved g c =
       rest = rw (len, pushed, named) (next g.S.Shelf _ _ l c.in_ok-file.ensures.takes);
     }
 
-pub returns-in_err-file : goal.returns-in_err-file
-returns-in_err-file g c =
+pub returns-in_err-file-clause-takes : goal.returns-in_err-file-clause-takes
+returns-in_err-file-clause-takes g c =
     let items : into_iter_items c.loop-name.name-iterator ≡ c.in-Some.name ∷ into_iter_items c.next.new.self = search rules in
     let l = rw items at c.loop-name.invariant.rest in
     let e : c.from_residual.result ≡ Err c.in_err-file.field-0.0 = search rules in
     stopped g.S.Shelf _ _ _ _ _ e l c.in_err-file.ensures.takes
 
-pub returns-in_err-push : goal.returns-in_err-push
-returns-in_err-push g c =
+pub returns-in_err-push-clause-takes : goal.returns-in_err-push-clause-takes
+returns-in_err-push-clause-takes g c =
     let items : into_iter_items c.loop-name.name-iterator ≡ c.in-Some.name ∷ into_iter_items c.next.new.self = search rules in
     let l = rw items at c.loop-name.invariant.rest in
     let e : c.from_residual-in_err-push.result ≡ Err Memory = search rules in
     wanting g.S.Shelf _ _ e (next g.S.Shelf _ _ l c.in_ok-file.ensures.takes)
 
-pub returns : goal.returns
-returns g c =
+pub returns-clause-takes : goal.returns-clause-takes
+returns-clause-takes g c =
     let none : into_iter_items c.loop-name.name-iterator ≡ [] = nil_from_length c.loop-name.name-iterator.rest.items (search rules) in
     finished g.S.Shelf (rw none at c.loop-name.invariant.rest)
