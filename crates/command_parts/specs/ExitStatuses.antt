@@ -8,10 +8,10 @@ abbrev pub code_of : Status → ℕ
 code_of status.Done = 0
 code_of (status.NotAccepted fault) = 1
 code_of (status.Usage why) = 2
-code_of (status.Unread name) = 3
-code_of (status.Unwritten name) = 4
+code_of (status.Unread role name) = 3
+code_of (status.Unwritten role name) = 4
 code_of status.Unsaid = 5
-code_of (status.TooLong name limit) = 6
+code_of (status.TooLong role name limit) = 6
 code_of (status.Input fault) = 7
 code_of (status.Plan fault) = 8
 code_of (status.NoPages pool need) = 9

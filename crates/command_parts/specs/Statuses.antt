@@ -8,15 +8,15 @@ use Rattle.command_parts.specs.declared.reason.Reason.TheVariants as reasons
 use Rattle.command_parts.specs.declared.status.Status.{Status}
 use Rattle.command_parts.specs.declared.status.Status.TheVariants as status
 
--- how a command ended, by its status: names are the bytes of the names
+-- how a command ended, by its status: names are the bytes of the names, and the role of a file is not seen
 abbrev pub answer_of : Status → Answer ListFault Reason
 answer_of status.Done = done
 answer_of (status.NotAccepted fault) = not_accepted fault
 answer_of (status.Usage why) = refused (by (reasons.Usage why))
-answer_of (status.Unread name) = unread (string_bytes name)
-answer_of (status.Unwritten name) = unwritten (string_bytes name)
+answer_of (status.Unread role name) = unread (string_bytes name)
+answer_of (status.Unwritten role name) = unwritten (string_bytes name)
 answer_of status.Unsaid = unsaid
-answer_of (status.TooLong name limit) = refused (too_long (string_bytes name) limit)
+answer_of (status.TooLong role name limit) = refused (too_long (string_bytes name) limit)
 answer_of (status.Input fault) = refused (by (reasons.Input fault))
 answer_of (status.Plan fault) = refused (by (reasons.Plan fault))
 answer_of (status.NoPages pool need) = refused (by (reasons.NoPages pool need))

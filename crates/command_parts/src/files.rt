@@ -5,6 +5,7 @@ ghost use Rattle.file_commands.specs.inner.Calls.{Takes};
 ghost use Rattle.command_parts.specs.Files.{memory_file};
 
 use crate::reason::{InputFault, Reason};
+use command_table::Role;
 use file_commands::{TakeFault, take_file};
 use kx_edge::Shelf;
 use page_memory::{MemFault, Memory};
@@ -34,7 +35,7 @@ pub fn take_memory<S: Shelf>(
 ) -> Result<Memory, TakeFault<Reason>>
     ensures { Takes S.Shelf (memory_file (string_bytes name)) (λ m. m) shelf.old result shelf.new }
 {
-    let bytes = take_file(alloc, name, MEMORY_FILE_LIMIT, shelf)?;
+    let bytes = take_file(alloc, Role::Memory, name, MEMORY_FILE_LIMIT, shelf)?;
     match Memory::from_file(alloc, bytes) {
         Ok(memory) => Ok(memory),
         Err(MemFault::Memory) => Err(TakeFault::Memory),

@@ -6,6 +6,7 @@ ghost use Rattle.file_commands.specs.inner.Calls.{MakesOr, file_of};
 ghost use Rattle.command_parts.specs.Outputs.{HasNoFile, IsFileOf, IsMemoryFile};
 
 use crate::reason::Reason;
+use command_table::Role;
 use file_commands::{File, MakeFault};
 use page_memory::{HeavyFault, Memory};
 use std::alloc::{AllocError, Global};
@@ -44,6 +45,7 @@ pub fn memory_output(
         (λ files. IsMemoryFile (map file_of files.items) (string_bytes name) (at memory))
         (HasNoFile (at memory)) result }
 {
+    let role = Role::MemoryOut;
     let bytes = memory_bytes(memory)?;
-    Ok(one(alloc, File { name, bytes })?)
+    Ok(one(alloc, File { role, name, bytes })?)
 }

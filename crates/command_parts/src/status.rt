@@ -8,7 +8,7 @@ ghost use Rattle.command_parts.specs.Statuses.{answer_of};
 ghost use Rattle.command_parts.specs.ExitStatuses.{code_of};
 
 use crate::reason::{InputFault, Reason};
-use command_table::UsageWhy;
+use command_table::{Role, UsageWhy};
 use file_commands::Stop;
 use image_slots::SlotsFault;
 use kexec_plan::PlanFault;
@@ -25,46 +25,75 @@ pub enum Status {
     Done,
     /// The list is not accepted. Its first fault was said, and no output was written.
     #[error("the list is not accepted: {fault}, since {cause}", cause = .fault.cause())]
-    NotAccepted { fault: ListFault },
+    NotAccepted {
+        fault: ListFault,
+    },
     /// The words are refused.
     #[error("{why}")]
-    Usage { why: UsageWhy },
+    Usage {
+        why: UsageWhy,
+    },
     /// The file could not be read.
     #[error("{name:?} cannot be read: it must exist and be readable to its end")]
-    Unread { name: String },
+    Unread {
+        role: Role,
+        name: String,
+    },
     /// The file could not be written. The outputs before it are whole, and it has a prefix of its bytes.
     #[error("{name:?} cannot be written: it must name a file in a folder that exists, is writable and has room")]
-    Unwritten { name: String },
+    Unwritten {
+        role: Role,
+        name: String,
+    },
     /// The text could not be written whole. The outputs are whole.
     #[error("standard output cannot be written: it must be open and have room")]
     Unsaid,
     /// The file is longer than such a file can be.
     #[error("{name:?} is longer than {limit} bytes, which is the most that it can have here")]
-    TooLong { name: String, limit: u64 },
+    TooLong {
+        role: Role,
+        name: String,
+        limit: u64,
+    },
     /// The reader of an input file refused it.
     #[error("{fault}")]
-    Input { fault: InputFault },
+    Input {
+        fault: InputFault,
+    },
     /// The request has no plan.
     #[error("{fault}")]
-    Plan { fault: PlanFault },
+    Plan {
+        fault: PlanFault,
+    },
     /// The pool has fewer usable pages than the load takes.
     #[error("the pool has too few usable pages: {pool} where the load takes {need}; give it at least {} more", need.saturating_sub(*pool))]
-    NoPages { pool: u64, need: u64 },
+    NoPages {
+        pool: u64,
+        need: u64,
+    },
     /// The memory to write has more pages that are not all zeros than a memory file can have.
     #[error("{count} pages of the memory are not all zeros, and a memory file has at most 131072")]
-    Heavy { count: u64 },
+    Heavy {
+        count: u64,
+    },
     /// `exec --twice` was given a record that is not in kept mode.
     #[error("the load record is in plain mode, as that of a crash kernel always is, and --twice needs one that was loaded with --kept")]
     NotKept,
     /// No list is made of the resident pages.
     #[error("{fault}")]
-    Resident { fault: ResidentFault },
+    Resident {
+        fault: ResidentFault,
+    },
     /// There are no slots over the pool: one of its pages lies in the reserved area.
     #[error("{fault}")]
-    Slots { fault: SlotsFault },
+    Slots {
+        fault: SlotsFault,
+    },
     /// The memory has no core file by the headers at the address.
     #[error("{fault}")]
-    Core { fault: CoreFault },
+    Core {
+        fault: CoreFault,
+    },
     /// There was not enough memory for the work.
     #[error("there is not enough memory for the work: free some and try again")]
     Memory,
@@ -120,10 +149,10 @@ impl From<Stop<ListFault, Reason>> for Status {
     fn from(stop: Stop<ListFault, Reason>) -> Self {
         match stop {
             Stop::NotAccepted { fault } => Status::NotAccepted { fault },
-            Stop::Unread { name } => Status::Unread { name },
-            Stop::Unwritten { name } => Status::Unwritten { name },
+            Stop::Unread { role, name } => Status::Unread { role, name },
+            Stop::Unwritten { role, name } => Status::Unwritten { role, name },
             Stop::Unsaid => Status::Unsaid,
-            Stop::TooLong { name, limit } => Status::TooLong { name, limit },
+            Stop::TooLong { role, name, limit } => Status::TooLong { role, name, limit },
             Stop::Refused { why } => Status::from(why),
             Stop::Memory => Status::Memory,
         }

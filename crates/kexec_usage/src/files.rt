@@ -2,28 +2,10 @@
 
 ghost use Rattle.std.specs.Prelude.{◌≡◌, find, map, option_map};
 ghost use Rattle.kexec_usage.specs.inner.Words.{given_value};
-ghost use Rattle.kexec_usage.specs.inner.Files.{is_file_with, file_with, is_other_with, is_written, shared_file, shared_value};
+ghost use Rattle.kexec_usage.specs.inner.Files.{is_other_with, is_written, shared_file, shared_value};
 
 use crate::given::Given;
 use command_table::Kind;
-
-// The first file with this text.
-fn first_with<'b, 'a>(given: &'b [Given<'a>], text: &str) -> Option<&'b Given<'a>>
-    ensures { option_map (λ one. given_value one.now) result
-        ≡ find (is_file_with text.now) (map given_value given.now) }
-{
-    given
-        .iter()
-        .find(|one| one.argument.kind.is_file() && one.text == text)
-}
-
-/// The first file with this text.
-pub fn file_with<'a>(given: &[Given<'a>], text: &str) -> Option<Given<'a>>
-    ensures { option_map given_value result ≡ file_with (map given_value given.now) text.now }
-{
-    let file = first_with(given, text)?;
-    Some(*file)
-}
 
 // Whether one is another file, with the text of this one.
 fn is_other_with(file: &Given<'_>, one: &Given<'_>) -> bool

@@ -14,7 +14,6 @@ mod old_words;
 mod refusal;
 
 pub use asking::{asks_for_help, asks_for_version};
-pub use files::file_with;
 pub use given::{Answer, Given, read_answer, text_of};
 pub use mistake::Mistake;
 pub use refusal::{Refusal, meant_of};

@@ -11,6 +11,7 @@ ghost use Rattle.list_commands.specs.Migrate.{migrates, segments_line, migrate_e
 use crate::read_record::ReadRecord;
 use crate::records::take_digested_record;
 use command_parts::{Reason, one};
+use command_table::Role;
 use file_commands::{Command, File, Goods, MakeFault, Stop, TakeFault, run};
 use kexec_words::Migrate;
 use kx_edge::{Shelf, Sink};
@@ -60,6 +61,7 @@ impl Command for RewriteRecord {
         let ReadRecord { load_record } = taken;
         let text = segments_line(alloc, load_record.record().segments.count())?;
         let file = File {
+            role: Role::RecordOut,
             name: self.out,
             bytes: load_record.into_file()?,
         };

@@ -8,6 +8,7 @@ ghost use Rattle.list_commands.specs.Records.{load_by, load_files_of, load_recor
 ghost use Rattle.load_record.specs.inner.File.{IsWritable};
 
 use command_parts::{InputFault, Reason, Startup, refusal_by, take_memory};
+use command_table::Role;
 use file_commands::{FileParts, TakeFault, take_apart};
 use kexec_words::LoadNames;
 use kx_edge::Shelf;
@@ -30,7 +31,14 @@ pub(crate) fn take_record<S: Shelf>(
     ensures { Takes S.Shelf (load_record_file (string_bytes name)) (λ r. r) shelf.old result
         shelf.new }
 {
-    let FileParts { front, rest, .. } = take_apart(alloc, name, FIRST_BYTES, RECORD_LIMIT, shelf)?;
+    let FileParts { front, rest, .. } = take_apart(
+        alloc,
+        Role::Record,
+        name,
+        FIRST_BYTES,
+        RECORD_LIMIT,
+        shelf,
+    )?;
     match LoadRecord::from_file(alloc, &front, rest) {
         Ok(record) => Ok(record),
         Err(RecFault::Memory) => Err(TakeFault::Memory),
@@ -48,7 +56,14 @@ pub(crate) fn take_digested_record<S: Shelf>(
         shelf.new }
     ensures writable { IfOk result IsWritable }
 {
-    let FileParts { front, rest, .. } = take_apart(alloc, name, FIRST_BYTES, RECORD_LIMIT, shelf)?;
+    let FileParts { front, rest, .. } = take_apart(
+        alloc,
+        Role::Record,
+        name,
+        FIRST_BYTES,
+        RECORD_LIMIT,
+        shelf,
+    )?;
     match DigestedRecord::from_file(alloc, &front, rest) {
         Ok(record) => Ok(record),
         Err(RecFault::Memory) => Err(TakeFault::Memory),

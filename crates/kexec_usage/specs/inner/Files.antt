@@ -9,13 +9,6 @@ use Rattle.command_table.specs.declared.table.Kind.TheVariants as kind
 use Rattle.kexec_usage.specs.inner.Words.{Text, GivenValue, given_value}
 use Rattle.kexec_usage.specs.declared.given.Given.{Given}
 
-abbrev pub is_file_with : Text → GivenValue → Bool
-is_file_with text g = is_file g.kind && bytes_eq g.text text
-
--- the first file with this text
-abbrev pub file_with : List GivenValue → Text → Option GivenValue
-file_with given text = find (is_file_with text) given
-
 -- whether g is another file, with the text of this one
 abbrev pub is_other_with : GivenValue → GivenValue → Bool
 is_other_with file g =
