@@ -109,7 +109,7 @@ fn file_cause<'a, R: Files>(
     match (cause, status) {
         (HostCause::System { error }, _) => Cause::System { error },
         (HostCause::StandardOutput, _) => Cause::StandardOutput,
-        (HostCause::KnownFile, Status::Unwritten { name }) => Cause::SameFile {
+        (HostCause::KnownFile, Status::Unwritten { name, .. }) => Cause::SameFile {
             other: other_name(rt, given, name),
         },
         (HostCause::KnownFile, _) => Cause::SameFile { other: None },

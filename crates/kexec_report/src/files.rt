@@ -1,38 +1,12 @@
 //! Which file a refusal speaks of.
 
 use boot_params::ParamsFault;
-use command_parts::{InputFault, Status, TEXT_LIMIT};
+use command_parts::{InputFault, Status};
 use command_table::Role;
 use crash_headers::CrashFault;
 use kexec_plan::PlanFault;
-use kexec_usage::{Given, file_with};
-use kx_pages::KERNEL_LIMIT;
+use kexec_usage::Given;
 use resident_planner::ResidentFault;
-
-/// The most bytes of a memory file, as command_parts takes it.
-const MEMORY_FILE_LIMIT: u64 = 537_919_504;
-
-/// The most bytes of a load record, as list_commands takes it.
-const RECORD_LIMIT: u64 = 268_436_448;
-
-/// The most bytes of a purgatory, as load_commands takes it.
-const PURGATORY_LIMIT: u64 = 16_777_216;
-
-// The most bytes that a file of this role may have; 0 where it may have what others leave of a limit that they share. None
-// where it is written.
-fn limit_of(role: Role) -> Option<u64> {
-    match role {
-        Role::Memory => Some(MEMORY_FILE_LIMIT),
-        Role::Record => Some(RECORD_LIMIT),
-        Role::Pool | Role::Map | Role::Notes | Role::Pairs | Role::Events => {
-            Some(TEXT_LIMIT as u64)
-        }
-        Role::Kernel => Some(KERNEL_LIMIT as u64),
-        Role::Initrd | Role::Module => Some(0),
-        Role::Purgatory => Some(PURGATORY_LIMIT),
-        Role::MemoryOut | Role::RecordOut | Role::CoreOut => None,
-    }
-}
 
 // The file that its reader refused.
 fn input_role(fault: &InputFault) -> Role {
@@ -75,7 +49,7 @@ fn resident_role(fault: &ResidentFault) -> Role {
     }
 }
 
-// The file that was refused, where it is one file's fault and the status tells which.
+// The file that was refused for what it holds, where it is one file's fault and the status tells which.
 fn role_of(status: &Status) -> Option<Role> {
     match status {
         Status::Input { fault } => Some(input_role(fault)),
@@ -102,30 +76,20 @@ pub(crate) fn name_for<'a>(given: &[Given<'a>], role: Role) -> Option<&'a str> {
     Some(file.text)
 }
 
-// Whether a file has this name, and may not have more bytes than this.
-fn may_be_refused(one: &Given<'_>, name: &str, most: u64) -> bool {
-    let Some(role) = one.argument.role else {
-        return false;
-    };
-    one.text == name && limit_of(role).is_some_and(|limit| limit <= most)
-}
-
-// The first file of this name that is taken, among those that may not have more bytes than this: one file may be given by
-// several words, and a word that allows more bytes was not the one that refused them. Roles stand in the order of the takes.
-fn taken_file<'a>(given: &[Given<'a>], name: &str, most: u64) -> Option<Given<'a>> {
+// The first file of this role that has this name: of the modules there may be several.
+fn file_named<'a>(given: &[Given<'a>], role: Role, name: &str) -> Option<Given<'a>> {
     given
         .iter()
         .copied()
-        .filter(|one| may_be_refused(one, name, most))
-        .min_by_key(|one| one.argument.role)
+        .find(|one| one.argument.role == Some(role) && one.text == name)
 }
 
 /// The file that was refused, with its word or option, where it is one file's fault.
 pub(crate) fn file_of<'a>(status: &Status, given: &[Given<'a>]) -> Option<Given<'a>> {
     match status {
-        Status::Unread { name } => taken_file(given, name, u64::MAX),
-        Status::TooLong { name, limit } => taken_file(given, name, *limit),
-        Status::Unwritten { name } => file_with(given, name),
+        Status::Unread { role, name }
+        | Status::Unwritten { role, name }
+        | Status::TooLong { role, name, .. } => file_named(given, *role, name),
         status => file_for(given, role_of(status)?),
     }
 }

@@ -62,8 +62,10 @@ impl Report<'_> {
     fn write_status<W: Write>(&self, f: &mut Formatter<W>) -> fmt::Result {
         let given = &self.answer.given;
         match (self.status, self.cause) {
-            (Status::Unread { name }, Some(cause)) => write!(f, "{name:?} cannot be read: {cause}"),
-            (Status::Unwritten { name }, Some(cause)) => {
+            (Status::Unread { name, .. }, Some(cause)) => {
+                write!(f, "{name:?} cannot be read: {cause}")
+            }
+            (Status::Unwritten { name, .. }, Some(cause)) => {
                 write!(f, "{name:?} cannot be written: {cause}")
             }
             (Status::Unsaid, Some(cause)) => {
@@ -84,7 +86,7 @@ impl Report<'_> {
     // What helps, where the sentence does not say so yet.
     fn remedy(&self) -> Option<&'static str> {
         match self.status {
-            Status::TooLong { .. } => budget_remedy(self.file?.argument.role?),
+            Status::TooLong { role, .. } => budget_remedy(*role),
             status => remedy_of(status, self.is_crash()),
         }
     }
