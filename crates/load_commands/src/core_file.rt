@@ -11,6 +11,7 @@ ghost use Rattle.command_parts.specs.Files.{memory_file};
 ghost use Rattle.load_commands.specs.CoreFile.{RefusesCore, core_line, cores, core_entry};
 
 use command_parts::{Reason, one, take_memory};
+use command_table::Role;
 use file_commands::{Command, File, Goods, MakeFault, Stop, TakeFault, run};
 use kexec_words::Core as CoreWords;
 use kx_edge::{Shelf, Sink};
@@ -83,6 +84,7 @@ impl Command for WriteCore {
         let core = core_of(alloc, &memory, self.address)?;
         let text = core_line(alloc, &core)?;
         let file = File {
+            role: Role::CoreOut,
             name: self.out,
             bytes: core.bytes,
         };

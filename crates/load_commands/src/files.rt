@@ -13,6 +13,7 @@ ghost use Rattle.image_slots.specs.inner.Events.{HasFewBytes, event_of};
 ghost use Rattle.page_pool.specs.Pages.{is_filed, usable_of};
 
 use command_parts::{InputFault, Reason, TEXT_LIMIT, refusal_by};
+use command_table::Role;
 use crash_headers::{Note, NoteFault, read_notes};
 use file_commands::{TakeFault, take_file};
 use image_slots::{Event, EventsFault, read_events};
@@ -36,7 +37,7 @@ fn take_pages<S: Shelf>(
     ensures limit { IfOk result (λ p. p.limit ≡ 2 ^ 46) }
     ensures unfiled { IfOk result (λ p. (q : ℕ) → is_filed p q ≡ false) }
 {
-    let bytes = take_file(alloc, name, TEXT_LIMIT, shelf)?;
+    let bytes = take_file(alloc, Role::Pool, name, TEXT_LIMIT, shelf)?;
     match Pool::read(alloc, &bytes) {
         Ok(pool) => Ok(pool),
         Err(PoolFault::Memory) => Err(TakeFault::Memory),
@@ -83,7 +84,7 @@ pub(crate) fn take_map_file<S: Shelf>(
 ) -> Result<Map, TakeFault<Reason>>
     ensures { Takes S.Shelf (map_file (string_bytes name)) (λ m. m) shelf.old result shelf.new }
 {
-    let bytes = take_file(alloc, name, TEXT_LIMIT, shelf)?;
+    let bytes = take_file(alloc, Role::Map, name, TEXT_LIMIT, shelf)?;
     match Map::read(alloc, &bytes) {
         Ok(map) => Ok(map),
         Err(MapFault::Memory) => Err(TakeFault::Memory),
@@ -116,7 +117,7 @@ fn take_notes_file<S: Shelf>(
     ensures { Takes S.Shelf (notes_file (string_bytes name)) (λ v. v.items) shelf.old result
         shelf.new }
 {
-    let bytes = take_file(alloc, name, TEXT_LIMIT, shelf)?;
+    let bytes = take_file(alloc, Role::Notes, name, TEXT_LIMIT, shelf)?;
     match read_notes(alloc, &bytes) {
         Ok(notes) => Ok(notes),
         Err(NoteFault::Memory) => Err(TakeFault::Memory),
@@ -148,7 +149,7 @@ pub(crate) fn take_pairs<S: Shelf>(
     ensures { Takes S.Shelf (pairs_file (string_bytes name)) (λ v. v.items) shelf.old result
         shelf.new }
 {
-    let bytes = take_file(alloc, name, TEXT_LIMIT, shelf)?;
+    let bytes = take_file(alloc, Role::Pairs, name, TEXT_LIMIT, shelf)?;
     match read_pairs(alloc, &bytes) {
         Ok(pairs) => Ok(pairs),
         Err(PairsFault::Memory) => Err(TakeFault::Memory),
@@ -166,7 +167,7 @@ pub(crate) fn take_events<S: Shelf>(
         shelf.old result shelf.new }
     ensures few { IfOk result (λ v. AllByRecursion (λ e. HasFewBytes (event_of e)) v.items) }
 {
-    let bytes = take_file(alloc, name, TEXT_LIMIT, shelf)?;
+    let bytes = take_file(alloc, Role::Events, name, TEXT_LIMIT, shelf)?;
     match read_events(alloc, &bytes) {
         Ok(events) => Ok(events),
         Err(EventsFault::Memory) => Err(TakeFault::Memory),

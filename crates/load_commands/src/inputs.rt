@@ -12,6 +12,7 @@ ghost use Rattle.load_commands.specs.CrashInputs.{crash_inputs, crash_request};
 use crate::files::{take_map, take_map_file, take_notes, take_pool};
 use crate::load_inputs::{CrashInputs, CrashNames, InputNames, LoadInputs};
 use command_parts::{Reason, take_memory};
+use command_table::Role;
 use crash_headers::Note;
 use file_commands::{File, TakeFault, take_all, take_file, take_optional};
 use kexec_plan::{Module, Request};
@@ -57,11 +58,17 @@ fn take_kernel<S: Shelf>(
         shelf.old result shelf.new }
     ensures named { IfOk result (λ f. is_some f.purgatory ≡ is_some purgatory) }
 {
-    let kernel = take_file(alloc, kernel, KERNEL_LIMIT, shelf)?;
+    let kernel = take_file(alloc, Role::Kernel, kernel, KERNEL_LIMIT, shelf)?;
     let left = KERNEL_LIMIT - kernel.len();
-    let initrd = take_optional(alloc, initrd, left, shelf)?;
-    let purgatory = take_optional(alloc, purgatory, PURGATORY_LIMIT, shelf)?;
-    let modules = take_all(alloc, modules, left_after(left, &initrd), shelf)?;
+    let initrd = take_optional(alloc, Role::Initrd, initrd, left, shelf)?;
+    let purgatory = take_optional(alloc, Role::Purgatory, purgatory, PURGATORY_LIMIT, shelf)?;
+    let modules = take_all(
+        alloc,
+        Role::Module,
+        modules,
+        left_after(left, &initrd),
+        shelf,
+    )?;
     Ok(KernelFiles {
         kernel,
         initrd,
@@ -76,7 +83,7 @@ fn modules_of(alloc: Global, files: Vec<File>) -> Result<Vec<Module>, AllocError
 {
     let mut modules = Vec::new(alloc);
     for file in files {
-        let File { name, bytes } = file;
+        let File { name, bytes, .. } = file;
         modules.push(Module {
             bytes,
             text: name.into_bytes(),

@@ -22,6 +22,7 @@ use crate::inputs::take_inputs;
 use crate::load_inputs::{InputNames, LoadInputs};
 use crate::loading::{LoadedKernel, load_request};
 use command_parts::{ListCounts, Reason, load_lines, memory_output};
+use command_table::Role;
 use file_commands::{Command, File, Goods, MakeFault, Stop, TakeFault, run};
 use kexec_words::Load;
 use kx_edge::{Shelf, Sink};
@@ -74,8 +75,9 @@ fn record_output(
 {
     let (memory, _, image, segments) = kernel.loaded.parts();
     let record = kernel.startup.into_record(false, image, segments);
+    let role = Role::RecordOut;
     let bytes = record.into_file(alloc)?;
-    Ok((memory, File { name, bytes }))
+    Ok((memory, File { role, name, bytes }))
 }
 
 impl Command for RecordLoad {

@@ -16,6 +16,7 @@ use crate::crash_loading::{CrashKernel, load_in_place};
 use crate::inputs::take_crash_inputs;
 use crate::load_inputs::{CrashInputs, CrashNames};
 use command_parts::{Reason, crash_lines, memory_output};
+use command_table::Role;
 use file_commands::{Command, File, Goods, MakeFault, Stop, TakeFault, run};
 use kexec_words::LoadPanic;
 use kx_edge::{Shelf, Sink};
@@ -52,8 +53,9 @@ fn record_output(
         control: Page::new(0).unwrap(),
     };
     let record = kernel.startup.into_record(true, image, segments);
+    let role = Role::RecordOut;
     let bytes = record.into_file(alloc)?;
-    Ok((memory, text, File { name, bytes }))
+    Ok((memory, text, File { role, name, bytes }))
 }
 
 impl Command for RecordCrashLoad {

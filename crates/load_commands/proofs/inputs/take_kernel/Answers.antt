@@ -28,7 +28,7 @@ returns-in_err-modules-clause-takes g c =
     let initrd = next g.S.Shelf _ _ kernel (rw left at c.in_ok-initrd.ensures.takes) in
     let purgatory = next g.S.Shelf _ _ initrd c.in_ok-purgatory.ensures.takes in
     let rest = c.left_after.ensures ∙ ap (λ n. left_after (268435456 - n) (option_map (λ b. b.items) c.in_ok-initrd.initrd)) left in
-    stopped g.S.Shelf _ _ _ _ _ (search rules) purgatory (rw rest at c.in_err-modules.ensures)
+    stopped g.S.Shelf _ _ _ _ _ (search rules) purgatory (rw rest at c.in_err-modules.ensures.takes)
 
 pub returns-clause-takes : goal.returns-clause-takes
 returns-clause-takes g c =
@@ -37,5 +37,5 @@ returns-clause-takes g c =
     let initrd = next g.S.Shelf _ _ kernel (rw left at c.in_ok-initrd.ensures.takes) in
     let purgatory = next g.S.Shelf _ _ initrd c.in_ok-purgatory.ensures.takes in
     let rest = c.left_after.ensures ∙ ap (λ n. left_after (268435456 - n) (option_map (λ b. b.items) c.in_ok-initrd.initrd)) left in
-    let modules = next g.S.Shelf _ _ purgatory (rw rest at c.in_ok-modules.ensures) in
+    let modules = next g.S.Shelf _ _ purgatory (rw rest at c.in_ok-modules.ensures.takes) in
     finished g.S.Shelf modules
