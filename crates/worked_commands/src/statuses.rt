@@ -17,6 +17,8 @@ ghost use Rattle.command_parts.specs.declared.reason.InputFault.TheVariants as i
 ghost use Rattle.command_parts.specs.declared.reason.Reason.TheVariants as reasons;
 ghost use Rattle.command_parts.specs.declared.status.Status.TheVariants as status;
 
+use command_table::Role;
+
 /// How a command ended, and with which exit status.
 pub fn commands_that_ended()
     ensures done { answer_of status.Done ≡ done }
@@ -31,17 +33,17 @@ pub fn commands_that_ended()
     ensures memory_code { code_of status.Memory ≡ 12 }
 {}
 
-/// A status that names a file: it could not be read, or written, or is too long.
-pub fn statuses_with_a_name(name: &String)
+/// A status that names a file, whatever its role: it could not be read, or written, or is too long.
+pub fn statuses_with_a_name(role: Role, name: &String)
     ensures unread { string_bytes name.now ≡ codes "m"
-        → answer_of (status.Unread name.now) ≡ unread (codes "m") }
-    ensures unread_code { code_of (status.Unread name.now) ≡ 3 }
+        → answer_of (status.Unread role name.now) ≡ unread (codes "m") }
+    ensures unread_code { code_of (status.Unread role name.now) ≡ 3 }
     ensures unwritten { string_bytes name.now ≡ codes "o"
-        → answer_of (status.Unwritten name.now) ≡ unwritten (codes "o") }
-    ensures unwritten_code { code_of (status.Unwritten name.now) ≡ 4 }
+        → answer_of (status.Unwritten role name.now) ≡ unwritten (codes "o") }
+    ensures unwritten_code { code_of (status.Unwritten role name.now) ≡ 4 }
     ensures too_long { string_bytes name.now ≡ codes "k"
-        → answer_of (status.TooLong name.now 77) ≡ refused (too_long (codes "k") 77) }
-    ensures too_long_code { code_of (status.TooLong name.now 77) ≡ 6 }
+        → answer_of (status.TooLong role name.now 77) ≡ refused (too_long (codes "k") 77) }
+    ensures too_long_code { code_of (status.TooLong role name.now 77) ≡ 6 }
 {}
 
 /// The refusals of commands.
