@@ -3,7 +3,7 @@
 //!
 //! | Module | What it has |
 //! |---|---|
-//! | `ending_tests` | devices that fail as no file of a scene does, and want of memory |
+//! | `ending_tests` | devices that fail as no file of a scene does, files that several words give, and want of memory |
 //! | `file_tests` | files of the host that cannot be read or written |
 //! | `changed_tests` | files that were changed before they are looked at once more |
 //! | `words_tests` | the words as the system gives them |
