@@ -6,13 +6,19 @@ import kexec_files as files
 from scene_files import Text, lines_of, scene_files
 
 CRATES = f"{files.TOP}/crates"
-# Want of memory is no fault of a scene's: memory is ample.
+# Want of memory is no fault of a scene's: memory is ample. (The role Memory is that of a file.)
 LEFT_OUT = {"Memory", "Done"}
 # A structure whose name is left out of a status in words.
 FILLER = "Page"
+# The roles of files that are read, and of those that are written.
+INPUTS = ["Memory", "Record", "Pool", "Map", "Notes", "Kernel", "Initrd", "Purgatory", "Module", "Pairs", "Events"]
+OUTPUTS = ["MemoryOut", "RecordOut", "CoreOut"]
 # Endings that no scene meets, by the reason.
 UNMET = {
-    "a memory of 512 MB, which scripts/limits has": ["Heavy"],
+    "files of hundreds of MB, which scripts/limits has": [
+        "Heavy", *(f"TooLong {role}" for role in ("Memory", "Record", "Kernel", "Initrd", "Module"))],
+    "an output is not read": [f"{status} {role}" for status in ("Unread", "TooLong") for role in OUTPUTS],
+    "an input is not written": [f"Unwritten {role}" for role in INPUTS],
     "nothing is known of RAM where a record is read": [
         "Input Rec Segments HalfOfMemory", "Input Rec Segments OutsideReserved", "Input Rec Segments NotRam"],
     "the sections of an executable are not read": [
@@ -38,7 +44,7 @@ TESTED = {
 
 # Endings that a scene meets inside alone, where no sentence is said.
 UNTOLD = {
-    "Unwritten": "scripts/attack-devices tells it, with files that take no byte",
+    **{f"Unwritten {role}": "scripts/attack-devices tells it, with files that take no byte" for role in OUTPUTS},
     "Plan Params NulInCommand": "no program can be given a word with a NUL"}
 
 
@@ -66,7 +72,7 @@ def endings(known, title):
     """The names of each ending, from the status on: `Input Mem Truncated`."""
     for name, types in known[title].items():
         inner = [one for one in types if one in known and one != FILLER]
-        if name in LEFT_OUT:
+        if name in LEFT_OUT and title != "Role":
             continue
         for rest in endings(known, inner[0]) if inner else [()]:
             yield (name, *rest)
