@@ -39,7 +39,8 @@ note_header start size =
 abbrev pub load_header : (offset start size : ℕ) → List ℕ
 load_header offset start size =
     little_bytes 4 1
-    ++ (little_bytes 4 7 ++ (little_bytes 8 offset ++ (little_bytes 8 (start + 0xffff_8880_0000_0000)
+    ++ (little_bytes 4 7 ++ (little_bytes 8 offset
+    ++ (little_bytes 8 (start + 0xffff_8880_0000_0000)
     ++ (little_bytes 8 start ++ (little_bytes 8 size ++ (little_bytes 8 size ++ replicate 8 0))))))
 
 -- a note of 1 KiB, and a machine of 256 MiB without its reserved area

@@ -38,7 +38,8 @@ object_header_of kind machine =
     0x7f ∷ codes "ELF" ++ (2 ∷ 1 ∷ 1 ∷ replicate 9 0
     ++ (little_bytes 2 kind ++ (little_bytes 2 machine ++ (little_bytes 4 1 ++ (replicate 16 0
     ++ (little_bytes 8 152 ++ (replicate 4 0
-    ++ (little_bytes 2 64 ++ (replicate 4 0 ++ (little_bytes 2 64 ++ (little_bytes 2 5 ++ replicate 2 0)))))))))))
+    ++ (little_bytes 2 64 ++ (replicate 4 0 ++ (little_bytes 2 64
+    ++ (little_bytes 2 5 ++ replicate 2 0)))))))))))
 
 -- sh_name, sh_type, sh_flags, sh_addr, sh_offset, sh_size, sh_link, sh_info, sh_addralign, sh_entsize
 abbrev pub section_row : (kind flags offset size link info align entsize : ℕ) → List ℕ
@@ -54,7 +55,8 @@ object_file kind section symbol =
     object_header_of kind 62
     ++ (replicate 8 0x90
     ++ (replicate 24 0
-    ++ (little_bytes 4 1 ++ (0x12 ∷ 0 ∷ little_bytes 2 section ++ (little_bytes 8 4 ++ (little_bytes 8 2
+    ++ (little_bytes 4 1 ++ (0x12 ∷ 0
+    ∷ little_bytes 2 section ++ (little_bytes 8 4 ++ (little_bytes 8 2
     ++ (0 ∷ codes "start" ++ (0 ∷ 0
     ∷ little_bytes 8 2 ++ (little_bytes 4 2 ++ (little_bytes 4 symbol ++ (replicate 8 0xff
     ++ (section_row 0 0 0 0 0 0 0 0

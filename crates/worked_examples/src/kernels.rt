@@ -60,7 +60,8 @@ pub fn segments_that_overlap()
 pub fn bad_addresses()
     ensures inside_a_page { bare_refusal (record { bytes = []; mem = 0x800; memsz = 0x1000 } ∷ [])
         ≡ Some (faults.BadAddress 0) }
-    ensures at_the_limit { bare_refusal (pages_at 0x3_ffff_ffff 1 ∷ []) ≡ Some (faults.BadAddress 0) }
+    ensures at_the_limit { bare_refusal (pages_at 0x3_ffff_ffff 1 ∷ [])
+        ≡ Some (faults.BadAddress 0) }
     ensures below_the_limit { bare_refusal (pages_at 0x3_ffff_fffe 1 ∷ []) ≡ None }
     ensures errno { errno (faults.BadAddress 0) ≡ 99 }
     ensures none { bare_refusal [] ≡ Some faults.NoSegments }

@@ -13,12 +13,14 @@ object_header kind machine =
     0x7f ∷ codes "ELF" ++ (2 ∷ 1 ∷ 1 ∷ replicate 9 0
     ++ (little_bytes 2 kind ++ (little_bytes 2 machine ++ (little_bytes 4 1 ++ (replicate 16 0
     ++ (little_bytes 8 696 ++ (replicate 4 0
-    ++ (little_bytes 2 64 ++ (replicate 4 0 ++ (little_bytes 2 64 ++ (little_bytes 2 4 ++ replicate 2 0)))))))))))
+    ++ (little_bytes 2 64 ++ (replicate 4 0 ++ (little_bytes 2 64
+    ++ (little_bytes 2 4 ++ replicate 2 0)))))))))))
 
 -- st_name, st_info, st_other, st_shndx, st_value, st_size: a symbol of section 1
 abbrev pub symbol_row : (name value size : ℕ) → List ℕ
 symbol_row name value size =
-    little_bytes 4 name ++ (0x10 ∷ 0 ∷ little_bytes 2 1 ++ (little_bytes 8 value ++ little_bytes 8 size))
+    little_bytes 4 name ++ (0x10 ∷ 0
+    ∷ little_bytes 2 1 ++ (little_bytes 8 value ++ little_bytes 8 size))
 
 -- sh_name, sh_type, sh_flags, sh_addr, sh_offset, sh_size, sh_link, sh_info, sh_addralign, sh_entsize
 abbrev pub section_row : (kind flags offset size link align entsize : ℕ) → List ℕ
@@ -30,7 +32,9 @@ section_row kind flags offset size link align entsize =
 
 abbrev pub symbol_names : List ℕ
 symbol_names =
-    0 ∷ codes "entry64_regs" ++ (0 ∷ codes "purgatory_sha_regions" ++ (0 ∷ codes "purgatory_sha256_digest"
+    0 ∷ codes "entry64_regs" ++ (0
+    ∷ codes "purgatory_sha_regions" ++ (0
+    ∷ codes "purgatory_sha256_digest"
     ++ (0 ∷ codes "purgatory_start" ++ 0 ∷ [])))
 
 -- the file, with a symbol of the registers of this size
