@@ -1,5 +1,5 @@
-//! Each prefix of an executable. Its headers and its loads are shown by crates/scenes/data/elf-files.scenes, those of an ELF32 file by
-//! multiboot-files.scenes.
+//! Each prefix of an executable. Its headers and its loads are shown by crates/scenes/data/elf-files.scenes, those of
+//! an ELF32 file by multiboot-files.scenes.
 
 use crate::bytes::file_of;
 use elf_image::{ElfFault, ElfPart, read_exec};

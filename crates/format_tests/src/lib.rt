@@ -1,5 +1,5 @@
-//! Tests of the files of kernels, purgatories and crashes that no scene can have: structs by themselves, each prefix of a file,
-//! and the greatest core file. All other refusals, and what is made of files, are shown by crates/scenes/data.
+//! Tests of the files of kernels, purgatories and crashes that no scene can have: structs by themselves, each prefix of
+//! a file, and the greatest core file. All other refusals, and what is made of files, are shown by crates/scenes/data.
 //!
 //! Tests that call only what their crates export stand in crates of their own: a build of tests proves their crate once
 //! more, and so the crates are proved once.

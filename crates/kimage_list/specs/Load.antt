@@ -29,7 +29,8 @@ abbrev pub own_request : Entry → List Request
 own_request (Start p) = []
 own_request (Move p) = Some p ∷ []
 
--- the requests of these entries, of which the first is number n: a link page before the first of each page of entries, and the pages
+-- the requests of these entries, of which the first is number n: a link page before the first of each page of entries,
+-- and the pages
 abbrev pub requests_from : ℕ → List Entry → List Request
 requests_from n [] = []
 requests_from n (e ∷ es) =

@@ -1,5 +1,6 @@
-//! Tests of lists and loads that no scene can have: calls of the library, what a refusal gives back, each prefix of a record, and
-//! the greatest load. What commands make of lists, records, events and pairs is shown by crates/scenes/data.
+//! Tests of lists and loads that no scene can have: calls of the library, what a refusal gives back, each prefix of a
+//! record, and the greatest load. What commands make of lists, records, events and pairs is shown by
+//! crates/scenes/data.
 //!
 //! Tests that call only what their crates export stand in crates of their own: a build of tests proves their crate once
 //! more, and so the crates are proved once.

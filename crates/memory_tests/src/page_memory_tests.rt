@@ -1,5 +1,5 @@
-//! What a caller of a memory does: pages are held, set and copied, files are handed in; and each prefix of a file. What commands
-//! read and write is shown by crates/scenes/data/memories.scenes.
+//! What a caller of a memory does: pages are held, set and copied, files are handed in; and each prefix of a file. What
+//! commands read and write is shown by crates/scenes/data/memories.scenes.
 
 use kx_pages::Page;
 use page_memory::{MemFault, Memory};

@@ -1,5 +1,5 @@
-//! What a caller of segments asks for: the bytes of a page, how many pages a load takes, and the number of an error. The rules of
-//! segments are shown by crates/scenes/data/records.scenes and requests.scenes.
+//! What a caller of segments asks for: the bytes of a page, how many pages a load takes, and the number of an error.
+//! The rules of segments are shown by crates/scenes/data/records.scenes and requests.scenes.
 
 use kx_pages::{Page, Wish};
 use segments::{SegFault, Segment, Segments};

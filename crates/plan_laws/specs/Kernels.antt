@@ -14,9 +14,9 @@ use Rattle.plan_laws.specs.Linux.{FitsEntry, IsLinux, StartsCrashKernel, StartsL
 use Rattle.plan_laws.specs.Multiboot.{IsMultiboot, StartsMultiboot}
 use Rattle.plan_laws.specs.Places.{IsOne}
 
--- The kernel of this request finds by this plan what its own protocol promises: a Linux kernel and a Multiboot kernel their
--- parts, a crash kernel its own, an ELF executable and a raw kernel themselves. Behind a purgatory the first three find theirs
--- from the registers that the purgatory has.
+-- The kernel of this request finds by this plan what its own protocol promises: a Linux kernel and a Multiboot kernel
+-- their parts, a crash kernel its own, an ELF executable and a raw kernel themselves. Behind a purgatory the first
+-- three find theirs from the registers that the purgatory has.
 pub record KernelFinds (r : Asked) (map : Option MapValue) (p : Plan) : Type 0 where
   pub linux : r.crash ≡ false → IsLinux r → r.purgatory ≡ None
       → StartsLinux r.kernel r.initrd (command_of r.command) (rows_of map) p

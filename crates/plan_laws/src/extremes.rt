@@ -8,8 +8,8 @@ pub fn linux_lies_at_the_ends()
     ensures { LinuxLiesAtTheEnds }
 {}
 
-/// The modules of a planned Multiboot kernel, its information and its purgatory, one after the other, each lie at the greatest
-/// address at which they fit, beside the kernel and those before.
+/// The modules of a planned Multiboot kernel, its information and its purgatory, one after the other, each lie at the
+/// greatest address at which they fit, beside the kernel and those before.
 pub fn multiboot_lies_at_the_ends()
     ensures { MultibootLiesAtTheEnds }
 {}

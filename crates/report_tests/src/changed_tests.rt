@@ -1,5 +1,5 @@
-//! What is said where a file was changed before it is looked at once more: no more than it shows then. What it shows otherwise
-//! is told by crates/scenes/data/other-kinds.scenes and maps.scenes.
+//! What is said where a file was changed before it is looked at once more: no more than it shows then. What it shows
+//! otherwise is told by crates/scenes/data/other-kinds.scenes and maps.scenes.
 
 use crate::told::is_told;
 use command_parts::{InputFault, Status};

@@ -20,7 +20,8 @@ fn ends_so(rt: &HostRuntime, line: &str, wanted: (u8, &str)) -> Result<bool, Fai
     is_told(rt, line, &status, Failure::of(shelf.cause(), None), wanted)
 }
 
-// Of the list the done word is the head. One file under two names is an input that would be lost. A full device takes no byte.
+// Of the list the done word is the head. One file under two names is an input that would be lost. A full device takes
+// no byte.
 const ROWS: [(&str, (u8, &str)); 7] = [
     ("trace memory out 4 9", (0, "")),
     (

@@ -24,8 +24,8 @@ pub record Desk : Type 0 where
   pub files : Option Files
   pub faults : ℕ
 
--- A take gives what is asked of it and leaves the shelf as it is, as one that wants memory does, or counts a fault. A put puts the bytes, or counts a
--- fault and puts the first one alone.
+-- A take gives what is asked of it and leaves the shelf as it is, as one that wants memory does, or counts a fault. A
+-- put puts the bytes, or counts a fault and puts the first one alone.
 abbrev pub desk : Shelf Desk
 desk = record {
   files = λ s. s.files;

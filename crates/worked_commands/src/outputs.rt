@@ -37,7 +37,8 @@ pub fn what_runs_leave()
         → Leaves (Some Twice) (kept_over m) (put (at m) 3 (1 ∷ [])) → ⊥ }
 {}
 
-/// After the four steps of its list the machine has moved page 12 to page 2. The done word alone ends each run after one step.
+/// After the four steps of its list the machine has moved page 12 to page 2. The done word alone ends each run after
+/// one step.
 pub fn steps_of_runs()
     ensures moved { memory_after found.load 4 2 ≡ page_of (codes "abc") }
     ensures again { EndsAgain (Some Twice) (done_alone 1) }

@@ -31,8 +31,8 @@ pub fn two_pages_are_wanted()
 {}
 
 /// How many pages a load takes: one for each page of the kernel, a link page for each 511 entries, a control page, and
-/// a swap page where context is preserved. Of 510 pages the 511 entries fit one link page, and of 511 pages they do not, nor of
-/// 510 pages in two segments.
+/// a swap page where context is preserved. Of 510 pages the 511 entries fit one link page, and of 511 pages they do
+/// not, nor of 510 pages in two segments.
 pub fn pages_needed()
     ensures one { need Plain three_bytes ≡ 3 }
     ensures two { need Plain (two_pages 2) ≡ 4 }
@@ -95,8 +95,8 @@ pub fn misplaced_segments()
     ensures errno { errno (faults.OutsideReserved 0) ≡ 99 }
 {}
 
-/// Memory of eight pages: a segment of four passes, and one of five takes more than half of memory, as do one of three and one
-/// of two together.
+/// Memory of eight pages: a segment of four passes, and one of five takes more than half of memory, as do one of three
+/// and one of two together.
 pub fn half_of_memory()
     ensures four { refusal (record { first = 0x100; count = 8 } ∷ []) kinds.Normal
         (pages_at 0x100 4 ∷ []) ≡ None }

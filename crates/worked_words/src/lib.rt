@@ -1,9 +1,9 @@
 //! What the words of command lines mean, tried on worked examples.
 //!
 //! Nothing here is called. Each function has the name of an example, and its clauses say what the definitions of
-//! command_table and kexec_words give for it, by computing. In the examples m is a memory, p a pool, k a kernel, o an output, r a record,
-//! f a memory map, i an initrd, u a purgatory, n notes, q pairs, v events, c a kernel's command line, and x and y are
-//! modules.
+//! command_table and kexec_words give for it, by computing. In the examples m is a memory, p a pool, k a kernel, o an
+//! output, r a record, f a memory map, i an initrd, u a purgatory, n notes, q pairs, v events, c a kernel's command
+//! line, and x and y are modules.
 #![tactic(auto)]
 
 mod answers;

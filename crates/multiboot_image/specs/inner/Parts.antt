@@ -15,4 +15,5 @@ memory_meets_page p s = meets_page s.kludge.load_addr (memory_stop s) p
 -- with addresses in the header the pages are those that some byte of the memory from load_addr on is in
 abbrev pub HasPagesMet : List ℕ → Header → Loaded → Type 0
 HasPagesMet file h r =
-    IfSome h.kludge (λ k. (p : ℕ) → is_destination r.list p ≡ memory_meets_page p (site file h.at k))
+    IfSome h.kludge
+        (λ k. (p : ℕ) → is_destination r.list p ≡ memory_meets_page p (site file h.at k))
