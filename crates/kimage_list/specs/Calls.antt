@@ -1,5 +1,5 @@
 -- What the writer's calls begin with, and what they leave (this project's own).
-use Rattle.std.specs.Prelude.{◌≡◌, ℕ, ◌+◌, ◌++◌, take, drop}
+use Rattle.std.specs.Prelude.{◌≡◌, ℕ, ◌++◌, take, drop}
 use Rattle.page_pool.specs.Pages.{Pages, left_among, left_of, usable_of}
 
 -- Pool q is pool p after the first n of its usable pages were drawn: they are gone from the pages left, and the others

@@ -1,5 +1,5 @@
 -- What a load of segments lays (this project's own).
-use Rattle.std.specs.Prelude.{ℕ, ◌+◌, ◌/◌, List, [], ◌∷◌, ◌++◌, Option}
+use Rattle.std.specs.Prelude.{ℕ, ◌/◌, List, [], ◌∷◌, ◌++◌, Option}
 use Rattle.kx_pages.specs.declared.image.Wish.{Wish}
 use Rattle.kx_pages.specs.Bytes.{Mem}
 use Rattle.kimage_list.specs.Load.{Loading, Entry, Start, page_entries, loading_after}

@@ -1,5 +1,5 @@
 -- The rows of a map that was read: each ends below the limit of addresses and is of kind 1 to 4.
-use Rattle.std.proofs.Common.{◌≡◌, ℕ, ◌+◌, ◌-◌, ◌≤◌, ◌++◌, List, [], ◌∷◌, drop, Bool, true, false, cond, Option, Some, None, Ok, Err, subst, arith}
+use Rattle.std.proofs.Common.{◌≡◌, ℕ, ◌+◌, ◌≤◌, ◌++◌, List, [], ◌∷◌, drop, Bool, true, false, cond, Option, Some, None, Ok, Err, subst, arith}
 use Rattle.std.specs.Prelude.{codes, nat_eq, nat_lt, not, ◌==◌, ◌&&◌}
 use Rattle.std.specs.List.{starts_with}
 use Rattle.std.specs.Str.{bytes_eq}

@@ -1,6 +1,6 @@
 -- The program headers of an executable that was read, by their places in the file.
 use Rattle.std.proofs.Common.{◌≡◌, ◌∙◌, ℕ, suc, ◌+◌, ◌*◌, ◌<◌, ◌≤◌, List, [], length, drop, Bool, true, false, Option, Some, Ok, refl, sym, ap, subst, arith}
-use Rattle.std.specs.Prelude.{nat_lt, ◌-◌}
+use Rattle.std.specs.Prelude.{nat_lt}
 use Rattle.std.specs.List.{filter}
 use Rattle.std.proofs.Math.Nat.{mul-le-mul_left, mul-suc}
 use Rattle.std.proofs.lemmas.Bool.{cond-true, eq-eqb, ltb-false}

@@ -1,5 +1,5 @@
 -- Parts that are placed one after another, each at the least or the greatest address at which it fits.
-use Rattle.std.proofs.Common.{◌≡◌, ◌∙◌, append-nil, append_assoc, ℕ, zero, suc, ◌+◌, ◌-◌, ◌*◌, ◌/◌, ◌^◌, ◌++◌, List, [], ◌∷◌, Bool, true, false, Option, Some, None, Ok, refl, ⊎_elim, sym, ap, subst, arith, inl, inr}
+use Rattle.std.proofs.Common.{◌≡◌, ◌∙◌, append-nil, append_assoc, ℕ, zero, suc, ◌*◌, ◌/◌, ◌^◌, ◌++◌, List, [], ◌∷◌, Bool, true, false, Option, Some, None, Ok, refl, ⊎_elim, sym, ap, subst, arith, inl, inr}
 use Rattle.std.specs.Prelude.{◌⊎◌, nat_le}
 use Rattle.std.specs.List.{AllByRecursion}
 use Rattle.std.proofs.lemmas.Bool.{or_cases, or_parts}

@@ -1,5 +1,4 @@
 use Rattle.std.proofs.Common.{◌≡◌, true, sym, ap, ◌∙◌, subst}
-use Rattle.std.specs.Prelude.{is_ok}
 use Rattle.elf_image.specs.declared.reloc.Reloc.{Reloc}
 use Rattle.elf_image.specs.Object.{Relocatable}
 use Rattle.purgatory_link.specs.Symbols.{symbol_value}
