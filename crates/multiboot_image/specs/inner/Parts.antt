@@ -16,4 +16,4 @@ memory_meets_page p s = meets_page s.kludge.load_addr (memory_stop s) p
 abbrev pub HasPagesMet : List ℕ → Header → Loaded → Type 0
 HasPagesMet file h r =
     IfSome h.kludge
-        (λ k. (p : ℕ) → is_destination r.list p ≡ memory_meets_page p (site file h.at k))
+    (λ k. (p : ℕ) → is_destination r.list p ≡ memory_meets_page p (site file h.at k))
