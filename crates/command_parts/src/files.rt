@@ -4,7 +4,7 @@ ghost use Rattle.std.specs.Prelude.{◌≡◌, string_bytes};
 ghost use Rattle.file_commands.specs.inner.Calls.{Takes};
 ghost use Rattle.command_parts.specs.Files.{memory_file};
 
-use crate::reason::{InputFault, Reason};
+use crate::reason::{InputFault, Reason, TakeResult};
 use command_table::Role;
 use file_commands::{TakeFault, take_file};
 use kx_edge::Shelf;
@@ -28,11 +28,7 @@ pub fn refusal_by(fault: InputFault) -> TakeFault<Reason>
 
 /// Takes a memory file and reads it.
 #[tactic(auto, unfolding(file_commands::specs::Taking::and_then, file_commands::specs::Taking::Took, file_commands::specs::Taking::FailedAt, file_commands::specs::Taking::WantedAt, file_commands::specs::inner::Calls::TakesNot))]
-pub fn take_memory<S: Shelf>(
-    alloc: Global,
-    name: String,
-    shelf: &mut S,
-) -> Result<Memory, TakeFault<Reason>>
+pub fn take_memory<S: Shelf>(alloc: Global, name: String, shelf: &mut S) -> TakeResult<Memory>
     ensures { Takes S.Shelf (memory_file (string_bytes name)) (λ m. m) shelf.old result shelf.new }
 {
     let bytes = take_file(alloc, Role::Memory, name, MEMORY_FILE_LIMIT, shelf)?;

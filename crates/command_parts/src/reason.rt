@@ -2,6 +2,7 @@
 
 use command_table::UsageWhy;
 use crash_headers::NoteFault;
+use file_commands::{MakeFault, TakeFault};
 use image_slots::{EventsFault, SlotsFault};
 use kexec_plan::PlanFault;
 use load_record::RecFault;
@@ -60,3 +61,9 @@ pub enum Reason {
     /// The memory has no core file by the headers at the address.
     Core { fault: CoreFault },
 }
+
+/// What a command takes, or why it is not taken.
+pub type TakeResult<T> = Result<T, TakeFault<Reason>>;
+
+/// What is made of what was taken, or why nothing is made.
+pub type MakeResult<T> = Result<T, MakeFault<Reason>>;

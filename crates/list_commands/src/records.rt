@@ -7,7 +7,7 @@ ghost use Rattle.kexec_words.specs.inner.Values.{load_names_value};
 ghost use Rattle.list_commands.specs.Records.{load_by, load_files_of, load_record_file};
 ghost use Rattle.load_record.specs.inner.File.{IsWritable};
 
-use command_parts::{InputFault, Reason, Startup, refusal_by, take_memory};
+use command_parts::{InputFault, Startup, TakeResult, refusal_by, take_memory};
 use command_table::Role;
 use file_commands::{FileParts, TakeFault, take_apart};
 use kexec_words::LoadNames;
@@ -27,7 +27,7 @@ pub(crate) fn take_record<S: Shelf>(
     alloc: Global,
     name: String,
     shelf: &mut S,
-) -> Result<LoadRecord, TakeFault<Reason>>
+) -> TakeResult<LoadRecord>
     ensures { Takes S.Shelf (load_record_file (string_bytes name)) (λ r. r) shelf.old result
         shelf.new }
 {
@@ -51,7 +51,7 @@ pub(crate) fn take_digested_record<S: Shelf>(
     alloc: Global,
     name: String,
     shelf: &mut S,
-) -> Result<DigestedRecord, TakeFault<Reason>>
+) -> TakeResult<DigestedRecord>
     ensures takes { Takes S.Shelf (load_record_file (string_bytes name)) (λ r. r) shelf.old result
         shelf.new }
     ensures writable { IfOk result IsWritable }
@@ -102,24 +102,18 @@ fn load_by(memory: Memory, load_record: LoadRecord) -> TakenLoad
     ensures { result ≡ load_by memory load_record }
 {
     let startup = Startup::of_record(&load_record);
-    let LoadRecord {
-        crash,
-        image,
-        segments,
-        ..
-    } = load_record;
-    if !crash {
+    if !load_record.crash {
         return TakenLoad::Normal(LoadFiles {
             memory,
-            image,
-            segments,
+            image: load_record.image,
+            segments: load_record.segments,
             startup,
         });
     }
     TakenLoad::Crash(CrashFiles {
         memory,
-        head: image.head,
-        segments,
+        head: load_record.image.head,
+        segments: load_record.segments,
         startup,
     })
 }
@@ -129,7 +123,7 @@ pub(crate) fn take_load_files<S: Shelf>(
     alloc: Global,
     names: LoadNames,
     shelf: &mut S,
-) -> Result<TakenLoad, TakeFault<Reason>>
+) -> TakeResult<TakenLoad>
     ensures { Takes S.Shelf (load_files_of (load_names_value names)) (λ f. f) shelf.old result
         shelf.new }
 {

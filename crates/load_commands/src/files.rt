@@ -12,7 +12,7 @@ ghost use Rattle.load_commands.specs.EventFile.{events_file};
 ghost use Rattle.image_slots.specs.inner.Events.{HasFewBytes, event_of};
 ghost use Rattle.page_pool.specs.Pages.{is_filed, usable_of};
 
-use command_parts::{InputFault, Reason, TEXT_LIMIT, refusal_by};
+use command_parts::{InputFault, TEXT_LIMIT, TakeResult, refusal_by};
 use command_table::Role;
 use crash_headers::{Note, NoteFault, read_notes};
 use file_commands::{TakeFault, take_file};
@@ -26,11 +26,7 @@ use resident_planner::{PairsFault, read_pairs};
 use std::alloc::Global;
 
 // Takes a pool file and reads it. No page of the pool is drawn, and each is usable.
-fn take_pages<S: Shelf>(
-    alloc: Global,
-    name: String,
-    shelf: &mut S,
-) -> Result<Pool, TakeFault<Reason>>
+fn take_pages<S: Shelf>(alloc: Global, name: String, shelf: &mut S) -> TakeResult<Pool>
     ensures takes { Takes S.Shelf (pages_file (string_bytes name)) (λ p. p.made) shelf.old
         result shelf.new }
     ensures undrawn { IfOk result (λ p. p.drawn ≡ []) }
@@ -66,7 +62,7 @@ pub(crate) fn take_pool<S: Shelf>(
     name: String,
     below: Option<Page>,
     shelf: &mut S,
-) -> Result<Pool, TakeFault<Reason>>
+) -> TakeResult<Pool>
     ensures takes { Takes S.Shelf (pool_file (string_bytes name) below) (λ p. usable_of p)
         shelf.old result shelf.new }
     ensures unfiled { IfOk result (λ p. (q : ℕ) → is_filed p q ≡ false) }
@@ -77,11 +73,7 @@ pub(crate) fn take_pool<S: Shelf>(
 }
 
 /// Takes a memory map and reads it.
-pub(crate) fn take_map_file<S: Shelf>(
-    alloc: Global,
-    name: String,
-    shelf: &mut S,
-) -> Result<Map, TakeFault<Reason>>
+pub(crate) fn take_map_file<S: Shelf>(alloc: Global, name: String, shelf: &mut S) -> TakeResult<Map>
     ensures { Takes S.Shelf (map_file (string_bytes name)) (λ m. m) shelf.old result shelf.new }
 {
     let bytes = take_file(alloc, Role::Map, name, TEXT_LIMIT, shelf)?;
@@ -97,7 +89,7 @@ pub(crate) fn take_map<S: Shelf>(
     alloc: Global,
     name: Option<String>,
     shelf: &mut S,
-) -> Result<Option<Map>, TakeFault<Reason>>
+) -> TakeResult<Option<Map>>
     ensures takes { Takes S.Shelf (optional_file map_file (option_map string_bytes name)) (λ m. m)
         shelf.old result shelf.new }
     ensures named { IfOk result (λ m. is_some m ≡ is_some name) }
@@ -109,11 +101,7 @@ pub(crate) fn take_map<S: Shelf>(
 }
 
 // Takes a file of notes and reads it.
-fn take_notes_file<S: Shelf>(
-    alloc: Global,
-    name: String,
-    shelf: &mut S,
-) -> Result<Vec<Note>, TakeFault<Reason>>
+fn take_notes_file<S: Shelf>(alloc: Global, name: String, shelf: &mut S) -> TakeResult<Vec<Note>>
     ensures { Takes S.Shelf (notes_file (string_bytes name)) (λ v. v.items) shelf.old result
         shelf.new }
 {
@@ -130,7 +118,7 @@ pub(crate) fn take_notes<S: Shelf>(
     alloc: Global,
     name: Option<String>,
     shelf: &mut S,
-) -> Result<Vec<Note>, TakeFault<Reason>>
+) -> TakeResult<Vec<Note>>
     ensures { Takes S.Shelf (some_notes (option_map string_bytes name)) (λ v. v.items) shelf.old
         result shelf.new }
 {
@@ -145,7 +133,7 @@ pub(crate) fn take_pairs<S: Shelf>(
     alloc: Global,
     name: String,
     shelf: &mut S,
-) -> Result<Vec<Pair>, TakeFault<Reason>>
+) -> TakeResult<Vec<Pair>>
     ensures { Takes S.Shelf (pairs_file (string_bytes name)) (λ v. v.items) shelf.old result
         shelf.new }
 {
@@ -162,7 +150,7 @@ pub(crate) fn take_events<S: Shelf>(
     alloc: Global,
     name: String,
     shelf: &mut S,
-) -> Result<Vec<Event>, TakeFault<Reason>>
+) -> TakeResult<Vec<Event>>
     ensures takes { Takes S.Shelf (events_file (string_bytes name)) (λ v. map event_of v.items)
         shelf.old result shelf.new }
     ensures few { IfOk result (λ v. AllByRecursion (λ e. HasFewBytes (event_of e)) v.items) }
