@@ -22,7 +22,7 @@ mod status;
 mod text;
 
 pub use counts::ListCounts;
-pub use files::{TEXT_LIMIT, refusal_by, take_memory};
+pub use files::{TEXT_LIMIT, take_memory};
 pub use output::{memory_output, one_file};
 pub use reason::{InputFault, MakeResult, Reason, TakeResult};
 pub use running::{Ran, run_accepted, run_loaded};

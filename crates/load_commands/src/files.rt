@@ -1,6 +1,5 @@
 //! The files beside the memory are taken, each with its limit, and read: the pool, the memory map, the notes, the pairs and the
 //! events.
-#![tactic(auto, unfolding(file_commands::specs::Taking::and_then, file_commands::specs::Taking::Took, file_commands::specs::Taking::FailedAt, file_commands::specs::Taking::WantedAt, file_commands::specs::inner::Calls::TakesNot))]
 
 ghost use Rattle.std.specs.Prelude.{◌≡◌, ℕ, ◌^◌, [], None, false, is_some, map, option_map, string_bytes, IfOk};
 ghost use Rattle.std.specs.List.{AllByRecursion};
@@ -12,17 +11,17 @@ ghost use Rattle.load_commands.specs.EventFile.{events_file};
 ghost use Rattle.image_slots.specs.inner.Events.{HasFewBytes, event_of};
 ghost use Rattle.page_pool.specs.Pages.{is_filed, usable_of};
 
-use command_parts::{InputFault, TEXT_LIMIT, TakeResult, refusal_by};
+use command_parts::{InputFault, TEXT_LIMIT, TakeResult};
 use command_table::Role;
-use crash_headers::{Note, NoteFault, read_notes};
-use file_commands::{TakeFault, take_file};
-use image_slots::{Event, EventsFault, read_events};
+use crash_headers::{Note, read_notes};
+use file_commands::take_file;
+use image_slots::{Event, read_events};
 use kx_edge::Shelf;
 use kx_pages::Page;
 use list_checker::Pair;
-use memory_map::{Map, MapFault};
-use page_pool::{Pool, PoolFault};
-use resident_planner::{PairsFault, read_pairs};
+use memory_map::Map;
+use page_pool::Pool;
+use resident_planner::read_pairs;
 use std::alloc::Global;
 
 // Takes a pool file and reads it. No page of the pool is drawn, and each is usable.
@@ -34,11 +33,7 @@ fn take_pages<S: Shelf>(alloc: Global, name: String, shelf: &mut S) -> TakeResul
     ensures unfiled { IfOk result (λ p. (q : ℕ) → is_filed p q ≡ false) }
 {
     let bytes = take_file(alloc, Role::Pool, name, TEXT_LIMIT, shelf)?;
-    match Pool::read(alloc, &bytes) {
-        Ok(pool) => Ok(pool),
-        Err(PoolFault::Memory) => Err(TakeFault::Memory),
-        Err(fault) => Err(refusal_by(InputFault::Pool { fault })),
-    }
+    Pool::read(alloc, &bytes).map_err(|fault| InputFault::Pool { fault }.stop())
 }
 
 // The pool with a limit, where this is the first page past it.
@@ -77,14 +72,11 @@ pub(crate) fn take_map_file<S: Shelf>(alloc: Global, name: String, shelf: &mut S
     ensures { Takes S.Shelf (map_file (string_bytes name)) (λ m. m) shelf.old result shelf.new }
 {
     let bytes = take_file(alloc, Role::Map, name, TEXT_LIMIT, shelf)?;
-    match Map::read(alloc, &bytes) {
-        Ok(map) => Ok(map),
-        Err(MapFault::Memory) => Err(TakeFault::Memory),
-        Err(fault) => Err(refusal_by(InputFault::Map { fault })),
-    }
+    Map::read(alloc, &bytes).map_err(|fault| InputFault::Map { fault }.stop())
 }
 
 /// Takes the memory map, where one is named, and reads it.
+#[tactic(auto, unfolding(file_commands::specs::Taking::and_then, file_commands::specs::Taking::Took, file_commands::specs::Taking::FailedAt, file_commands::specs::Taking::WantedAt, file_commands::specs::inner::Calls::TakesNot))]
 pub(crate) fn take_map<S: Shelf>(
     alloc: Global,
     name: Option<String>,
@@ -106,14 +98,11 @@ fn take_notes_file<S: Shelf>(alloc: Global, name: String, shelf: &mut S) -> Take
         shelf.new }
 {
     let bytes = take_file(alloc, Role::Notes, name, TEXT_LIMIT, shelf)?;
-    match read_notes(alloc, &bytes) {
-        Ok(notes) => Ok(notes),
-        Err(NoteFault::Memory) => Err(TakeFault::Memory),
-        Err(fault) => Err(refusal_by(InputFault::Notes { fault })),
-    }
+    read_notes(alloc, &bytes).map_err(|fault| InputFault::Notes { fault }.stop())
 }
 
 /// Takes the file of notes, where one is named, and reads it. Without one there are none.
+#[tactic(auto, unfolding(file_commands::specs::Taking::Took))]
 pub(crate) fn take_notes<S: Shelf>(
     alloc: Global,
     name: Option<String>,
@@ -138,11 +127,7 @@ pub(crate) fn take_pairs<S: Shelf>(
         shelf.new }
 {
     let bytes = take_file(alloc, Role::Pairs, name, TEXT_LIMIT, shelf)?;
-    match read_pairs(alloc, &bytes) {
-        Ok(pairs) => Ok(pairs),
-        Err(PairsFault::Memory) => Err(TakeFault::Memory),
-        Err(fault) => Err(refusal_by(InputFault::Pairs { fault })),
-    }
+    read_pairs(alloc, &bytes).map_err(|fault| InputFault::Pairs { fault }.stop())
 }
 
 /// Takes a file of events and reads it.
@@ -156,9 +141,5 @@ pub(crate) fn take_events<S: Shelf>(
     ensures few { IfOk result (λ v. AllByRecursion (λ e. HasFewBytes (event_of e)) v.items) }
 {
     let bytes = take_file(alloc, Role::Events, name, TEXT_LIMIT, shelf)?;
-    match read_events(alloc, &bytes) {
-        Ok(events) => Ok(events),
-        Err(EventsFault::Memory) => Err(TakeFault::Memory),
-        Err(fault) => Err(refusal_by(InputFault::Events { fault })),
-    }
+    read_events(alloc, &bytes).map_err(|fault| InputFault::Events { fault }.stop())
 }
