@@ -32,7 +32,7 @@ pub fn one_file(
     bytes: Vec<u8>,
 ) -> Result<Vec<File>, AllocError>
     ensures { IfOk result
-        (λ v. map file_of v.items ≡ (string_bytes name, bytes.items) ∷ []) }
+        (λ v. v.items ≡ record { role = role; name = name; bytes = bytes } ∷ []) }
 {
     let mut files = Vec::new(alloc);
     files.push(File { role, name, bytes })?;
