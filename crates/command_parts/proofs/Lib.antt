@@ -5,3 +5,4 @@ pub mod Again
 pub mod Ending
 pub mod Alike
 pub mod Found
+pub mod Reading

@@ -3,7 +3,7 @@
 //!
 //! | Module | What it has |
 //! |---|---|
-//! | `reason` | why a command may be refused |
+//! | `reason` | why a command may be refused, and what a take or a make answers |
 //! | `status` | how a command ended |
 //! | `files` | the memory file, and the limits of the others |
 //! | `startup` | how a kernel starts, as a plan or a record tells it |
@@ -22,9 +22,9 @@ mod status;
 mod text;
 
 pub use counts::ListCounts;
-pub use files::{TEXT_LIMIT, refusal_by, take_memory};
-pub use output::{memory_output, one};
-pub use reason::{InputFault, Reason};
+pub use files::{TEXT_LIMIT, take_memory};
+pub use output::{memory_output, one_file};
+pub use reason::{InputFault, MakeResult, Reason, TakeResult};
 pub use running::{Ran, run_accepted, run_loaded};
 pub use startup::{PurgatoryPlaces, Startup, purgatory_places};
 pub use status::Status;

@@ -1,7 +1,11 @@
 //! Why a command is refused.
 
+ghost use Rattle.std.specs.Prelude.{◌≡◌};
+ghost use Rattle.command_parts.specs.inner.Readers.{stop_by, wants_memory};
+
 use command_table::UsageWhy;
 use crash_headers::NoteFault;
+use file_commands::{MakeFault, TakeFault};
 use image_slots::{EventsFault, SlotsFault};
 use kexec_plan::PlanFault;
 use load_record::RecFault;
@@ -38,6 +42,35 @@ pub enum InputFault {
     Events { fault: EventsFault },
 }
 
+impl InputFault {
+    // The reader wanted memory.
+    fn wants_memory(&self) -> bool
+        ensures { result ≡ wants_memory self.now }
+    {
+        match self {
+            InputFault::Mem { fault } => matches!(fault, MemFault::Memory),
+            InputFault::Pool { fault } => matches!(fault, PoolFault::Memory),
+            InputFault::Map { fault } => matches!(fault, MapFault::Memory),
+            InputFault::Rec { fault } => matches!(fault, RecFault::Memory),
+            InputFault::Notes { fault } => matches!(fault, NoteFault::Memory),
+            InputFault::Pairs { fault } => matches!(fault, PairsFault::Memory),
+            InputFault::Events { fault } => matches!(fault, EventsFault::Memory),
+        }
+    }
+
+    /// Why the file is not taken: its reader wanted memory, or refuses it.
+    pub fn stop(self) -> TakeFault<Reason>
+        ensures { result ≡ stop_by self }
+    {
+        if self.wants_memory() {
+            return TakeFault::Memory;
+        }
+        TakeFault::Refused {
+            why: Reason::Input { fault: self },
+        }
+    }
+}
+
 /// Why a command is refused, in the order in which its work is done.
 #[derive(Clone, Copy, Debug, PartialEq, Eq)]
 pub enum Reason {
@@ -60,3 +93,9 @@ pub enum Reason {
     /// The memory has no core file by the headers at the address.
     Core { fault: CoreFault },
 }
+
+/// What a command takes, or why it is not taken.
+pub type TakeResult<T> = Result<T, TakeFault<Reason>>;
+
+/// What is made of what was taken, or why nothing is made.
+pub type MakeResult<T> = Result<T, MakeFault<Reason>>;

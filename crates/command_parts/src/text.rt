@@ -20,12 +20,10 @@ pub fn accepted_line(alloc: Global, counts: ListCounts) -> Result<String, AllocE
     ensures { IfOk result
         (λ s. string_bytes s ≡ accepted_line counts.words counts.links counts.pairs) }
 {
-    let ListCounts {
-        words,
-        links,
-        pairs,
-    } = counts;
-    format!(in alloc; "accepted words {words} links {links} pairs {pairs}\n")
+    format!(in alloc;
+        "accepted words {} links {} pairs {}\n",
+        counts.words, counts.links, counts.pairs
+    )
 }
 
 // The head word, the control page and, with context preserved, the swap page.
@@ -110,12 +108,11 @@ fn push_purgatory_line(
 pub fn ran_text(alloc: Global, ran: &Ran, startup: Startup) -> Result<String, AllocError>
     ensures { IfOk result (λ s. string_bytes s ≡ ran_text ran.now startup) }
 {
-    let Startup { start, purgatory } = startup;
-    let mut text = load_lines(alloc, ran.counts, &ran.image, &start)?;
+    let mut text = load_lines(alloc, ran.counts, &ran.image, &startup.start)?;
     push_ran_line(alloc, &mut text, ran.steps)?;
     match ran.back {
         Some(steps) => push_ran_line(alloc, &mut text, steps)?,
-        None => push_purgatory_line(&mut text, &ran.memory, purgatory)?,
+        None => push_purgatory_line(&mut text, &ran.memory, startup.purgatory)?,
     }
     Ok(text)
 }
@@ -146,9 +143,8 @@ pub fn crash_ran_text(
     ensures { IfOk result (λ s. string_bytes s ≡ crash_ran_text (at ran.now.memory) pages
         ran.now.steps startup) }
 {
-    let Startup { start, purgatory } = startup;
-    let mut text = crash_lines(alloc, pages, &start)?;
+    let mut text = crash_lines(alloc, pages, &startup.start)?;
     push_ran_line(alloc, &mut text, ran.steps())?;
-    push_purgatory_line(&mut text, ran.memory(), purgatory)?;
+    push_purgatory_line(&mut text, ran.memory(), startup.purgatory)?;
     Ok(text)
 }

@@ -11,19 +11,14 @@ use crate::stop::{MakeFault, Stop, TakeFault};
 use kx_edge::{Shelf, Sink};
 use std::alloc::Global;
 
-/// A command over files: how it is to be done. What it takes has names of its own.
-pub trait Command: Drop {
+/// A command over files: how it is to be done. What it takes has names of its own. Its goods may have a fault `F`, and it may
+/// be refused for a reason `R`.
+pub trait Command<F: Drop, R>: Drop {
     /// The names of what it takes.
     type Names;
 
     /// What it takes.
     type Taken;
-
-    /// The fault that its goods may have.
-    type Fault: Drop;
-
-    /// Why it may be refused.
-    type Reason;
 
     /// What contracts see of what it takes.
     ghost Inputs: { Type 0 };
@@ -31,36 +26,32 @@ pub trait Command: Drop {
     ghost inputs: { Self.Taken → Inputs };
 
     /// The files that it takes, and what is read of them.
-    ghost takes: { Self.Names → Take Self.Reason Inputs };
+    ghost takes: { Self.Names → Take R Inputs };
 
     /// What it makes of that.
-    ghost makes: { Self → Inputs → Result (GoodsOf Self.Fault) (Refusal Self.Reason) → Type 0 };
+    ghost makes: { Self → Inputs → Result (GoodsOf F) (Refusal R) → Type 0 };
 
     /// Takes its files.
     fn take<S: Shelf>(
         alloc: Global,
         names: Self::Names,
         shelf: &mut S,
-    ) -> Result<Self::Taken, TakeFault<Self::Reason>>
+    ) -> Result<Self::Taken, TakeFault<R>>
         ensures { Takes S.Shelf (takes names) inputs shelf.old result shelf.new };
 
     /// Makes its goods of what was taken.
-    fn make(
-        self,
-        alloc: Global,
-        taken: Self::Taken,
-    ) -> Result<Goods<Self::Fault>, MakeFault<Self::Reason>>
+    fn make(self, alloc: Global, taken: Self::Taken) -> Result<Goods<F>, MakeFault<R>>
         ensures { Makes (makes self) (inputs taken) result };
 }
 
 // What each answer says, in one clause.
-fn take_make_deliver<C: Command, S: Shelf, O: Sink>(
+fn take_make_deliver<F: Drop, R, C: Command<F, R>, S: Shelf, O: Sink>(
     alloc: Global,
     names: C::Names,
     command: C,
     shelf: &mut S,
     out: &mut O,
-) -> Result<(), Stop<C::Fault, C::Reason>>
+) -> Result<(), Stop<F, R>>
     ensures { Meets S.Shelf O.Sink (command_of (C.takes names) (C.makes command)) shelf.old out.old
         (call_answer result) shelf.new out.new }
 {
@@ -70,13 +61,13 @@ fn take_make_deliver<C: Command, S: Shelf, O: Sink>(
 }
 
 /// Runs a command: takes its files, makes its goods in memory, and puts and says them.
-pub fn run<C: Command, S: Shelf, O: Sink>(
+pub fn run<F: Drop, R, C: Command<F, R>, S: Shelf, O: Sink>(
     alloc: Global,
     names: C::Names,
     command: C,
     shelf: &mut S,
     out: &mut O,
-) -> Result<(), Stop<C::Fault, C::Reason>>
+) -> Result<(), Stop<F, R>>
     // Each answer has its cause, and says what stands after it.
     ensures meets { Meets S.Shelf O.Sink (command_of (C.takes names) (C.makes command))
         shelf.old out.old (call_answer result) shelf.new out.new }

@@ -1,6 +1,6 @@
 //! What a command made goes out: the files in their order, then the text.
 
-ghost use Rattle.std.specs.Prelude.{map, string_bytes, OnOk, IfErr};
+ghost use Rattle.std.specs.Prelude.{◌≡◌, None, map, string_bytes, OnOk, IfErr};
 ghost use Rattle.file_commands.specs.Answers.{Delivers, PutAll, PutUpTo};
 ghost use Rattle.file_commands.specs.inner.Calls.{call_answer, goods_of, file_of};
 
@@ -22,6 +22,19 @@ pub struct Goods<F> {
     pub outputs: Vec<File>,
     pub text: String,
     pub fault: Option<F>,
+}
+
+impl<F> Goods<F> {
+    /// Goods without a fault.
+    pub fn done(outputs: Vec<File>, text: String) -> Goods<F>
+        ensures { result ≡ record { outputs = outputs; text = text; fault = None } }
+    {
+        Goods {
+            outputs,
+            text,
+            fault: None,
+        }
+    }
 }
 
 // Puts the outputs in their order, up to the first that fails, which is answered.

@@ -36,6 +36,15 @@ pub enum MakeFault<R> {
     Memory,
 }
 
+impl<R> MakeFault<R> {
+    /// It is refused for this reason.
+    pub fn refused(why: R) -> MakeFault<R>
+        ensures { result ≡ MakeFault.Refused why }
+    {
+        MakeFault::Refused { why }
+    }
+}
+
 /// Why a command is not done.
 #[derive(Debug, Drop)]
 pub enum Stop<F, R> {

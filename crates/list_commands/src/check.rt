@@ -10,8 +10,8 @@ ghost use Rattle.list_commands.specs.Check.{IsFaultLine, checks, checks_in_place
 ghost use Rattle.list_commands.specs.Records.{load_files_of};
 
 use crate::records::{CrashFiles, LoadFiles, TakenLoad, take_load_files};
-use command_parts::{ListCounts, Reason, accepted_line, crash_line};
-use file_commands::{Command, Goods, MakeFault, Stop, TakeFault, run};
+use command_parts::{ListCounts, MakeResult, Reason, TakeResult, accepted_line, crash_line};
+use file_commands::{Command, Goods, MakeFault, Stop, run};
 use kexec_words::LoadNames;
 use kx_edge::{Shelf, Sink};
 use list_checker::{CheckFault, ListFault, check, check_crash};
@@ -22,10 +22,7 @@ use std::alloc::Global;
 pub(crate) struct CheckList;
 
 /// What is made of a load that is not accepted: its first fault's line alone, and the fault.
-pub(crate) fn fault_goods(
-    alloc: Global,
-    fault: ListFault,
-) -> Result<Goods<ListFault>, MakeFault<Reason>>
+pub(crate) fn fault_goods(alloc: Global, fault: ListFault) -> MakeResult<Goods<ListFault>>
     ensures line { IfOk result (λ g. IsFaultLine fault (goods_of g)) }
     ensures memory { IfErr result (λ e. e ≡ MakeFault.Memory) }
 {
@@ -37,10 +34,7 @@ pub(crate) fn fault_goods(
 }
 
 /// The same of a list that was not found to be accepted.
-pub(crate) fn unaccepted_goods(
-    alloc: Global,
-    why: CheckFault,
-) -> Result<Goods<ListFault>, MakeFault<Reason>>
+pub(crate) fn unaccepted_goods(alloc: Global, why: CheckFault) -> MakeResult<Goods<ListFault>>
     ensures line { IfOk result (λ g.
         (f : SpecFault) × (why ≡ faults.List f) × IsFaultLine f (goods_of g)) }
     ensures memory { IfErr result (λ e. e ≡ MakeFault.Memory) }
@@ -52,53 +46,35 @@ pub(crate) fn unaccepted_goods(
 }
 
 // Checks the list of a normal load, and makes the line that tells of it.
-fn check_list(alloc: Global, files: LoadFiles) -> Result<Goods<ListFault>, MakeFault<Reason>>
+fn check_list(alloc: Global, files: LoadFiles) -> MakeResult<Goods<ListFault>>
     ensures { Makes checks_list files result }
 {
     match check(alloc, &files.memory, &files.image, &files.segments) {
         Err(why) => unaccepted_goods(alloc, why),
         Ok(accept) => {
-            Ok(Goods {
-                outputs: Vec::new(alloc),
-                text: accepted_line(alloc, ListCounts::of_accept(&accept))?,
-                fault: None,
-            })
+            let text = accepted_line(alloc, ListCounts::of_accept(&accept))?;
+            Ok(Goods::done(Vec::new(alloc), text))
         }
     }
 }
 
 // Checks a crash load, and makes the line that tells of it.
-fn check_in_place(alloc: Global, files: CrashFiles) -> Result<Goods<ListFault>, MakeFault<Reason>>
+fn check_in_place(alloc: Global, files: CrashFiles) -> MakeResult<Goods<ListFault>>
     ensures { Makes checks_in_place files result }
 {
     match check_crash(&files.memory, files.head, &files.segments) {
         Err(fault) => fault_goods(alloc, fault),
-        Ok(()) => Ok(Goods {
-            outputs: Vec::new(alloc),
-            text: crash_line(alloc, files.segments.pages())?,
-            fault: None,
-        }),
+        Ok(()) => {
+            let text = crash_line(alloc, files.segments.pages())?;
+            Ok(Goods::done(Vec::new(alloc), text))
+        }
     }
 }
 
-// Checks the load, and makes the line that tells of it.
-fn make_check(alloc: Global, load: TakenLoad) -> Result<Goods<ListFault>, MakeFault<Reason>>
-    ensures { Makes checks load result }
-{
-    match load {
-        TakenLoad::Normal(files) => check_list(alloc, files),
-        TakenLoad::Crash(files) => check_in_place(alloc, files),
-    }
-}
-
-impl Command for CheckList {
+impl Command<ListFault, Reason> for CheckList {
     type Names = LoadNames;
 
     type Taken = TakenLoad;
-
-    type Fault = ListFault;
-
-    type Reason = Reason;
 
     ghost use Rattle.list_commands.specs.declared.records.TakenLoad.{TakenLoad};
 
@@ -110,16 +86,16 @@ impl Command for CheckList {
 
     ghost makes = { λ _. checks };
 
-    fn take<S: Shelf>(
-        alloc: Global,
-        names: LoadNames,
-        shelf: &mut S,
-    ) -> Result<TakenLoad, TakeFault<Reason>> {
+    fn take<S: Shelf>(alloc: Global, names: LoadNames, shelf: &mut S) -> TakeResult<TakenLoad> {
         take_load_files(alloc, names, shelf)
     }
 
-    fn make(self, alloc: Global, load: TakenLoad) -> Result<Goods<ListFault>, MakeFault<Reason>> {
-        make_check(alloc, load)
+    // Checks the load, and makes the line that tells of it.
+    fn make(self, alloc: Global, load: TakenLoad) -> MakeResult<Goods<ListFault>> {
+        match load {
+            TakenLoad::Normal(files) => check_list(alloc, files),
+            TakenLoad::Crash(files) => check_in_place(alloc, files),
+        }
     }
 }
 

@@ -8,7 +8,7 @@ ghost use Rattle.command_parts.specs.Outputs.{HasNoFile};
 
 use crate::check::fault_goods;
 use crate::records::CrashFiles;
-use command_parts::{Reason, Startup, crash_ran_text, memory_output};
+use command_parts::{MakeResult, Reason, Startup, crash_ran_text, memory_output};
 use file_commands::{Goods, MakeFault};
 use list_checker::ListFault;
 use load_states::{AcceptedCrash, CrashLoaded};
@@ -21,7 +21,7 @@ fn run_in_place(
     pages: u64,
     startup: Startup,
     out: String,
-) -> Result<Goods<ListFault>, MakeFault<Reason>>
+) -> MakeResult<Goods<ListFault>>
     ensures { MakesOr
         (λ g. RunsInPlace (at accepted.memory) pages startup (string_bytes out) (goods_of g))
         (HasNoFile (at accepted.memory)) result }
@@ -29,11 +29,7 @@ fn run_in_place(
     let ran = accepted.exec();
     let text = crash_ran_text(alloc, &ran, pages, startup)?;
     let outputs = memory_output(alloc, ran.into_memory(), out)?;
-    Ok(Goods {
-        outputs,
-        text,
-        fault: None,
-    })
+    Ok(Goods::done(outputs, text))
 }
 
 /// Runs a crash load where it is accepted, and makes the file of the memory after the run.
@@ -42,24 +38,16 @@ pub(crate) fn exec_in_place(
     files: CrashFiles,
     twice: bool,
     out: String,
-) -> Result<Goods<ListFault>, MakeFault<Reason>>
+) -> MakeResult<Goods<ListFault>>
     ensures { Makes (executes_in_place twice (string_bytes out)) files result }
 {
-    let CrashFiles {
-        memory,
-        head,
-        segments,
-        startup,
-    } = files;
     if twice {
-        return Err(MakeFault::Refused {
-            why: Reason::NotKept,
-        });
+        return Err(MakeFault::refused(Reason::NotKept));
     }
-    let pages = segments.pages();
-    let loaded = CrashLoaded::from_parts(memory, head, segments);
+    let pages = files.segments.pages();
+    let loaded = CrashLoaded::from_parts(files.memory, files.head, files.segments);
     match loaded.accept() {
-        Ok(accepted) => run_in_place(alloc, accepted, pages, startup, out),
+        Ok(accepted) => run_in_place(alloc, accepted, pages, files.startup, out),
         Err(refused) => fault_goods(alloc, refused.1),
     }
 }

@@ -4,15 +4,15 @@ ghost use Rattle.std.specs.Prelude.{◌≡◌, ◌++◌, true, false, IfOk, OnOk
 ghost use Rattle.std.specs.List.{flat_map};
 ghost use Rattle.sha2.specs.Sha256.{sha256};
 ghost use Rattle.file_commands.specs.Answers.{Meets};
-ghost use Rattle.file_commands.specs.inner.Calls.{Makes, Takes, goods_of, call_answer};
+ghost use Rattle.file_commands.specs.inner.Calls.{Makes, Takes, call_answer};
 ghost use Rattle.kexec_words.specs.inner.Values.{load_names_value};
-ghost use Rattle.list_commands.specs.Dump.{dumps, head_text, lines_of, segment_line, walk_text, word_line, word_lines, dump_entry};
+ghost use Rattle.list_commands.specs.Dump.{dumps, head_text, segment_line, walk_text, word_line, word_lines, dump_entry};
 ghost use Rattle.list_commands.specs.inner.Views.{dump_inputs};
 ghost use Rattle.list_commands.specs.Records.{load_files_of};
 
 use crate::records::take_digested_record;
-use command_parts::{Reason, take_memory};
-use file_commands::{Command, Goods, MakeFault, Stop, TakeFault, run};
+use command_parts::{MakeResult, Reason, TakeResult, take_memory};
+use file_commands::{Command, Goods, Stop, run};
 use kexec_words::LoadNames;
 use kx_edge::{Shelf, Sink};
 use kx_pages::Item;
@@ -120,23 +120,8 @@ fn head_text(alloc: Global, head: u64) -> Result<String, AllocError>
     }
 }
 
-// The lines of a load, as its goods.
-fn lines(alloc: Global, text: String) -> Goods<ListFault>
-    ensures { goods_of result ≡ lines_of (string_bytes text) }
-{
-    Goods {
-        outputs: Vec::new(alloc),
-        text,
-        fault: None,
-    }
-}
-
 // Takes the memory file, then the file of the load record.
-fn take_dump<S: Shelf>(
-    alloc: Global,
-    names: LoadNames,
-    shelf: &mut S,
-) -> Result<DumpInputs, TakeFault<Reason>>
+fn take_dump<S: Shelf>(alloc: Global, names: LoadNames, shelf: &mut S) -> TakeResult<DumpInputs>
     ensures { Takes S.Shelf (load_files_of (load_names_value names)) dump_inputs shelf.old result
         shelf.new }
 {
@@ -150,51 +135,32 @@ fn take_dump<S: Shelf>(
 
 // Makes the lines of the list and of the segments of a normal load. The lines of many words take as much as their memory
 // does, which is given up before they are made.
-fn dump_list(alloc: Global, dump: DumpInputs) -> Result<Goods<ListFault>, MakeFault<Reason>>
+fn dump_list(alloc: Global, dump: DumpInputs) -> MakeResult<Goods<ListFault>>
     requires { dump.load_record.crash ≡ false }
     ensures { Makes dumps (dump_inputs dump) result }
 {
-    let DumpInputs {
-        memory,
-        load_record,
-    } = dump;
-    let walk = walk(alloc, &memory, load_record.record().image.head)?;
-    drop(memory);
+    let walk = walk(alloc, &dump.memory, dump.load_record.record().image.head)?;
+    drop(dump.memory);
     let mut text = String::new(alloc);
     push_walk(alloc, &mut text, walk)?;
-    push_segments(alloc, &mut text, &load_record)?;
-    Ok(lines(alloc, text))
+    push_segments(alloc, &mut text, &dump.load_record)?;
+    Ok(Goods::done(Vec::new(alloc), text))
 }
 
 // Makes the lines of the head and of the segments of a crash load.
-fn dump_in_place(alloc: Global, dump: &DumpInputs) -> Result<Goods<ListFault>, MakeFault<Reason>>
+fn dump_in_place(alloc: Global, dump: &DumpInputs) -> MakeResult<Goods<ListFault>>
     requires { dump.now.load_record.crash ≡ true }
     ensures { Makes dumps (dump_inputs dump.now) result }
 {
     let mut text = head_text(alloc, dump.load_record.record().image.head)?;
     push_segments(alloc, &mut text, &dump.load_record)?;
-    Ok(lines(alloc, text))
+    Ok(Goods::done(Vec::new(alloc), text))
 }
 
-// Makes the lines of the load.
-fn make_dump(alloc: Global, dump: DumpInputs) -> Result<Goods<ListFault>, MakeFault<Reason>>
-    ensures { Makes dumps (dump_inputs dump) result }
-{
-    if dump.load_record.record().crash {
-        dump_in_place(alloc, &dump)
-    } else {
-        dump_list(alloc, dump)
-    }
-}
-
-impl Command for PrintLoad {
+impl Command<ListFault, Reason> for PrintLoad {
     type Names = LoadNames;
 
     type Taken = DumpInputs;
-
-    type Fault = ListFault;
-
-    type Reason = Reason;
 
     ghost use Rattle.list_commands.specs.declared.records.TakenLoad.{TakenLoad};
 
@@ -206,16 +172,17 @@ impl Command for PrintLoad {
 
     ghost makes = { λ _. dumps };
 
-    fn take<S: Shelf>(
-        alloc: Global,
-        names: LoadNames,
-        shelf: &mut S,
-    ) -> Result<DumpInputs, TakeFault<Reason>> {
+    fn take<S: Shelf>(alloc: Global, names: LoadNames, shelf: &mut S) -> TakeResult<DumpInputs> {
         take_dump(alloc, names, shelf)
     }
 
-    fn make(self, alloc: Global, dump: DumpInputs) -> Result<Goods<ListFault>, MakeFault<Reason>> {
-        make_dump(alloc, dump)
+    // Makes the lines of the load.
+    fn make(self, alloc: Global, dump: DumpInputs) -> MakeResult<Goods<ListFault>> {
+        if dump.load_record.record().crash {
+            dump_in_place(alloc, &dump)
+        } else {
+            dump_list(alloc, dump)
+        }
     }
 }
 

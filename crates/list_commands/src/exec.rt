@@ -13,8 +13,10 @@ ghost use Rattle.list_commands.specs.Records.{load_files_of};
 use crate::check::unaccepted_goods;
 use crate::crash_exec::exec_in_place;
 use crate::records::{LoadFiles, TakenLoad, take_load_files};
-use command_parts::{Reason, Startup, memory_output, ran_text, run_accepted};
-use file_commands::{Command, Goods, MakeFault, Stop, TakeFault, run};
+use command_parts::{
+    MakeResult, Reason, Startup, TakeResult, memory_output, ran_text, run_accepted,
+};
+use file_commands::{Command, Goods, MakeFault, Stop, run};
 use kexec_words::{Exec, LoadNames, Runs};
 use kx_edge::{Shelf, Sink};
 use kx_pages::Mode;
@@ -53,7 +55,7 @@ fn run_goods(
     twice: bool,
     startup: Startup,
     out: String,
-) -> Result<Goods<ListFault>, MakeFault<Reason>>
+) -> MakeResult<Goods<ListFault>>
     ensures { (s : LoadOf) → IsAcceptedAs s accepted
         → MakesOr
         (λ g. RunsList (runs_of twice s.image.mode) s startup (string_bytes out) (goods_of g))
@@ -62,11 +64,7 @@ fn run_goods(
     let ran = run_accepted(accepted, runs_by(twice));
     let text = ran_text(alloc, &ran, startup)?;
     let outputs = memory_output(alloc, ran.memory, out)?;
-    Ok(Goods {
-        outputs,
-        text,
-        fault: None,
-    })
+    Ok(Goods::done(outputs, text))
 }
 
 // Runs the list of a normal load where it is accepted, and makes the file of the memory after the last run.
@@ -75,35 +73,24 @@ fn exec_list(
     files: LoadFiles,
     twice: bool,
     out: String,
-) -> Result<Goods<ListFault>, MakeFault<Reason>>
+) -> MakeResult<Goods<ListFault>>
     ensures { Makes (executes_list twice (string_bytes out)) files result }
 {
-    let LoadFiles {
-        memory,
-        image,
-        segments,
-        startup,
-    } = files;
+    let image = files.image;
     if lacks_swap_page(twice, image.mode) {
-        return Err(MakeFault::Refused {
-            why: Reason::NotKept,
-        });
+        return Err(MakeFault::refused(Reason::NotKept));
     }
-    let loaded = Loaded::from_files(alloc, memory, image, segments);
+    let loaded = Loaded::from_files(alloc, files.memory, image, files.segments);
     match loaded.accept(alloc) {
-        Ok(accepted) => run_goods(alloc, accepted, twice, startup, out),
+        Ok(accepted) => run_goods(alloc, accepted, twice, files.startup, out),
         Err(refused) => unaccepted_goods(alloc, refused.why),
     }
 }
 
-impl Command for RunLoad {
+impl Command<ListFault, Reason> for RunLoad {
     type Names = LoadNames;
 
     type Taken = TakenLoad;
-
-    type Fault = ListFault;
-
-    type Reason = Reason;
 
     ghost use Rattle.list_commands.specs.declared.records.TakenLoad.{TakenLoad};
 
@@ -115,19 +102,14 @@ impl Command for RunLoad {
 
     ghost makes = { λ e. executes e.twice (string_bytes e.out) };
 
-    fn take<S: Shelf>(
-        alloc: Global,
-        names: LoadNames,
-        shelf: &mut S,
-    ) -> Result<TakenLoad, TakeFault<Reason>> {
+    fn take<S: Shelf>(alloc: Global, names: LoadNames, shelf: &mut S) -> TakeResult<TakenLoad> {
         take_load_files(alloc, names, shelf)
     }
 
-    fn make(self, alloc: Global, load: TakenLoad) -> Result<Goods<ListFault>, MakeFault<Reason>> {
-        let RunLoad { twice, out } = self;
+    fn make(self, alloc: Global, load: TakenLoad) -> MakeResult<Goods<ListFault>> {
         match load {
-            TakenLoad::Normal(files) => exec_list(alloc, files, twice, out),
-            TakenLoad::Crash(files) => exec_in_place(alloc, files, twice, out),
+            TakenLoad::Normal(files) => exec_list(alloc, files, self.twice, self.out),
+            TakenLoad::Crash(files) => exec_in_place(alloc, files, self.twice, self.out),
         }
     }
 }
@@ -142,15 +124,13 @@ pub fn run_exec<S: Shelf, O: Sink>(
     ensures { Meets S.Shelf O.Sink (exec_entry (exec_value words)).command shelf.old out.old
         (call_answer result) shelf.new out.new }
 {
-    let Exec {
-        memory,
-        load_record,
-        out: name,
-        twice,
-    } = words;
     let names = LoadNames {
-        memory,
-        load_record,
+        memory: words.memory,
+        load_record: words.load_record,
     };
-    run(alloc, names, RunLoad { twice, out: name }, shelf, out)
+    let command = RunLoad {
+        twice: words.twice,
+        out: words.out,
+    };
+    run(alloc, names, command, shelf, out)
 }

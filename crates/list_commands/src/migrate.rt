@@ -10,9 +10,9 @@ ghost use Rattle.list_commands.specs.Migrate.{migrates, segments_line, migrate_e
 
 use crate::read_record::ReadRecord;
 use crate::records::take_digested_record;
-use command_parts::{Reason, one};
+use command_parts::{MakeResult, Reason, TakeResult, one_file};
 use command_table::Role;
-use file_commands::{Command, File, Goods, MakeFault, Stop, TakeFault, run};
+use file_commands::{Command, Goods, Stop, run};
 use kexec_words::Migrate;
 use kx_edge::{Shelf, Sink};
 use list_checker::ListFault;
@@ -31,14 +31,10 @@ fn segments_line(alloc: Global, count: usize) -> Result<String, AllocError>
     format!(in alloc; "record segments {count}\n")
 }
 
-impl Command for RewriteRecord {
+impl Command<ListFault, Reason> for RewriteRecord {
     type Names = String;
 
     type Taken = ReadRecord;
-
-    type Fault = ListFault;
-
-    type Reason = Reason;
 
     ghost Inputs = { Record };
 
@@ -48,28 +44,16 @@ impl Command for RewriteRecord {
 
     ghost makes = { λ m. migrates (string_bytes m.out) };
 
-    fn take<S: Shelf>(
-        alloc: Global,
-        name: String,
-        shelf: &mut S,
-    ) -> Result<ReadRecord, TakeFault<Reason>> {
+    fn take<S: Shelf>(alloc: Global, name: String, shelf: &mut S) -> TakeResult<ReadRecord> {
         let load_record = take_digested_record(alloc, name, shelf)?;
         Ok(ReadRecord { load_record })
     }
 
-    fn make(self, alloc: Global, taken: ReadRecord) -> Result<Goods<ListFault>, MakeFault<Reason>> {
-        let ReadRecord { load_record } = taken;
-        let text = segments_line(alloc, load_record.record().segments.count())?;
-        let file = File {
-            role: Role::RecordOut,
-            name: self.out,
-            bytes: load_record.into_file()?,
-        };
-        Ok(Goods {
-            outputs: one(alloc, file)?,
-            text,
-            fault: None,
-        })
+    fn make(self, alloc: Global, taken: ReadRecord) -> MakeResult<Goods<ListFault>> {
+        let text = segments_line(alloc, taken.load_record.record().segments.count())?;
+        let bytes = taken.load_record.into_file()?;
+        let outputs = one_file(alloc, Role::RecordOut, self.out, bytes)?;
+        Ok(Goods::done(outputs, text))
     }
 }
 
@@ -83,9 +67,6 @@ pub fn run_migrate<S: Shelf, O: Sink>(
     ensures { Meets S.Shelf O.Sink (migrate_entry (migrate_value words)).command shelf.old out.old
         (call_answer result) shelf.new out.new }
 {
-    let Migrate {
-        load_record,
-        out: name,
-    } = words;
-    run(alloc, load_record, RewriteRecord { out: name }, shelf, out)
+    let command = RewriteRecord { out: words.out };
+    run(alloc, words.load_record, command, shelf, out)
 }

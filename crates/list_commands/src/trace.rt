@@ -8,8 +8,8 @@ ghost use Rattle.kexec_words.specs.inner.Values.{trace_value};
 ghost use Rattle.command_parts.specs.Files.{memory_file};
 ghost use Rattle.list_commands.specs.Trace.{mode_by, outcome_line, traces, trace_entry};
 
-use command_parts::{Reason, memory_output, take_memory};
-use file_commands::{Command, Goods, MakeFault, Stop, TakeFault, run};
+use command_parts::{MakeResult, Reason, TakeResult, memory_output, take_memory};
+use file_commands::{Command, Goods, Stop, run};
 use kexec_words::Trace;
 use kx_edge::{Shelf, Sink};
 use kx_pages::{Mode, Page};
@@ -53,38 +53,20 @@ fn mode_by(swap: Option<u64>) -> Mode
 }
 
 // Runs the list, and makes the file of the memory after the steps and the line that tells how the run came out.
-fn make_trace(
-    alloc: Global,
-    trace: RunSteps,
-    mut memory: Memory,
-) -> Result<Goods<ListFault>, MakeFault<Reason>>
+fn make_trace(alloc: Global, trace: RunSteps, mut memory: Memory) -> MakeResult<Goods<ListFault>>
     ensures { Makes (traces trace.head trace.mode trace.limit (string_bytes trace.out)) memory
         result }
 {
-    let RunSteps {
-        head,
-        mode,
-        limit,
-        out,
-    } = trace;
-    let outcome = run_steps(&mut memory, head, mode, limit)?;
+    let outcome = run_steps(&mut memory, trace.head, trace.mode, trace.limit)?;
     let text = outcome_line(alloc, outcome)?;
-    let outputs = memory_output(alloc, memory, out)?;
-    Ok(Goods {
-        outputs,
-        text,
-        fault: None,
-    })
+    let outputs = memory_output(alloc, memory, trace.out)?;
+    Ok(Goods::done(outputs, text))
 }
 
-impl Command for RunSteps {
+impl Command<ListFault, Reason> for RunSteps {
     type Names = String;
 
     type Taken = Memory;
-
-    type Fault = ListFault;
-
-    type Reason = Reason;
 
     ghost Inputs = { Contents };
 
@@ -94,15 +76,11 @@ impl Command for RunSteps {
 
     ghost makes = { λ t. traces t.head t.mode t.limit (string_bytes t.out) };
 
-    fn take<S: Shelf>(
-        alloc: Global,
-        name: String,
-        shelf: &mut S,
-    ) -> Result<Memory, TakeFault<Reason>> {
+    fn take<S: Shelf>(alloc: Global, name: String, shelf: &mut S) -> TakeResult<Memory> {
         take_memory(alloc, name, shelf)
     }
 
-    fn make(self, alloc: Global, memory: Memory) -> Result<Goods<ListFault>, MakeFault<Reason>> {
+    fn make(self, alloc: Global, memory: Memory) -> MakeResult<Goods<ListFault>> {
         make_trace(alloc, self, memory)
     }
 }
@@ -118,19 +96,11 @@ pub fn run_trace<S: Shelf, O: Sink>(
     ensures { Meets S.Shelf O.Sink (trace_entry (trace_value words)).command shelf.old out.old
         (call_answer result) shelf.new out.new }
 {
-    let Trace {
-        memory,
-        out: name,
-        head,
-        limit,
-        swap,
-    } = words;
-    let mode = mode_by(swap);
     let trace = RunSteps {
-        head,
-        mode,
-        limit,
-        out: name,
+        head: words.head,
+        mode: mode_by(words.swap),
+        limit: words.limit,
+        out: words.out,
     };
-    run(alloc, memory, trace, shelf, out)
+    run(alloc, words.memory, trace, shelf, out)
 }

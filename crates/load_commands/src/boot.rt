@@ -13,8 +13,8 @@ ghost use Rattle.kexec_words.specs.inner.Values.{boot_value, inputs_value};
 use crate::inputs::take_inputs;
 use crate::load_inputs::{InputNames, LoadInputs};
 use crate::loading::load_request;
-use command_parts::{Reason, memory_output, ran_text, run_loaded};
-use file_commands::{Command, Goods, MakeFault, Stop, TakeFault, run};
+use command_parts::{MakeResult, Reason, TakeResult, memory_output, ran_text, run_loaded};
+use file_commands::{Command, Goods, Stop, run};
 use kexec_words::{Boot, Runs};
 use kx_edge::{Shelf, Sink};
 use kx_pages::Wish;
@@ -38,14 +38,10 @@ fn wish_of(runs: Option<Runs>) -> Wish
     }
 }
 
-impl Command for BootKernel {
+impl Command<ListFault, Reason> for BootKernel {
     type Names = InputNames;
 
     type Taken = LoadInputs;
-
-    type Fault = ListFault;
-
-    type Reason = Reason;
 
     ghost Inputs = { Inputs };
 
@@ -55,25 +51,17 @@ impl Command for BootKernel {
 
     ghost makes = { λ b. boots b.runs (string_bytes b.out) };
 
-    fn take<S: Shelf>(
-        alloc: Global,
-        names: InputNames,
-        shelf: &mut S,
-    ) -> Result<LoadInputs, TakeFault<Reason>> {
+    fn take<S: Shelf>(alloc: Global, names: InputNames, shelf: &mut S) -> TakeResult<LoadInputs> {
         take_inputs(alloc, names, shelf)
     }
 
     // Loads the kernel and runs its list, and makes the file of the memory after the last run.
-    fn make(self, alloc: Global, load: LoadInputs) -> Result<Goods<ListFault>, MakeFault<Reason>> {
+    fn make(self, alloc: Global, load: LoadInputs) -> MakeResult<Goods<ListFault>> {
         let kernel = load_request(alloc, load, wish_of(self.runs))?;
         let ran = run_loaded(alloc, kernel.loaded, self.runs)?;
         let text = ran_text(alloc, &ran, kernel.startup)?;
         let outputs = memory_output(alloc, ran.memory, self.out)?;
-        Ok(Goods {
-            outputs,
-            text,
-            fault: None,
-        })
+        Ok(Goods::done(outputs, text))
     }
 }
 

@@ -18,9 +18,10 @@ use crate::files::take_pairs;
 use crate::inputs::take_inputs;
 use crate::load_inputs::{InputNames, LoadInputs};
 use crate::loading::plan_request;
-use command_parts::{Ran, Reason, load_lines, memory_output, push_ran_line, run_loaded};
-use file_commands::{Command, Goods, MakeFault, Stop, TakeFault, run};
-use kexec_plan::Planned;
+use command_parts::{
+    MakeResult, Ran, Reason, TakeResult, load_lines, memory_output, push_ran_line, run_loaded,
+};
+use file_commands::{Command, Goods, MakeFault, Stop, run};
 use kexec_words::{BootResident, Inputs};
 use kx_edge::{Shelf, Sink};
 use kx_pages::{ImageType, Page, Start};
@@ -95,7 +96,7 @@ fn make_list(
     pool: &Pool,
     segments: &Segments,
     pairs: &[Pair],
-) -> Result<Made, MakeFault<Reason>>
+) -> MakeResult<Made>
     ensures { MakesOr (λ m. IsMade (at memory) segments.now (usable_of pool.now)
         (map as_pair pairs.now) m)
         (HasNoList (at memory) segments.now (usable_of pool.now) (map as_pair pairs.now)) result }
@@ -105,9 +106,7 @@ fn make_list(
         Ok(made) => Ok(made),
         Err(refused) => match refused.why {
             ResidentFault::Memory => Err(MakeFault::Memory),
-            fault => Err(MakeFault::Refused {
-                why: Reason::Resident { fault },
-            }),
+            fault => Err(MakeFault::refused(Reason::Resident { fault })),
         },
     }
 }
@@ -121,30 +120,15 @@ pub(crate) struct ResidentKernel {
 }
 
 // Plans the kernel, and makes the list of its segments.
-fn load_resident(
-    alloc: Global,
-    load: LoadInputs,
-    pairs: &[Pair],
-) -> Result<ResidentKernel, MakeFault<Reason>>
+fn load_resident(alloc: Global, load: LoadInputs, pairs: &[Pair]) -> MakeResult<ResidentKernel>
     ensures { MakesOr (IsKernel (inputs_of load) (map as_pair pairs.now))
         (RefusesResident (inputs_of load) (map as_pair pairs.now)) result }
 {
-    let LoadInputs {
-        memory,
-        pool,
-        map,
-        request,
-    } = load;
-    let planned = plan_request(alloc, request, map.as_ref())?;
-    let Planned {
-        segments,
-        start,
-        ..
-    } = planned;
-    let made = make_list(alloc, memory, &pool, &segments, pairs)?;
+    let planned = plan_request(alloc, load.request, load.map.as_ref())?;
+    let made = make_list(alloc, load.memory, &load.pool, &planned.segments, pairs)?;
     Ok(ResidentKernel {
-        loaded: Loaded::from_files(alloc, made.memory, made.image, segments),
-        start,
+        loaded: Loaded::from_files(alloc, made.memory, made.image, planned.segments),
+        start: planned.start,
         copied: made.copied,
     })
 }
@@ -167,14 +151,10 @@ fn resident_text(alloc: Global, ran: &Ran, start: &Start, copied: u64) -> Result
     Ok(text)
 }
 
-impl Command for BootByPairs {
+impl Command<ListFault, Reason> for BootByPairs {
     type Names = ResidentNames;
 
     type Taken = ResidentInputs;
-
-    type Fault = ListFault;
-
-    type Reason = Reason;
 
     ghost Inputs = { Inputs };
 
@@ -190,28 +170,19 @@ impl Command for BootByPairs {
         alloc: Global,
         names: ResidentNames,
         shelf: &mut S,
-    ) -> Result<ResidentInputs, TakeFault<Reason>> {
+    ) -> TakeResult<ResidentInputs> {
         let load = take_inputs(alloc, names.load, shelf)?;
         let pairs = take_pairs(alloc, names.pairs, shelf)?;
         Ok(ResidentInputs { load, pairs })
     }
 
     // Makes the list and runs it, and makes the file of the memory after the run.
-    fn make(
-        self,
-        alloc: Global,
-        taken: ResidentInputs,
-    ) -> Result<Goods<ListFault>, MakeFault<Reason>> {
-        let ResidentInputs { load, pairs } = taken;
-        let kernel = load_resident(alloc, load, &pairs)?;
+    fn make(self, alloc: Global, taken: ResidentInputs) -> MakeResult<Goods<ListFault>> {
+        let kernel = load_resident(alloc, taken.load, &taken.pairs)?;
         let ran = run_loaded(alloc, kernel.loaded, None)?;
         let text = resident_text(alloc, &ran, &kernel.start, kernel.copied)?;
         let outputs = memory_output(alloc, ran.memory, self.out)?;
-        Ok(Goods {
-            outputs,
-            text,
-            fault: None,
-        })
+        Ok(Goods::done(outputs, text))
     }
 }
 
@@ -226,17 +197,9 @@ pub fn run_boot_resident<S: Shelf, O: Sink>(
         shelf.old out.old
         (call_answer result) shelf.new out.new }
 {
-    let BootResident {
-        memory,
-        pool,
-        out: name,
-        kernel,
-        pairs,
-        at,
-    } = words;
     let names = ResidentNames {
-        load: raw_names(alloc, memory, pool, kernel, at),
-        pairs,
+        load: raw_names(alloc, words.memory, words.pool, words.kernel, words.at),
+        pairs: words.pairs,
     };
-    run(alloc, names, BootByPairs { out: name }, shelf, out)
+    run(alloc, names, BootByPairs { out: words.out }, shelf, out)
 }

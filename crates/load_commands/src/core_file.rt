@@ -10,9 +10,9 @@ ghost use Rattle.kexec_words.specs.inner.Values.{core_value};
 ghost use Rattle.command_parts.specs.Files.{memory_file};
 ghost use Rattle.load_commands.specs.CoreFile.{RefusesCore, core_line, cores, core_entry};
 
-use command_parts::{Reason, one, take_memory};
+use command_parts::{MakeResult, Reason, TakeResult, one_file, take_memory};
 use command_table::Role;
-use file_commands::{Command, File, Goods, MakeFault, Stop, TakeFault, run};
+use file_commands::{Command, Goods, MakeFault, Stop, run};
 use kexec_words::Core as CoreWords;
 use kx_edge::{Shelf, Sink};
 use list_checker::ListFault;
@@ -33,14 +33,16 @@ pub(crate) struct WriteCore {
 fn core_line(alloc: Global, core: &Core) -> Result<String, AllocError>
     ensures { IfOk result (λ s. string_bytes s ≡ core_line (value_of core.now)) }
 {
-    let loads = core.loads;
-    let notes = core.notes;
-    let bytes = core.bytes.len();
-    format!(in alloc; "core loads {loads} notes {notes} bytes {bytes}\n")
+    format!(in alloc;
+        "core loads {} notes {} bytes {}\n",
+        core.loads,
+        core.notes,
+        core.bytes.len()
+    )
 }
 
 // The core of a memory by the headers at an address.
-fn core_of(alloc: Global, memory: &Memory, address: u64) -> Result<Core, MakeFault<Reason>>
+fn core_of(alloc: Global, memory: &Memory, address: u64) -> MakeResult<Core>
     requires { address < 2 ^ 46 }
     ensures { MakesOr (λ c. core_reading (at memory.now) address ≡ Ok (value_of c))
         (RefusesCore (at memory.now) address) result }
@@ -48,20 +50,14 @@ fn core_of(alloc: Global, memory: &Memory, address: u64) -> Result<Core, MakeFau
     match make(alloc, memory, address) {
         Ok(core) => Ok(core),
         Err(CoreFault::Memory) => Err(MakeFault::Memory),
-        Err(fault) => Err(MakeFault::Refused {
-            why: Reason::Core { fault },
-        }),
+        Err(fault) => Err(MakeFault::refused(Reason::Core { fault })),
     }
 }
 
-impl Command for WriteCore {
+impl Command<ListFault, Reason> for WriteCore {
     type Names = String;
 
     type Taken = Memory;
-
-    type Fault = ListFault;
-
-    type Reason = Reason;
 
     ghost Inputs = { Contents };
 
@@ -71,28 +67,16 @@ impl Command for WriteCore {
 
     ghost makes = { λ c. cores c.address (string_bytes c.out) };
 
-    fn take<S: Shelf>(
-        alloc: Global,
-        name: String,
-        shelf: &mut S,
-    ) -> Result<Memory, TakeFault<Reason>> {
+    fn take<S: Shelf>(alloc: Global, name: String, shelf: &mut S) -> TakeResult<Memory> {
         take_memory(alloc, name, shelf)
     }
 
     // Makes the core file, and the line that tells its size.
-    fn make(self, alloc: Global, memory: Memory) -> Result<Goods<ListFault>, MakeFault<Reason>> {
+    fn make(self, alloc: Global, memory: Memory) -> MakeResult<Goods<ListFault>> {
         let core = core_of(alloc, &memory, self.address)?;
         let text = core_line(alloc, &core)?;
-        let file = File {
-            role: Role::CoreOut,
-            name: self.out,
-            bytes: core.bytes,
-        };
-        Ok(Goods {
-            outputs: one(alloc, file)?,
-            text,
-            fault: None,
-        })
+        let outputs = one_file(alloc, Role::CoreOut, self.out, core.bytes)?;
+        Ok(Goods::done(outputs, text))
     }
 }
 
@@ -107,10 +91,9 @@ pub fn run_core<S: Shelf, O: Sink>(
     ensures { Meets S.Shelf O.Sink (core_entry (core_value words)).command shelf.old out.old
         (call_answer result) shelf.new out.new }
 {
-    let CoreWords {
-        memory,
-        out: name,
-        address,
-    } = words;
-    run(alloc, memory, WriteCore { address, out: name }, shelf, out)
+    let command = WriteCore {
+        address: words.address,
+        out: words.out,
+    };
+    run(alloc, words.memory, command, shelf, out)
 }

@@ -7,7 +7,7 @@ ghost use Rattle.load_commands.specs.Loading.{HasNoPlan};
 
 use crate::load_inputs::CrashInputs;
 use crate::loading::{plan_request, planned_startup};
-use command_parts::{Reason, Startup};
+use command_parts::{MakeResult, Startup};
 use file_commands::MakeFault;
 use load_states::{CrashLoaded, load_crash};
 use std::alloc::Global;
@@ -20,21 +20,13 @@ pub(crate) struct CrashKernel {
 }
 
 /// Plans the request and puts the segments of the plan in their place.
-pub(crate) fn load_in_place(
-    alloc: Global,
-    inputs: CrashInputs,
-) -> Result<CrashKernel, MakeFault<Reason>>
+pub(crate) fn load_in_place(alloc: Global, inputs: CrashInputs) -> MakeResult<CrashKernel>
     ensures { MakesOr (IsCrashKernel (crash_inputs_of inputs))
         (HasNoPlan (crash_inputs_of inputs).request (Some inputs.map)) result }
 {
-    let CrashInputs {
-        memory,
-        map,
-        request,
-    } = inputs;
-    let planned = plan_request(alloc, request, Some(&map))?;
+    let planned = plan_request(alloc, inputs.request, Some(&inputs.map))?;
     let startup = planned_startup(&planned);
-    match load_crash(alloc, memory, planned.segments) {
+    match load_crash(alloc, inputs.memory, planned.segments) {
         Ok(loaded) => Ok(CrashKernel { loaded, startup }),
         Err(_) => Err(MakeFault::Memory),
     }

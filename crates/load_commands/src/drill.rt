@@ -18,8 +18,8 @@ ghost use Rattle.load_commands.specs.inner.Views.{drill_inputs};
 use crate::drill_inputs::{DrillInputs, DrillNames};
 use crate::files::{take_events, take_map_file, take_pool};
 use crate::replies::reply_lines;
-use command_parts::{Reason, memory_output, take_memory};
-use file_commands::{Command, Goods, MakeFault, Stop, TakeFault, run};
+use command_parts::{MakeResult, Reason, TakeResult, memory_output, take_memory};
+use file_commands::{Command, Goods, MakeFault, Stop, run};
 use image_slots::Slots;
 use kexec_words::Drill;
 use kx_edge::{Shelf, Sink};
@@ -36,12 +36,7 @@ pub(crate) struct ApplyEvents {
 }
 
 // The slots over a memory, a pool and a memory map.
-fn slots_over(
-    alloc: Global,
-    memory: Memory,
-    pool: Pool,
-    map: &Map,
-) -> Result<Slots, MakeFault<Reason>>
+fn slots_over(alloc: Global, memory: Memory, pool: Pool, map: &Map) -> MakeResult<Slots>
     ensures { MakesOr
         (λ s. (ram : List Run) × AreRam map.now ram
         × (find (in_area (reserved_area map.now)) (usable_of pool) ≡ None)
@@ -54,20 +49,14 @@ fn slots_over(
     let ram = pages.try_copy()?;
     match Slots::new(alloc, memory, pool, ram, map.reserved_area()) {
         Ok(slots) => Ok(slots),
-        Err(refused) => Err(MakeFault::Refused {
-            why: Reason::Slots { fault: refused.why },
-        }),
+        Err(refused) => Err(MakeFault::refused(Reason::Slots { fault: refused.why })),
     }
 }
 
-impl Command for ApplyEvents {
+impl Command<ListFault, Reason> for ApplyEvents {
     type Names = DrillNames;
 
     type Taken = DrillInputs;
-
-    type Fault = ListFault;
-
-    type Reason = Reason;
 
     ghost Inputs = { Inputs };
 
@@ -80,11 +69,7 @@ impl Command for ApplyEvents {
 
     // Takes the memory, the pool, the memory map and the events.
     #[tactic(auto, using(crate::proofs::EventFile::all_short))]
-    fn take<S: Shelf>(
-        alloc: Global,
-        names: DrillNames,
-        shelf: &mut S,
-    ) -> Result<DrillInputs, TakeFault<Reason>> {
+    fn take<S: Shelf>(alloc: Global, names: DrillNames, shelf: &mut S) -> TakeResult<DrillInputs> {
         let memory = take_memory(alloc, names.memory, shelf)?;
         let pool = take_pool(alloc, names.pool, None, shelf)?;
         let map = take_map_file(alloc, names.map, shelf)?;
@@ -99,26 +84,12 @@ impl Command for ApplyEvents {
 
     // Applies the events, and makes the file of the memory after them and the lines of the replies.
     #[tactic(auto, using(crate::proofs::EventFile::all_few))]
-    fn make(
-        self,
-        alloc: Global,
-        taken: DrillInputs,
-    ) -> Result<Goods<ListFault>, MakeFault<Reason>> {
-        let DrillInputs {
-            memory,
-            pool,
-            map,
-            events,
-        } = taken;
-        let mut slots = slots_over(alloc, memory, pool, &map)?;
-        let replies = slots.apply_each(alloc, events)?;
+    fn make(self, alloc: Global, taken: DrillInputs) -> MakeResult<Goods<ListFault>> {
+        let mut slots = slots_over(alloc, taken.memory, taken.pool, &taken.map)?;
+        let replies = slots.apply_each(alloc, taken.events)?;
         let text = reply_lines(alloc, &replies)?;
         let outputs = memory_output(alloc, slots.into_memory(), self.out)?;
-        Ok(Goods {
-            outputs,
-            text,
-            fault: None,
-        })
+        Ok(Goods::done(outputs, text))
     }
 }
 
@@ -133,18 +104,11 @@ pub fn run_drill<S: Shelf, O: Sink>(
         out.old
         (call_answer result) shelf.new out.new }
 {
-    let Drill {
-        memory,
-        pool,
-        out: name,
-        events,
-        map,
-    } = words;
     let names = DrillNames {
-        memory,
-        pool,
-        map,
-        events,
+        memory: words.memory,
+        pool: words.pool,
+        map: words.map,
+        events: words.events,
     };
-    run(alloc, names, ApplyEvents { out: name }, shelf, out)
+    run(alloc, names, ApplyEvents { out: words.out }, shelf, out)
 }

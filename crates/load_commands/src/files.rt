@@ -1,6 +1,5 @@
 //! The files beside the memory are taken, each with its limit, and read: the pool, the memory map, the notes, the pairs and the
 //! events.
-#![tactic(auto, unfolding(file_commands::specs::Taking::and_then, file_commands::specs::Taking::Took, file_commands::specs::Taking::FailedAt, file_commands::specs::Taking::WantedAt, file_commands::specs::inner::Calls::TakesNot))]
 
 ghost use Rattle.std.specs.Prelude.{◌≡◌, ℕ, ◌^◌, [], None, false, is_some, map, option_map, string_bytes, IfOk};
 ghost use Rattle.std.specs.List.{AllByRecursion};
@@ -12,25 +11,21 @@ ghost use Rattle.load_commands.specs.EventFile.{events_file};
 ghost use Rattle.image_slots.specs.inner.Events.{HasFewBytes, event_of};
 ghost use Rattle.page_pool.specs.Pages.{is_filed, usable_of};
 
-use command_parts::{InputFault, Reason, TEXT_LIMIT, refusal_by};
+use command_parts::{InputFault, TEXT_LIMIT, TakeResult};
 use command_table::Role;
-use crash_headers::{Note, NoteFault, read_notes};
-use file_commands::{TakeFault, take_file};
-use image_slots::{Event, EventsFault, read_events};
+use crash_headers::{Note, read_notes};
+use file_commands::take_file;
+use image_slots::{Event, read_events};
 use kx_edge::Shelf;
 use kx_pages::Page;
 use list_checker::Pair;
-use memory_map::{Map, MapFault};
-use page_pool::{Pool, PoolFault};
-use resident_planner::{PairsFault, read_pairs};
+use memory_map::Map;
+use page_pool::Pool;
+use resident_planner::read_pairs;
 use std::alloc::Global;
 
 // Takes a pool file and reads it. No page of the pool is drawn, and each is usable.
-fn take_pages<S: Shelf>(
-    alloc: Global,
-    name: String,
-    shelf: &mut S,
-) -> Result<Pool, TakeFault<Reason>>
+fn take_pages<S: Shelf>(alloc: Global, name: String, shelf: &mut S) -> TakeResult<Pool>
     ensures takes { Takes S.Shelf (pages_file (string_bytes name)) (λ p. p.made) shelf.old
         result shelf.new }
     ensures undrawn { IfOk result (λ p. p.drawn ≡ []) }
@@ -38,11 +33,7 @@ fn take_pages<S: Shelf>(
     ensures unfiled { IfOk result (λ p. (q : ℕ) → is_filed p q ≡ false) }
 {
     let bytes = take_file(alloc, Role::Pool, name, TEXT_LIMIT, shelf)?;
-    match Pool::read(alloc, &bytes) {
-        Ok(pool) => Ok(pool),
-        Err(PoolFault::Memory) => Err(TakeFault::Memory),
-        Err(fault) => Err(refusal_by(InputFault::Pool { fault })),
-    }
+    Pool::read(alloc, &bytes).map_err(|fault| InputFault::Pool { fault }.stop())
 }
 
 // The pool with a limit, where this is the first page past it.
@@ -66,7 +57,7 @@ pub(crate) fn take_pool<S: Shelf>(
     name: String,
     below: Option<Page>,
     shelf: &mut S,
-) -> Result<Pool, TakeFault<Reason>>
+) -> TakeResult<Pool>
     ensures takes { Takes S.Shelf (pool_file (string_bytes name) below) (λ p. usable_of p)
         shelf.old result shelf.new }
     ensures unfiled { IfOk result (λ p. (q : ℕ) → is_filed p q ≡ false) }
@@ -77,27 +68,20 @@ pub(crate) fn take_pool<S: Shelf>(
 }
 
 /// Takes a memory map and reads it.
-pub(crate) fn take_map_file<S: Shelf>(
-    alloc: Global,
-    name: String,
-    shelf: &mut S,
-) -> Result<Map, TakeFault<Reason>>
+pub(crate) fn take_map_file<S: Shelf>(alloc: Global, name: String, shelf: &mut S) -> TakeResult<Map>
     ensures { Takes S.Shelf (map_file (string_bytes name)) (λ m. m) shelf.old result shelf.new }
 {
     let bytes = take_file(alloc, Role::Map, name, TEXT_LIMIT, shelf)?;
-    match Map::read(alloc, &bytes) {
-        Ok(map) => Ok(map),
-        Err(MapFault::Memory) => Err(TakeFault::Memory),
-        Err(fault) => Err(refusal_by(InputFault::Map { fault })),
-    }
+    Map::read(alloc, &bytes).map_err(|fault| InputFault::Map { fault }.stop())
 }
 
 /// Takes the memory map, where one is named, and reads it.
+#[tactic(auto, unfolding(file_commands::specs::Taking::and_then, file_commands::specs::Taking::Took, file_commands::specs::Taking::FailedAt, file_commands::specs::Taking::WantedAt, file_commands::specs::inner::Calls::TakesNot))]
 pub(crate) fn take_map<S: Shelf>(
     alloc: Global,
     name: Option<String>,
     shelf: &mut S,
-) -> Result<Option<Map>, TakeFault<Reason>>
+) -> TakeResult<Option<Map>>
     ensures takes { Takes S.Shelf (optional_file map_file (option_map string_bytes name)) (λ m. m)
         shelf.old result shelf.new }
     ensures named { IfOk result (λ m. is_some m ≡ is_some name) }
@@ -109,28 +93,21 @@ pub(crate) fn take_map<S: Shelf>(
 }
 
 // Takes a file of notes and reads it.
-fn take_notes_file<S: Shelf>(
-    alloc: Global,
-    name: String,
-    shelf: &mut S,
-) -> Result<Vec<Note>, TakeFault<Reason>>
+fn take_notes_file<S: Shelf>(alloc: Global, name: String, shelf: &mut S) -> TakeResult<Vec<Note>>
     ensures { Takes S.Shelf (notes_file (string_bytes name)) (λ v. v.items) shelf.old result
         shelf.new }
 {
     let bytes = take_file(alloc, Role::Notes, name, TEXT_LIMIT, shelf)?;
-    match read_notes(alloc, &bytes) {
-        Ok(notes) => Ok(notes),
-        Err(NoteFault::Memory) => Err(TakeFault::Memory),
-        Err(fault) => Err(refusal_by(InputFault::Notes { fault })),
-    }
+    read_notes(alloc, &bytes).map_err(|fault| InputFault::Notes { fault }.stop())
 }
 
 /// Takes the file of notes, where one is named, and reads it. Without one there are none.
+#[tactic(auto, unfolding(file_commands::specs::Taking::Took))]
 pub(crate) fn take_notes<S: Shelf>(
     alloc: Global,
     name: Option<String>,
     shelf: &mut S,
-) -> Result<Vec<Note>, TakeFault<Reason>>
+) -> TakeResult<Vec<Note>>
     ensures { Takes S.Shelf (some_notes (option_map string_bytes name)) (λ v. v.items) shelf.old
         result shelf.new }
 {
@@ -145,16 +122,12 @@ pub(crate) fn take_pairs<S: Shelf>(
     alloc: Global,
     name: String,
     shelf: &mut S,
-) -> Result<Vec<Pair>, TakeFault<Reason>>
+) -> TakeResult<Vec<Pair>>
     ensures { Takes S.Shelf (pairs_file (string_bytes name)) (λ v. v.items) shelf.old result
         shelf.new }
 {
     let bytes = take_file(alloc, Role::Pairs, name, TEXT_LIMIT, shelf)?;
-    match read_pairs(alloc, &bytes) {
-        Ok(pairs) => Ok(pairs),
-        Err(PairsFault::Memory) => Err(TakeFault::Memory),
-        Err(fault) => Err(refusal_by(InputFault::Pairs { fault })),
-    }
+    read_pairs(alloc, &bytes).map_err(|fault| InputFault::Pairs { fault }.stop())
 }
 
 /// Takes a file of events and reads it.
@@ -162,15 +135,11 @@ pub(crate) fn take_events<S: Shelf>(
     alloc: Global,
     name: String,
     shelf: &mut S,
-) -> Result<Vec<Event>, TakeFault<Reason>>
+) -> TakeResult<Vec<Event>>
     ensures takes { Takes S.Shelf (events_file (string_bytes name)) (λ v. map event_of v.items)
         shelf.old result shelf.new }
     ensures few { IfOk result (λ v. AllByRecursion (λ e. HasFewBytes (event_of e)) v.items) }
 {
     let bytes = take_file(alloc, Role::Events, name, TEXT_LIMIT, shelf)?;
-    match read_events(alloc, &bytes) {
-        Ok(events) => Ok(events),
-        Err(EventsFault::Memory) => Err(TakeFault::Memory),
-        Err(fault) => Err(refusal_by(InputFault::Events { fault })),
-    }
+    read_events(alloc, &bytes).map_err(|fault| InputFault::Events { fault }.stop())
 }

@@ -11,12 +11,12 @@ ghost use Rattle.load_commands.specs.CrashInputs.{crash_inputs, crash_request};
 
 use crate::files::{take_map, take_map_file, take_notes, take_pool};
 use crate::load_inputs::{CrashInputs, CrashNames, InputNames, LoadInputs};
-use command_parts::{Reason, take_memory};
+use command_parts::{TakeResult, take_memory};
 use command_table::Role;
 use crash_headers::Note;
-use file_commands::{File, TakeFault, take_all, take_file, take_optional};
+use file_commands::{File, take_all, take_file, take_optional};
 use kexec_plan::{Module, Request};
-use kexec_words::{CrashInputs as CrashWords, Inputs};
+use kexec_words::Inputs;
 use kx_edge::Shelf;
 use kx_pages::{ImageType, KERNEL_LIMIT};
 use std::alloc::{AllocError, Global};
@@ -51,7 +51,7 @@ fn take_kernel<S: Shelf>(
     purgatory: Option<String>,
     modules: Vec<String>,
     shelf: &mut S,
-) -> Result<KernelFiles, TakeFault<Reason>>
+) -> TakeResult<KernelFiles>
     ensures takes { Takes S.Shelf
         (kernel_files (string_bytes kernel) (option_map string_bytes initrd)
         (option_map string_bytes purgatory) (map string_bytes modules.items)) kernel_bytes
@@ -83,10 +83,9 @@ fn modules_of(alloc: Global, files: Vec<File>) -> Result<Vec<Module>, AllocError
 {
     let mut modules = Vec::new(alloc);
     for file in files {
-        let File { name, bytes, .. } = file;
         modules.push(Module {
-            bytes,
-            text: name.into_bytes(),
+            bytes: file.bytes,
+            text: file.name.into_bytes(),
         })?;
     }
     Ok(modules)
@@ -125,7 +124,7 @@ pub(crate) fn take_inputs<S: Shelf>(
     alloc: Global,
     names: InputNames,
     shelf: &mut S,
-) -> Result<LoadInputs, TakeFault<Reason>>
+) -> TakeResult<LoadInputs>
     ensures { Takes S.Shelf (load_inputs names.image (inputs_value names.inputs)) inputs_of
         shelf.old result shelf.new }
 {
@@ -174,25 +173,25 @@ pub(crate) fn take_crash_inputs<S: Shelf>(
     alloc: Global,
     names: CrashNames,
     shelf: &mut S,
-) -> Result<CrashInputs, TakeFault<Reason>>
+) -> TakeResult<CrashInputs>
     ensures { Takes S.Shelf
         (crash_inputs (crash_inputs_value names.inputs) (string_bytes names.map))
         crash_inputs_of shelf.old result shelf.new }
 {
-    let CrashWords {
-        memory,
-        notes,
-        kernel,
-        initrd,
-        purgatory,
-        command,
-    } = names.inputs;
-    let memory = take_memory(alloc, memory, shelf)?;
+    let words = names.inputs;
+    let memory = take_memory(alloc, words.memory, shelf)?;
     let map = take_map_file(alloc, names.map, shelf)?;
-    let notes = take_notes(alloc, notes, shelf)?;
+    let notes = take_notes(alloc, words.notes, shelf)?;
     let modules = Vec::new(alloc);
-    let files = take_kernel(alloc, kernel, initrd, purgatory, modules, shelf)?;
-    let request = crash_request(alloc, command, notes, files)?;
+    let files = take_kernel(
+        alloc,
+        words.kernel,
+        words.initrd,
+        words.purgatory,
+        modules,
+        shelf,
+    )?;
+    let request = crash_request(alloc, words.command, notes, files)?;
     Ok(CrashInputs {
         memory,
         map,

@@ -21,9 +21,9 @@ ghost use Rattle.load_commands.specs.inner.Views.{inputs_of, kernel_record};
 use crate::inputs::take_inputs;
 use crate::load_inputs::{InputNames, LoadInputs};
 use crate::loading::{LoadedKernel, load_request};
-use command_parts::{ListCounts, Reason, load_lines, memory_output};
+use command_parts::{ListCounts, MakeResult, Reason, TakeResult, load_lines, memory_output};
 use command_table::Role;
-use file_commands::{Command, File, Goods, MakeFault, Stop, TakeFault, run};
+use file_commands::{Command, File, Goods, Stop, run};
 use kexec_words::Load;
 use kx_edge::{Shelf, Sink};
 use kx_pages::{Start, Wish};
@@ -80,14 +80,10 @@ fn record_output(
     Ok((memory, File { role, name, bytes }))
 }
 
-impl Command for RecordLoad {
+impl Command<ListFault, Reason> for RecordLoad {
     type Names = InputNames;
 
     type Taken = LoadInputs;
-
-    type Fault = ListFault;
-
-    type Reason = Reason;
 
     ghost Inputs = { Inputs };
 
@@ -97,26 +93,18 @@ impl Command for RecordLoad {
 
     ghost makes = { λ c. loads c.wish (string_bytes c.out) (string_bytes c.load_record) };
 
-    fn take<S: Shelf>(
-        alloc: Global,
-        names: InputNames,
-        shelf: &mut S,
-    ) -> Result<LoadInputs, TakeFault<Reason>> {
+    fn take<S: Shelf>(alloc: Global, names: InputNames, shelf: &mut S) -> TakeResult<LoadInputs> {
         take_inputs(alloc, names, shelf)
     }
 
     // Loads the kernel, and makes the file of the memory after the load and its record.
-    fn make(self, alloc: Global, load: LoadInputs) -> Result<Goods<ListFault>, MakeFault<Reason>> {
+    fn make(self, alloc: Global, load: LoadInputs) -> MakeResult<Goods<ListFault>> {
         let kernel = load_request(alloc, load, self.wish)?;
         let text = loaded_text(alloc, &kernel.loaded, &kernel.startup.start)?;
         let (memory, output) = record_output(alloc, kernel, self.load_record)?;
         let mut outputs = memory_output(alloc, memory, self.out)?;
         outputs.push(output)?;
-        Ok(Goods {
-            outputs,
-            text,
-            fault: None,
-        })
+        Ok(Goods::done(outputs, text))
     }
 }
 
@@ -131,18 +119,14 @@ pub fn run_load<S: Shelf, O: Sink>(
     ensures { Meets S.Shelf O.Sink (load_entry (load_value words)).command shelf.old out.old
         (call_answer result) shelf.new out.new }
 {
-    let Load {
-        inputs,
-        out: name,
-        load_record,
-        kept,
-        image,
-    } = words;
-    let names = InputNames { image, inputs };
+    let names = InputNames {
+        image: words.image,
+        inputs: words.inputs,
+    };
     let command = RecordLoad {
-        wish: kept_wish(kept),
-        out: name,
-        load_record,
+        wish: kept_wish(words.kept),
+        out: words.out,
+        load_record: words.load_record,
     };
     run(alloc, names, command, shelf, out)
 }

@@ -15,9 +15,9 @@ ghost use Rattle.command_parts.specs.Texts.{crash_lines};
 use crate::crash_loading::{CrashKernel, load_in_place};
 use crate::inputs::take_crash_inputs;
 use crate::load_inputs::{CrashInputs, CrashNames};
-use command_parts::{Reason, crash_lines, memory_output};
+use command_parts::{MakeResult, Reason, TakeResult, crash_lines, memory_output};
 use command_table::Role;
-use file_commands::{Command, File, Goods, MakeFault, Stop, TakeFault, run};
+use file_commands::{Command, File, Goods, Stop, run};
 use kexec_words::LoadPanic;
 use kx_edge::{Shelf, Sink};
 use kx_pages::{Image, Mode, Page};
@@ -58,14 +58,10 @@ fn record_output(
     Ok((memory, text, File { role, name, bytes }))
 }
 
-impl Command for RecordCrashLoad {
+impl Command<ListFault, Reason> for RecordCrashLoad {
     type Names = CrashNames;
 
     type Taken = CrashInputs;
-
-    type Fault = ListFault;
-
-    type Reason = Reason;
 
     ghost Inputs = { Inputs };
 
@@ -75,25 +71,17 @@ impl Command for RecordCrashLoad {
 
     ghost makes = { λ c. loads_panic (string_bytes c.out) (string_bytes c.load_record) };
 
-    fn take<S: Shelf>(
-        alloc: Global,
-        names: CrashNames,
-        shelf: &mut S,
-    ) -> Result<CrashInputs, TakeFault<Reason>> {
+    fn take<S: Shelf>(alloc: Global, names: CrashNames, shelf: &mut S) -> TakeResult<CrashInputs> {
         take_crash_inputs(alloc, names, shelf)
     }
 
     // Puts the kernel in its place, and makes the file of the memory after the load and its record.
-    fn make(self, alloc: Global, load: CrashInputs) -> Result<Goods<ListFault>, MakeFault<Reason>> {
+    fn make(self, alloc: Global, load: CrashInputs) -> MakeResult<Goods<ListFault>> {
         let kernel = load_in_place(alloc, load)?;
         let (memory, text, output) = record_output(alloc, kernel, self.load_record)?;
         let mut outputs = memory_output(alloc, memory, self.out)?;
         outputs.push(output)?;
-        Ok(Goods {
-            outputs,
-            text,
-            fault: None,
-        })
+        Ok(Goods::done(outputs, text))
     }
 }
 
@@ -108,16 +96,13 @@ pub fn run_load_panic<S: Shelf, O: Sink>(
         out.old
         (call_answer result) shelf.new out.new }
 {
-    let LoadPanic {
-        inputs,
-        map,
-        out: name,
-        load_record,
-    } = words;
-    let names = CrashNames { inputs, map };
+    let names = CrashNames {
+        inputs: words.inputs,
+        map: words.map,
+    };
     let command = RecordCrashLoad {
-        out: name,
-        load_record,
+        out: words.out,
+        load_record: words.load_record,
     };
     run(alloc, names, command, shelf, out)
 }

@@ -13,7 +13,7 @@ ghost use Rattle.load_commands.specs.Startup.{planned_startup};
 ghost use Rattle.load_commands.specs.Loading.{HasNoPlan, IsTooFew, RefusesLoad};
 
 use crate::load_inputs::LoadInputs;
-use command_parts::{Reason, Startup, purgatory_places};
+use command_parts::{MakeResult, Reason, Startup, purgatory_places};
 use file_commands::MakeFault;
 use kexec_plan::{PlanFault, Planned, Request, plan};
 use kimage_list::BeginFault;
@@ -30,7 +30,7 @@ pub(crate) fn plan_request(
     alloc: Global,
     request: Request,
     map: Option<&Map>,
-) -> Result<Planned, MakeFault<Reason>>
+) -> MakeResult<Planned>
     requires { IsMapped (request_of request) (lent map) }
     ensures { MakesOr (λ p. plan (request_of request) (lent map.entry) ≡ Ok (planned_of p))
         (HasNoPlan (request_of request) (lent map.entry)) result }
@@ -38,9 +38,7 @@ pub(crate) fn plan_request(
     match plan(alloc, request, map) {
         Ok(planned) => Ok(planned),
         Err(PlanFault::Memory) => Err(MakeFault::Memory),
-        Err(fault) => Err(MakeFault::Refused {
-            why: Reason::Plan { fault },
-        }),
+        Err(fault) => Err(MakeFault::refused(Reason::Plan { fault })),
     }
 }
 
@@ -61,7 +59,7 @@ fn load_segments(
     pool: Pool,
     segments: Segments,
     wish: Wish,
-) -> Result<Loaded, MakeFault<Reason>>
+) -> MakeResult<Loaded>
     requires { (q : ℕ) → is_filed pool q ≡ false }
     ensures { MakesOr
         (λ load. (need wish segments ≤ length (usable_of pool))
@@ -91,18 +89,12 @@ pub(crate) fn load_request(
     alloc: Global,
     inputs: LoadInputs,
     wish: Wish,
-) -> Result<LoadedKernel, MakeFault<Reason>>
+) -> MakeResult<LoadedKernel>
     ensures { MakesOr (IsLoadedKernel wish (inputs_of inputs))
         (RefusesLoad wish (inputs_of inputs)) result }
 {
-    let LoadInputs {
-        memory,
-        pool,
-        map,
-        request,
-    } = inputs;
-    let planned = plan_request(alloc, request, map.as_ref())?;
+    let planned = plan_request(alloc, inputs.request, inputs.map.as_ref())?;
     let startup = planned_startup(&planned);
-    let loaded = load_segments(alloc, memory, pool, planned.segments, wish)?;
+    let loaded = load_segments(alloc, inputs.memory, inputs.pool, planned.segments, wish)?;
     Ok(LoadedKernel { loaded, startup })
 }

@@ -9,8 +9,8 @@ ghost use Rattle.file_commands.specs.Taking.{ok};
 ghost use Rattle.load_commands.specs.Sample.{memory_line, samples, sample_entry};
 ghost use Rattle.load_commands.specs.inner.Views.{start_alone};
 
-use command_parts::{Ran, Reason, Startup, ran_text, run_loaded};
-use file_commands::{Command, Goods, MakeFault, Stop, TakeFault, run};
+use command_parts::{MakeResult, Ran, Reason, Startup, TakeResult, ran_text, run_loaded};
+use file_commands::{Command, Goods, Stop, run};
 use kx_edge::{Shelf, Sink};
 use kx_pages::Start;
 use list_checker::ListFault;
@@ -49,14 +49,10 @@ fn sample_text(alloc: Global, ran: &Ran, start: &Start) -> Result<String, AllocE
     Ok(text)
 }
 
-impl Command for RunSample {
+impl Command<ListFault, Reason> for RunSample {
     type Names = ();
 
     type Taken = ();
-
-    type Fault = ListFault;
-
-    type Reason = Reason;
 
     ghost Inputs = { Unit {0} };
 
@@ -67,21 +63,17 @@ impl Command for RunSample {
     ghost makes = { λ s. samples s.number };
 
     #[tactic(auto, unfolding(file_commands::specs::Taking::Took))]
-    fn take<S: Shelf>(_: Global, _: (), _: &mut S) -> Result<(), TakeFault<Reason>> {
+    fn take<S: Shelf>(_: Global, _: (), _: &mut S) -> TakeResult<()> {
         Ok(())
     }
 
     // Loads the sample of the number, runs its list, and makes the text that tells of both.
-    fn make(self, alloc: Global, _: ()) -> Result<Goods<ListFault>, MakeFault<Reason>> {
+    fn make(self, alloc: Global, _: ()) -> MakeResult<Goods<ListFault>> {
         let loaded = load_sample(alloc, self.number)?;
         let start = start_of(loaded.segments());
         let ran = run_loaded(alloc, loaded, None)?;
         let text = sample_text(alloc, &ran, &start)?;
-        Ok(Goods {
-            outputs: Vec::new(alloc),
-            text,
-            fault: None,
-        })
+        Ok(Goods::done(Vec::new(alloc), text))
     }
 }
 

@@ -13,4 +13,4 @@ returns-in-Err-TooMany c =
     let n = c.in-Err-TooMany.count in
     let is = c.in-Err-TooMany.field-0-is in
     let h = c.in-Err-TooMany.ensures.heavy (λ e. not_memory n (sym is ∙ e)) in
-    (c.args.memory, c.sets-sets.ensures.valid, (λ p. refl), h.0, same_count n _ (sym is ∙ h.1))
+    rw c.refused.ensures (c.args.memory, c.sets-sets.ensures.valid, (λ p. refl), h.0, same_count n _ (sym is ∙ h.1))

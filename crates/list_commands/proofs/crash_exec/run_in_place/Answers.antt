@@ -28,10 +28,10 @@ returns c =
     let N = at c.into_memory.result in
     let ran = c.exec-ran.result in
     let same : Agree N M = λ p. ap (λ m. at m p) c.into_memory.ensures ∙ c.exec-ran.ensures.memory p in
-    record {
+    rw c.done.ensures (record {
       text = c.in_ok-text.ensures
           ∙ ap (λ steps. crash_ran_text (at ran.memory) a.pages steps a.startup) c.exec-ran.ensures.steps
           ∙ ap (λ L. crash_ran_text L a.pages 1 a.startup) (one_memory (at ran.memory) M c.exec-ran.ensures.memory);
       fault = refl;
       output = output_as N M _ (string_bytes a.out) same c.in_ok-outputs.ensures;
-    }
+    })

@@ -30,4 +30,4 @@ returns c = λ s a.
     let r = subst (λ runs. RunsLoaded runs s c.run_accepted-ran.result) asked (c.run_accepted-ran.ensures s a) in
     let k = checked_with s r.0 r.1 r.2 in
     let ran = c.run_accepted-ran.result in
-    (r.0, r.1, r.2, r.3, c.in_ok-text.ensures ∙ text_of runs k ran c.args.startup r.4, refl, output_as (at ran.memory) (after_runs runs k) _ (string_bytes c.args.out) r.4.memory c.in_ok-outputs.ensures)
+    rw c.done.ensures (r.0, r.1, r.2, r.3, c.in_ok-text.ensures ∙ text_of runs k ran c.args.startup r.4, refl, output_as (at ran.memory) (after_runs runs k) _ (string_bytes c.args.out) r.4.memory c.in_ok-outputs.ensures)

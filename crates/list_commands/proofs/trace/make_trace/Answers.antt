@@ -26,4 +26,4 @@ returns c =
     let t = c.args.trace in
     let run = run_of c.args.memory t.head t.mode t.limit in
     let left = c.in_ok-outcome.ensures.memory in
-    (c.in_ok-text.ensures ∙ ap outcome_line c.in_ok-outcome.ensures.outcome, refl, output_as (at c.run.new.memory) (at run.0.memory) _ (string_bytes t.out) (λ p. ap (λ m. at m p) left) c.in_ok-outputs.ensures)
+    rw c.done.ensures (c.in_ok-text.ensures ∙ ap outcome_line c.in_ok-outcome.ensures.outcome, refl, output_as (at c.run.new.memory) (at run.0.memory) _ (string_bytes t.out) (λ p. ap (λ m. at m p) left) c.in_ok-outputs.ensures)

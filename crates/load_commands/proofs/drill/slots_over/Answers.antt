@@ -5,6 +5,7 @@ use Rattle.page_memory.specs.Contents.{at}
 use Rattle.page_pool.specs.Pages.{usable_of}
 use Rattle.image_slots.specs.Pages.{in_area}
 use Rattle.image_slots.specs.Sequences.{fresh}
+use Rattle.image_slots.specs.Soundness.{Meets}
 use Rattle.image_slots.specs.inner.States.{state_of}
 use Rattle.load_commands.proofs.drill.slots_over.Goals as goal
 
@@ -19,3 +20,7 @@ returns-in-Ok c =
       subst (λ (a : Option Run). find (in_area a) (usable_of c.args.pool) ≡ None) area c.in-Ok.ensures.apart,
       ap state_of c.in-Ok.ensures.made ∙ ap (λ (a : Option Run). fresh (at c.args.memory) (usable_of c.args.pool) c.in_ok-ram.ram a) area,
     )
+
+pub returns-in-Err : goal.returns-in-Err
+returns-in-Err c =
+    rw c.refused.ensures (subst (λ (a : Option Run). Meets (find (in_area a) (usable_of c.args.pool)) c.in-Err.refused.why) c.reserved_area.ensures c.in-Err.ensures.meets)

@@ -19,7 +19,7 @@ returns-in_err-notes g c =
 
 pub returns-in_err-files : goal.returns-in_err-files
 returns-in_err-files g c =
-    let none : c.new-modules.result.items ≡ [] = search rules in
+    let none = c.new-modules.ensures.items in
     let memory = next g.S.Shelf _ _ (start g.S.Shelf _ c.args.shelf.now) c.in_ok-memory.ensures in
     let map = next g.S.Shelf _ _ memory c.in_ok-map.ensures in
     let notes = next g.S.Shelf _ _ map c.in_ok-notes.ensures in
@@ -27,7 +27,7 @@ returns-in_err-files g c =
 
 pub returns-in_err-request : goal.returns-in_err-request
 returns-in_err-request g c =
-    let none : c.new-modules.result.items ≡ [] = search rules in
+    let none = c.new-modules.ensures.items in
     let memory = next g.S.Shelf _ _ (start g.S.Shelf _ c.args.shelf.now) c.in_ok-memory.ensures in
     let map = next g.S.Shelf _ _ memory c.in_ok-map.ensures in
     let notes = next g.S.Shelf _ _ map c.in_ok-notes.ensures in
@@ -36,7 +36,7 @@ returns-in_err-request g c =
 
 pub returns : goal.returns
 returns g c =
-    let none : c.new-modules.result.items ≡ [] = search rules in
+    let none = c.new-modules.ensures.items in
     let memory = next g.S.Shelf _ _ (start g.S.Shelf _ c.args.shelf.now) c.in_ok-memory.ensures in
     let map = next g.S.Shelf _ _ memory c.in_ok-map.ensures in
     let notes = next g.S.Shelf _ _ map c.in_ok-notes.ensures in

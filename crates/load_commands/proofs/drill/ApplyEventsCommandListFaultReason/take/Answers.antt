@@ -1,6 +1,6 @@
 use Rattle.std.proofs.Common.{rules}
 use Rattle.file_commands.proofs.Steps.{start, next, stopped, finished}
-use Rattle.load_commands.proofs.drill.ApplyEventsCommand.take.Goals as goal
+use Rattle.load_commands.proofs.drill.ApplyEventsCommandListFaultReason.take.Goals as goal
 
 pub returns-in_err-memory : goal.returns-in_err-memory
 returns-in_err-memory g c =

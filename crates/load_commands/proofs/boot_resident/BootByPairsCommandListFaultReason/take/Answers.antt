@@ -1,6 +1,6 @@
 use Rattle.std.proofs.Common.{rules}
 use Rattle.file_commands.proofs.Steps.{start, next, stopped, finished}
-use Rattle.load_commands.proofs.boot_resident.BootByPairsCommand.take.Goals as goal
+use Rattle.load_commands.proofs.boot_resident.BootByPairsCommandListFaultReason.take.Goals as goal
 
 pub returns-in_err-load : goal.returns-in_err-load
 returns-in_err-load g c =

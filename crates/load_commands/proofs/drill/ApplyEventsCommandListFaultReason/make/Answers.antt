@@ -10,7 +10,7 @@ use Rattle.load_commands.specs.inner.Views.{drill_inputs}
 use Rattle.command_parts.specs.Outputs.{HasNoFile}
 use Rattle.load_commands.specs.Replies.{reply_lines}
 use Rattle.command_parts.proofs.Outputs.{file_as, no_file_as}
-use Rattle.load_commands.proofs.drill.ApplyEventsCommand.make.Goals as goal
+use Rattle.load_commands.proofs.drill.ApplyEventsCommandListFaultReason.make.Goals as goal
 
 pub returns-in_err-slots : goal.returns-in_err-slots
 returns-in_err-slots c =
@@ -36,7 +36,7 @@ returns c =
     let first = made.3 in
     let end : at s.memory ≡ (after_events (start x made.0) x.events).memory = ap (λ (s : State). s.memory) (c.in_ok-replies.ensures.after ∙ ap (λ (s : State). after_events s x.events) first) in
     let w = c.in_ok-outputs.ensures in
-    let kept = subst (λ (s : State). AreKept (all_pages s) s x.events) first c.apply_each.ensures.kept in (
+    let kept = subst (λ (s : State). AreKept (all_pages s) s x.events) first c.apply_each.ensures.kept in rw c.done.ensures (
       made.0,
       made.1,
       made.2,

@@ -7,7 +7,7 @@ use Rattle.command_parts.specs.Outputs.{HasNoFile}
 use Rattle.command_parts.specs.Runs.{after_runs, checked_with}
 use Rattle.command_parts.proofs.Outputs.{no_file_as, output_as}
 use Rattle.load_commands.proofs.Resident.{kernel_accepted, kernel_mode, resident_text_of}
-use Rattle.load_commands.proofs.boot_resident.BootByPairsCommand.make.Goals as goal
+use Rattle.load_commands.proofs.boot_resident.BootByPairsCommandListFaultReason.make.Goals as goal
 
 pub run_loaded-requires-clause-accepted : goal.run_loaded-requires-clause-accepted
 run_loaded-requires-clause-accepted c =
@@ -40,7 +40,7 @@ returns c =
     let l = rw c.deref.ensures.value at c.in_ok-kernel.ensures in
     let r = c.in_ok-ran.ensures in
     let kernel = c.in_ok-kernel.kernel in
-    let k = checked_with kernel.loaded r.0 r.1 r.2 in (
+    let k = checked_with kernel.loaded r.0 r.1 r.2 in rw c.done.ensures (
       l.p,
       l.m,
       k,

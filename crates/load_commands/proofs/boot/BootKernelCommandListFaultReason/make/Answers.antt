@@ -7,7 +7,7 @@ use Rattle.command_parts.specs.Outputs.{HasNoFile}
 use Rattle.command_parts.specs.Runs.{after_runs, checked_with, run_text, wish_of}
 use Rattle.command_parts.proofs.Outputs.{no_file_as, output_as}
 use Rattle.command_parts.proofs.Told.{text_of}
-use Rattle.load_commands.proofs.boot.BootKernelCommand.make.Goals as goal
+use Rattle.load_commands.proofs.boot.BootKernelCommandListFaultReason.make.Goals as goal
 
 pub returns-in_err-kernel : goal.returns-in_err-kernel
 returns-in_err-kernel c =
@@ -35,7 +35,7 @@ returns c =
     let l = rw c.wish_of.ensures at c.in_ok-kernel.ensures in
     let r = c.in_ok-ran.ensures in
     let kernel = c.in_ok-kernel.kernel in
-    let k = checked_with kernel.loaded r.0 r.1 r.2 in (
+    let k = checked_with kernel.loaded r.0 r.1 r.2 in rw c.done.ensures (
       l.p,
       k,
       (l.load, r.3),
