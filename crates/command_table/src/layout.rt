@@ -19,10 +19,7 @@ struct Lines {
 }
 
 fn write_blanks<W: Write>(count: usize, f: &mut Formatter<W>) -> fmt::Result {
-    for _ in 0..count {
-        f.write_str(" ")?;
-    }
-    Ok(())
+    write!(f, "{:count$}", "")
 }
 
 impl Lines {
@@ -193,17 +190,13 @@ pub(crate) fn write_arguments<W: Write>(
     Ok(())
 }
 
-fn is_needed(argument: &Argument) -> bool {
-    argument.form == Form::Needed
-}
-
 fn is_optional(argument: &Argument) -> bool {
     matches!(argument.form, Form::Value | Form::Flag)
 }
 
 fn write_needed<W: Write>(arguments: &[Argument], f: &mut Formatter<W>) -> fmt::Result {
     for argument in arguments {
-        if is_needed(argument) {
+        if argument.form == Form::Needed {
             f.write_str(" ")?;
             write_label(argument, f)?;
         }
@@ -213,17 +206,15 @@ fn write_needed<W: Write>(arguments: &[Argument], f: &mut Formatter<W>) -> fmt::
 
 // A single option by its name, and several as a whole.
 fn write_optional<W: Write>(arguments: &[Argument], f: &mut Formatter<W>) -> fmt::Result {
-    let count = arguments.iter().filter(|one| is_optional(one)).count();
-    if count > 1 {
-        return f.write_str(" [OPTIONS]");
-    }
-    match arguments.iter().find(|one| is_optional(one)) {
-        Some(argument) => {
+    let mut options = arguments.iter().filter(|one| is_optional(one));
+    match (options.next(), options.next()) {
+        (Some(argument), None) => {
             f.write_str(" [")?;
             write_label(argument, f)?;
             f.write_str("]")
         }
-        None => Ok(()),
+        (Some(_), Some(_)) => f.write_str(" [OPTIONS]"),
+        (None, _) => Ok(()),
     }
 }
 
