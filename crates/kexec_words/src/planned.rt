@@ -1,9 +1,9 @@
 //! The words of `boot` and `load`.
 
 ghost use Rattle.std.specs.Prelude.{◌≡◌, IfOk, map, string_bytes};
-ghost use Rattle.kexec_words.specs.Meaning.{inputs_of, image_from, image_or_refusal, image_where, plan_numbers_by, boot_with, boot_in, load_with, load_in};
+ghost use Rattle.kexec_words.specs.Meaning.{inputs_of, image_from, image_or_refusal, image_where, boot_with, boot_in, load_with, load_in};
 ghost use Rattle.kexec_words.specs.inner.Meaning.{Answers};
-ghost use Rattle.kexec_words.specs.inner.Given.{text_in, given_values};
+ghost use Rattle.kexec_words.specs.inner.Given.{given_values};
 ghost use Rattle.kexec_words.specs.inner.Values.{inputs_value, boot_value, load_value};
 
 use crate::commands::{Boot, Inputs, Load};
@@ -11,7 +11,7 @@ use crate::faults::WordsFault;
 use crate::given::{Given, flag_in, name_in, names_in, option_in, some_name_in};
 use crate::naming::{is_input, is_repeated};
 use crate::numbers::{PlanNumbers, TypeWord, plan_numbers};
-use command_table::{UsageWhy, Which};
+use command_table::UsageWhy;
 use kx_pages::{ImageType, Page};
 use std::alloc::{AllocError, Global};
 
@@ -39,11 +39,11 @@ fn image_of(numbers: PlanNumbers) -> Option<ImageType>
 {
     match numbers.kind {
         TypeWord::Auto => Some(ImageType::Auto),
-        TypeWord::Raw => match (numbers.at, numbers.entry) {
-            (Some(at), Some(entry)) => Some(ImageType::Raw { at, entry }),
-            (Some(at), None) => Some(ImageType::Raw { at, entry: at }),
-            (None, _) => None,
-        },
+        TypeWord::Raw => {
+            let at = numbers.at?;
+            let entry = numbers.entry.unwrap_or(at);
+            Some(ImageType::Raw { at, entry })
+        }
         TypeWord::Elf => Some(ImageType::Elf),
         TypeWord::Bzimage => Some(ImageType::Bzimage),
         TypeWord::Multiboot => Some(ImageType::Multiboot),
@@ -53,9 +53,7 @@ fn image_of(numbers: PlanNumbers) -> Option<ImageType>
 fn with_map(inputs: &Inputs, image: Option<ImageType>) -> Result<ImageType, UsageWhy>
     ensures { result ≡ image_or_refusal (inputs_value inputs.now) image }
 {
-    let Some(image) = image else {
-        return Err(UsageWhy::NeedsAt);
-    };
+    let image = image.ok_or(UsageWhy::NeedsAt)?;
     if image.needs_map(inputs.purgatory.is_some()) && inputs.map.is_none() {
         return Err(UsageWhy::NeedsMap);
     }
@@ -72,18 +70,6 @@ fn image_for(inputs: &Inputs, is_same: bool, numbers: PlanNumbers) -> Result<Ima
         return Err(UsageWhy::SameName);
     }
     with_map(inputs, image_of(numbers))
-}
-
-fn numbers_in(given: &[Given<'_>], kept: Option<&str>) -> Result<PlanNumbers, Which>
-    ensures { result ≡ plan_numbers_by (text_in kept.entry) (given_values given.now) }
-{
-    plan_numbers(
-        option_in(given, "type"),
-        kept,
-        option_in(given, "at"),
-        option_in(given, "entry"),
-        option_in(given, "below"),
-    )
 }
 
 fn boot_from(inputs: Inputs, out: String, numbers: PlanNumbers) -> Result<Boot, WordsFault>
@@ -103,7 +89,7 @@ fn boot_from(inputs: Inputs, out: String, numbers: PlanNumbers) -> Result<Boot, 
 pub(crate) fn boot_in(alloc: Global, given: &[Given<'_>]) -> Result<Boot, WordsFault>
     ensures { Answers boot_value (boot_in (given_values given.now)) result }
 {
-    let numbers = numbers_in(given, option_in(given, "kept"))?;
+    let numbers = plan_numbers(given, option_in(given, "kept"))?;
     let inputs = inputs_in(alloc, given, numbers.below)?;
     let out = name_in(alloc, given, "OUT")?;
     boot_from(inputs, out, numbers)
@@ -133,7 +119,7 @@ fn load_from(
 pub(crate) fn load_in(alloc: Global, given: &[Given<'_>]) -> Result<Load, WordsFault>
     ensures { Answers load_value (load_in (given_values given.now)) result }
 {
-    let numbers = numbers_in(given, None)?;
+    let numbers = plan_numbers(given, None)?;
     let inputs = inputs_in(alloc, given, numbers.below)?;
     let out = name_in(alloc, given, "OUT")?;
     let load_record = name_in(alloc, given, "RECORD")?;
