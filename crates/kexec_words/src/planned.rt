@@ -72,45 +72,17 @@ fn image_for(inputs: &Inputs, is_same: bool, numbers: PlanNumbers) -> Result<Ima
     with_map(inputs, image_of(numbers))
 }
 
-fn boot_from(inputs: Inputs, out: String, numbers: PlanNumbers) -> Result<Boot, WordsFault>
-    ensures { Answers boot_value
-        (boot_with (inputs_value inputs) (string_bytes out) numbers) result }
-{
-    let kept = numbers.kept;
-    let image = image_for(&inputs, is_input(&inputs, &out), numbers)?;
-    Ok(Boot {
-        inputs,
-        out,
-        kept,
-        image,
-    })
-}
-
 pub(crate) fn boot_in(alloc: Global, given: &[Given<'_>]) -> Result<Boot, WordsFault>
     ensures { Answers boot_value (boot_in (given_values given.now)) result }
 {
     let numbers = plan_numbers(given, option_in(given, "kept"))?;
     let inputs = inputs_in(alloc, given, numbers.below)?;
     let out = name_in(alloc, given, "OUT")?;
-    boot_from(inputs, out, numbers)
-}
-
-fn load_from(
-    inputs: Inputs,
-    out: String,
-    load_record: String,
-    kept: bool,
-    numbers: PlanNumbers,
-) -> Result<Load, WordsFault>
-    ensures { Answers load_value
-        (load_with (inputs_value inputs) (string_bytes out) (string_bytes load_record) kept numbers)
-        result }
-{
-    let image = image_for(&inputs, is_repeated(&inputs, &out, &load_record), numbers)?;
-    Ok(Load {
+    let kept = numbers.kept;
+    let image = image_for(&inputs, is_input(&inputs, &out), numbers)?;
+    Ok(Boot {
         inputs,
         out,
-        load_record,
         kept,
         image,
     })
@@ -123,5 +95,12 @@ pub(crate) fn load_in(alloc: Global, given: &[Given<'_>]) -> Result<Load, WordsF
     let inputs = inputs_in(alloc, given, numbers.below)?;
     let out = name_in(alloc, given, "OUT")?;
     let load_record = name_in(alloc, given, "RECORD")?;
-    load_from(inputs, out, load_record, flag_in(given, "kept"), numbers)
+    let image = image_for(&inputs, is_repeated(&inputs, &out, &load_record), numbers)?;
+    Ok(Load {
+        inputs,
+        out,
+        load_record,
+        kept: flag_in(given, "kept"),
+        image,
+    })
 }

@@ -45,10 +45,8 @@ fn read_named(alloc: Global, name: Name, words: &[String]) -> Result<Command, Wo
     ensures { Answers command_value
         (command_by_name (Some name) (map string_bytes words.now)) result }
 {
-    match given_behind(alloc, name, words) {
-        Ok(given) => command_in(alloc, name, &given),
-        Err(fault) => Err(fault),
-    }
+    let given = given_behind(alloc, name, words)?;
+    command_in(alloc, name, &given)
 }
 
 /// The command that the words after the program's name say, or the first reason to refuse them, in the order of
