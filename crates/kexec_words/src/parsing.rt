@@ -66,14 +66,6 @@ fn matches_for<'a>(
     }
 }
 
-fn copy_of<'a>(alloc: Global, texts: &[&'a str]) -> Result<Vec<&'a str>, AllocError>
-    ensures { IfOk result (λ v. v.items ≡ texts.now) }
-{
-    let mut copy = Vec::new(alloc);
-    copy.extend_from_slice(texts)?;
-    Ok(copy)
-}
-
 // The texts that are found under this name.
 fn texts_for<'a>(
     alloc: Global,
@@ -84,7 +76,7 @@ fn texts_for<'a>(
         ≡ unwrap_or (all_of id.now (rows_of (found_of matches.now))) []) }
 {
     match matches.get_strs(id) {
-        Some(texts) => copy_of(alloc, texts),
+        Some(texts) => Vec::from_slice(alloc, texts),
         None => Ok(Vec::new(alloc)),
     }
 }
