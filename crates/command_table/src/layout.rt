@@ -1,6 +1,5 @@
 //! How help is laid out: entries with their names in a column of their own, and lines of at most 80 columns.
 
-use crate::roles::Role;
 use crate::table::{Argument, Form, Kind};
 use std::fmt::{self, Formatter, Write};
 
@@ -116,34 +115,25 @@ fn write_label<W: Write>(argument: &Argument, f: &mut Formatter<W>) -> fmt::Resu
     f.write_str(argument.value)
 }
 
-// Writes which file an argument gives, and whether it is read or written.
-fn write_file<W: Write>(
-    role: Role,
-    kind: Kind,
-    lines: &mut Lines,
-    f: &mut Formatter<W>,
-) -> fmt::Result {
-    lines.fill(role.file(), f)?;
-    match kind {
-        Kind::Output => lines.fill("to write:", f),
-        _ => lines.fill("to read:", f),
-    }
-}
-
-// Writes what an argument is, before what is said of it.
+// Writes what an argument is, before what is said of it: which file it gives, and whether it is read or written; or the
+// words to choose from.
 fn write_what<W: Write>(
     argument: &Argument,
     lines: &mut Lines,
     f: &mut Formatter<W>,
 ) -> fmt::Result {
     if let Some(role) = argument.role {
-        return write_file(role, argument.kind, lines, f);
+        lines.fill(role.file(), f)?;
     }
-    if argument.choices.is_empty() {
-        return Ok(());
+    match argument.kind {
+        Kind::Input => lines.fill("to read:", f),
+        Kind::Output => lines.fill("to write:", f),
+        Kind::Choice => {
+            lines.fill(argument.choices, f)?;
+            lines.push(":", f)
+        }
+        _ => Ok(()),
     }
-    lines.fill(argument.choices, f)?;
-    lines.push(":", f)
 }
 
 fn write_argument<W: Write>(

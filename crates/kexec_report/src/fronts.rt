@@ -103,10 +103,7 @@ fn own_kind(front: &[u8]) -> Option<Front> {
     if front.starts_with(MEMORY_MAGIC) {
         return Some(Front::Memory);
     }
-    if front.starts_with(b"KXREC00") {
-        return Some(Front::Record);
-    }
-    None
+    front.starts_with(b"KXREC00").then_some(Front::Record)
 }
 
 // The same, or a Linux kernel.
@@ -123,10 +120,8 @@ fn kernel_kind(front: &[u8]) -> Option<Front> {
     if front.starts_with(b"070701") || front.starts_with(b"070702") {
         return Some(Front::Initrd);
     }
-    if front.get(ARM_PLACE..)?.starts_with(b"ARM\x64") {
-        return Some(Front::ArmKernel);
-    }
-    None
+    let rest = front.get(ARM_PLACE..)?;
+    rest.starts_with(b"ARM\x64").then_some(Front::ArmKernel)
 }
 
 // Whether a byte may stand in a text.
