@@ -1,7 +1,7 @@
 //! The words of `boot` and `load`.
 
-ghost use Rattle.std.specs.Prelude.{◌≡◌, IfOk, map, string_bytes};
-ghost use Rattle.kexec_words.specs.Meaning.{inputs_of, image_from, image_or_refusal, image_where, boot_with, boot_in, load_with, load_in};
+ghost use Rattle.std.specs.Prelude.{◌≡◌, IfOk};
+ghost use Rattle.kexec_words.specs.Meaning.{inputs_of, image_from, image_where, boot_in, load_in};
 ghost use Rattle.kexec_words.specs.inner.Meaning.{Answers};
 ghost use Rattle.kexec_words.specs.inner.Given.{given_values};
 ghost use Rattle.kexec_words.specs.inner.Values.{inputs_value, boot_value, load_value};
@@ -50,16 +50,6 @@ fn image_of(numbers: PlanNumbers) -> Option<ImageType>
     }
 }
 
-fn with_map(inputs: &Inputs, image: Option<ImageType>) -> Result<ImageType, UsageWhy>
-    ensures { result ≡ image_or_refusal (inputs_value inputs.now) image }
-{
-    let image = image.ok_or(UsageWhy::NeedsAt)?;
-    if image.needs_map(inputs.purgatory.is_some()) && inputs.map.is_none() {
-        return Err(UsageWhy::NeedsMap);
-    }
-    Ok(image)
-}
-
 fn image_for(inputs: &Inputs, is_same: bool, numbers: PlanNumbers) -> Result<ImageType, UsageWhy>
     ensures { result ≡ image_where (inputs_value inputs.now) is_same numbers }
 {
@@ -69,7 +59,11 @@ fn image_for(inputs: &Inputs, is_same: bool, numbers: PlanNumbers) -> Result<Ima
     if is_same {
         return Err(UsageWhy::SameName);
     }
-    with_map(inputs, image_of(numbers))
+    let image = image_of(numbers).ok_or(UsageWhy::NeedsAt)?;
+    if image.needs_map(inputs.purgatory.is_some()) && inputs.map.is_none() {
+        return Err(UsageWhy::NeedsMap);
+    }
+    Ok(image)
 }
 
 pub(crate) fn boot_in(alloc: Global, given: &[Given<'_>]) -> Result<Boot, WordsFault>

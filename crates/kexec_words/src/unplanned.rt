@@ -1,4 +1,4 @@
-//! The words of the commands that make no plan of a request, and of `load-panic`.
+//! The words of each command but `boot` and `load`.
 
 ghost use Rattle.std.specs.Prelude.{◌≡◌, IfOk, map, option_map, string_bytes};
 ghost use Rattle.kexec_words.specs.Meaning.{crash_inputs_of, load_panic_with, load_panic_in, load_names_in, exec_in, trace_in, migrate_in, sample_in, boot_resident_in, drill_in, core_in};
