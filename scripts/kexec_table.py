@@ -26,7 +26,7 @@ def read_fields(source):
     """The fields of each argument by the name of its constant; one that is like another but for some fields has the others
     of that one, which stands before it."""
     fields = {}
-    for constant, body in re.findall(r"^pub\(crate\) const (\w+): Argument = Argument \{\n(.*?)^\};", source, re.S | re.M):
+    for constant, body in re.findall(r"^(?:pub\(crate\) )?const (\w+): Argument = Argument \{\n(.*?)^\};", source, re.S | re.M):
         like = re.search(r"^    \.\.(\w+)$", body, re.M)
         fields[constant] = {**(fields[like[1]] if like else {}), **dict(re.findall(r"^    (\w+): (.*?),$", body, re.M))}
     return fields

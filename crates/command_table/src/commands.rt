@@ -6,8 +6,8 @@ use crate::options::{
 };
 use crate::positional::{
     ADDRESS, CORE_OUT, CRASH_KERNEL, DRILLED_MEMORY, DRILLED_OUT, EVENTS, HEAD, KERNEL, LIMIT,
-    LOADED_MEMORY, LOADED_OUT, LOADED_RECORD, MEMORY, MIGRATED_OUT, MODULES, NUMBER, PAIRS, POOL,
-    RECORD, RUN_OUT, STOPPED_MEMORY, TRACED_MEMORY, TRACED_OUT,
+    LOADED_MEMORY, LOADED_OUT, MEMORY, MIGRATED_OUT, MODULES, NUMBER, PAIRS, POOL, RECORD,
+    RECORD_OUT, RUN_OUT, STOPPED_MEMORY, TRACED_MEMORY, TRACED_OUT,
 };
 use crate::roles::{LOAD_RECORD, MEMORY_FILE, POOL_FILE};
 use crate::table::{Argument, Command};
@@ -69,21 +69,8 @@ pub(crate) const LOAD: Command = Command {
     about: "Loads a kernel, checks the list of page copies, and writes the memory after the load and the load record, which check, dump and exec read.",
     notes: &[ADDRESS_NOTE, OPTION_NOTE],
     arguments: &[
-        MEMORY,
-        POOL,
-        LOADED_OUT,
-        LOADED_RECORD,
-        KERNEL,
-        MODULES,
-        KEPT,
-        BELOW,
-        MAP,
-        TYPE,
-        AT,
-        ENTRY,
-        COMMAND,
-        INITRD,
-        PURGATORY,
+        MEMORY, POOL, LOADED_OUT, RECORD_OUT, KERNEL, MODULES, KEPT, BELOW, MAP, TYPE, AT, ENTRY,
+        COMMAND, INITRD, PURGATORY,
     ],
 };
 
@@ -95,7 +82,7 @@ pub(crate) const LOAD_PANIC: Command = Command {
     arguments: &[
         MEMORY,
         LOADED_OUT,
-        LOADED_RECORD,
+        RECORD_OUT,
         CRASH_KERNEL,
         NEEDED_MAP,
         COMMAND,

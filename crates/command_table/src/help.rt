@@ -22,8 +22,7 @@ pub struct Usage<'a> {
 /// of it has at most 80 columns, unless that name is longer than `kexec`, and its last one no end.
 #[derive(Clone, Copy)]
 pub struct Help<'a> {
-    program: &'a str,
-    name: Option<Name>,
+    usage: Usage<'a>,
 }
 
 // The command that the first of the words names.
@@ -32,18 +31,6 @@ fn first_name(words: &[String]) -> Option<Name>
 {
     let first = words.first()?;
     name_of(first)
-}
-
-fn write_command_usage<W: Write>(
-    program: &str,
-    name: Option<Name>,
-    f: &mut Formatter<W>,
-) -> fmt::Result {
-    write!(f, "Usage: {program} ")?;
-    match name {
-        Some(name) => write_usage(name.text(), name.arguments(), f),
-        None => f.write_str("COMMAND [OPTIONS] ARGUMENTS.."),
-    }
 }
 
 fn write_notes<W: Write>(notes: &[&str], f: &mut Formatter<W>) -> fmt::Result {
@@ -90,29 +77,31 @@ fn write_program<W: Write>(program: &str, f: &mut Formatter<W>) -> fmt::Result {
 
 impl Display for Usage<'_> {
     fn fmt<W: Write>(&self, f: &mut Formatter<W>) -> fmt::Result {
-        write_command_usage(self.program, self.name, f)
+        write!(f, "Usage: {} ", self.program)?;
+        match self.name {
+            Some(name) => write_usage(name.text(), name.arguments(), f),
+            None => f.write_str("COMMAND [OPTIONS] ARGUMENTS.."),
+        }
     }
 }
 
 impl Display for Help<'_> {
     fn fmt<W: Write>(&self, f: &mut Formatter<W>) -> fmt::Result {
-        write_command_usage(self.program, self.name, f)?;
-        f.write_str("\n\n")?;
-        match self.name {
+        write!(f, "{}\n\n", self.usage)?;
+        match self.usage.name {
             Some(name) => write_command(name, f),
-            None => write_program(self.program, f),
+            None => write_program(self.usage.program, f),
         }
     }
 }
 
 /// The help of the command that the first word names, and else of all commands; the program is called by this name.
 pub fn help_of<'a>(program: &'a str, words: &[String]) -> Help<'a>
-    ensures { result.name ≡ first_name (map string_bytes words.now) }
+    ensures { result.usage.name ≡ first_name (map string_bytes words.now) }
 {
-    Help {
-        program,
-        name: first_name(words),
-    }
+    let name = first_name(words);
+    let usage = Usage { program, name };
+    Help { usage }
 }
 
 /// The usage line of the command of this name, and else of all commands; the program is called by `program`.

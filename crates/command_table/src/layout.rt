@@ -1,6 +1,5 @@
 //! How help is laid out: entries with their names in a column of their own, and lines of at most 80 columns.
 
-use crate::roles::Role;
 use crate::table::{Argument, Form, Kind};
 use std::fmt::{self, Formatter, Write};
 
@@ -19,10 +18,7 @@ struct Lines {
 }
 
 fn write_blanks<W: Write>(count: usize, f: &mut Formatter<W>) -> fmt::Result {
-    for _ in 0..count {
-        f.write_str(" ")?;
-    }
-    Ok(())
+    write!(f, "{:count$}", "")
 }
 
 impl Lines {
@@ -119,34 +115,25 @@ fn write_label<W: Write>(argument: &Argument, f: &mut Formatter<W>) -> fmt::Resu
     f.write_str(argument.value)
 }
 
-// Writes which file an argument gives, and whether it is read or written.
-fn write_file<W: Write>(
-    role: Role,
-    kind: Kind,
-    lines: &mut Lines,
-    f: &mut Formatter<W>,
-) -> fmt::Result {
-    lines.fill(role.file(), f)?;
-    match kind {
-        Kind::Output => lines.fill("to write:", f),
-        _ => lines.fill("to read:", f),
-    }
-}
-
-// Writes what an argument is, before what is said of it.
+// Writes what an argument is, before what is said of it: which file it gives, and whether it is read or written; or the
+// words to choose from.
 fn write_what<W: Write>(
     argument: &Argument,
     lines: &mut Lines,
     f: &mut Formatter<W>,
 ) -> fmt::Result {
     if let Some(role) = argument.role {
-        return write_file(role, argument.kind, lines, f);
+        lines.fill(role.file(), f)?;
     }
-    if argument.choices.is_empty() {
-        return Ok(());
+    match argument.kind {
+        Kind::Input => lines.fill("to read:", f),
+        Kind::Output => lines.fill("to write:", f),
+        Kind::Choice => {
+            lines.fill(argument.choices, f)?;
+            lines.push(":", f)
+        }
+        _ => Ok(()),
     }
-    lines.fill(argument.choices, f)?;
-    lines.push(":", f)
 }
 
 fn write_argument<W: Write>(
@@ -193,17 +180,13 @@ pub(crate) fn write_arguments<W: Write>(
     Ok(())
 }
 
-fn is_needed(argument: &Argument) -> bool {
-    argument.form == Form::Needed
-}
-
 fn is_optional(argument: &Argument) -> bool {
     matches!(argument.form, Form::Value | Form::Flag)
 }
 
 fn write_needed<W: Write>(arguments: &[Argument], f: &mut Formatter<W>) -> fmt::Result {
     for argument in arguments {
-        if is_needed(argument) {
+        if argument.form == Form::Needed {
             f.write_str(" ")?;
             write_label(argument, f)?;
         }
@@ -213,17 +196,15 @@ fn write_needed<W: Write>(arguments: &[Argument], f: &mut Formatter<W>) -> fmt::
 
 // A single option by its name, and several as a whole.
 fn write_optional<W: Write>(arguments: &[Argument], f: &mut Formatter<W>) -> fmt::Result {
-    let count = arguments.iter().filter(|one| is_optional(one)).count();
-    if count > 1 {
-        return f.write_str(" [OPTIONS]");
-    }
-    match arguments.iter().find(|one| is_optional(one)) {
-        Some(argument) => {
+    let mut options = arguments.iter().filter(|one| is_optional(one));
+    match (options.next(), options.next()) {
+        (Some(argument), None) => {
             f.write_str(" [")?;
             write_label(argument, f)?;
             f.write_str("]")
         }
-        None => Ok(()),
+        (Some(_), Some(_)) => f.write_str(" [OPTIONS]"),
+        (None, _) => Ok(()),
     }
 }
 

@@ -3,15 +3,24 @@
 use crate::roles::Role;
 use crate::table::{Argument, Form, Kind};
 
-pub(crate) const MEMORY: Argument = Argument {
-    id: "MEMORY",
-    name: "MEMORY",
+// A positional word that must be there: the name of a file that is read, where its row says nothing else.
+const WORD: Argument = Argument {
+    id: "",
+    name: "",
     value: "",
     form: Form::Word,
     kind: Kind::Input,
-    role: Some(Role::Memory),
+    role: None,
     choices: "",
+    text: "",
+};
+
+pub(crate) const MEMORY: Argument = Argument {
+    id: "MEMORY",
+    name: "MEMORY",
+    role: Some(Role::Memory),
     text: "the memory before the load",
+    ..WORD
 };
 
 pub(crate) const LOADED_MEMORY: Argument = Argument {
@@ -37,23 +46,18 @@ pub(crate) const STOPPED_MEMORY: Argument = Argument {
 pub(crate) const POOL: Argument = Argument {
     id: "POOL",
     name: "POOL",
-    value: "",
-    form: Form::Word,
-    kind: Kind::Input,
     role: Some(Role::Pool),
-    choices: "",
     text: "the free pages in the order of their use; on each line a hexadecimal page number or a range first-last",
+    ..WORD
 };
 
 pub(crate) const RUN_OUT: Argument = Argument {
     id: "OUT",
     name: "OUT",
-    value: "",
-    form: Form::Word,
     kind: Kind::Output,
     role: Some(Role::MemoryOut),
-    choices: "",
     text: "the memory after the last run; not a file that is read",
+    ..WORD
 };
 
 pub(crate) const LOADED_OUT: Argument = Argument {
@@ -86,15 +90,12 @@ pub(crate) const CORE_OUT: Argument = Argument {
 pub(crate) const RECORD: Argument = Argument {
     id: "RECORD",
     name: "RECORD",
-    value: "",
-    form: Form::Word,
-    kind: Kind::Input,
     role: Some(Role::Record),
-    choices: "",
     text: "the load, as load or load-panic wrote it",
+    ..WORD
 };
 
-pub(crate) const LOADED_RECORD: Argument = Argument {
+pub(crate) const RECORD_OUT: Argument = Argument {
     kind: Kind::Output,
     role: Some(Role::RecordOut),
     text: "the load, as check, dump and exec read it; neither OUT nor a file that is read",
@@ -104,12 +105,9 @@ pub(crate) const LOADED_RECORD: Argument = Argument {
 pub(crate) const KERNEL: Argument = Argument {
     id: "KERNEL",
     name: "KERNEL",
-    value: "",
-    form: Form::Word,
-    kind: Kind::Input,
     role: Some(Role::Kernel),
-    choices: "",
     text: "the kernel",
+    ..WORD
 };
 
 pub(crate) const CRASH_KERNEL: Argument = Argument {
@@ -120,76 +118,56 @@ pub(crate) const CRASH_KERNEL: Argument = Argument {
 pub(crate) const MODULES: Argument = Argument {
     id: "MODULES",
     name: "MODULES",
-    value: "",
     form: Form::Words,
-    kind: Kind::Input,
     role: Some(Role::Module),
-    choices: "",
     text: "Multiboot modules, at most 12",
+    ..WORD
 };
 
 pub(crate) const PAIRS: Argument = Argument {
     id: "PAIRS",
     name: "PAIRS",
-    value: "",
-    form: Form::Word,
-    kind: Kind::Input,
     role: Some(Role::Pairs),
-    choices: "",
     text: "on each line the number of a page of the kernel and the number of the page of memory that has its bytes, both hexadecimal",
+    ..WORD
 };
 
 pub(crate) const EVENTS: Argument = Argument {
     id: "EVENTS",
     name: "EVENTS",
-    value: "",
-    form: Form::Word,
-    kind: Kind::Input,
     role: Some(Role::Events),
-    choices: "",
     text: "on each line an event, such as open 1 normal or panic",
+    ..WORD
 };
 
 pub(crate) const HEAD: Argument = Argument {
     id: "HEAD",
     name: "HEAD",
-    value: "",
-    form: Form::Word,
     kind: Kind::ListWord,
-    role: None,
-    choices: "",
     text: "the head word of the list: a hexadecimal number of 1 to 16 digits, without 0x",
+    ..WORD
 };
 
 pub(crate) const LIMIT: Argument = Argument {
     id: "LIMIT",
     name: "LIMIT",
-    value: "",
-    form: Form::Word,
     kind: Kind::Count,
-    role: None,
-    choices: "",
     text: "the maximum number of steps: a decimal number of 1 to 9 digits, at most 100000000",
+    ..WORD
 };
 
 pub(crate) const NUMBER: Argument = Argument {
     id: "NUMBER",
     name: "NUMBER",
-    value: "",
-    form: Form::Word,
     kind: Kind::Count,
-    role: None,
-    choices: "",
     text: "the number that the sample is made from: a decimal number of 1 to 18 digits",
+    ..WORD
 };
 
 pub(crate) const ADDRESS: Argument = Argument {
     id: "ADDRESS",
     name: "ADDRESS",
-    value: "",
-    form: Form::Word,
     kind: Kind::Address,
-    role: None,
-    choices: "",
     text: "the address of the crash headers: a hexadecimal number of 1 to 16 digits, without 0x, that is a multiple of 8 below 0x400000000000",
+    ..WORD
 };

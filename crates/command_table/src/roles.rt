@@ -52,13 +52,7 @@ impl Role {
             Role::Record | Role::RecordOut => LOAD_RECORD,
             Role::CoreOut => "core file",
             Role::Module => "files",
-            Role::Map
-            | Role::Notes
-            | Role::Kernel
-            | Role::Initrd
-            | Role::Purgatory
-            | Role::Pairs
-            | Role::Events => "file",
+            _ => "file",
         }
     }
 }

@@ -79,10 +79,8 @@ impl Display for Cause<'_> {
 
 // What the system tells a file by: its device, and its number there.
 fn place_of<R: Files>(rt: &R, name: &str) -> Option<(u64, u64)> {
-    match fs::metadata(rt, name) {
-        Ok(about) => Some((about.dev(), about.ino())),
-        Err(_) => None,
-    }
+    let about = fs::metadata(rt, name).ok()?;
+    Some((about.dev(), about.ino()))
 }
 
 // The first other name of the file of this name among those that are given.

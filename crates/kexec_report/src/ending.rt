@@ -31,27 +31,15 @@ proved by Rattle, with the logic dac8208d650f15bf";
 #[derive(Drop)]
 pub enum Notice<'a> {
     /// Why the system did not give the words to the program of this name.
-    NoWords {
-        program: &'a str,
-        error: WordsError,
-    },
+    NoWords(&'a str, WordsError),
     /// The version that was asked for of the program of this name.
-    Version {
-        program: &'a str,
-    },
+    Version(&'a str),
     /// The help that was asked for.
-    Help {
-        help: Help<'a>,
-    },
+    Help(Help<'a>),
     /// The usage line of the command that is meant, and behind it why the words were refused.
-    Usage {
-        usage: Usage<'a>,
-        report: Report<'a>,
-    },
+    Usage(Usage<'a>, Report<'a>),
     /// Why a command was refused otherwise.
-    Refusal {
-        report: Report<'a>,
-    },
+    Refusal(Report<'a>),
 }
 
 impl Notice<'_> {
@@ -59,21 +47,21 @@ impl Notice<'_> {
     pub fn is_asked_for(&self) -> bool
         ensures { result ≡ is_asked_for self.now }
     {
-        matches!(self, Notice::Version { .. } | Notice::Help { .. })
+        matches!(self, Notice::Version(_) | Notice::Help(_))
     }
 }
 
 impl Display for Notice<'_> {
     fn fmt<W: Write>(&self, f: &mut Formatter<W>) -> fmt::Result {
         match self {
-            Notice::NoWords { program, error } => write!(f, "{program}: {error}"),
-            Notice::Version { program } => write!(
+            Notice::NoWords(program, error) => write!(f, "{program}: {error}"),
+            Notice::Version(program) => write!(
                 f,
                 "{VERSION}\n{program} --help lists the commands, and {program} COMMAND --help describes one."
             ),
-            Notice::Help { help } => write!(f, "{help}"),
-            Notice::Usage { usage, report } => write!(f, "{usage}\n{report}"),
-            Notice::Refusal { report } => write!(f, "{report}"),
+            Notice::Help(help) => write!(f, "{help}"),
+            Notice::Usage(usage, report) => write!(f, "{usage}\n{report}"),
+            Notice::Refusal(report) => write!(f, "{report}"),
         }
     }
 }
@@ -108,17 +96,13 @@ fn words_notice<'a, R: Files + AllocGlobal>(
     status: &'a Status,
 ) -> Notice<'a> {
     if asks_for_help(words) {
-        return Notice::Help {
-            help: help_of(program, words),
-        };
+        return Notice::Help(help_of(program, words));
     }
     if asks_for_version(words) {
-        return Notice::Version { program };
+        return Notice::Version(program);
     }
-    Notice::Usage {
-        usage: usage_of(program, meant_of(words)),
-        report: report_of(rt, program, words, status, None),
-    }
+    let usage = usage_of(program, meant_of(words));
+    Notice::Usage(usage, report_of(rt, program, words, status, None))
 }
 
 // What is said of a command that is not done.
@@ -133,9 +117,7 @@ fn notice_of<'a, R: Files + AllocGlobal>(
 {
     match status {
         Status::Usage { .. } => words_notice(rt, program, words, status),
-        _ => Notice::Refusal {
-            report: report_of(rt, program, words, status, failure),
-        },
+        _ => Notice::Refusal(report_of(rt, program, words, status, failure)),
     }
 }
 
@@ -166,7 +148,7 @@ impl<'a> Ending<'a> {
     {
         Ending {
             code: NO_WORDS,
-            notice: Some(Notice::NoWords { program, error }),
+            notice: Some(Notice::NoWords(program, error)),
         }
     }
 

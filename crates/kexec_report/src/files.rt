@@ -62,18 +62,12 @@ fn role_of(status: &Status) -> Option<Role> {
     }
 }
 
-/// The first file of this role.
-pub(crate) fn file_for<'a>(given: &[Given<'a>], role: Role) -> Option<Given<'a>> {
+// The first file of this role.
+fn file_for<'a>(given: &[Given<'a>], role: Role) -> Option<Given<'a>> {
     given
         .iter()
         .copied()
         .find(|one| one.argument.role == Some(role))
-}
-
-/// The name of the first file of this role.
-pub(crate) fn name_for<'a>(given: &[Given<'a>], role: Role) -> Option<&'a str> {
-    let file = file_for(given, role)?;
-    Some(file.text)
 }
 
 // The first file of this role that has this name: of the modules there may be several.

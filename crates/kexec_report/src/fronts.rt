@@ -55,35 +55,31 @@ pub(crate) enum Front {
 
 impl Display for Front {
     fn fmt<W: Write>(&self, f: &mut Formatter<W>) -> fmt::Result {
-        match self {
+        let text = match self {
             Front::Compressed { tool } => {
-                write!(f, "it is compressed: decompress it first, with {tool} -dc")
+                return write!(f, "it is compressed: decompress it first, with {tool} -dc");
             }
-            Front::CompressedKernel { tool } => write!(
-                f,
-                "it is compressed: a kernel is decompressed first, with {tool} -dc, and an initrd is given by --initrd"
-            ),
-            Front::Memory => f.write_str("it is a memory file"),
-            Front::Record => f.write_str("it is a load record"),
-            Front::Bzimage => f.write_str("it is a bzImage, which is a kernel"),
-            Front::Initrd => {
-                f.write_str(
-                    "it looks like an initrd, since it is a cpio archive: --initrd gives one",
-                )
+            Front::CompressedKernel { tool } => {
+                return write!(
+                    f,
+                    "it is compressed: a kernel is decompressed first, with {tool} -dc, and an initrd is given by --initrd"
+                );
             }
-            Front::ArmKernel => f.write_str(
-                "it is a kernel for arm64, and one for x86-64 is wanted",
-            ),
-            Front::Dump => f.write_str(
+            Front::Memory => "it is a memory file",
+            Front::Record => "it is a load record",
+            Front::Bzimage => "it is a bzImage, which is a kernel",
+            Front::Initrd =>
+                "it looks like an initrd, since it is a cpio archive: --initrd gives one",
+            Front::ArmKernel => "it is a kernel for arm64, and one for x86-64 is wanted",
+            Front::Dump =>
                 "it is an ELF file: of the dump of a machine's memory, kernelyet machine --core makes a memory file",
-            ),
-            Front::RawDump => f.write_str("a raw dump of memory is not a memory file"),
-            Front::Text => f.write_str("it looks like a text, as a pool and a memory map are"),
-            Front::CarriageReturns => {
-                f.write_str("its lines end with carriage returns: remove these with tr -d '\\r'")
-            }
-            Front::Prefixed => f.write_str("leave out 0x"),
-        }
+            Front::RawDump => "a raw dump of memory is not a memory file",
+            Front::Text => "it looks like a text, as a pool and a memory map are",
+            Front::CarriageReturns =>
+                "its lines end with carriage returns: remove these with tr -d '\\r'",
+            Front::Prefixed => "leave out 0x",
+        };
+        f.write_str(text)
     }
 }
 
@@ -107,10 +103,7 @@ fn own_kind(front: &[u8]) -> Option<Front> {
     if front.starts_with(MEMORY_MAGIC) {
         return Some(Front::Memory);
     }
-    if front.starts_with(b"KXREC00") {
-        return Some(Front::Record);
-    }
-    None
+    front.starts_with(b"KXREC00").then_some(Front::Record)
 }
 
 // The same, or a Linux kernel.
@@ -127,10 +120,8 @@ fn kernel_kind(front: &[u8]) -> Option<Front> {
     if front.starts_with(b"070701") || front.starts_with(b"070702") {
         return Some(Front::Initrd);
     }
-    if front.get(ARM_PLACE..)?.starts_with(b"ARM\x64") {
-        return Some(Front::ArmKernel);
-    }
-    None
+    let rest = front.get(ARM_PLACE..)?;
+    rest.starts_with(b"ARM\x64").then_some(Front::ArmKernel)
 }
 
 // Whether a byte may stand in a text.
@@ -206,23 +197,13 @@ fn file_front(role: Role, front: &[u8]) -> Option<Front> {
 
 // The kernel's or the purgatory's file has not the mark of its type, or of any.
 fn is_unmarked(fault: &PlanFault) -> bool {
-    matches!(
-        fault,
-        PlanFault::UnknownImage
-            | PlanFault::CrashNeedsBzimage
-            | PlanFault::Elf {
-                fault: ElfFault::NotElf,
-            }
-            | PlanFault::Bzimage {
-                fault: BzFault::NotKernel,
-            }
-            | PlanFault::Multiboot {
-                fault: MbFault::NoHeader,
-            }
-            | PlanFault::Object {
-                fault: ElfFault::NotElf,
-            }
-    )
+    match fault {
+        PlanFault::UnknownImage | PlanFault::CrashNeedsBzimage => true,
+        PlanFault::Elf { fault } | PlanFault::Object { fault } => matches!(fault, ElfFault::NotElf),
+        PlanFault::Bzimage { fault } => matches!(fault, BzFault::NotKernel),
+        PlanFault::Multiboot { fault } => matches!(fault, MbFault::NoHeader),
+        _ => false,
+    }
 }
 
 // The line that has not the form of a line of numbers.
@@ -255,11 +236,7 @@ fn refused_front(fault: &InputFault, role: Role, front: &[u8]) -> Option<Front> 
     if let Some(kind) = file_front(role, front) {
         return Some(kind);
     }
-    if has_prefix(front, line_of(fault)?) {
-        Some(Front::Prefixed)
-    } else {
-        None
-    }
+    has_prefix(front, line_of(fault)?).then_some(Front::Prefixed)
 }
 
 // What these first bytes of the refused file of this role show.
@@ -274,24 +251,20 @@ fn front_of(status: &Status, role: Role, front: &[u8]) -> Option<Front> {
     }
 }
 
-// The first bytes of a regular file, as many as one read gives.
-fn read_front<R: Files>(rt: &R, name: &str, front: &mut [u8; FRONT]) -> usize {
-    let Ok(about) = fs::metadata(rt, name) else {
-        return 0;
-    };
+// Reads the first bytes of a regular file, as many as one read gives, and says how many.
+fn read_front<R: Files>(rt: &R, name: &str, front: &mut [u8; FRONT]) -> Option<usize> {
+    let about = fs::metadata(rt, name).ok()?;
     if !about.is_file() {
-        return 0;
+        return None;
     }
-    match fs::open(rt, name) {
-        Ok(mut file) => file.read(front).unwrap_or(0),
-        Err(_) => 0,
-    }
+    let mut file = fs::open(rt, name).ok()?;
+    file.read(front).ok()
 }
 
 /// What the front of the refused file shows, where the system gives it once more.
 pub(crate) fn hint_of<R: Files>(rt: &R, status: &Status, file: Option<Given<'_>>) -> Option<Front> {
     let file = file?;
     let mut room = [0u8; FRONT];
-    let count = read_front(rt, file.text, &mut room);
+    let count = read_front(rt, file.text, &mut room)?;
     front_of(status, file.argument.role?, room.get(..count)?)
 }

@@ -1,9 +1,7 @@
 //! The first page of a kernel that is not System RAM. The fault of the segments names the segment alone, so that the
 //! sentence can name the page, the map and the kernel are read once more.
 
-use crate::files::name_for;
 use command_parts::Status;
-use command_table::Role;
 use elf_image::{image_pages, read_exec};
 use kexec_plan::PlanFault;
 use kexec_usage::{Given, text_of};
@@ -72,9 +70,9 @@ fn first_outside(alloc: Global, span: Span, set: &PageSet) -> Option<u64> {
 // The same for segment i of the kernel and the RAM of the map.
 fn first_page<R: Files + AllocGlobal>(rt: &R, given: &[Given<'_>], i: usize) -> Option<u64> {
     let alloc = rt.alloc();
-    let text = read_again(rt, name_for(given, Role::Map)?)?;
+    let text = read_again(rt, text_of(given, "--map")?)?;
     let map = Map::read(alloc, &text).ok()?;
-    let file = read_again(rt, name_for(given, Role::Kernel)?)?;
+    let file = read_again(rt, text_of(given, "KERNEL")?)?;
     first_outside(alloc, span_of(alloc, given, &file, i)?, map.ram())
 }
 

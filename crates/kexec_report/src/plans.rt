@@ -1,29 +1,22 @@
 //! The sentences about a request that has no plan, told by what was given.
 
-use crate::files::{file_for, name_for};
-use command_table::Role;
 use kexec_plan::{Part, PlanFault};
 use kexec_usage::{Given, text_of};
 use segments::SegFault;
 use std::fmt::{self, Formatter, Write};
 
-// Whether the kernel is raw. The command with resident pages takes no other.
-fn is_raw(given: &[Given<'_>]) -> bool {
-    text_of(given, "--type") == Some("raw") || name_for(given, Role::Pairs).is_some()
-}
-
-// The address of a raw kernel, as it is given: such a kernel is the first segment.
+// The address of a raw kernel, as it is given: such a kernel is the first segment. The command with resident pages takes no
+// other.
 fn raw_address<'a>(given: &[Given<'a>]) -> Option<&'a str> {
-    if is_raw(given) {
-        text_of(given, "--at")
-    } else {
-        None
+    match (text_of(given, "--type"), text_of(given, "PAIRS")) {
+        (Some("raw"), _) | (_, Some(_)) => text_of(given, "--at"),
+        _ => None,
     }
 }
 
 // The memory map that was given.
 fn map_of<'a>(given: &[Given<'a>]) -> &'a str {
-    name_for(given, Role::Map).unwrap_or("")
+    text_of(given, "--map").unwrap_or("")
 }
 
 // The first page that is not System RAM, where it is known.
@@ -87,46 +80,32 @@ fn write_placed<W: Write>(
     }
 }
 
-// The option or word that gives a part, with its text.
-fn write_given<W: Write>(one: Option<Given<'_>>, f: &mut Formatter<W>) -> fmt::Result {
-    match one {
-        Some(one) => write!(f, "{} {:?}: ", one.argument.name, one.text),
-        None => Ok(()),
-    }
-}
-
-// What one option or word gives, and kernels of this type do not take.
+// What one option or word of this name gives, and kernels of this type do not take.
 fn write_none_taken<W: Write>(
-    one: Option<Given<'_>>,
+    name: &str,
     what: &str,
     given: &[Given<'_>],
     f: &mut Formatter<W>,
 ) -> fmt::Result {
-    write_given(one, f)?;
+    if let Some(text) = text_of(given, name) {
+        write!(f, "{name} {text:?}: ")?;
+    }
     match text_of(given, "--type") {
         Some(kind) if kind != "auto" => write!(f, "a kernel of type {kind} takes no {what}"),
         _ => write!(
             f,
             "the kernel {:?} is of a type that takes no {what}",
-            name_for(given, Role::Kernel).unwrap_or("")
+            text_of(given, "KERNEL").unwrap_or("")
         ),
     }
-}
-
-// The command line that was given.
-fn command_line<'a>(given: &[Given<'a>]) -> Option<Given<'a>> {
-    given
-        .iter()
-        .copied()
-        .find(|one| one.argument.name == "--command")
 }
 
 // A part that kernels of this type do not take.
 fn write_unused<W: Write>(part: &Part, given: &[Given<'_>], f: &mut Formatter<W>) -> fmt::Result {
     match part {
-        Part::Initrd => write_none_taken(file_for(given, Role::Initrd), "initrd", given, f),
-        Part::Module => write_none_taken(file_for(given, Role::Module), "module", given, f),
-        Part::Command => write_none_taken(command_line(given), "command line", given, f),
+        Part::Initrd => write_none_taken("--initrd", "initrd", given, f),
+        Part::Module => write_none_taken("MODULES", "module", given, f),
+        Part::Command => write_none_taken("--command", "command line", given, f),
         part => write!(f, "{part} is given, but a kernel of this type takes none"),
     }
 }

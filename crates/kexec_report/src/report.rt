@@ -5,7 +5,7 @@ use crate::fronts::Front;
 use crate::plans::write_plan;
 use crate::remedies::{budget_remedy, remedy_of};
 use command_parts::Status;
-use command_table::{Name, name_of};
+use command_table::Name;
 use kexec_usage::{Answer, Given, Refusal, text_of};
 use std::fmt::{self, Display, Formatter, Write};
 
@@ -41,7 +41,7 @@ impl Report<'_> {
     // Whether a crash kernel was to be loaded.
     fn is_crash(&self) -> bool {
         match self.words.first() {
-            Some(word) => matches!(name_of(word), Some(Name::LoadPanic)),
+            Some(word) => word.as_str() == Name::LoadPanic.text(),
             None => false,
         }
     }

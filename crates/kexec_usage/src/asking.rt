@@ -7,7 +7,7 @@ ghost use Rattle.kexec_usage.specs.inner.Words.{has_help, is_help, has_version};
 fn is_help(word: &str) -> bool
     ensures { result ≡ is_help word.now }
 {
-    word == "--help" || word == "-h"
+    matches!(word, "--help" | "-h")
 }
 
 /// Whether the words ask for help, by `--help` or `-h` before an argument `--`; they are refused as words that the command

@@ -3,7 +3,7 @@
 ghost use Rattle.std.specs.Prelude.{◌≡◌, IfOk, find, map, option_map, string_bytes, is_some};
 ghost use Rattle.std.specs.Str.{bytes_eq};
 ghost use Rattle.command_table.specs.inner.Table.{argument_value, argument_values};
-ghost use Rattle.kexec_usage.specs.inner.Reading.{reading_value, mistake_value, answer_value, is_option, split_value, value_step, word_step, flag_step, valued_step, known_step, option_step, awaited_step, free_step, step, want, reading_start, reading_of, rest_of, answer_of, IsRead};
+ghost use Rattle.kexec_usage.specs.inner.Reading.{reading_value, mistake_value, answer_value, is_option, split_value, value_step, word_step, known_step, option_step, awaited_step, free_step, step, want, reading_start, reading_of, rest_of, answer_of, IsRead};
 ghost use Rattle.kexec_usage.specs.inner.Words.{given_value, text_in};
 
 use crate::lookup::{is_repeated, next_word, option_in};
@@ -19,6 +19,9 @@ pub struct Given<'a> {
     /// What is given; empty for an option without a value.
     pub text: &'a str,
 }
+
+// What a further word is: a mistake, or none.
+type Step<'a> = Result<Option<Mistake<'a>>, AllocError>;
 
 // What was read so far of the words after a command.
 #[derive(Drop)]
@@ -63,11 +66,7 @@ fn split_value(word: &str) -> (&str, Option<&str>)
 }
 
 impl<'a> Reading<'a> {
-    fn push(
-        &mut self,
-        argument: &'static Argument,
-        text: &'a str,
-    ) -> Result<Option<Mistake<'a>>, AllocError>
+    fn push(&mut self, argument: &'static Argument, text: &'a str) -> Step<'a>
         ensures { IfOk result (λ m. (reading_value self.new, option_map mistake_value m)
             ≡ value_step (reading_value self.old) (argument_value argument.now) text.now) }
     {
@@ -75,7 +74,7 @@ impl<'a> Reading<'a> {
         Ok(None)
     }
 
-    fn read_positional(&mut self, word: &'a str) -> Result<Option<Mistake<'a>>, AllocError>
+    fn read_positional(&mut self, word: &'a str) -> Step<'a>
         ensures { IfOk result (λ m. (reading_value self.new, option_map mistake_value m)
             ≡ word_step (reading_value self.old) word.now) }
     {
@@ -84,7 +83,7 @@ impl<'a> Reading<'a> {
                 self.left = left;
                 self.push(argument, word)
             }
-            None => Ok(Some(Mistake::Surplus { word })),
+            None => Ok(Some(Mistake::Surplus(word))),
         }
     }
 
@@ -95,74 +94,38 @@ impl<'a> Reading<'a> {
         text_of(&self.given, option).is_some()
     }
 
-    fn read_flag(
-        &mut self,
-        argument: &'static Argument,
-        value: Option<&'a str>,
-    ) -> Result<Option<Mistake<'a>>, AllocError>
+    fn read_known(&mut self, argument: &'static Argument, value: Option<&'a str>) -> Step<'a>
         ensures { IfOk result (λ m. (reading_value self.new, option_map mistake_value m)
-            ≡ flag_step (reading_value self.old) (argument_value argument.now)
+            ≡ known_step (reading_value self.old) (argument_value argument.now)
             (option_map (λ s. s.now) value.entry)) }
     {
-        match value {
-            Some(_) => Ok(Some(Mistake::HasValue { argument })),
-            None => self.push(argument, ""),
+        if self.has(argument.name) {
+            return Ok(Some(Mistake::Again(argument)));
         }
-    }
-
-    fn read_valued(
-        &mut self,
-        argument: &'static Argument,
-        value: Option<&'a str>,
-    ) -> Result<Option<Mistake<'a>>, AllocError>
-        ensures { IfOk result (λ m. (reading_value self.new, option_map mistake_value m)
-            ≡ valued_step (reading_value self.old) (argument_value argument.now)
-            (option_map (λ s. s.now) value.entry)) }
-    {
-        match value {
-            Some(text) => self.push(argument, text),
-            None => {
+        match (argument.form, value) {
+            (Form::Flag, None) => self.push(argument, ""),
+            (Form::Flag, Some(_)) => Ok(Some(Mistake::HasValue(argument))),
+            (_, Some(text)) => self.push(argument, text),
+            (_, None) => {
                 self.awaited = Some(argument);
                 Ok(None)
             }
         }
     }
 
-    fn read_known(
-        &mut self,
-        argument: &'static Argument,
-        value: Option<&'a str>,
-    ) -> Result<Option<Mistake<'a>>, AllocError>
-        ensures { IfOk result (λ m. (reading_value self.new, option_map mistake_value m)
-            ≡ known_step (reading_value self.old) (argument_value argument.now)
-            (option_map (λ s. s.now) value.entry)) }
-    {
-        if self.has(argument.name) {
-            return Ok(Some(Mistake::Again { argument }));
-        }
-        match argument.form {
-            Form::Flag => self.read_flag(argument, value),
-            _ => self.read_valued(argument, value),
-        }
-    }
-
-    fn read_option(&mut self, word: &'a str) -> Result<Option<Mistake<'a>>, AllocError>
+    fn read_option(&mut self, word: &'a str) -> Step<'a>
         ensures { IfOk result (λ m. (reading_value self.new, option_map mistake_value m)
             ≡ option_step (reading_value self.old) word.now) }
     {
         let (option, value) = split_value(word);
         match option_in(self.arguments, option) {
             Some(argument) => self.read_known(argument, value),
-            None => Ok(Some(Mistake::Unknown { option })),
+            None => Ok(Some(Mistake::Unknown(option))),
         }
     }
 
     // A word behind an option that must have a value.
-    fn read_value(
-        &mut self,
-        argument: &'static Argument,
-        word: &'a str,
-    ) -> Result<Option<Mistake<'a>>, AllocError>
+    fn read_value(&mut self, argument: &'static Argument, word: &'a str) -> Step<'a>
         ensures { IfOk result (λ m. (reading_value self.new, option_map mistake_value m)
             ≡ awaited_step (reading_value self.old) (argument_value argument.now) word.now) }
     {
@@ -177,7 +140,7 @@ impl<'a> Reading<'a> {
     }
 
     // A word that is not a value of an option, before two hyphens.
-    fn read_free(&mut self, word: &'a str) -> Result<Option<Mistake<'a>>, AllocError>
+    fn read_free(&mut self, word: &'a str) -> Step<'a>
         ensures { IfOk result (λ m. (reading_value self.new, option_map mistake_value m)
             ≡ free_step (reading_value self.old) word.now) }
     {
@@ -191,7 +154,7 @@ impl<'a> Reading<'a> {
         self.read_positional(word)
     }
 
-    fn read_word(&mut self, word: &'a str) -> Result<Option<Mistake<'a>>, AllocError>
+    fn read_word(&mut self, word: &'a str) -> Step<'a>
         ensures { IfOk result (λ m. (reading_value self.new, option_map mistake_value m)
             ≡ step (reading_value self.old) word.now) }
     {
@@ -218,7 +181,7 @@ impl<'a> Reading<'a> {
         if is_repeated(argument.form) {
             return None;
         }
-        Some(Mistake::Missing { argument })
+        Some(Mistake::Missing(argument))
     }
 }
 
@@ -278,7 +241,8 @@ pub fn read_answer<'a>(alloc: Global, words: &'a [String]) -> Answer<'a>
     }
 }
 
-fn one_of<'b, 'a>(given: &'b [Given<'a>], name: &str) -> Option<&'b Given<'a>>
+/// What is given under this name of the help; the first, where there are several.
+pub(crate) fn one_of<'b, 'a>(given: &'b [Given<'a>], name: &str) -> Option<&'b Given<'a>>
     ensures { option_map (λ one. given_value one.now) result
         ≡ find (λ one. bytes_eq one.name name.now) (map given_value given.now) }
 {

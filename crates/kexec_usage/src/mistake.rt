@@ -8,28 +8,18 @@ pub enum Mistake<'a> {
     /// There is not enough memory to read the words.
     Memory,
     /// The command has no such option.
-    Unknown {
-        option: &'a str,
-    },
+    Unknown(&'a str),
     /// The option is given a second time.
-    Again {
-        argument: &'static Argument,
-    },
+    Again(&'static Argument),
     /// The option must have a value, and this word stands in its place; none where no word does.
     NoValue {
         argument: &'static Argument,
         next: Option<&'a str>,
     },
     /// The option takes no value.
-    HasValue {
-        argument: &'static Argument,
-    },
+    HasValue(&'static Argument),
     /// A positional word is one too many.
-    Surplus {
-        word: &'a str,
-    },
+    Surplus(&'a str),
     /// The positional word is missing.
-    Missing {
-        argument: &'static Argument,
-    },
+    Missing(&'static Argument),
 }

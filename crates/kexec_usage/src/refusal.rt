@@ -4,7 +4,7 @@ ghost use Rattle.std.specs.Prelude.{◌≡◌, map, string_bytes};
 ghost use Rattle.kexec_usage.specs.inner.OldWords.{meant_of};
 
 use crate::files::shared_file;
-use crate::given::{Answer, Given, text_of};
+use crate::given::{Answer, Given, one_of, text_of};
 use crate::lookup::option_in;
 use crate::mistake::Mistake;
 use crate::old_words::{command_for, has_no_counterpart, option_for, type_for};
@@ -14,12 +14,8 @@ use std::fmt::{self, Display, Formatter, Write};
 // A sign is not part of a number.
 const UNSIGNED: &str = "a number must have no sign";
 
-fn write_command<W: Write>(
-    why: &UsageWhy,
-    first: Option<&str>,
-    f: &mut Formatter<W>,
-) -> fmt::Result {
-    let Some(word) = first else {
+fn write_command<W: Write>(why: &UsageWhy, words: &[String], f: &mut Formatter<W>) -> fmt::Result {
+    let Some(word) = words.first() else {
         return write!(f, "{why}");
     };
     if has_no_counterpart(word) {
@@ -101,27 +97,24 @@ fn write_mistake<W: Write>(
 ) -> fmt::Result {
     match mistake {
         Mistake::Memory => f.write_str("there is not enough memory to say which argument is wrong"),
-        Mistake::Unknown { option } => write_unknown(arguments, option, f),
-        Mistake::Again { argument } => {
-            let name = argument.name;
-            write!(f, "{name} is given twice: give it once")
-        }
+        Mistake::Unknown(option) => write_unknown(arguments, option, f),
+        Mistake::Again(argument) => write!(f, "{} is given twice: give it once", argument.name),
         Mistake::NoValue { argument, next } => write_no_value(argument, *next, f),
-        Mistake::HasValue { argument } => {
+        Mistake::HasValue(argument) => {
             let name = argument.name;
             write!(f, "{name} takes no value: leave out = and the value")
         }
-        Mistake::Surplus { word } => write!(f, "{word:?} is one argument too many"),
-        Mistake::Missing { argument } => {
-            let name = argument.name;
-            write!(f, "{name} is missing")
-        }
+        Mistake::Surplus(word) => write!(f, "{word:?} is one argument too many"),
+        Mistake::Missing(argument) => write!(f, "{} is missing", argument.name),
     }
 }
 
 // Whether the argument of this name is a hexadecimal number.
 fn is_hexadecimal(given: &[Given<'_>], name: &str) -> bool {
-    given.iter().any(|one| one.argument.name == name && one.argument.kind.is_hexadecimal())
+    match one_of(given, name) {
+        Some(one) => one.argument.kind.is_hexadecimal(),
+        None => false,
+    }
 }
 
 fn write_number<W: Write>(
@@ -191,10 +184,7 @@ impl Display for Refusal<'_> {
         let why = self.why;
         let given = &self.answer.given;
         match why {
-            UsageWhy::Command => {
-                let first = self.words.first().map(|word| word.as_str());
-                write_command(why, first, f)
-            }
+            UsageWhy::Command => write_command(why, self.words, f),
             UsageWhy::Parse => match &self.answer.mistake {
                 Some(mistake) => write_mistake(mistake, arguments_of(self.words), f),
                 None => write!(f, "{why}"),
@@ -203,12 +193,10 @@ impl Display for Refusal<'_> {
             UsageWhy::Number { which } => write_number(why, *which, given, f),
             UsageWhy::SameName => write_same_name(given, f),
             UsageWhy::TooManyModules => write_modules(given, f),
-            UsageWhy::NeedsMap => {
-                write!(
-                    f,
-                    "{why}; `cat /proc/iomem`, as root, prints the map of this machine"
-                )
-            }
+            UsageWhy::NeedsMap => write!(
+                f,
+                "{why}; `cat /proc/iomem`, as root, prints the map of this machine"
+            ),
             UsageWhy::NeedsAt => write!(f, "{why}"),
         }
     }

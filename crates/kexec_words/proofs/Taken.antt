@@ -7,14 +7,13 @@ use Rattle.clap.specs.Kinds.{Kinds}
 use Rattle.clap.proofs.OnLiterals.{clap_on_literals}
 use Rattle.command_table.specs.Arguments.{arguments_by}
 use Rattle.command_table.specs.Table.{Text}
-use Rattle.command_table.specs.declared.faults.Which.{Which}
 use Rattle.command_table.specs.declared.faults.UsageWhy.{UsageWhy}
 use Rattle.command_table.specs.declared.faults.UsageWhy.TheVariants as why
 use Rattle.command_table.specs.declared.names.Name.{Name}
 use Rattle.command_table.specs.declared.names.Name.TheVariants as name
 use Rattle.kexec_words.specs.Apps.{app_by}
 use Rattle.kexec_words.specs.Given.{GivenValue, given_of}
-use Rattle.kexec_words.specs.Meaning.{answer_by, answer_where, map_answer, with_numbers}
+use Rattle.kexec_words.specs.Meaning.{answer_by, answer_where}
 use Rattle.kexec_words.specs.inner.Given.{Parses}
 use Rattle.kexec_words.specs.inner.Meaning.{Answers}
 use Rattle.kexec_words.specs.declared.faults.WordsFault.{WordsFault}
@@ -96,13 +95,3 @@ pub exits : {A B : Type 0} (value : B → A) (said : Result A UsageWhy) (r : Res
     → IsErrAnd r (λ f. f ≡ e) → Answers value said (Err e) → Answers value said r
 exits value said (Ok b) e h a = absurd h
 exits value said (Err f) e h a = subst (λ x. Answers value said (Err x)) (sym h) a
-
--- a reason passed on
-pub exits_mapped : {A B C : Type 0} (value : B → A) (f : C → A) (said : Result C UsageWhy) (w : UsageWhy) (r : Result B WordsFault)
-    → IsErrAnd r (λ e. e ≡ Usage w) → Err w ≡ said → Answers value (map_answer f said) r
-exits_mapped value f said w r h e = exits value (map_answer f said) r (Usage w) h (ap (map_answer f) (sym e))
-
--- numbers in their forms
-pub goes_on : {A B C : Type 0} (value : B → A) (go : C → Result A UsageWhy) (said : Result C Which) (n : C) (r : Result B WordsFault)
-    → Ok n ≡ said → Answers value (go n) r → Answers value (with_numbers said go) r
-goes_on value go said n r e h = subst (λ s. Answers value (with_numbers s go) r) e h

@@ -43,20 +43,14 @@ pub(crate) fn option_in<'a>(given: &[Given<'a>], id: &str) -> Option<&'a str>
 pub(crate) fn word_in<'a>(given: &[Given<'a>], id: &str) -> &'a str
     ensures { result.now ≡ word_of id.now (given_values given.now) }
 {
-    match option_in(given, id) {
-        Some(text) => text,
-        None => "",
-    }
+    option_in(given, id).unwrap_or("")
 }
 
 // Whether an option without a value is given.
 pub(crate) fn flag_in(given: &[Given<'_>], id: &str) -> bool
     ensures { result ≡ flag_of id.now (given_values given.now) }
 {
-    match option_in(given, id) {
-        Some(text) => text == "true",
-        None => false,
-    }
+    option_in(given, id) == Some("true")
 }
 
 // The name that is a positional word.

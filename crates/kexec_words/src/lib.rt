@@ -1,9 +1,7 @@
 //! Reads the words of a `kexec` command line: which command, which files, which numbers, or the first reason to refuse them.
 #![tactic(auto)]
 
-mod boot_resident;
 mod commands;
-mod drill;
 mod faults;
 mod given;
 mod naming;

@@ -22,24 +22,17 @@ fn is_listed(names: &[String], text: &str) -> bool
     names.iter().any(|name| name.as_str() == text)
 }
 
-// Whether a file of this name is read.
-fn is_read(inputs: &Inputs, text: &str) -> bool
-    ensures { result ≡ is_among text.now (files_of (inputs_value inputs.now)) }
-{
-    inputs.memory.as_str() == text
-        || inputs.pool.as_str() == text
-        || is_given(&inputs.map, text)
-        || inputs.kernel.as_str() == text
-        || is_given(&inputs.initrd, text)
-        || is_given(&inputs.purgatory, text)
-        || is_listed(&inputs.modules, text)
-}
-
 // Whether an output has the name of an input.
 pub(crate) fn is_input(inputs: &Inputs, out: &str) -> bool
     ensures { result ≡ has_same_name (out.now ∷ []) (files_of (inputs_value inputs.now)) }
 {
-    is_read(inputs, out)
+    inputs.memory.as_str() == out
+        || inputs.pool.as_str() == out
+        || is_given(&inputs.map, out)
+        || inputs.kernel.as_str() == out
+        || is_given(&inputs.initrd, out)
+        || is_given(&inputs.purgatory, out)
+        || is_listed(&inputs.modules, out)
 }
 
 // Whether one of two outputs has the name of an input or of the other one.
@@ -47,7 +40,7 @@ pub(crate) fn is_repeated(inputs: &Inputs, out: &str, load_record: &str) -> bool
     ensures { result
         ≡ has_same_name (out.now ∷ load_record.now ∷ []) (files_of (inputs_value inputs.now)) }
 {
-    load_record == out || is_read(inputs, out) || is_read(inputs, load_record)
+    load_record == out || is_input(inputs, out) || is_input(inputs, load_record)
 }
 
 // Whether `load-panic` reads a file of this name.

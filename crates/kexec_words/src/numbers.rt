@@ -1,10 +1,12 @@
 //! Numbers and types in words.
 
 ghost use Rattle.std.specs.Prelude.{◌≡◌, ◌≤◌, ◌<◌, ◌^◌};
-ghost use Rattle.kexec_words.specs.inner.Given.{text_in};
-ghost use Rattle.kexec_words.specs.Numbers.{number_of, hex_of, type_of, kept_of, address_of, pool_limit_of, first_past, below_of, page_address_of, swap_of, head_of, limit_of, sample_of, headers_address_of, core_address_of, plan_numbers_of, trace_numbers_of};
+ghost use Rattle.kexec_words.specs.inner.Given.{text_in, given_values};
+ghost use Rattle.kexec_words.specs.Meaning.{plan_numbers_by, trace_numbers_by};
+ghost use Rattle.kexec_words.specs.Numbers.{number_of, hex_of, type_of, kept_of, address_of, pool_limit_of, first_past, below_of, page_address_of, swap_of, head_of, limit_of, sample_of, headers_address_of, core_address_of};
 
 use crate::commands::Runs;
+use crate::given::{Given, option_in, word_in};
 use command_table::Which;
 use kx_pages::{ADDRESS_LIMIT, PAGE_SIZE, Page, is_page_address};
 
@@ -68,46 +70,33 @@ fn hex_in(text: &str) -> Option<u64>
 fn type_in(text: Option<&str>) -> Result<TypeWord, Which>
     ensures { result ≡ type_of (text_in text.entry) }
 {
-    let Some(text) = text else {
-        return Ok(TypeWord::Auto);
-    };
-    if text == "raw" {
-        Ok(TypeWord::Raw)
-    } else if text == "elf" {
-        Ok(TypeWord::Elf)
-    } else if text == "bzimage" {
-        Ok(TypeWord::Bzimage)
-    } else if text == "multiboot" {
-        Ok(TypeWord::Multiboot)
-    } else {
-        Err(Which::Type)
+    match text {
+        None => Ok(TypeWord::Auto),
+        Some("raw") => Ok(TypeWord::Raw),
+        Some("elf") => Ok(TypeWord::Elf),
+        Some("bzimage") => Ok(TypeWord::Bzimage),
+        Some("multiboot") => Ok(TypeWord::Multiboot),
+        Some(_) => Err(Which::Type),
     }
 }
 
 fn kept_in(text: Option<&str>) -> Result<Option<Runs>, Which>
     ensures { result ≡ kept_of (text_in text.entry) }
 {
-    let Some(text) = text else {
-        return Ok(None);
-    };
-    if text == "1" {
-        Ok(Some(Runs::Once))
-    } else if text == "2" {
-        Ok(Some(Runs::Twice))
-    } else {
-        Err(Which::Kept)
+    match text {
+        None => Ok(None),
+        Some("1") => Ok(Some(Runs::Once)),
+        Some("2") => Ok(Some(Runs::Twice)),
+        Some(_) => Err(Which::Kept),
     }
 }
 
 pub(crate) fn address_in(text: Option<&str>, which: Which) -> Result<Option<u64>, Which>
     ensures { result ≡ address_of which (text_in text.entry) }
 {
-    let Some(text) = text else {
-        return Ok(None);
-    };
-    match hex_in(text) {
-        Some(address) => Ok(Some(address)),
-        None => Err(which),
+    match text {
+        Some(text) => Ok(Some(hex_in(text).ok_or(which)?)),
+        None => Ok(None),
     }
 }
 
@@ -134,12 +123,9 @@ fn first_past(limit: u64) -> Option<Page>
 fn below_in(text: Option<&str>) -> Result<Option<Page>, Which>
     ensures { result ≡ below_of (text_in text.entry) }
 {
-    let Some(text) = text else {
-        return Ok(None);
-    };
-    match pool_limit_in(text) {
-        Some(limit) => Ok(first_past(limit)),
-        None => Err(Which::Below),
+    match text {
+        Some(text) => Ok(first_past(pool_limit_in(text).ok_or(Which::Below)?)),
+        None => Ok(None),
     }
 }
 
@@ -155,22 +141,16 @@ fn page_address_in(text: &str) -> Option<u64>
 fn swap_in(text: Option<&str>) -> Result<Option<u64>, Which>
     ensures { result ≡ swap_of (text_in text.entry) }
 {
-    let Some(text) = text else {
-        return Ok(None);
-    };
-    match page_address_in(text) {
-        Some(address) => Ok(Some(address)),
-        None => Err(Which::Swap),
+    match text {
+        Some(text) => Ok(Some(page_address_in(text).ok_or(Which::Swap)?)),
+        None => Ok(None),
     }
 }
 
 fn head_in(text: &str) -> Result<u64, Which>
     ensures { result ≡ head_of text.now }
 {
-    match hex_in(text) {
-        Some(head) => Ok(head),
-        None => Err(Which::Head),
-    }
+    hex_in(text).ok_or(Which::Head)
 }
 
 fn limit_in(text: &str) -> Result<u64, Which>
@@ -186,10 +166,7 @@ fn limit_in(text: &str) -> Result<u64, Which>
 pub(crate) fn sample_number(text: &str) -> Result<u64, Which>
     ensures { result ≡ sample_of text.now }
 {
-    match number_in(text, 10, NUMBER_DIGITS) {
-        Some(number) => Ok(number),
-        None => Err(Which::Number),
-    }
+    number_in(text, 10, NUMBER_DIGITS).ok_or(Which::Number)
 }
 
 fn headers_address_in(text: &str) -> Option<u64>
@@ -205,48 +182,29 @@ fn headers_address_in(text: &str) -> Option<u64>
 pub(crate) fn core_address(text: &str) -> Result<u64, Which>
     ensures { result ≡ core_address_of text.now }
 {
-    match headers_address_in(text) {
-        Some(address) => Ok(address),
-        None => Err(Which::Address),
-    }
+    headers_address_in(text).ok_or(Which::Address)
 }
 
 // The type and the numbers, or the first that has not its form.
-pub(crate) fn plan_numbers(
-    kind: Option<&str>,
-    kept: Option<&str>,
-    at: Option<&str>,
-    entry: Option<&str>,
-    below: Option<&str>,
-) -> Result<PlanNumbers, Which>
-    ensures { result
-        ≡ plan_numbers_of (text_in kind.entry) (text_in kept.entry) (text_in at.entry)
-        (text_in entry.entry) (text_in below.entry) }
+pub(crate) fn plan_numbers(given: &[Given<'_>], kept: Option<&str>) -> Result<PlanNumbers, Which>
+    ensures { result ≡ plan_numbers_by (text_in kept.entry) (given_values given.now) }
 {
-    let kind = type_in(kind)?;
-    let kept = kept_in(kept)?;
-    let at = address_in(at, Which::At)?;
-    let entry = address_in(entry, Which::Entry)?;
-    let below = below_in(below)?;
     Ok(PlanNumbers {
-        kind,
-        kept,
-        at,
-        entry,
-        below,
+        kind: type_in(option_in(given, "type"))?,
+        kept: kept_in(kept)?,
+        at: address_in(option_in(given, "at"), Which::At)?,
+        entry: address_in(option_in(given, "entry"), Which::Entry)?,
+        below: below_in(option_in(given, "below"))?,
     })
 }
 
 // The numbers of `trace`, or the first that has not its form.
-pub(crate) fn trace_numbers(
-    swap: Option<&str>,
-    head: &str,
-    limit: &str,
-) -> Result<TraceNumbers, Which>
-    ensures { result ≡ trace_numbers_of (text_in swap.entry) head.now limit.now }
+pub(crate) fn trace_numbers(given: &[Given<'_>]) -> Result<TraceNumbers, Which>
+    ensures { result ≡ trace_numbers_by (given_values given.now) }
 {
-    let swap = swap_in(swap)?;
-    let head = head_in(head)?;
-    let limit = limit_in(limit)?;
-    Ok(TraceNumbers { swap, head, limit })
+    Ok(TraceNumbers {
+        swap: swap_in(option_in(given, "swap"))?,
+        head: head_in(word_in(given, "HEAD"))?,
+        limit: limit_in(word_in(given, "LIMIT"))?,
+    })
 }

@@ -40,10 +40,7 @@ fn command_with<'a>(
 {
     let mut command = Command::new(alloc, name).no_binary_name(true);
     for argument in arguments {
-        match command.arg(arg_of(alloc, *argument)) {
-            Ok(longer) => command = longer,
-            Err(error) => return Err(error),
-        }
+        command = command.arg(arg_of(alloc, *argument))?;
     }
     Ok(command)
 }
@@ -59,9 +56,7 @@ fn matches_for<'a>(
     ensures { Parses (app_taking name.entry.now (argument_values arguments.now))
         (map string_bytes words.entry.now) result }
 {
-    let Ok(command) = command_with(alloc, name, arguments) else {
-        return Err(WordsFault::Memory);
-    };
+    let command = command_with(alloc, name, arguments)?;
     match command.try_get_matches_from(words) {
         Ok(matches) => Ok(matches),
         Err(error) if error.kind() == ErrorKind::OutOfMemory => Err(WordsFault::Memory),
@@ -69,14 +64,6 @@ fn matches_for<'a>(
             why: UsageWhy::Parse,
         }),
     }
-}
-
-fn copy_of<'a>(alloc: Global, texts: &[&'a str]) -> Result<Vec<&'a str>, AllocError>
-    ensures { IfOk result (λ v. v.items ≡ texts.now) }
-{
-    let mut copy = Vec::new(alloc);
-    copy.extend_from_slice(texts)?;
-    Ok(copy)
 }
 
 // The texts that are found under this name.
@@ -89,7 +76,7 @@ fn texts_for<'a>(
         ≡ unwrap_or (all_of id.now (rows_of (found_of matches.now))) []) }
 {
     match matches.get_strs(id) {
-        Some(texts) => copy_of(alloc, texts),
+        Some(texts) => Vec::from_slice(alloc, texts),
         None => Ok(Vec::new(alloc)),
     }
 }
@@ -133,8 +120,6 @@ pub(crate) fn given_behind<'a>(
         (answer_by name (λ given. Ok given) (map string_bytes words.now)) result }
 {
     let arguments = name.arguments();
-    match matches_for(alloc, name.text(), arguments, words) {
-        Ok(matches) => Ok(given_of(alloc, &matches, arguments)?),
-        Err(fault) => Err(fault),
-    }
+    let matches = matches_for(alloc, name.text(), arguments, words)?;
+    Ok(given_of(alloc, &matches, arguments)?)
 }

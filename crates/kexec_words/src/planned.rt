@@ -1,9 +1,9 @@
 //! The words of `boot` and `load`.
 
-ghost use Rattle.std.specs.Prelude.{◌≡◌, IfOk, map, string_bytes};
-ghost use Rattle.kexec_words.specs.Meaning.{inputs_of, image_from, image_or_refusal, image_where, plan_numbers_by, boot_with, boot_in, load_with, load_in};
+ghost use Rattle.std.specs.Prelude.{◌≡◌, IfOk};
+ghost use Rattle.kexec_words.specs.Meaning.{inputs_of, image_from, image_where, boot_in, load_in};
 ghost use Rattle.kexec_words.specs.inner.Meaning.{Answers};
-ghost use Rattle.kexec_words.specs.inner.Given.{text_in, given_values};
+ghost use Rattle.kexec_words.specs.inner.Given.{given_values};
 ghost use Rattle.kexec_words.specs.inner.Values.{inputs_value, boot_value, load_value};
 
 use crate::commands::{Boot, Inputs, Load};
@@ -11,7 +11,7 @@ use crate::faults::WordsFault;
 use crate::given::{Given, flag_in, name_in, names_in, option_in, some_name_in};
 use crate::naming::{is_input, is_repeated};
 use crate::numbers::{PlanNumbers, TypeWord, plan_numbers};
-use command_table::{UsageWhy, Which};
+use command_table::UsageWhy;
 use kx_pages::{ImageType, Page};
 use std::alloc::{AllocError, Global};
 
@@ -39,27 +39,15 @@ fn image_of(numbers: PlanNumbers) -> Option<ImageType>
 {
     match numbers.kind {
         TypeWord::Auto => Some(ImageType::Auto),
-        TypeWord::Raw => match (numbers.at, numbers.entry) {
-            (Some(at), Some(entry)) => Some(ImageType::Raw { at, entry }),
-            (Some(at), None) => Some(ImageType::Raw { at, entry: at }),
-            (None, _) => None,
-        },
+        TypeWord::Raw => {
+            let at = numbers.at?;
+            let entry = numbers.entry.unwrap_or(at);
+            Some(ImageType::Raw { at, entry })
+        }
         TypeWord::Elf => Some(ImageType::Elf),
         TypeWord::Bzimage => Some(ImageType::Bzimage),
         TypeWord::Multiboot => Some(ImageType::Multiboot),
     }
-}
-
-fn with_map(inputs: &Inputs, image: Option<ImageType>) -> Result<ImageType, UsageWhy>
-    ensures { result ≡ image_or_refusal (inputs_value inputs.now) image }
-{
-    let Some(image) = image else {
-        return Err(UsageWhy::NeedsAt);
-    };
-    if image.needs_map(inputs.purgatory.is_some()) && inputs.map.is_none() {
-        return Err(UsageWhy::NeedsMap);
-    }
-    Ok(image)
 }
 
 fn image_for(inputs: &Inputs, is_same: bool, numbers: PlanNumbers) -> Result<ImageType, UsageWhy>
@@ -71,25 +59,19 @@ fn image_for(inputs: &Inputs, is_same: bool, numbers: PlanNumbers) -> Result<Ima
     if is_same {
         return Err(UsageWhy::SameName);
     }
-    with_map(inputs, image_of(numbers))
+    let image = image_of(numbers).ok_or(UsageWhy::NeedsAt)?;
+    if image.needs_map(inputs.purgatory.is_some()) && inputs.map.is_none() {
+        return Err(UsageWhy::NeedsMap);
+    }
+    Ok(image)
 }
 
-fn numbers_in(given: &[Given<'_>], kept: Option<&str>) -> Result<PlanNumbers, Which>
-    ensures { result ≡ plan_numbers_by (text_in kept.entry) (given_values given.now) }
+pub(crate) fn boot_in(alloc: Global, given: &[Given<'_>]) -> Result<Boot, WordsFault>
+    ensures { Answers boot_value (boot_in (given_values given.now)) result }
 {
-    plan_numbers(
-        option_in(given, "type"),
-        kept,
-        option_in(given, "at"),
-        option_in(given, "entry"),
-        option_in(given, "below"),
-    )
-}
-
-fn boot_from(inputs: Inputs, out: String, numbers: PlanNumbers) -> Result<Boot, WordsFault>
-    ensures { Answers boot_value
-        (boot_with (inputs_value inputs) (string_bytes out) numbers) result }
-{
+    let numbers = plan_numbers(given, option_in(given, "kept"))?;
+    let inputs = inputs_in(alloc, given, numbers.below)?;
+    let out = name_in(alloc, given, "OUT")?;
     let kept = numbers.kept;
     let image = image_for(&inputs, is_input(&inputs, &out), numbers)?;
     Ok(Boot {
@@ -100,42 +82,19 @@ fn boot_from(inputs: Inputs, out: String, numbers: PlanNumbers) -> Result<Boot, 
     })
 }
 
-pub(crate) fn boot_in(alloc: Global, given: &[Given<'_>]) -> Result<Boot, WordsFault>
-    ensures { Answers boot_value (boot_in (given_values given.now)) result }
+pub(crate) fn load_in(alloc: Global, given: &[Given<'_>]) -> Result<Load, WordsFault>
+    ensures { Answers load_value (load_in (given_values given.now)) result }
 {
-    let numbers = numbers_in(given, option_in(given, "kept"))?;
+    let numbers = plan_numbers(given, None)?;
     let inputs = inputs_in(alloc, given, numbers.below)?;
     let out = name_in(alloc, given, "OUT")?;
-    boot_from(inputs, out, numbers)
-}
-
-fn load_from(
-    inputs: Inputs,
-    out: String,
-    load_record: String,
-    kept: bool,
-    numbers: PlanNumbers,
-) -> Result<Load, WordsFault>
-    ensures { Answers load_value
-        (load_with (inputs_value inputs) (string_bytes out) (string_bytes load_record) kept numbers)
-        result }
-{
+    let load_record = name_in(alloc, given, "RECORD")?;
     let image = image_for(&inputs, is_repeated(&inputs, &out, &load_record), numbers)?;
     Ok(Load {
         inputs,
         out,
         load_record,
-        kept,
+        kept: flag_in(given, "kept"),
         image,
     })
-}
-
-pub(crate) fn load_in(alloc: Global, given: &[Given<'_>]) -> Result<Load, WordsFault>
-    ensures { Answers load_value (load_in (given_values given.now)) result }
-{
-    let numbers = numbers_in(given, None)?;
-    let inputs = inputs_in(alloc, given, numbers.below)?;
-    let out = name_in(alloc, given, "OUT")?;
-    let load_record = name_in(alloc, given, "RECORD")?;
-    load_from(inputs, out, load_record, flag_in(given, "kept"), numbers)
 }

@@ -7,15 +7,14 @@ ghost use Rattle.kexec_words.specs.inner.Meaning.{Answers};
 ghost use Rattle.kexec_words.specs.inner.Limits.{IsWithinLimits, HasOutputsApart};
 ghost use Rattle.kexec_words.specs.inner.Values.{command_value};
 
-use crate::boot_resident::boot_resident_in;
 use crate::commands::Command;
-use crate::drill::drill_in;
 use crate::faults::WordsFault;
 use crate::given::Given;
 use crate::parsing::given_behind;
 use crate::planned::{boot_in, load_in};
 use crate::unplanned::{
-    core_in, exec_in, load_panic_in, loaded_in, migrate_in, sample_in, trace_in,
+    boot_resident_in, core_in, drill_in, exec_in, load_panic_in, loaded_in, migrate_in, sample_in,
+    trace_in,
 };
 use command_table::{Name, UsageWhy, name_of};
 use std::alloc::Global;
@@ -46,10 +45,8 @@ fn read_named(alloc: Global, name: Name, words: &[String]) -> Result<Command, Wo
     ensures { Answers command_value
         (command_by_name (Some name) (map string_bytes words.now)) result }
 {
-    match given_behind(alloc, name, words) {
-        Ok(given) => command_in(alloc, name, &given),
-        Err(fault) => Err(fault),
-    }
+    let given = given_behind(alloc, name, words)?;
+    command_in(alloc, name, &given)
 }
 
 /// The command that the words after the program's name say, or the first reason to refuse them, in the order of
@@ -60,14 +57,10 @@ pub fn read(alloc: Global, words: &[String]) -> Result<Command, WordsFault>
     ensures apart { IfOk result (λ c. HasOutputsApart (command_value c)) }
 {
     let Some((first, rest)) = words.split_first() else {
-        return Err(WordsFault::Usage {
-            why: UsageWhy::Command,
-        });
+        return Err(UsageWhy::Command.into());
     };
     match name_of(first) {
         Some(name) => read_named(alloc, name, rest),
-        None => Err(WordsFault::Usage {
-            why: UsageWhy::Command,
-        }),
+        None => Err(UsageWhy::Command.into()),
     }
 }

@@ -1,16 +1,18 @@
-//! The words of `load-panic`, `check`, `dump`, `exec`, `trace`, `migrate`, `sample` and `core`.
+//! The words of each command but `boot` and `load`.
 
 ghost use Rattle.std.specs.Prelude.{◌≡◌, IfOk, map, option_map, string_bytes};
-ghost use Rattle.kexec_words.specs.Meaning.{crash_inputs_of, load_panic_with, load_panic_in, load_names_of, load_names_in, exec_of, exec_with, exec_in, trace_numbers_by, trace_with, trace_in, migrate_of, migrate_with, migrate_in, sample_by, sample_in, core_by, core_with, core_in};
+ghost use Rattle.kexec_words.specs.Meaning.{crash_inputs_of, load_panic_with, load_panic_in, load_names_in, exec_in, trace_in, migrate_in, sample_in, boot_resident_in, drill_in, core_in};
 ghost use Rattle.kexec_words.specs.inner.Given.{given_values};
 ghost use Rattle.kexec_words.specs.inner.Meaning.{Answers};
-ghost use Rattle.kexec_words.specs.inner.Values.{crash_inputs_value, load_panic_value, load_names_value, exec_value, trace_value, migrate_value, number_value, core_value};
+ghost use Rattle.kexec_words.specs.inner.Values.{crash_inputs_value, load_panic_value, load_names_value, exec_value, trace_value, migrate_value, number_value, boot_resident_value, drill_value, core_value};
 
-use crate::commands::{Core, CrashInputs, Exec, LoadNames, LoadPanic, Migrate, Trace};
+use crate::commands::{
+    BootResident, Core, CrashInputs, Drill, Exec, LoadNames, LoadPanic, Migrate, Trace,
+};
 use crate::faults::WordsFault;
 use crate::given::{Given, flag_in, name_in, option_in, some_name_in, word_in};
-use crate::naming::is_repeated_for_crash;
-use crate::numbers::{TraceNumbers, core_address, sample_number, trace_numbers};
+use crate::naming::{is_given, is_repeated_for_crash};
+use crate::numbers::{address_in, core_address, sample_number, trace_numbers};
 use command_table::{UsageWhy, Which};
 use std::alloc::{AllocError, Global};
 
@@ -39,21 +41,15 @@ fn load_panic_from(
         (string_bytes out) (string_bytes load_record)) result }
 {
     if is_repeated_for_crash(&inputs, &map, &out, &load_record) {
-        return Err(WordsFault::Usage {
-            why: UsageWhy::SameName,
-        });
+        return Err(UsageWhy::SameName.into());
     }
-    match map {
-        Some(map) => Ok(LoadPanic {
-            inputs,
-            map,
-            out,
-            load_record,
-        }),
-        None => Err(WordsFault::Usage {
-            why: UsageWhy::NeedsMap,
-        }),
-    }
+    let map = map.ok_or(UsageWhy::NeedsMap)?;
+    Ok(LoadPanic {
+        inputs,
+        map,
+        out,
+        load_record,
+    })
 }
 
 pub(crate) fn load_panic_in(alloc: Global, given: &[Given<'_>]) -> Result<LoadPanic, WordsFault>
@@ -66,9 +62,8 @@ pub(crate) fn load_panic_in(alloc: Global, given: &[Given<'_>]) -> Result<LoadPa
     load_panic_from(inputs, map, out, load_record)
 }
 
-fn loaded_names(alloc: Global, given: &[Given<'_>]) -> Result<LoadNames, AllocError>
-    ensures { IfOk result
-        (λ l. load_names_value l ≡ load_names_of (given_values given.now)) }
+pub(crate) fn loaded_in(alloc: Global, given: &[Given<'_>]) -> Result<LoadNames, WordsFault>
+    ensures { Answers load_names_value (load_names_in (given_values given.now)) result }
 {
     Ok(LoadNames {
         memory: name_in(alloc, given, "MEMORY")?,
@@ -76,59 +71,31 @@ fn loaded_names(alloc: Global, given: &[Given<'_>]) -> Result<LoadNames, AllocEr
     })
 }
 
-pub(crate) fn loaded_in(alloc: Global, given: &[Given<'_>]) -> Result<LoadNames, WordsFault>
-    ensures { Answers load_names_value (load_names_in (given_values given.now)) result }
+pub(crate) fn exec_in(alloc: Global, given: &[Given<'_>]) -> Result<Exec, WordsFault>
+    ensures { Answers exec_value (exec_in (given_values given.now)) result }
 {
-    Ok(loaded_names(alloc, given)?)
-}
-
-fn exec_names(alloc: Global, given: &[Given<'_>]) -> Result<Exec, AllocError>
-    ensures { IfOk result (λ e. exec_value e ≡ exec_of (given_values given.now)) }
-{
+    let memory = name_in(alloc, given, "MEMORY")?;
+    let load_record = name_in(alloc, given, "RECORD")?;
+    let out = name_in(alloc, given, "OUT")?;
+    if memory == out || load_record == out {
+        return Err(UsageWhy::SameName.into());
+    }
     Ok(Exec {
-        memory: name_in(alloc, given, "MEMORY")?,
-        load_record: name_in(alloc, given, "RECORD")?,
-        out: name_in(alloc, given, "OUT")?,
+        memory,
+        load_record,
+        out,
         twice: flag_in(given, "twice"),
     })
 }
 
-fn exec_from(exec: Exec) -> Result<Exec, WordsFault>
-    ensures { Answers exec_value (exec_with (exec_value exec)) result }
+pub(crate) fn trace_in(alloc: Global, given: &[Given<'_>]) -> Result<Trace, WordsFault>
+    ensures { Answers trace_value (trace_in (given_values given.now)) result }
 {
-    if exec.memory == exec.out || exec.load_record == exec.out {
-        return Err(WordsFault::Usage {
-            why: UsageWhy::SameName,
-        });
-    }
-    Ok(exec)
-}
-
-pub(crate) fn exec_in(alloc: Global, given: &[Given<'_>]) -> Result<Exec, WordsFault>
-    ensures { Answers exec_value (exec_in (given_values given.now)) result }
-{
-    let exec = exec_names(alloc, given)?;
-    exec_from(exec)
-}
-
-fn trace_numbers_in(given: &[Given<'_>]) -> Result<TraceNumbers, Which>
-    ensures { result ≡ trace_numbers_by (given_values given.now) }
-{
-    trace_numbers(
-        option_in(given, "swap"),
-        word_in(given, "HEAD"),
-        word_in(given, "LIMIT"),
-    )
-}
-
-fn trace_from(memory: String, out: String, numbers: TraceNumbers) -> Result<Trace, WordsFault>
-    ensures { Answers trace_value
-        (trace_with (string_bytes memory) (string_bytes out) numbers) result }
-{
+    let numbers = trace_numbers(given)?;
+    let memory = name_in(alloc, given, "MEMORY")?;
+    let out = name_in(alloc, given, "OUT")?;
     if memory == out {
-        return Err(WordsFault::Usage {
-            why: UsageWhy::SameName,
-        });
+        return Err(UsageWhy::SameName.into());
     }
     Ok(Trace {
         memory,
@@ -139,81 +106,83 @@ fn trace_from(memory: String, out: String, numbers: TraceNumbers) -> Result<Trac
     })
 }
 
-pub(crate) fn trace_in(alloc: Global, given: &[Given<'_>]) -> Result<Trace, WordsFault>
-    ensures { Answers trace_value (trace_in (given_values given.now)) result }
-{
-    let numbers = trace_numbers_in(given)?;
-    let memory = name_in(alloc, given, "MEMORY")?;
-    let out = name_in(alloc, given, "OUT")?;
-    trace_from(memory, out, numbers)
-}
-
-fn migrate_names(alloc: Global, given: &[Given<'_>]) -> Result<Migrate, AllocError>
-    ensures { IfOk result (λ m. migrate_value m ≡ migrate_of (given_values given.now)) }
-{
-    Ok(Migrate {
-        load_record: name_in(alloc, given, "RECORD")?,
-        out: name_in(alloc, given, "OUT")?,
-    })
-}
-
-fn migrate_from(migrate: Migrate) -> Result<Migrate, WordsFault>
-    ensures { Answers migrate_value (migrate_with (migrate_value migrate)) result }
-{
-    if migrate.load_record == migrate.out {
-        return Err(WordsFault::Usage {
-            why: UsageWhy::SameName,
-        });
-    }
-    Ok(migrate)
-}
-
 pub(crate) fn migrate_in(alloc: Global, given: &[Given<'_>]) -> Result<Migrate, WordsFault>
     ensures { Answers migrate_value (migrate_in (given_values given.now)) result }
 {
-    let migrate = migrate_names(alloc, given)?;
-    migrate_from(migrate)
-}
-
-fn sample_number_in(given: &[Given<'_>]) -> Result<u64, Which>
-    ensures { result ≡ sample_by (given_values given.now) }
-{
-    sample_number(word_in(given, "NUMBER"))
+    let load_record = name_in(alloc, given, "RECORD")?;
+    let out = name_in(alloc, given, "OUT")?;
+    if load_record == out {
+        return Err(UsageWhy::SameName.into());
+    }
+    Ok(Migrate { load_record, out })
 }
 
 pub(crate) fn sample_in(given: &[Given<'_>]) -> Result<u64, WordsFault>
     ensures { Answers number_value (sample_in (given_values given.now)) result }
 {
-    Ok(sample_number_in(given)?)
+    Ok(sample_number(word_in(given, "NUMBER"))?)
 }
 
-fn core_address_in(given: &[Given<'_>]) -> Result<u64, Which>
-    ensures { result ≡ core_by (given_values given.now) }
+pub(crate) fn boot_resident_in(
+    alloc: Global,
+    given: &[Given<'_>],
+) -> Result<BootResident, WordsFault>
+    ensures { Answers boot_resident_value
+        (boot_resident_in (given_values given.now)) result }
 {
-    core_address(word_in(given, "ADDRESS"))
-}
-
-fn core_from(memory: String, out: String, address: u64) -> Result<Core, WordsFault>
-    ensures { Answers core_value
-        (core_with (string_bytes memory) (string_bytes out) address) result }
-{
-    if memory == out {
-        return Err(WordsFault::Usage {
-            why: UsageWhy::SameName,
-        });
+    let at = address_in(option_in(given, "at"), Which::At)?;
+    let memory = name_in(alloc, given, "MEMORY")?;
+    let pool = name_in(alloc, given, "POOL")?;
+    let out = name_in(alloc, given, "OUT")?;
+    let kernel = name_in(alloc, given, "KERNEL")?;
+    let pairs = name_in(alloc, given, "PAIRS")?;
+    if memory == out || pool == out || kernel == out || pairs == out {
+        return Err(UsageWhy::SameName.into());
     }
-    Ok(Core {
+    let at = at.ok_or(UsageWhy::NeedsAt)?;
+    Ok(BootResident {
         memory,
+        pool,
         out,
-        address,
+        kernel,
+        pairs,
+        at,
+    })
+}
+
+pub(crate) fn drill_in(alloc: Global, given: &[Given<'_>]) -> Result<Drill, WordsFault>
+    ensures { Answers drill_value (drill_in (given_values given.now)) result }
+{
+    let memory = name_in(alloc, given, "MEMORY")?;
+    let pool = name_in(alloc, given, "POOL")?;
+    let out = name_in(alloc, given, "OUT")?;
+    let events = name_in(alloc, given, "EVENTS")?;
+    let map = some_name_in(alloc, given, "map")?;
+    if memory == out || pool == out || is_given(&map, &out) || events == out {
+        return Err(UsageWhy::SameName.into());
+    }
+    let map = map.ok_or(UsageWhy::NeedsMap)?;
+    Ok(Drill {
+        memory,
+        pool,
+        out,
+        events,
+        map,
     })
 }
 
 pub(crate) fn core_in(alloc: Global, given: &[Given<'_>]) -> Result<Core, WordsFault>
     ensures { Answers core_value (core_in (given_values given.now)) result }
 {
-    let address = core_address_in(given)?;
+    let address = core_address(word_in(given, "ADDRESS"))?;
     let memory = name_in(alloc, given, "MEMORY")?;
     let out = name_in(alloc, given, "OUT")?;
-    core_from(memory, out, address)
+    if memory == out {
+        return Err(UsageWhy::SameName.into());
+    }
+    Ok(Core {
+        memory,
+        out,
+        address,
+    })
 }

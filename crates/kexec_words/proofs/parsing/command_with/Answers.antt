@@ -12,5 +12,5 @@ step name xs i d a r lt at rule = rw (at, rule, take_more xs i d lt, map-append 
 
 pub loop-argument-preserved : goal.loop-argument-preserved
 loop-argument-preserved c =
-    c.in-Ok.ensures.shape c.arg_of.ensures.own
+    c.in_ok-command.ensures.shape c.arg_of.ensures.own
     ∙ step c.args.name.now c.args.arguments.now c.loop-argument.argument-index _ _ _ c.loop-argument-test.true c.loop-argument.invariant c.arg_of.ensures.rule

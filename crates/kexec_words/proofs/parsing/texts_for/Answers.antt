@@ -6,7 +6,7 @@ use Rattle.kexec_words.specs.inner.Given.{texts_in}
 use Rattle.kexec_words.proofs.parsing.texts_for.Goals as goal
 
 pub returns-in-Some : goal.returns-in-Some
-returns-in-Some c = IfOk-weaker c.copy_of.result _ _ (λ v h. ap texts_in h ∙ ap (λ o. unwrap_or o []) (c.in-Some.ensures ∙ raw_values-rows (found_of c.args.matches.now) c.args.id.now)) c.copy_of.ensures
+returns-in-Some c = IfOk-weaker c.from_slice.result _ _ (λ v h. ap texts_in h ∙ ap (λ o. unwrap_or o []) (c.in-Some.ensures ∙ raw_values-rows (found_of c.args.matches.now) c.args.id.now)) c.from_slice.ensures.items
 
 pub returns-in-None : goal.returns-in-None
 returns-in-None c = rw c.new.ensures.items (ap (λ o. unwrap_or o []) (c.in-None.ensures ∙ raw_values-rows (found_of c.args.matches.now) c.args.id.now))
