@@ -52,7 +52,13 @@ impl Role {
             Role::Record | Role::RecordOut => LOAD_RECORD,
             Role::CoreOut => "core file",
             Role::Module => "files",
-            _ => "file",
+            Role::Map
+            | Role::Notes
+            | Role::Kernel
+            | Role::Initrd
+            | Role::Purgatory
+            | Role::Pairs
+            | Role::Events => "file",
         }
     }
 }
