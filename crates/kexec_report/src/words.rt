@@ -76,7 +76,10 @@ pub fn name_called<'a>(rt: &impl Env, room: &'a mut [u8]) -> &'a str {
 /// The words after the program's name.
 pub fn read_words(rt: &(impl Env + AllocGlobal)) -> Result<Vec<String>, WordsError> {
     match env::args(rt) {
-        Ok(words) => words.skip(1).collect(rt.alloc()).or(Err(WordsError::Memory)),
+        Ok(words) => words
+            .skip(1)
+            .collect(rt.alloc())
+            .or(Err(WordsError::Memory)),
         Err(error) if error.kind() == ErrorKind::InvalidData => Err(WordsError::NotText {
             number: first_not_text(rt),
         }),
