@@ -1,4 +1,4 @@
-use Rattle.std.proofs.Common.{rules, ◌≡◌, []}
+use Rattle.std.proofs.Common.{rules}
 use Rattle.file_commands.proofs.Steps.{start, next, stopped, wanting, finished}
 use Rattle.load_commands.proofs.inputs.take_crash_inputs.Goals as goal
 

@@ -1,8 +1,7 @@
 -- By what was read, made and put.
-use Rattle.std.proofs.Common.{◌≡◌, ◌∙◌, ℕ, List, [], ◌∷◌, None, Some, refl, sym, ap}
+use Rattle.std.proofs.Common.{ℕ, List, [], ◌∷◌, None, Some, refl, ap}
 use Rattle.std.specs.Prelude.{codes}
 use Rattle.kx_edge.specs.Edge.{Files}
-use Rattle.std.specs.FinMap.{insert}
 use Rattle.kx_laws.proofs.Options.{none_some, some_same}
 use Rattle.worked_commands.specs.Shelves.{holding, two_files}
 use Rattle.worked_commands.proofs.Shelves.{lost, one_shelf}

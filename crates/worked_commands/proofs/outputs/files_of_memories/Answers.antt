@@ -1,5 +1,5 @@
 -- A memory has one file; memories that agree have the same pages that are not all zeros.
-use Rattle.std.proofs.Common.{◌≡◌, ◌∙◌, ℕ, length, refl, sym, ap, arith}
+use Rattle.std.proofs.Common.{◌≡◌, ◌∙◌, length, refl, sym, ap, arith}
 use Rattle.kx_pages.specs.Bytes.{page_of}
 use Rattle.page_memory.specs.Contents.{at}
 use Rattle.page_memory.specs.File.{stored_pages, text_of}
