@@ -12,7 +12,7 @@ use std::alloc::Global;
 use std::marker::Model;
 
 /// What a bzImage says of itself (Linux/x86 boot protocol, "The Real-Mode Kernel Header").
-#[derive(Debug, Drop)]
+#[derive(Drop)]
 pub struct BzImage {
     /// The header's bytes, from 0x1f1 of the file (`setup_sects`) to the header's end.
     pub header: Vec<u8>,

@@ -72,7 +72,7 @@ impl InputFault {
 }
 
 /// Why a command is refused, in the order in which its work is done.
-#[derive(Clone, Copy, Debug, PartialEq, Eq)]
+#[derive(Clone, Copy)]
 pub enum Reason {
     /// The words are refused.
     Usage { why: UsageWhy },

@@ -6,7 +6,7 @@ ghost use Rattle.command_table.specs.inner.Table.{is_file, is_hexadecimal, is_nu
 use crate::roles::Role;
 
 /// How an argument is given.
-#[derive(Clone, Copy, Debug, PartialEq, Eq)]
+#[derive(Clone, Copy)]
 pub enum Form {
     /// A positional word that must be there.
     Word,
@@ -21,7 +21,7 @@ pub enum Form {
 }
 
 /// What an argument is.
-#[derive(Clone, Copy, Debug, PartialEq, Eq)]
+#[derive(Clone, Copy)]
 pub enum Kind {
     /// The name of a file that is read.
     Input,
@@ -42,7 +42,7 @@ pub enum Kind {
 }
 
 /// An argument of a command.
-#[derive(Clone, Copy, Debug, PartialEq, Eq)]
+#[derive(Clone, Copy)]
 pub struct Argument {
     /// The name for `clap`: that of an option without its two hyphens.
     pub id: &'static str,

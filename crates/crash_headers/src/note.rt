@@ -19,7 +19,7 @@ use text_lines::{LineReader, read_lines, two_numbers};
 const MOST_NOTES: u64 = 1024;
 
 /// The bytes of memory that a processor leaves its notes in when it stops: `size` bytes from `start` on.
-#[derive(Clone, Copy, Debug, PartialEq, Eq)]
+#[derive(Clone, Copy)]
 pub struct Note {
     pub start: u64,
     pub size: u64,

@@ -14,7 +14,7 @@ use std::alloc::Global;
 use std::marker::Model;
 
 /// An ELF executable: its entry, and the PT_LOADs that take memory, in the file's order.
-#[derive(Debug, Drop)]
+#[derive(Drop)]
 pub struct Exec {
     /// It is ELF64 for x86-64, and not ELF32 for i386.
     pub wide: bool,

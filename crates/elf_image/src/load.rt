@@ -6,7 +6,7 @@ ghost use Rattle.elf_image.specs.Loads.{load_stop, is_bad, is_cut, loads_meet};
 use kx_pages::ADDRESS_LIMIT;
 
 /// A part of an executable that is loaded: a program header of type PT_LOAD.
-#[derive(Clone, Copy, Debug, PartialEq, Eq)]
+#[derive(Clone, Copy)]
 pub struct Load {
     /// Where its bytes stand in the file (`p_offset`).
     pub offset: u64,

@@ -14,7 +14,7 @@ use std::alloc::Global;
 use std::marker::Model;
 
 /// A relocatable object: ELF64 for x86-64, of type ET_REL (ELF gABI, chapter 4).
-#[derive(Debug, Drop)]
+#[derive(Drop)]
 pub struct Object {
     /// The sections, in the order of their indexes.
     pub sections: Vec<Section>,

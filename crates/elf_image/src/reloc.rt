@@ -26,7 +26,7 @@ use std::alloc::{AllocError, Global};
 const HALF: u64 = 0x1_0000_0000;
 
 /// A relocation with an addend (ELF gABI, chapter 4, "Relocation").
-#[derive(Clone, Copy, Debug, Drop, PartialEq, Eq)]
+#[derive(Clone, Copy, Drop)]
 pub struct Reloc {
     /// The section that it relocates.
     pub target: usize,
@@ -84,7 +84,7 @@ impl Rela {
 
 /// A section of relocations (`SHT_RELA`). Its entries stay in the file, and each is read when it is asked for: an object
 /// may have very many of them.
-#[derive(Clone, Copy, Debug, Drop, PartialEq, Eq)]
+#[derive(Clone, Copy, Drop)]
 pub struct RelocSection {
     /// Its index.
     pub section: usize,

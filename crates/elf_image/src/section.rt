@@ -17,7 +17,7 @@ use std::alloc::{AllocError, Global};
 use std::marker::Model;
 
 /// A section, by the numbers of its header (ELF gABI, chapter 4, "Sections").
-#[derive(Clone, Copy, Debug, Drop, PartialEq, Eq)]
+#[derive(Clone, Copy, Drop)]
 pub struct Section {
     /// Its type (`sh_type`).
     pub kind: u32,

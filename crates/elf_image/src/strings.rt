@@ -10,7 +10,7 @@ use std::marker::Model;
 /// A string table (ELF gABI, chapter 4, "String Table"): texts, a NUL behind each. A text is told by the place of its
 /// first byte, and stays in the table: texts may share their bytes, and those of a table of n bytes may have n * n bytes
 /// when each is written out.
-#[derive(Debug, Drop)]
+#[derive(Drop)]
 pub struct StringTable {
     bytes: Vec<u8>,
 }

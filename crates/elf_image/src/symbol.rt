@@ -19,7 +19,7 @@ use std::alloc::Global;
 use std::marker::Model;
 
 /// A symbol (ELF gABI, chapter 4, "Symbol Table"), by the numbers of its entry.
-#[derive(Clone, Copy, Debug, Drop, PartialEq, Eq)]
+#[derive(Clone, Copy, Drop)]
 pub struct Symbol {
     /// Where its name starts in the string table (`st_name`).
     pub name: u32,
@@ -33,7 +33,7 @@ pub struct Symbol {
 
 /// The symbols of an object, in the order of their indexes, and the string table that has their names. Contracts see the
 /// list of the symbols, each with the bytes of its name.
-#[derive(Debug, Drop)]
+#[derive(Drop)]
 pub struct SymbolTable {
     /// The symbols.
     pub symbols: Vec<Symbol>,

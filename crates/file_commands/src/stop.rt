@@ -6,7 +6,7 @@ use command_table::Role;
 use std::alloc::{AllocError, AllocFailed};
 
 /// Why files could not be taken.
-#[derive(Debug, Drop)]
+#[derive(Drop)]
 pub enum TakeFault<R> {
     /// The take of this file failed.
     Unread {
@@ -28,7 +28,7 @@ pub enum TakeFault<R> {
 }
 
 /// Why nothing was made of what was taken.
-#[derive(Debug, Drop)]
+#[derive(Drop)]
 pub enum MakeFault<R> {
     /// It is refused.
     Refused { why: R },
@@ -46,7 +46,7 @@ impl<R> MakeFault<R> {
 }
 
 /// Why a command is not done.
-#[derive(Debug, Drop)]
+#[derive(Drop)]
 pub enum Stop<F, R> {
     /// What was made has a fault, and went out.
     NotAccepted {

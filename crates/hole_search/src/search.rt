@@ -11,7 +11,7 @@ use crate::upwards::least;
 use kx_pages::PageSet;
 
 /// Which of the addresses that fit is wanted.
-#[derive(Clone, Copy, Debug, PartialEq, Eq)]
+#[derive(Clone, Copy)]
 pub enum End {
     /// The lowest one.
     Least,

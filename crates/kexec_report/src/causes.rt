@@ -13,7 +13,7 @@ use std::rt::Files;
 use std::{fs, io};
 
 /// What the edge keeps of the call that failed.
-#[derive(Clone, Copy, Debug)]
+#[derive(Clone, Copy)]
 pub enum Failure {
     /// A file was not read, or not written.
     File { cause: HostCause },

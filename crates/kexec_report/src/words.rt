@@ -15,7 +15,7 @@ pub const LONGEST_NAME: usize = 4096;
 const NAME: &str = "kexec";
 
 /// Why the system does not give the words.
-#[derive(Clone, Copy, Debug, PartialEq, Eq)]
+#[derive(Clone, Copy, PartialEq, Eq)]
 pub enum WordsError {
     /// Memory is wanting.
     Memory,

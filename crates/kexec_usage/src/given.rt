@@ -12,7 +12,7 @@ use command_table::{Argument, Form, arguments_of};
 use std::alloc::{AllocError, Global};
 
 /// A word that is given: the text of a positional word, or of an option's value.
-#[derive(Clone, Copy, Debug)]
+#[derive(Clone, Copy)]
 pub struct Given<'a> {
     /// The argument of the table: its name in the help, what it is, and its role where it gives a file.
     pub argument: &'static Argument,

@@ -3,7 +3,7 @@
 use command_table::Argument;
 
 /// What stood among the words, and what must stand there.
-#[derive(Clone, Copy, Debug, PartialEq, Eq)]
+#[derive(Clone, Copy)]
 pub enum Mistake<'a> {
     /// There is not enough memory to read the words.
     Memory,

@@ -3,7 +3,7 @@
 use kx_pages::{ImageType, Page};
 
 /// How often the list is run in kept mode: once, into the new kernel, or twice, and back into the old one.
-#[derive(Clone, Copy, Debug, PartialEq, Eq)]
+#[derive(Clone, Copy)]
 pub enum Runs {
     /// Into the new kernel.
     Once,

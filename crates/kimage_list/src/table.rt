@@ -14,7 +14,7 @@ use std::alloc::{AllocError, Global};
 use std::marker::Model;
 
 /// Where a loaded page's bytes are, and the address of its word in the list.
-#[derive(Clone, Copy, Debug, PartialEq, Eq)]
+#[derive(Clone, Copy)]
 pub(crate) struct PageSource {
     pub(crate) source: Page,
     pub(crate) place: u64,

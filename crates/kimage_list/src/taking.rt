@@ -19,21 +19,21 @@ use kx_pages::Page;
 use page_pool::Pool;
 
 /// A pair that was exchanged: its page became its own source, at this word.
-#[derive(Clone, Copy, Debug, PartialEq, Eq)]
+#[derive(Clone, Copy)]
 pub(crate) struct MovedPage {
     pub(crate) page: Page,
     pub(crate) place: u64,
 }
 
 /// A page to use, and the pair whose bytes it has until they are moved.
-#[derive(Clone, Copy, Debug, PartialEq, Eq)]
+#[derive(Clone, Copy)]
 pub(crate) struct TakenPage {
     pub(crate) page: Page,
     pub(crate) moved: Option<MovedPage>,
 }
 
 /// What becomes of a drawn page.
-#[derive(Clone, Copy, Debug, PartialEq, Eq)]
+#[derive(Clone, Copy)]
 enum Fate {
     Given,
     Filed,

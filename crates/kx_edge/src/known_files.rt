@@ -12,7 +12,7 @@ use std::os::unix::fs::MetadataExt;
 const MOST: usize = 32;
 
 /// A regular file: the system tells it from all others by its device and its number there (stat(2), st_dev and st_ino).
-#[derive(Clone, Copy, Debug, PartialEq, Eq)]
+#[derive(Clone, Copy, PartialEq, Eq)]
 pub(crate) struct FileId {
     device: u64,
     number: u64,

@@ -8,7 +8,7 @@ ghost use Rattle.kx_fields.specs.inner.Kinds.{kinds};
 use crate::{Block, fields};
 
 /// A number of each kind.
-#[derive(Clone, Copy, Debug, PartialEq, Eq)]
+#[derive(Clone, Copy)]
 pub struct Kinds {
     pub one: u8,
     pub two: u16,

@@ -6,7 +6,7 @@ ghost use Rattle.kx_pages.specs.Types.{needs_map};
 use crate::page::Page;
 
 /// The type of a kernel's file.
-#[derive(Clone, Copy, Debug, PartialEq, Eq)]
+#[derive(Clone, Copy)]
 pub enum ImageType {
     /// The file itself tells.
     Auto,
@@ -34,7 +34,7 @@ impl ImageType {
 }
 
 /// What a load asks for: plain, or with context preserved (`KEXEC_PRESERVE_CONTEXT` of kexec_load(2)).
-#[derive(Clone, Copy, Debug, PartialEq, Eq)]
+#[derive(Clone, Copy)]
 pub enum Wish {
     /// The list is to be run by plain moves.
     Plain,
@@ -43,7 +43,7 @@ pub enum Wish {
 }
 
 /// How a list is run: plain moves copy a page, kept moves exchange two pages by way of the swap page.
-#[derive(Clone, Copy, Debug, PartialEq, Eq)]
+#[derive(Clone, Copy)]
 pub enum Mode {
     /// A move copies the source page to the destination page.
     Plain,
@@ -53,7 +53,7 @@ pub enum Mode {
 
 /// What running a list takes: the head word, the mode, and the control page, where the kernel would put the code
 /// that runs the list.
-#[derive(Clone, Copy, Debug, PartialEq, Eq)]
+#[derive(Clone, Copy)]
 pub struct Image {
     /// The head word, which a run handles first.
     pub head: u64,

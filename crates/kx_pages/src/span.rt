@@ -11,7 +11,7 @@ use crate::rounding::pages_for;
 use std::marker::Model;
 
 /// Pages that follow one another: `count` pages from page `first` on. Contracts see the two numbers.
-#[derive(Clone, Copy, Debug, PartialEq, Eq)]
+#[derive(Clone, Copy)]
 pub struct Span {
     first: u64,
     count: u64,

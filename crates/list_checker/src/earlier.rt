@@ -18,7 +18,7 @@ use std::alloc::{AllocError, Global};
 use std::collections::BTreeSet;
 
 /// A source word's move: the source page's bytes go to the destination page.
-#[derive(Clone, Copy, Debug, PartialEq, Eq)]
+#[derive(Clone, Copy)]
 pub struct Pair {
     /// The page that gets the bytes.
     pub destination: Page,
@@ -28,7 +28,7 @@ pub struct Pair {
 
 /// What is told of an accepted list: how many words its walk has, with head and done word, how many link pages, and its
 /// pairs in order.
-#[derive(Debug, Drop)]
+#[derive(Drop)]
 pub struct Accept {
     /// How many words the walk has, head word and done word counted.
     pub words: u64,

@@ -3,7 +3,7 @@
 use crate::fault::ListFault;
 
 /// The words of a list up to its done word, or up to and with the first one that cannot be followed, and why it cannot.
-#[derive(Debug, Drop)]
+#[derive(Drop)]
 pub struct Walk {
     pub words: Vec<u64>,
     pub fault: Option<ListFault>,

@@ -8,7 +8,7 @@ ghost use Rattle.load_record.specs.inner.File.{made_digest};
 use sha2::{Digest, Sha256};
 
 /// The version of a record's file. Both tell the same of a record.
-#[derive(Clone, Copy, Debug, PartialEq, Eq)]
+#[derive(Clone, Copy)]
 pub(crate) enum Version {
     /// No digests.
     First,

@@ -7,7 +7,7 @@ use kx_pages::ADDRESS_LIMIT;
 
 /// A range of `size` bytes from address `start` on, and its kind: a row of the firmware's memory map (E820) as the
 /// Linux/x86 boot protocol has it. Kind 1 is RAM, 2 reserved, 3 ACPI tables, 4 ACPI storage that lasts.
-#[derive(Clone, Copy, Debug, PartialEq, Eq)]
+#[derive(Clone, Copy)]
 pub struct Row {
     pub start: u64,
     pub size: u64,
@@ -15,7 +15,7 @@ pub struct Row {
 }
 
 /// What a name says of its range: a row of this kind, a crash kernel's area, or nothing.
-#[derive(Clone, Copy, Debug, PartialEq, Eq)]
+#[derive(Clone, Copy)]
 pub(crate) enum Class {
     Listed { kind: u32 },
     CrashArea,

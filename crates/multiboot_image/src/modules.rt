@@ -10,7 +10,7 @@ use std::marker::Model;
 
 /// A module that is in memory: `length` bytes from the address `start` on, and the text that the kernel gets with it
 /// (Multiboot Specification 0.6.96, section 3.3, mods_addr).
-#[derive(Debug, Drop)]
+#[derive(Drop)]
 pub struct Placed {
     pub start: u64,
     pub length: u64,

@@ -19,7 +19,7 @@ use std::marker::Model;
 const MEMORY_LIMIT: u128 = 0x1_0000_0000;
 
 /// What a kernel is loaded as, and where it is entered.
-#[derive(Debug, Drop)]
+#[derive(Drop)]
 pub struct Parts {
     /// The segments, in rising order of address.
     pub list: Vec<Segment>,

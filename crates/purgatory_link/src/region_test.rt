@@ -25,7 +25,7 @@ const ROWS: usize = 16;
 const REGIONS_LIMIT: u64 = 0x1000_0000;
 
 /// What the test of regions found.
-#[derive(Debug, Drop)]
+#[derive(Drop)]
 pub enum RegionTest {
     /// The regions' bytes have the digest.
     Same,

@@ -36,7 +36,7 @@ pub enum Outcome {
 
 /// The pages that a step writes: in plain mode a destination, in kept mode also the source and the swap page. This
 /// project's own.
-#[derive(Clone, Copy, Debug, PartialEq, Eq)]
+#[derive(Clone, Copy)]
 pub struct Writes {
     /// The page that the destination is.
     pub destination: Option<Page>,
@@ -60,7 +60,7 @@ const NO_WRITES: Writes = Writes {
 };
 
 /// The state of a run, but for the memory that it acts on.
-#[derive(Debug, Drop)]
+#[derive(Drop)]
 pub struct Machine {
     first: Option<u64>,
     cursor: u64,

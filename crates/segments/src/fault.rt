@@ -9,7 +9,7 @@ use thiserror::Error;
 
 /// What kind of kernel is loaded: one that starts in place of this one, or one that starts when this one crashes, in
 /// the memory that is reserved for it (`KEXEC_ON_CRASH` of kexec_load(2)).
-#[derive(Clone, Copy, Debug, PartialEq, Eq)]
+#[derive(Clone, Copy)]
 pub enum Kind {
     /// A kernel for any memory.
     Normal,

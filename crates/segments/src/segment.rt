@@ -11,7 +11,7 @@ use std::marker::Model;
 
 /// A segment of the new kernel, as in kexec_load(2): its bytes, the address that they go to, and how many bytes of
 /// memory it takes from there on. What lies behind the bytes is filled with zeros.
-#[derive(Debug, Drop)]
+#[derive(Drop)]
 pub struct Segment {
     /// The bytes; in [`Segments`](crate::Segments) at most `memsz`.
     pub bytes: Vec<u8>,
