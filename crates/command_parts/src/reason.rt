@@ -20,25 +20,25 @@ use vmcore_file::CoreFault;
 #[derive(Clone, Copy, Debug, PartialEq, Eq, Error)]
 pub enum InputFault {
     /// The memory file.
-    #[error("{fault}")]
+    #[error(transparent)]
     Mem { fault: MemFault },
     /// The pool file.
-    #[error("{fault}")]
+    #[error(transparent)]
     Pool { fault: PoolFault },
     /// The memory map.
-    #[error("{fault}")]
+    #[error(transparent)]
     Map { fault: MapFault },
     /// The load record.
-    #[error("{fault}")]
+    #[error(transparent)]
     Rec { fault: RecFault },
     /// The file of notes.
-    #[error("{fault}")]
+    #[error(transparent)]
     Notes { fault: NoteFault },
     /// The file of pairs.
-    #[error("{fault}")]
+    #[error(transparent)]
     Pairs { fault: PairsFault },
     /// The file of events.
-    #[error("{fault}")]
+    #[error(transparent)]
     Events { fault: EventsFault },
 }
 

@@ -29,7 +29,7 @@ pub enum Status {
         fault: ListFault,
     },
     /// The words are refused.
-    #[error("{why}")]
+    #[error(transparent)]
     Usage {
         why: UsageWhy,
     },
@@ -56,12 +56,12 @@ pub enum Status {
         limit: u64,
     },
     /// The reader of an input file refused it.
-    #[error("{fault}")]
+    #[error(transparent)]
     Input {
         fault: InputFault,
     },
     /// The request has no plan.
-    #[error("{fault}")]
+    #[error(transparent)]
     Plan {
         fault: PlanFault,
     },
@@ -80,17 +80,17 @@ pub enum Status {
     #[error("the load record is in plain mode, as that of a crash kernel always is, and --twice needs one that was loaded with --kept")]
     NotKept,
     /// No list is made of the resident pages.
-    #[error("{fault}")]
+    #[error(transparent)]
     Resident {
         fault: ResidentFault,
     },
     /// There are no slots over the pool: one of its pages lies in the reserved area.
-    #[error("{fault}")]
+    #[error(transparent)]
     Slots {
         fault: SlotsFault,
     },
     /// The memory has no core file by the headers at the address.
-    #[error("{fault}")]
+    #[error(transparent)]
     Core {
         fault: CoreFault,
     },

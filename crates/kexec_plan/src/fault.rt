@@ -56,25 +56,25 @@ pub enum PlanFault {
     #[error("there is no place for {part}: the memory map has no free run of pages where it may lie")]
     NoHole { part: Part },
     /// The kernel is no ELF executable that can be loaded.
-    #[error("{fault}")]
+    #[error(transparent)]
     Elf { fault: ElfFault },
     /// The purgatory is no ELF object that can be linked.
-    #[error("{fault}")]
+    #[error(transparent)]
     Object { fault: ElfFault },
     /// The kernel is no Multiboot kernel that can be loaded.
-    #[error("{fault}")]
+    #[error(transparent)]
     Multiboot { fault: MbFault },
     /// The kernel is no bzImage that can be loaded.
-    #[error("{fault}")]
+    #[error(transparent)]
     Bzimage { fault: BzFault },
     /// The boot parameters cannot be made.
-    #[error("{fault}")]
+    #[error(transparent)]
     Params { fault: ParamsFault },
     /// The purgatory cannot be linked, or has not the symbols of one.
     #[error("the purgatory cannot be used: {fault}")]
     Link { fault: LinkFault },
     /// The crash headers cannot be made.
-    #[error("{fault}")]
+    #[error(transparent)]
     Crash { fault: CrashFault },
     /// The segments are refused.
     #[error("the kernel cannot be placed: {fault}")]

@@ -15,7 +15,7 @@ pub enum WordsFault {
     #[error("out of memory")]
     Memory,
     /// The words are refused.
-    #[error("{why}")]
+    #[error(transparent)]
     Usage { why: UsageWhy },
 }
 
