@@ -17,7 +17,7 @@ use thiserror::Error;
 use vmcore_file::CoreFault;
 
 /// Why an input file was refused: by its reader, with the place in it.
-#[derive(Clone, Copy, Debug, PartialEq, Eq, Error)]
+#[derive(Clone, Copy, Debug, Error)]
 pub enum InputFault {
     /// The memory file.
     #[error(transparent)]

@@ -9,7 +9,7 @@ use std::fmt::{self, Display, Formatter, Write};
 use thiserror::Error;
 
 /// The option or the word whose text does not have its form, in the order in which they are tried.
-#[derive(Clone, Copy, Debug, PartialEq, Eq)]
+#[derive(Clone, Copy, Debug)]
 pub enum Which {
     /// `--type`: raw, elf, bzimage or multiboot.
     Type,
@@ -34,7 +34,7 @@ pub enum Which {
 }
 
 /// Why words are refused, in the order in which the reasons are tried. This project's own.
-#[derive(Clone, Copy, Debug, PartialEq, Eq, Error)]
+#[derive(Clone, Copy, Debug, Error)]
 pub enum UsageWhy {
     /// There is no word, or the first one names no command.
     #[error("the first argument must be a command: {}", CommandNames)]

@@ -17,7 +17,7 @@ pub struct Written {
 }
 
 /// Why a list is not begun (this project's own reasons).
-#[derive(Clone, Copy, Debug, PartialEq, Eq, Error)]
+#[derive(Clone, Copy, Debug, Error)]
 pub enum BeginFault {
     /// There is no memory for the table of the wanted pages, or for the pages that the load sets.
     #[error("out of memory")]

@@ -89,7 +89,7 @@ impl Display for Why {
 }
 
 /// The first word of a list that has a reason, numbered from the head, which is word 0, and the first of its reasons.
-#[derive(Clone, Copy, Debug, PartialEq, Eq)]
+#[derive(Clone, Copy, Debug)]
 pub struct ListFault {
     pub word: u64,
     pub why: Why,
@@ -136,7 +136,7 @@ impl ListFault {
 }
 
 /// Why a list was not found to be accepted.
-#[derive(Clone, Copy, Debug, PartialEq, Eq, Error)]
+#[derive(Clone, Copy, Debug, Error)]
 pub enum CheckFault {
     /// Want of memory.
     #[error("out of memory")]

@@ -56,7 +56,7 @@ impl<T: Drop> From<AllocFailed<T>> for MemFault {
 }
 
 /// Why a memory has no file. This project's own.
-#[derive(Clone, Copy, Debug, PartialEq, Eq, Error)]
+#[derive(Clone, Copy, Debug, Error)]
 pub enum HeavyFault {
     /// Want of memory: no file was made.
     #[error("out of memory")]
