@@ -14,7 +14,7 @@ use multiboot_image::{MbFault, find_header};
 const ELF_MAGIC: &[u8; 4] = b"\x7fELF";
 
 /// The form of a kernel's file.
-#[derive(Clone, Copy, Debug, PartialEq, Eq)]
+#[derive(Clone, Copy)]
 pub(crate) enum Format {
     /// Bytes for the address `at`, entered at the address `entry`.
     Raw { at: u64, entry: u64 },

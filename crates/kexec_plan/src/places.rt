@@ -14,7 +14,7 @@ use segments::Segment;
 use std::alloc::{AllocError, Global};
 
 /// Where a part lies: whole pages.
-#[derive(Clone, Copy, Debug, PartialEq, Eq)]
+#[derive(Clone, Copy)]
 pub(crate) struct Site {
     /// The address of its first byte.
     pub(crate) at: u64,

@@ -6,7 +6,7 @@ use segments::Segments;
 use std::marker::Model;
 
 /// A file that a Multiboot kernel gets beside its own, and the text that it gets with it.
-#[derive(Debug, Drop)]
+#[derive(Drop)]
 pub struct Module {
     /// The file's bytes.
     pub bytes: Vec<u8>,
