@@ -6,3 +6,4 @@ pub mod Purgatory
 pub mod Finish
 pub mod Laying
 pub mod Ground
+pub mod Plan

@@ -1,20 +1,9 @@
 //! The command of a kernel, and what it tells a crash kernel.
 
-ghost use Rattle.std.specs.Prelude.{◌≡◌, ◌<◌, ◌^◌, length, option_map, string_bytes, IfOk};
-ghost use Rattle.kexec_plan.specs.Command.{command_of, with_space, headers_word, told_command};
+ghost use Rattle.std.specs.Prelude.{◌≡◌, string_bytes, IfOk};
+ghost use Rattle.kexec_plan.specs.Command.{with_space, headers_word, told_command};
 
 use std::alloc::{AllocError, Global};
-
-/// The command, or without one the empty command.
-pub(crate) fn command_of(command: &Option<Vec<u8>>) -> &[u8]
-    ensures value { result.now ≡ command_of (option_map (λ v. v.items) command.now) }
-    ensures short { length result.now < 2 ^ 63 }
-{
-    match command {
-        Some(command) => command,
-        None => &[],
-    }
-}
 
 // The word that tells a crash kernel where its headers lie.
 fn headers_word(alloc: Global, at: u64) -> Result<String, AllocError>

@@ -12,35 +12,43 @@ use multiboot_image::MbFault;
 use purgatory_link::LinkFault;
 use segments::SegFault;
 use std::alloc::{AllocError, AllocFailed};
+use std::fmt::{self, Display, Formatter, Write};
 use thiserror::Error;
 
 /// A part of a request, or one that the plan makes for the kernel.
-#[derive(Clone, Copy, Debug, PartialEq, Eq, Error)]
+#[derive(Clone, Copy, Debug, PartialEq, Eq)]
 pub enum Part {
     /// The kernel.
-    #[error("the kernel")]
     Kernel,
     /// The initrd.
-    #[error("an initrd")]
     Initrd,
     /// A module.
-    #[error("a module")]
     Module,
     /// The headers by which a crash kernel finds the memory of its predecessor.
-    #[error("the crash headers")]
     Headers,
     /// The boot parameters of a bzImage.
-    #[error("the boot parameters")]
     Parameters,
     /// The information of a Multiboot kernel.
-    #[error("the Multiboot information")]
     Information,
     /// The purgatory.
-    #[error("the purgatory")]
     Purgatory,
     /// The kernel's command.
-    #[error("a command line")]
     Command,
+}
+
+impl Display for Part {
+    fn fmt<W: Write>(&self, f: &mut Formatter<W>) -> fmt::Result {
+        f.write_str(match self {
+            Part::Kernel => "the kernel",
+            Part::Initrd => "an initrd",
+            Part::Module => "a module",
+            Part::Headers => "the crash headers",
+            Part::Parameters => "the boot parameters",
+            Part::Information => "the Multiboot information",
+            Part::Purgatory => "the purgatory",
+            Part::Command => "a command line",
+        })
+    }
 }
 
 /// Why a request has no plan: the first reason.

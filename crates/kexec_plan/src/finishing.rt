@@ -113,12 +113,12 @@ pub(crate) fn finish(
     ground: &Ground<'_>,
     list: Vec<Segment>,
     start: Start,
-    purgatory: Option<Purgatory>,
+    purgatory: &Option<Purgatory>,
     site: Option<Site>,
 ) -> Result<Planned, PlanFault>
-    requires { IsLinkable purgatory site }
+    requires { IsLinkable purgatory.now site }
     ensures { Gives PlanFault.Memory planned_of result
-        (finish ground.now list.items start purgatory site) }
+        (finish ground.now list.items start purgatory.now site) }
 {
     match (purgatory, site) {
         (Some(purgatory), Some(site)) => {

@@ -1,6 +1,6 @@
 //! What a kernel's file gives a plan: segments whose place the file gives, and parts that need one.
 
-ghost use Rattle.std.specs.Prelude.{◌≡◌, ◌++◌, map, option_map, IfOk, OnOk};
+ghost use Rattle.std.specs.Prelude.{◌≡◌, ◌++◌, map, option_map, Ok, IfOk, OnOk};
 ghost use Rattle.kx_laws.specs.inner.Results.{Gives};
 ghost use Rattle.kexec_plan.specs.Laying.{Module as ModulePart};
 ghost use Rattle.kexec_plan.specs.Kernels.{raw_kernel, elf_kernel, initrd_part, linux_kernel, multiboot_kernel, read_kernel};
@@ -52,8 +52,8 @@ fn raw_kernel<'a>(
     at: u64,
     entry: u64,
     bytes: Vec<u8>,
-) -> Result<Kernel<'a>, AllocError>
-    ensures { IfOk result (λ k. k ≡ raw_kernel at entry bytes.items) }
+) -> Result<Kernel<'a>, PlanFault>
+    ensures { Gives PlanFault.Memory (λ k. k) result (Ok (raw_kernel at entry bytes.items)) }
 {
     let pages = (bytes.len() as u64 + (PAGE_SIZE - 1)) / PAGE_SIZE;
     let mut list = Vec::new(alloc);
@@ -189,7 +189,7 @@ pub(crate) fn read_kernel<'a>(
         modules.items notes.items) }
 {
     match format {
-        Format::Raw { at, entry } => Ok(raw_kernel(alloc, at, entry, file)?),
+        Format::Raw { at, entry } => raw_kernel(alloc, at, entry, file),
         Format::Elf => read_elf(alloc, file),
         Format::Bzimage => read_linux(alloc, ground, file, initrd, notes),
         Format::Multiboot => read_multiboot(alloc, ground, &file, modules),

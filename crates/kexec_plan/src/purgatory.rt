@@ -88,11 +88,11 @@ pub(crate) fn some_purgatory_rule(purgatory: &Option<Purgatory>, most: u64) -> O
 }
 
 impl Purgatory {
-    /// The purgatory linked at its place. Its file is given up: the linked bytes are all that is needed of it.
+    /// The purgatory linked at its place.
     #[tactic(auto, unfolding(crate::specs::Purgatory::linked_at))]
-    pub(crate) fn link_at(self, alloc: Global, site: Site) -> Result<Linkage, PlanFault>
-        requires { IsLinkable (Some self) (Some site) }
-        ensures exact { Gives PlanFault.Memory (λ l. l) result (linked_at self site) }
+    pub(crate) fn link_at(&self, alloc: Global, site: Site) -> Result<Linkage, PlanFault>
+        requires { IsLinkable (Some self.now) (Some site) }
+        ensures exact { Gives PlanFault.Memory (λ l. l) result (linked_at self.now site) }
         ensures symbols { IfOk result (λ l. HasSymbols l.base (length l.bytes) l.symbols) }
     {
         let linked = link(alloc, &self.object, &self.file, site.at)?;
