@@ -67,13 +67,18 @@ fn first_outside(alloc: Global, span: Span, set: &PageSet) -> Option<u64> {
     Some(outside.span(0).first())
 }
 
-// The same for segment i of the kernel and the RAM of the map.
-fn first_page<R: Files + AllocGlobal>(rt: &R, given: &[Given<'_>], i: usize) -> Option<u64> {
-    let alloc = rt.alloc();
-    let text = read_again(rt, text_of(given, "--map")?)?;
-    let map = Map::read(alloc, &text).ok()?;
+// The pages of segment i of the kernel that is given.
+fn kernel_span<R: Files + AllocGlobal>(rt: &R, given: &[Given<'_>], i: usize) -> Option<Span> {
     let file = read_again(rt, text_of(given, "KERNEL")?)?;
-    first_outside(alloc, span_of(alloc, given, &file, i)?, map.ram())
+    span_of(rt.alloc(), given, &file, i)
+}
+
+// The first of them that is not RAM of the map.
+fn first_page<R: Files + AllocGlobal>(rt: &R, given: &[Given<'_>], i: usize) -> Option<u64> {
+    let span = kernel_span(rt, given, i)?;
+    let text = read_again(rt, text_of(given, "--map")?)?;
+    let map = Map::read(rt.alloc(), &text).ok()?;
+    first_outside(rt.alloc(), span, map.ram())
 }
 
 /// The number of the first page that is not System RAM of the segment that was refused for it, where the system gives both

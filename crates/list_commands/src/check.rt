@@ -46,8 +46,8 @@ pub(crate) fn unaccepted_goods(alloc: Global, why: CheckFault) -> MakeResult<Goo
 }
 
 // Checks the list of a normal load, and makes the line that tells of it.
-fn check_list(alloc: Global, files: LoadFiles) -> MakeResult<Goods<ListFault>>
-    ensures { Makes checks_list files result }
+fn check_list(alloc: Global, files: &LoadFiles) -> MakeResult<Goods<ListFault>>
+    ensures { Makes checks_list files.now result }
 {
     match check(alloc, &files.memory, &files.image, &files.segments) {
         Err(why) => unaccepted_goods(alloc, why),
@@ -59,8 +59,8 @@ fn check_list(alloc: Global, files: LoadFiles) -> MakeResult<Goods<ListFault>>
 }
 
 // Checks a crash load, and makes the line that tells of it.
-fn check_in_place(alloc: Global, files: CrashFiles) -> MakeResult<Goods<ListFault>>
-    ensures { Makes checks_in_place files result }
+fn check_in_place(alloc: Global, files: &CrashFiles) -> MakeResult<Goods<ListFault>>
+    ensures { Makes checks_in_place files.now result }
 {
     match check_crash(&files.memory, files.head, &files.segments) {
         Err(fault) => fault_goods(alloc, fault),
@@ -93,8 +93,8 @@ impl Command<ListFault, Reason> for CheckList {
     // Checks the load, and makes the line that tells of it.
     fn make(self, alloc: Global, load: TakenLoad) -> MakeResult<Goods<ListFault>> {
         match load {
-            TakenLoad::Normal(files) => check_list(alloc, files),
-            TakenLoad::Crash(files) => check_in_place(alloc, files),
+            TakenLoad::Normal(files) => check_list(alloc, &files),
+            TakenLoad::Crash(files) => check_in_place(alloc, &files),
         }
     }
 }
