@@ -70,8 +70,8 @@ pub(crate) fn boot_in(alloc: Global, given: &[Given<'_>]) -> Result<Boot, WordsF
     ensures { Answers boot_value (boot_in (given_values given.now)) result }
 {
     let numbers = plan_numbers(given, option_in(given, "kept"))?;
-    let inputs = inputs_in(alloc, given, numbers.below)?;
     let out = name_in(alloc, given, "OUT")?;
+    let inputs = inputs_in(alloc, given, numbers.below)?;
     let kept = numbers.kept;
     let image = image_for(&inputs, is_input(&inputs, &out), numbers)?;
     Ok(Boot {
@@ -86,9 +86,9 @@ pub(crate) fn load_in(alloc: Global, given: &[Given<'_>]) -> Result<Load, WordsF
     ensures { Answers load_value (load_in (given_values given.now)) result }
 {
     let numbers = plan_numbers(given, None)?;
-    let inputs = inputs_in(alloc, given, numbers.below)?;
     let out = name_in(alloc, given, "OUT")?;
     let load_record = name_in(alloc, given, "RECORD")?;
+    let inputs = inputs_in(alloc, given, numbers.below)?;
     let image = image_for(&inputs, is_repeated(&inputs, &out, &load_record), numbers)?;
     Ok(Load {
         inputs,

@@ -55,10 +55,10 @@ fn load_panic_from(
 pub(crate) fn load_panic_in(alloc: Global, given: &[Given<'_>]) -> Result<LoadPanic, WordsFault>
     ensures { Answers load_panic_value (load_panic_in (given_values given.now)) result }
 {
-    let inputs = crash_inputs_in(alloc, given)?;
-    let map = some_name_in(alloc, given, "map")?;
     let out = name_in(alloc, given, "OUT")?;
     let load_record = name_in(alloc, given, "RECORD")?;
+    let map = some_name_in(alloc, given, "map")?;
+    let inputs = crash_inputs_in(alloc, given)?;
     load_panic_from(inputs, map, out, load_record)
 }
 
