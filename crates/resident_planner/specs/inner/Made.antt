@@ -6,12 +6,20 @@ use Rattle.kx_pages.specs.Bytes.{Mem}
 use Rattle.kx_pages.specs.Items.{code}
 use Rattle.segments.specs.Values.{SegmentValue, want, is_destination}
 use Rattle.list_checker.specs.Checked.{as_pair}
+use Rattle.resident_planner.specs.declared.link_pages.LinkPage.{LinkPage}
 use Rattle.resident_planner.specs.declared.plan.Plan.{Plan}
 use Rattle.resident_planner.specs.Cycles.{cycles}
 use Rattle.resident_planner.specs.Plan.{Planned, is_fresh}
 use Rattle.resident_planner.specs.Laid.{given_sources, pair_items, plan_head}
 use Rattle.resident_planner.specs.Refusals.{AreWantedPages, resident_of, pairs_refusal, usable, link_count}
 use Rattle.resident_planner.specs.inner.LinkPages.{laid_page, word_pages}
+
+-- the link pages of the planned pairs
+pub record AreLinked (r : ℕ → Option ℕ) (D fresh links : List ℕ) (pages : List LinkPage)
+    : Type 0 where
+  pub planned_pairs : List (ℕ × ℕ)
+  pub planned : Planned r D fresh planned_pairs
+  pub are : map laid_page pages ≡ word_pages links (map code (pair_items planned_pairs))
 
 -- the plan over the pages that it takes: the control page, the link pages, and the fresh pages
 pub record IsPlanOf (r : ℕ → Option ℕ) (D : List ℕ) (p : Plan) : Type 0 where

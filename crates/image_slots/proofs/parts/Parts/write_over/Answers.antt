@@ -14,10 +14,11 @@ pub returns-in-Ok : goal.returns-in-Ok
 returns-in-Ok c =
     let p = c.args.self.now in
     let pages = c.in-Ok.ensures.written.image in
+    let drawn = rw c.set_memory.ensures at c.draw.ensures in
     let size = first_length (need c.args.wish c.args.segments) p.left c.args.pages c.requires.first c.requires.enough in
     record {
-      exact = inl (wrote_normal p c.replace-memory.result c.in-Ok.wrote.memory c.args.caller c.args.wish c.args.segments c.args.pages c.draw.new.self c.in-Ok.wrote.image c.replace-memory.ensures.value c.requires.first
-          (c.draw.ensures ∙ ap (λ (n : ℕ). drop n p.left) (c.count.ensures ∙ ap (λ (n : Normal). count_of n) pages ∙ size)) c.in-Ok.ensures.written);
+      exact = inl (rw (c.set_load.ensures, c.set_memory.ensures) (wrote_normal p c.replace-memory.result c.in-Ok.wrote.memory c.args.caller c.args.wish c.args.segments c.args.pages c.draw.new.self c.in-Ok.wrote.image c.replace-memory.ensures.value c.requires.first
+          (drawn ∙ ap (λ (n : ℕ). drop n p.left) (c.count.ensures ∙ ap (λ (n : Normal). count_of n) pages ∙ size)) c.in-Ok.ensures.written));
     }
   where
     count_of : Normal → ℕ
@@ -25,4 +26,4 @@ returns-in-Ok c =
 
 pub returns-in-Err : goal.returns-in-Err
 returns-in-Err c =
-    record { exact = inr (refl, back_unloaded c.args.self.now c.replace-memory.result c.in-Err.memory c.replace-memory.ensures.value c.requires.none c.in-Err.ensures.memory_back) }
+    record { exact = inr (refl, rw c.set_memory-in-Err.ensures (back_unloaded c.args.self.now c.replace-memory.result c.in-Err.memory c.replace-memory.ensures.value c.requires.none c.in-Err.ensures.memory_back)) }
