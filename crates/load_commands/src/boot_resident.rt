@@ -137,8 +137,7 @@ fn load_resident(alloc: Global, load: LoadInputs, pairs: &[Pair]) -> MakeResult<
 fn push_copied_line(alloc: Global, text: &mut String, copied: u64) -> Result<(), AllocError>
     ensures { OnOk result (string_bytes text.new ≡ string_bytes text.old ++ copied_line copied) }
 {
-    text.push_str(&format!(in alloc; "copied {copied}\n")?)?;
-    Ok(())
+    text.push_str(&format!(in alloc; "copied {copied}\n")?)
 }
 
 // What is said of the list, of what it copies, and of its run.
