@@ -1,5 +1,6 @@
 pub mod Pages
 pub mod Mapped
+pub mod Modules
 pub mod EventFile
 pub mod Startups
 pub mod Drawn

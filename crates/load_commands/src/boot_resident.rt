@@ -104,10 +104,10 @@ fn make_list(
     let pages = usable_pages(alloc, pool)?;
     match plan_resident(alloc, memory, &pages, segments, pairs) {
         Ok(made) => Ok(made),
-        Err(refused) => match refused.why {
-            ResidentFault::Memory => Err(MakeFault::Memory),
-            fault => Err(MakeFault::refused(Reason::Resident { fault })),
-        },
+        Err(refused) => Err(match refused.why {
+            ResidentFault::Memory => MakeFault::Memory,
+            fault => MakeFault::refused(Reason::Resident { fault }),
+        }),
     }
 }
 
@@ -124,7 +124,7 @@ fn load_resident(alloc: Global, load: LoadInputs, pairs: &[Pair]) -> MakeResult<
     ensures { MakesOr (IsKernel (inputs_of load) (map as_pair pairs.now))
         (RefusesResident (inputs_of load) (map as_pair pairs.now)) result }
 {
-    let planned = plan_request(alloc, load.request, load.map.as_ref())?;
+    let planned = plan_request(alloc, load.request, load.map)?;
     let made = make_list(alloc, load.memory, &load.pool, &planned.segments, pairs)?;
     Ok(ResidentKernel {
         loaded: Loaded::from_files(alloc, made.memory, made.image, planned.segments),
@@ -137,8 +137,7 @@ fn load_resident(alloc: Global, load: LoadInputs, pairs: &[Pair]) -> MakeResult<
 fn push_copied_line(alloc: Global, text: &mut String, copied: u64) -> Result<(), AllocError>
     ensures { OnOk result (string_bytes text.new ≡ string_bytes text.old ++ copied_line copied) }
 {
-    text.push_str(&format!(in alloc; "copied {copied}\n")?)?;
-    Ok(())
+    text.push_str(&format!(in alloc; "copied {copied}\n")?)
 }
 
 // What is said of the list, of what it copies, and of its run.

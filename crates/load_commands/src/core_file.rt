@@ -41,16 +41,18 @@ fn core_line(alloc: Global, core: &Core) -> Result<String, AllocError>
     )
 }
 
-// The core of a memory by the headers at an address.
-fn core_of(alloc: Global, memory: &Memory, address: u64) -> MakeResult<Core>
+// The core of a memory by the headers at an address. The memory is used no more after it.
+fn core_of(alloc: Global, memory: Memory, address: u64) -> MakeResult<Core>
     requires { address < 2 ^ 46 }
-    ensures { MakesOr (λ c. core_reading (at memory.now) address ≡ Ok (value_of c))
-        (RefusesCore (at memory.now) address) result }
+    ensures { MakesOr (λ c. core_reading (at memory) address ≡ Ok (value_of c))
+        (RefusesCore (at memory) address) result }
 {
-    match make(alloc, memory, address) {
+    match make(alloc, &memory, address) {
         Ok(core) => Ok(core),
-        Err(CoreFault::Memory) => Err(MakeFault::Memory),
-        Err(fault) => Err(MakeFault::refused(Reason::Core { fault })),
+        Err(fault) => Err(match fault {
+            CoreFault::Memory => MakeFault::Memory,
+            _ => MakeFault::refused(Reason::Core { fault }),
+        }),
     }
 }
 
@@ -73,7 +75,7 @@ impl Command<ListFault, Reason> for WriteCore {
 
     // Makes the core file, and the line that tells its size.
     fn make(self, alloc: Global, memory: Memory) -> MakeResult<Goods<ListFault>> {
-        let core = core_of(alloc, &memory, self.address)?;
+        let core = core_of(alloc, memory, self.address)?;
         let text = core_line(alloc, &core)?;
         let outputs = one_file(alloc, Role::CoreOut, self.out, core.bytes)?;
         Ok(Goods::done(outputs, text))

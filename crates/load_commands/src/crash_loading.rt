@@ -24,7 +24,7 @@ pub(crate) fn load_in_place(alloc: Global, inputs: CrashInputs) -> MakeResult<Cr
     ensures { MakesOr (IsCrashKernel (crash_inputs_of inputs))
         (HasNoPlan (crash_inputs_of inputs).request (Some inputs.map)) result }
 {
-    let planned = plan_request(alloc, inputs.request, Some(&inputs.map))?;
+    let planned = plan_request(alloc, inputs.request, Some(inputs.map))?;
     let startup = planned_startup(&planned);
     match load_crash(alloc, inputs.memory, planned.segments) {
         Ok(loaded) => Ok(CrashKernel { loaded, startup }),

@@ -5,8 +5,8 @@ ghost use Rattle.std.specs.Prelude.{◌≡◌, map, option_map, is_some, string_
 ghost use Rattle.file_commands.specs.inner.Calls.{Takes, file_of};
 ghost use Rattle.kexec_words.specs.inner.Values.{crash_inputs_value, inputs_value};
 ghost use Rattle.kexec_plan.specs.inner.Requests.{request_of};
-ghost use Rattle.load_commands.specs.Inputs.{kernel_files, left_after, load_inputs, module_of, request_with};
-ghost use Rattle.load_commands.specs.inner.Views.{inputs_of, kernel_bytes, crash_inputs_of};
+ghost use Rattle.load_commands.specs.Inputs.{kernel_files, left_after, load_inputs, request_with};
+ghost use Rattle.load_commands.specs.inner.Views.{file_in, inputs_of, kernel_bytes, crash_inputs_of};
 ghost use Rattle.load_commands.specs.CrashInputs.{crash_inputs, crash_request};
 
 use crate::files::{take_map, take_map_file, take_notes, take_pool};
@@ -30,7 +30,7 @@ pub(crate) struct KernelFiles {
     pub(crate) kernel: Vec<u8>,
     pub(crate) initrd: Option<Vec<u8>>,
     pub(crate) purgatory: Option<Vec<u8>>,
-    pub(crate) modules: Vec<File>,
+    pub(crate) modules: Vec<Module>,
 }
 
 // What is left of so many bytes after a file that may be named.
@@ -41,6 +41,20 @@ fn left_after(left: usize, bytes: &Option<Vec<u8>>) -> usize
         Some(bytes) => left.saturating_sub(bytes.len()),
         None => left,
     }
+}
+
+// The modules of a request: a module's text is its file's name.
+fn modules_of(alloc: Global, files: Vec<File>) -> Result<Vec<Module>, AllocError>
+    ensures { IfOk result (λ v. map file_in v.items ≡ map file_of files.items) }
+{
+    let mut modules = Vec::new(alloc);
+    for file in files {
+        modules.push(Module {
+            bytes: file.bytes,
+            text: file.name.into_bytes(),
+        })?;
+    }
+    Ok(modules)
 }
 
 // Takes the files of a kernel in their order.
@@ -62,61 +76,41 @@ fn take_kernel<S: Shelf>(
     let left = KERNEL_LIMIT - kernel.len();
     let initrd = take_optional(alloc, Role::Initrd, initrd, left, shelf)?;
     let purgatory = take_optional(alloc, Role::Purgatory, purgatory, PURGATORY_LIMIT, shelf)?;
-    let modules = take_all(
-        alloc,
-        Role::Module,
-        modules,
-        left_after(left, &initrd),
-        shelf,
-    )?;
+    let left = left_after(left, &initrd);
+    let modules = take_all(alloc, Role::Module, modules, left, shelf)?;
     Ok(KernelFiles {
         kernel,
         initrd,
         purgatory,
-        modules,
+        modules: modules_of(alloc, modules)?,
     })
 }
 
-// The modules of a request: a module's text is its file's name.
-fn modules_of(alloc: Global, files: Vec<File>) -> Result<Vec<Module>, AllocError>
-    ensures { IfOk result (λ v. v.items ≡ map module_of (map file_of files.items)) }
-{
-    let mut modules = Vec::new(alloc);
-    for file in files {
-        modules.push(Module {
-            bytes: file.bytes,
-            text: file.name.into_bytes(),
-        })?;
-    }
-    Ok(modules)
-}
-
 // The request for the plan of these files.
+#[tactic(auto, using(crate::proofs::Modules::modules_of_files))]
 fn request_with(
     alloc: Global,
     image: ImageType,
     command: Option<String>,
     files: KernelFiles,
-) -> Result<Request, AllocError>
-    ensures { IfOk result
-        (λ r. request_of r
-        ≡ request_with image (option_map string_bytes command) (kernel_bytes files)) }
+) -> Request
+    ensures { request_of result
+        ≡ request_with image (option_map string_bytes command) (kernel_bytes files) }
 {
-    let modules = modules_of(alloc, files.modules)?;
     let command = match command {
         Some(text) => Some(text.into_bytes()),
         None => None,
     };
-    Ok(Request {
+    Request {
         crash: false,
         image,
         kernel: files.kernel,
         initrd: files.initrd,
         command,
-        modules,
+        modules: files.modules,
         purgatory: files.purgatory,
         notes: Vec::new(alloc),
-    })
+    }
 }
 
 /// Takes what `boot` and `load` take.
@@ -143,12 +137,11 @@ pub(crate) fn take_inputs<S: Shelf>(
     let pool = take_pool(alloc, pool, below, shelf)?;
     let map = take_map(alloc, map, shelf)?;
     let files = take_kernel(alloc, kernel, initrd, purgatory, modules, shelf)?;
-    let request = request_with(alloc, names.image, command, files)?;
     Ok(LoadInputs {
         memory,
         pool,
         map,
-        request,
+        request: request_with(alloc, names.image, command, files),
     })
 }
 
@@ -158,14 +151,14 @@ fn crash_request(
     command: Option<String>,
     notes: Vec<Note>,
     files: KernelFiles,
-) -> Result<Request, AllocError>
-    ensures { IfOk result (λ r. request_of r ≡
-        crash_request (option_map string_bytes command) notes.items (kernel_bytes files)) }
+) -> Request
+    ensures { request_of result
+        ≡ crash_request (option_map string_bytes command) notes.items (kernel_bytes files) }
 {
-    let mut request = request_with(alloc, ImageType::Auto, command, files)?;
+    let mut request = request_with(alloc, ImageType::Auto, command, files);
     request.crash = true;
     request.notes = notes;
-    Ok(request)
+    request
 }
 
 /// Takes what `load-panic` takes.
@@ -191,10 +184,9 @@ pub(crate) fn take_crash_inputs<S: Shelf>(
         modules,
         shelf,
     )?;
-    let request = crash_request(alloc, words.command, notes, files)?;
     Ok(CrashInputs {
         memory,
         map,
-        request,
+        request: crash_request(alloc, words.command, notes, files),
     })
 }

@@ -7,7 +7,7 @@ ghost use Rattle.segments.specs.Values.{need};
 ghost use Rattle.load_states.specs.Fillings.{IsSealed};
 ghost use Rattle.file_commands.specs.inner.Calls.{MakesOr};
 ghost use Rattle.kexec_plan.specs.Plan.{plan};
-ghost use Rattle.kexec_plan.specs.inner.Requests.{IsMapped, lent, planned_of, request_of};
+ghost use Rattle.kexec_plan.specs.inner.Requests.{IsMapped, planned_of, request_of};
 ghost use Rattle.load_commands.specs.inner.Views.{IsLoadedKernel, inputs_of};
 ghost use Rattle.load_commands.specs.Startup.{planned_startup};
 ghost use Rattle.load_commands.specs.Loading.{HasNoPlan, IsTooFew, RefusesLoad};
@@ -25,20 +25,18 @@ use page_pool::Pool;
 use segments::Segments;
 use std::alloc::Global;
 
-/// The plan of a request.
-pub(crate) fn plan_request(
-    alloc: Global,
-    request: Request,
-    map: Option<&Map>,
-) -> MakeResult<Planned>
-    requires { IsMapped (request_of request) (lent map) }
-    ensures { MakesOr (λ p. plan (request_of request) (lent map.entry) ≡ Ok (planned_of p))
-        (HasNoPlan (request_of request) (lent map.entry)) result }
+/// The plan of a request. The memory map is used no more after it.
+pub(crate) fn plan_request(alloc: Global, request: Request, map: Option<Map>) -> MakeResult<Planned>
+    requires { IsMapped (request_of request) map }
+    ensures { MakesOr (λ p. plan (request_of request) map ≡ Ok (planned_of p))
+        (HasNoPlan (request_of request) map) result }
 {
-    match plan(alloc, request, map) {
+    match plan(alloc, request, map.as_ref()) {
         Ok(planned) => Ok(planned),
-        Err(PlanFault::Memory) => Err(MakeFault::Memory),
-        Err(fault) => Err(MakeFault::refused(Reason::Plan { fault })),
+        Err(fault) => Err(match fault {
+            PlanFault::Memory => MakeFault::Memory,
+            _ => MakeFault::refused(Reason::Plan { fault }),
+        }),
     }
 }
 
@@ -93,7 +91,7 @@ pub(crate) fn load_request(
     ensures { MakesOr (IsLoadedKernel wish (inputs_of inputs))
         (RefusesLoad wish (inputs_of inputs)) result }
 {
-    let planned = plan_request(alloc, inputs.request, inputs.map.as_ref())?;
+    let planned = plan_request(alloc, inputs.request, inputs.map)?;
     let startup = planned_startup(&planned);
     let loaded = load_segments(alloc, inputs.memory, inputs.pool, planned.segments, wish)?;
     Ok(LoadedKernel { loaded, startup })

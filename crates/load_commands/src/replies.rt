@@ -1,6 +1,6 @@
 //! The replies of `drill` as lines.
 
-ghost use Rattle.std.specs.Prelude.{◌≡◌, IfOk, string_bytes};
+ghost use Rattle.std.specs.Prelude.{◌≡◌, ◌++◌, IfOk, codes, decimal, string_bytes};
 ghost use Rattle.load_commands.specs.Replies.{reply_line, reply_lines, segments_fault};
 
 use image_slots::Reply;
@@ -25,26 +25,34 @@ fn segments_fault(fault: SegFault) -> &'static str
     }
 }
 
+// The line of a reply that is a name alone.
+fn named_line(alloc: Global, number: usize, name: &str) -> Result<String, AllocError>
+    ensures { IfOk result (λ s. string_bytes s
+        ≡ decimal number ++ (codes " " ++ (name.now ++ codes "\n"))) }
+{
+    format!(in alloc; "{number} {name}\n")
+}
+
 // The line of the reply to the event of this number.
 #[tactic(auto, unfolding(crate::specs::Replies::reply_line))]
 fn reply_line(alloc: Global, number: usize, reply: Reply) -> Result<String, AllocError>
     ensures { IfOk result (λ s. string_bytes s ≡ reply_line number reply) }
 {
     match reply {
-        Reply::Memory => format!(in alloc; "{number} memory\n"),
-        Reply::Done => format!(in alloc; "{number} done\n"),
-        Reply::Gone => format!(in alloc; "{number} gone\n"),
+        Reply::Memory => named_line(alloc, number, "memory"),
+        Reply::Done => named_line(alloc, number, "done"),
+        Reply::Gone => named_line(alloc, number, "gone"),
         Reply::Busy { caller } => format!(in alloc; "{number} busy {caller}\n"),
-        Reply::Opened => format!(in alloc; "{number} opened\n"),
-        Reply::NoArea => format!(in alloc; "{number} no-area\n"),
-        Reply::NotOpen => format!(in alloc; "{number} not-open\n"),
-        Reply::Written => format!(in alloc; "{number} written\n"),
-        Reply::NotWritten => format!(in alloc; "{number} not-written\n"),
+        Reply::Opened => named_line(alloc, number, "opened"),
+        Reply::NoArea => named_line(alloc, number, "no-area"),
+        Reply::NotOpen => named_line(alloc, number, "not-open"),
+        Reply::Written => named_line(alloc, number, "written"),
+        Reply::NotWritten => named_line(alloc, number, "not-written"),
         Reply::BadSegments { fault } => {
             format!(in alloc; "{number} segments {}\n", segments_fault(fault))
         }
         Reply::NoPages { pool, need } => format!(in alloc; "{number} no-pages {pool} {need}\n"),
-        Reply::NoImage => format!(in alloc; "{number} no-image\n"),
+        Reply::NoImage => named_line(alloc, number, "no-image"),
         Reply::Touched { page } => format!(in alloc; "{number} touched {:x}\n", page.number()),
     }
 }

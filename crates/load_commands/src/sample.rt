@@ -31,8 +31,7 @@ fn push_memory_line(alloc: Global, text: &mut String, memory: &Memory) -> Result
         ≡ string_bytes text.old ++ memory_line (at memory.now)) }
 {
     let digest = hex::encode(alloc, digest_of(memory))?;
-    text.push_str(&format!(in alloc; "memory {digest}\n")?)?;
-    Ok(())
+    text.push_str(&format!(in alloc; "memory {digest}\n")?)
 }
 
 // What `sample` says: of its list and the run, and the digest of the memory after it.

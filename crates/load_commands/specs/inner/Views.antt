@@ -6,7 +6,8 @@ use Rattle.kx_pages.specs.declared.image.Mode.TheVariants.{Plain}
 use Rattle.kx_pages.specs.declared.image.Wish.{Wish}
 use Rattle.load_record.specs.File.{Record}
 use Rattle.page_pool.specs.Pages.{usable_of}
-use Rattle.file_commands.specs.inner.Calls.{file_of}
+use Rattle.file_commands.specs.Taking.{File}
+use Rattle.kexec_plan.specs.Modules.{AskedModule}
 use Rattle.kexec_plan.specs.Requests.{Plan}
 use Rattle.kexec_plan.specs.inner.Requests.{request_of}
 use Rattle.load_commands.specs.declared.inputs.KernelFiles.{KernelFiles as TakenFiles}
@@ -31,13 +32,17 @@ use Rattle.load_commands.specs.Drill.{DrillInputs}
 use Rattle.kx_pages.specs.declared.image.Start.{Start}
 use Rattle.command_parts.specs.declared.startup.Startup.{Startup}
 
+-- the file of a module: its name is the module's text
+abbrev pub file_in : AskedModule → File
+file_in m = (m.text, m.bytes)
+
 -- the files of a kernel
 abbrev pub kernel_bytes : TakenFiles → KernelFiles
 kernel_bytes f = record {
   kernel = f.kernel.items;
   initrd = option_map (λ b. b.items) f.initrd;
   purgatory = option_map (λ b. b.items) f.purgatory;
-  modules = map file_of f.modules.items;
+  modules = map file_in f.modules.items;
 }
 
 -- what `boot` and `load` took

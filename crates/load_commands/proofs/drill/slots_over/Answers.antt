@@ -21,6 +21,6 @@ returns-in-Ok c =
       ap state_of c.in-Ok.ensures.made ∙ ap (λ (a : Option Run). fresh (at c.args.memory) (usable_of c.args.pool) c.in_ok-ram.ram a) area,
     )
 
-pub returns-in-Err : goal.returns-in-Err
-returns-in-Err c =
+pub returns : goal.returns
+returns c =
     rw c.refused.ensures (subst (λ (a : Option Run). Meets (find (in_area a) (usable_of c.args.pool)) c.in-Err.refused.why) c.reserved_area.ensures c.in-Err.ensures.meets)

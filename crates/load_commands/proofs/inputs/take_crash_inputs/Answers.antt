@@ -1,5 +1,5 @@
 use Rattle.std.proofs.Common.{rules}
-use Rattle.file_commands.proofs.Steps.{start, next, stopped, wanting, finished}
+use Rattle.file_commands.proofs.Steps.{start, next, stopped, finished}
 use Rattle.load_commands.proofs.inputs.take_crash_inputs.Goals as goal
 
 pub returns-in_err-memory : goal.returns-in_err-memory
@@ -25,15 +25,6 @@ returns-in_err-files g c =
     let notes = next g.S.Shelf _ _ map c.in_ok-notes.ensures in
     stopped g.S.Shelf _ _ _ _ _ (search rules) notes (rw none at c.in_err-files.ensures.takes)
 
-pub returns-in_err-request : goal.returns-in_err-request
-returns-in_err-request g c =
-    let none = c.new-modules.ensures.items in
-    let memory = next g.S.Shelf _ _ (start g.S.Shelf _ c.args.shelf.now) c.in_ok-memory.ensures in
-    let map = next g.S.Shelf _ _ memory c.in_ok-map.ensures in
-    let notes = next g.S.Shelf _ _ map c.in_ok-notes.ensures in
-    let files = next g.S.Shelf _ _ notes (rw none at c.in_ok-files.ensures.takes) in
-    wanting g.S.Shelf _ _ (search rules) files
-
 pub returns : goal.returns
 returns g c =
     let none = c.new-modules.ensures.items in
@@ -41,4 +32,4 @@ returns g c =
     let map = next g.S.Shelf _ _ memory c.in_ok-map.ensures in
     let notes = next g.S.Shelf _ _ map c.in_ok-notes.ensures in
     let files = next g.S.Shelf _ _ notes (rw none at c.in_ok-files.ensures.takes) in
-    rw c.in_ok-request.ensures (finished g.S.Shelf files)
+    rw c.crash_request.ensures (finished g.S.Shelf files)

@@ -23,27 +23,27 @@ returns-in_err-outputs c =
     let x = drill_inputs c.args.taken in
     let e : c.from_residual-in_err-outputs.result ≡ Err c.in_err-outputs.field-0.0 = search rules in
     let made = c.in_ok-slots.ensures in
-    let s = c.apply_each.new.self in
-    let end : at s.memory ≡ (after_events (start x made.0) x.events).memory = ap (λ (s : State). s.memory) (c.in_ok-replies.ensures.after ∙ ap (λ (s : State). after_events s x.events) made.3) in
-    handed_on_as _ _ (HasNoFile (at c.into_memory.result)) _ _ e
-    (λ why h. inr (made.0, made.1, made.2, no_file_as (at c.into_memory.result) (after_events (start x made.0) x.events).memory why (λ p. ap (λ m. at m p) c.into_memory.ensures ∙ ap (λ (M : Mem). M p) end) h)) c.in_err-outputs.ensures
+    let s = c.event_lines-lines.new.slots in
+    let end : at s.memory ≡ (after_events (start x made.0) x.events).memory = ap (λ (s : State). s.memory) (c.in_ok-text.ensures.after ∙ ap (λ (s : State). after_events s x.events) made.3) in
+    handed_on_as _ _ (HasNoFile (at c.into_memory-memory.result)) _ _ e
+    (λ why h. inr (made.0, made.1, made.2, no_file_as (at c.into_memory-memory.result) (after_events (start x made.0) x.events).memory why (λ p. ap (λ m. at m p) c.into_memory-memory.ensures ∙ ap (λ (M : Mem). M p) end) h)) c.in_err-outputs.ensures
 
 pub returns : goal.returns
 returns c =
     let x = drill_inputs c.args.taken in
     let made = c.in_ok-slots.ensures in
-    let s = c.apply_each.new.self in
+    let s = c.event_lines-lines.new.slots in
     let first = made.3 in
-    let end : at s.memory ≡ (after_events (start x made.0) x.events).memory = ap (λ (s : State). s.memory) (c.in_ok-replies.ensures.after ∙ ap (λ (s : State). after_events s x.events) first) in
+    let end : at s.memory ≡ (after_events (start x made.0) x.events).memory = ap (λ (s : State). s.memory) (c.in_ok-text.ensures.after ∙ ap (λ (s : State). after_events s x.events) first) in
     let w = c.in_ok-outputs.ensures in
-    let kept = subst (λ (s : State). AreKept (all_pages s) s x.events) first c.apply_each.ensures.kept in rw c.done.ensures (
+    let kept = subst (λ (s : State). AreKept (all_pages s) s x.events) first c.event_lines-lines.ensures.kept in rw c.done.ensures (
       made.0,
       made.1,
       made.2,
-      c.in_ok-text.ensures ∙ ap (reply_lines 1) (c.deref.ensures.value ∙ c.in_ok-replies.ensures.replies ∙ ap (λ (s : State). replies_to s x.events) first),
+      c.in_ok-text.ensures.text ∙ ap (λ (s : State). reply_lines 1 (replies_to s x.events)) first,
       refl,
       subst (λ pages. AreKept pages (start x made.0) x.events) (append-nil x.pool) kept,
       w.0,
-      file_as (at c.into_memory.result) (after_events (start x made.0) x.events).memory w.0 (λ p. ap (λ m. at m p) c.into_memory.ensures ∙ ap (λ (M : Mem). M p) end) w.2,
+      file_as (at c.into_memory-memory.result) (after_events (start x made.0) x.events).memory w.0 (λ p. ap (λ m. at m p) c.into_memory-memory.ensures ∙ ap (λ (M : Mem). M p) end) w.2,
       w.1,
     )
