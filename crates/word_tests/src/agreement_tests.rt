@@ -77,7 +77,7 @@ fn words_behind(alloc: Global, line: &str, form: &str, name: &str) -> Result<Vec
 fn is_judged_alike(alloc: Global, words: &[String]) -> Result<bool, Fail> {
     let is_taken = match read(alloc, words) {
         Ok(_) => true,
-        Err(WordsFault::Usage { why }) => why != UsageWhy::Parse,
+        Err(WordsFault::Usage { why }) => !matches!(why, UsageWhy::Parse),
         Err(WordsFault::Memory) => return Err(Fail::from("memory")),
     };
     let answer = read_answer(alloc, words);
