@@ -39,11 +39,15 @@ if words[0] == "build":
     open(words[words.index("-o") + 1], "w").close()
     sys.exit(0)
 text = open("src/lib.rt").read()
+is_read = "--only" in words
 errors = [at for at, line in enumerate(text.split("\n"), 1) if "unknown" in line]
 for at in errors:
     print(f"src/lib.rt:{at}:5: error[unknown-name]: cannot find value `unknown` in this scope")
 if errors:
     sys.exit(1)
+if is_read:
+    print("only=0 holes=0")
+    sys.exit(0)
 said = dict.fromkeys(("one", "two", "three", "four", "five", "caller"), "no holes")
 cites = "it stands on `Rattle.tiny.proofs.%s.Answers.returns`, which antt refuses"
 if "a + 2" in text:
@@ -104,10 +108,15 @@ def test_bodies(tests):
         is_so = told.get(name) == wanted or (": " in wanted and told.get(name, "").startswith(wanted))
         tests.same(f"the wrong body {name}", "" if is_so else told.get(name), "")
     tests.same("they are counted", "\ntiny: 3 refused, 2 not refused, 2 no wrong bodies, 0 without a verdict, in " in out, True)
+    status, out, _ = call("--programs", "tiny")
+    told = dict(re.findall(r"^tiny/(\w+): (.*)$", out, re.M))
+    tests.same("--programs shows those that are none", (status, sorted(told)), (1, ["no_program", "stands_nowhere"]))
+    tests.same("and counts the others", "\ntiny: 5 programs, 2 no wrong bodies, 0 without a verdict, in " in out, True)
     for name in os.listdir(f"{tree}/crates/tiny/wrong-bodies"):
         if name not in ("adds_two.edit", "limit.edit"):
             os.remove(f"{tree}/crates/tiny/wrong-bodies/{name}")
     tests.same("where all are refused", call("tiny")[0], 0)
+    tests.same("where all are programs", call("--programs", "tiny")[0], 0)
     tests.write("bodies/crates/tiny/must-fail/more.edit", "file: src/lib.rt\nold: a - 1\nnew: a - 2\n")
     tests.same("--edits takes those of must-fail", (call("tiny")[0], call("--edits", "tiny")[0]), (0, 1))
     status, out, _ = call("--lines", "50", "tiny")

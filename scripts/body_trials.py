@@ -19,6 +19,9 @@ ERROR = re.compile(r"^([\w/.+-]+):(\d+):\d+: (error\[[\w-]+\]: .*)$", re.M)
 # What a check tells of a wrong body: a word, and where or why.
 Answer = collections.namedtuple("Answer", "word why")
 REFUSED, NOT_REFUSED, NO_BODY, NO_VERDICT = "refused", "NOT REFUSED", "NO WRONG BODY", "NO VERDICT"
+PROGRAM = "a program"
+# What a check has that only reads the crate, and the line with which it tells that it could.
+READING, HAS_READ = ["--only", ""], re.compile(r"^only=0 ", re.M)
 
 
 class Unread(Exception):
@@ -106,6 +109,10 @@ class Told:
                 self.verdicts[found[1]] = found[2]
         self.errors = [] if self.verdicts else [(path, int(line), why) for path, line, why in ERROR.findall(printed)]
 
+    def is_program(self):
+        """Whether a check that only reads the crate could do so."""
+        return not self.errors and HAS_READ.search(self.printed) is not None
+
     def is_proved(self):
         return bool(self.verdicts) and all(said in PROVED for said in self.verdicts.values())
 
@@ -155,7 +162,7 @@ class Crate:
             if (self.folder / part).is_dir():
                 shutil.copytree(self.folder / part, f"{room}/{part}")
 
-    def check(self, bodies, kept):
+    def check(self, bodies, more):
         """Checks a copy with these wrong bodies in it: what is told, those that are in it, and its files as they are then."""
         with tempfile.TemporaryDirectory(prefix="wrong-bodies-") as room:
             self.copy(room)
@@ -170,8 +177,8 @@ class Crate:
                 texts.update(changed)
                 for path, text in changed.items():
                     Path(room, path).write_text(text, encoding="utf-8")
-            run = subprocess.run([*self.words(), "--incremental", kept], cwd=room, stdin=subprocess.DEVNULL,
-                                 stdout=subprocess.PIPE, stderr=subprocess.STDOUT, text=True, errors="replace")
+            run = subprocess.run([*self.words(), *more], cwd=room, stdin=subprocess.DEVNULL, stdout=subprocess.PIPE,
+                                 stderr=subprocess.STDOUT, text=True, errors="replace")
         return Told(run.stdout), within, texts
 
 
@@ -209,11 +216,14 @@ def answers_of(told, functions):
     return found
 
 
-def try_group(crate, group, kept):
+def try_group(crate, group, more):
     """Tries a group of wrong bodies in one check: the answer of each that has one, and groups of the others."""
-    told, within, texts = crate.check(group, kept)
+    told, within, texts = crate.check(group, more)
     functions = {body: body.functions(crate.folder) for body in within}
-    answers = answers_of(told, functions) if told.verdicts else no_programs(told, functions, texts)
+    if told.is_program():
+        answers = dict.fromkeys(within, Answer(PROGRAM, ""))
+    else:
+        answers = answers_of(told, functions) if told.verdicts else no_programs(told, functions, texts)
     answers = {body: answer for body, answer in answers.items() if answer}
     left = [body for body in group if body not in answers]
     if answers or not left:
@@ -222,27 +232,44 @@ def try_group(crate, group, kept):
     return {}, [half for half in (left[: len(left) // 2], left[len(left) // 2 :]) if half]
 
 
-def try_bodies(crate, bodies, say):
-    """Tries all these, and says the answer of each as it comes; gives how many checks there were, or None where the crate
-    itself is not proved, with what was printed."""
-    fitting, checks = [], 1
+def fitting_bodies(crate, bodies, say):
+    """Those of the wrong bodies whose places are there; says the answer of each other."""
+    fitting = []
     for body in bodies:
         try:
             body.apply(crate.folder)
             fitting.append(body)
         except (Unread, OSError) as why:
             say(body, Answer(NO_BODY, str(why)))
+    return fitting
+
+
+def try_groups(crate, bodies, more, say, checks):
+    """Tries wrong bodies that fit, group by group, and says the answer of each as it comes; gives the number of checks."""
+    left = groups_of(bodies, crate.folder)
+    while left:
+        group = left.pop(0)
+        checks += 1
+        print(f"{crate.name}: check {checks} has {len(group)} of them", flush=True)
+        answers, others = try_group(crate, group, more)
+        for body, answer in answers.items():
+            say(body, answer)
+        left += others
+    return checks
+
+
+def read_bodies(crate, bodies, say):
+    """Asks of each whether it is a program, by checks that prove nothing; gives the number of checks."""
+    return try_groups(crate, fitting_bodies(crate, bodies, say), READING, say, 0)
+
+
+def try_bodies(crate, bodies, say):
+    """Tries all these, and says the answer of each as it comes; gives how many checks there were, or None where the crate
+    itself is not proved, with what was printed."""
+    fitting = fitting_bodies(crate, bodies, say)
     with tempfile.TemporaryDirectory(prefix="wrong-bodies-kept-") as kept:
-        told = crate.check([], kept)[0]
+        more = ["--incremental", kept]
+        told = crate.check([], more)[0]
         if not told.is_proved():
             return None, told.printed
-        left = groups_of(fitting, crate.folder)
-        while left:
-            group = left.pop(0)
-            checks += 1
-            print(f"{crate.name}: check {checks} has {len(group)} of them", flush=True)
-            answers, more = try_group(crate, group, kept)
-            for body, answer in answers.items():
-                say(body, answer)
-            left += more
-    return checks, ""
+        return try_groups(crate, fitting, more, say, 1), ""
