@@ -23,7 +23,7 @@ use Rattle.kexec_words.specs.declared.commands.Runs.TheVariants.{Once, Twice}
 use Rattle.kexec_words.specs.Values.{BootValue, ExecValue, LoadValue}
 use Rattle.kexec_plan.specs.Requests.{Plan}
 use Rattle.kexec_plan.specs.Plan.{plan}
-use Rattle.kexec_plan.specs.declared.fault.PlanFault.{PlanFault}
+use Rattle.plan_faults.specs.declared.fault.PlanFault.{PlanFault}
 use Rattle.list_commands.specs.declared.records.LoadFiles.{LoadFiles}
 use Rattle.list_commands.specs.declared.records.TakenLoad.TheVariants.{Normal}
 use Rattle.command_parts.specs.declared.reason.Reason.{Reason}

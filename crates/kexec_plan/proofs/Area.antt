@@ -16,8 +16,8 @@ use Rattle.segments.specs.declared.fault.SegFault.TheVariants.{OutsideReserved}
 use Rattle.segments.specs.Values.{SegmentValue, is_page_of_segment, want}
 use Rattle.segments.specs.Rules.{half_of_memory, leaves, misplaced, outside_reserved, refusal, shape_refusal}
 use Rattle.memory_map.specs.Maps.{MapValue, reserved_area}
-use Rattle.kexec_plan.specs.declared.fault.PlanFault.{PlanFault}
-use Rattle.kexec_plan.specs.declared.fault.PlanFault.TheVariants as faults
+use Rattle.plan_faults.specs.declared.fault.PlanFault.{PlanFault}
+use Rattle.plan_faults.specs.declared.fault.PlanFault.TheVariants as faults
 use Rattle.kexec_plan.specs.declared.format.Format.{Format}
 use Rattle.kexec_plan.specs.declared.format.Format.TheVariants as formats
 use Rattle.kexec_plan.specs.declared.places.Site.{Site}

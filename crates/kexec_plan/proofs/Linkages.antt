@@ -14,7 +14,7 @@ use Rattle.purgatory_link.specs.Set.{symbol_of, is_inside}
 use Rattle.purgatory_link.specs.Regions.{digest}
 use Rattle.kexec_plan.specs.declared.places.Site.{Site}
 use Rattle.kexec_plan.specs.declared.symbols.Symbols.{Symbols}
-use Rattle.kexec_plan.specs.Faults.{told_by, of_link}
+use Rattle.plan_faults.specs.Faults.{told_by, of_link}
 use Rattle.kexec_plan.specs.Purgatory.{PurgatoryValue, Linkage, place_by, symbol_place, symbol_address, symbols_of, linked_at}
 use Rattle.kexec_plan.specs.inner.Purgatory.{HasSymbols}
 use Rattle.std.specs.List.{position}

@@ -1,7 +1,7 @@
 -- A part that has its place can be made, and what is told of it keeps to its limits.
 use Rattle.std.proofs.Common.{◌≡◌, ℕ, Bool, ◌+◌, ◌-◌, ◌^◌, ◌<◌, ◌≤◌, length, Result, Ok, sym, subst, arith}
 use Rattle.kx_pages.proofs.Lists.{Each-append}
-use Rattle.kexec_plan.specs.declared.fault.PlanFault.{PlanFault}
+use Rattle.plan_faults.specs.declared.fault.PlanFault.{PlanFault}
 use Rattle.kexec_plan.specs.declared.places.Site.{Site}
 use Rattle.kexec_plan.specs.Parts.{part_size}
 use Rattle.kexec_plan.specs.Places.{place, taking}

@@ -1,6 +1,6 @@
 -- Parts that are placed one after another.
 use Rattle.std.proofs.Common.{◌≡◌, ℕ, Bool, List, [], ◌∷◌, Ok, Err, refl}
-use Rattle.kexec_plan.specs.declared.fault.PlanFault.{PlanFault}
+use Rattle.plan_faults.specs.declared.fault.PlanFault.{PlanFault}
 use Rattle.kexec_plan.specs.Laying.{Laid, PlanPart, place_part, place_parts}
 
 pub next_is : (ram : ℕ → Bool) (l more : Laid) (p : PlanPart) (ps : List PlanPart) → place_part ram l p ≡ Ok more → place_parts ram l (p ∷ ps) ≡ place_parts ram more ps

@@ -6,9 +6,9 @@ use Rattle.kx_laws.proofs.Results.{bind_ok}
 use Rattle.kx_pages.specs.declared.image.Start.{Start}
 use Rattle.segments.specs.Values.{SegmentValue}
 use Rattle.memory_map.specs.Maps.{MapValue}
-use Rattle.kexec_plan.specs.declared.fault.PlanFault.{PlanFault}
+use Rattle.plan_faults.specs.declared.fault.PlanFault.{PlanFault}
 use Rattle.kexec_plan.specs.declared.places.Site.{Site}
-use Rattle.kexec_plan.specs.declared.fault.PlanFault.TheVariants as faults
+use Rattle.plan_faults.specs.declared.fault.PlanFault.TheVariants as faults
 use Rattle.kexec_plan.specs.declared.format.Format.{Format}
 use Rattle.kexec_plan.specs.Requests.{Asked, Plan}
 use Rattle.kexec_plan.specs.Formats.{ground_for, unused_part, format_of}

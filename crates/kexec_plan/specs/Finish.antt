@@ -6,7 +6,7 @@ use Rattle.kx_pages.specs.declared.image.Start.{Start}
 use Rattle.segments.specs.Values.{SegmentValue}
 use Rattle.kexec_plan.specs.Ground.{Ground}
 use Rattle.purgatory_link.specs.Regions.{others, digest, region_table}
-use Rattle.kexec_plan.specs.declared.fault.PlanFault.{PlanFault}
+use Rattle.plan_faults.specs.declared.fault.PlanFault.{PlanFault}
 use Rattle.kexec_plan.specs.declared.places.Site.{Site}
 use Rattle.kexec_plan.specs.Requests.{Plan}
 use Rattle.kexec_plan.specs.Parts.{segment_at, start_at}

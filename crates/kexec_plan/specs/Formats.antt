@@ -12,10 +12,10 @@ use Rattle.kx_pages.specs.Spans.{Run}
 use Rattle.kexec_plan.specs.Ground.{Ground, Unknown, Machine, Reserved}
 use Rattle.kx_pages.specs.declared.image.ImageType.{ImageType}
 use Rattle.kx_pages.specs.declared.image.ImageType.TheVariants as types
-use Rattle.kexec_plan.specs.declared.fault.Part.{Part}
-use Rattle.kexec_plan.specs.declared.fault.Part.TheVariants as parts
-use Rattle.kexec_plan.specs.declared.fault.PlanFault.{PlanFault}
-use Rattle.kexec_plan.specs.declared.fault.PlanFault.TheVariants as faults
+use Rattle.plan_faults.specs.declared.fault.Part.{Part}
+use Rattle.plan_faults.specs.declared.fault.Part.TheVariants as parts
+use Rattle.plan_faults.specs.declared.fault.PlanFault.{PlanFault}
+use Rattle.plan_faults.specs.declared.fault.PlanFault.TheVariants as faults
 use Rattle.kexec_plan.specs.declared.format.Format.{Format}
 use Rattle.kexec_plan.specs.declared.format.Format.TheVariants.{Raw, Elf, Bzimage, Multiboot}
 use Rattle.kexec_plan.specs.Modules.{AskedModule}

@@ -11,12 +11,12 @@ use Rattle.crash_headers.specs.declared.note.Note.{Note}
 use Rattle.crash_headers.specs.Headers.{length_for}
 use Rattle.multiboot_image.specs.Header.{find_header}
 use Rattle.multiboot_image.specs.Parts as multiboot
-use Rattle.kexec_plan.specs.declared.fault.PlanFault.{PlanFault}
-use Rattle.kexec_plan.specs.declared.fault.PlanFault.TheVariants as faults
+use Rattle.plan_faults.specs.declared.fault.PlanFault.{PlanFault}
+use Rattle.plan_faults.specs.declared.fault.PlanFault.TheVariants as faults
 use Rattle.kexec_plan.specs.declared.format.Format.{Format}
 use Rattle.kexec_plan.specs.declared.format.Format.TheVariants as formats
 use Rattle.kexec_plan.specs.Modules.{AskedModule}
-use Rattle.kexec_plan.specs.Faults.{told_by, of_elf, of_bzimage, of_multiboot}
+use Rattle.plan_faults.specs.Faults.{told_by, of_elf, of_bzimage, of_multiboot}
 use Rattle.kexec_plan.specs.Ground.{Ground, Unknown, Machine, Reserved, rows}
 use Rattle.kexec_plan.specs.Laying.{PlanPart, Image, Initrd, Headers, Parameters, Module, Information}
 use Rattle.kexec_plan.specs.Parts.{whole_pages}

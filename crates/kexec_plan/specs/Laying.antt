@@ -12,11 +12,11 @@ use Rattle.crash_headers.specs.declared.note.Note.{Note}
 use Rattle.crash_headers.specs.Headers.{headers_or_fault}
 use Rattle.multiboot_image.specs.Info.{info}
 use Rattle.multiboot_image.specs.Modules.{PlacedModule}
-use Rattle.kexec_plan.specs.declared.fault.PlanFault.{PlanFault}
+use Rattle.plan_faults.specs.declared.fault.PlanFault.{PlanFault}
 use Rattle.kexec_plan.specs.declared.places.PlaceRule.{PlaceRule}
 use Rattle.kexec_plan.specs.declared.places.Site.{Site}
 use Rattle.kexec_plan.specs.Modules.{AskedModule}
-use Rattle.kexec_plan.specs.Faults.{told_by, of_params, of_crash}
+use Rattle.plan_faults.specs.Faults.{told_by, of_params, of_crash}
 use Rattle.kexec_plan.specs.Command.{told_command}
 use Rattle.kexec_plan.specs.Parts.{segment_at}
 use Rattle.kexec_plan.specs.Places.{place, taking}

@@ -6,7 +6,6 @@ pub mod Parts
 pub mod Holes
 pub mod Places
 pub mod Table
-pub mod Faults
 pub mod Command
 pub mod Laying
 pub mod Kernels

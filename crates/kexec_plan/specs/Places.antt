@@ -4,8 +4,8 @@ use Rattle.std.specs.List.{list_any}
 use Rattle.kx_laws.specs.Results.{◌>>=◌}
 use Rattle.segments.specs.Values.{SegmentValue, stop}
 use Rattle.kx_pages.specs.Spans.{Run, in_span}
-use Rattle.kexec_plan.specs.declared.fault.PlanFault.{PlanFault}
-use Rattle.kexec_plan.specs.declared.fault.PlanFault.TheVariants as faults
+use Rattle.plan_faults.specs.declared.fault.PlanFault.{PlanFault}
+use Rattle.plan_faults.specs.declared.fault.PlanFault.TheVariants as faults
 use Rattle.kexec_plan.specs.declared.places.Site.{Site}
 use Rattle.kexec_plan.specs.declared.places.PlaceRule.{PlaceRule}
 use Rattle.kexec_plan.specs.Parts.{part_size}

@@ -3,8 +3,8 @@ use Rattle.std.specs.Prelude.{ℕ, List, [], Option, None, option_map, Result}
 use Rattle.kx_laws.specs.Results.{◌>>=◌, unless}
 use Rattle.memory_map.specs.Maps.{MapValue}
 use Rattle.segments.specs.Values.{SegmentValue}
-use Rattle.kexec_plan.specs.declared.fault.PlanFault.{PlanFault}
-use Rattle.kexec_plan.specs.declared.fault.PlanFault.TheVariants as faults
+use Rattle.plan_faults.specs.declared.fault.PlanFault.{PlanFault}
+use Rattle.plan_faults.specs.declared.fault.PlanFault.TheVariants as faults
 use Rattle.kexec_plan.specs.declared.format.Format.{Format}
 use Rattle.kexec_plan.specs.Requests.{Asked, Plan}
 use Rattle.kexec_plan.specs.Formats.{format_of, ground_for, unused_part}

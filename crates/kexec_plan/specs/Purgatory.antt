@@ -14,12 +14,12 @@ use Rattle.purgatory_link.specs.Link.{linking}
 use Rattle.purgatory_link.specs.PurgatorySymbols.{symbol_called}
 use Rattle.purgatory_link.specs.Sym.{Image}
 use Rattle.purgatory_link.specs.Set.{symbol_of, is_inside}
-use Rattle.kexec_plan.specs.declared.fault.Part.TheVariants as parts
-use Rattle.kexec_plan.specs.declared.fault.PlanFault.{PlanFault}
+use Rattle.plan_faults.specs.declared.fault.Part.TheVariants as parts
+use Rattle.plan_faults.specs.declared.fault.PlanFault.{PlanFault}
 use Rattle.kexec_plan.specs.declared.places.Site.{Site}
 use Rattle.kexec_plan.specs.declared.places.PlaceRule.{PlaceRule}
 use Rattle.kexec_plan.specs.declared.symbols.Symbols.{Symbols}
-use Rattle.kexec_plan.specs.Faults.{told_by, of_object, of_link}
+use Rattle.plan_faults.specs.Faults.{told_by, of_object, of_link}
 use Rattle.kexec_plan.specs.Table.{highest}
 
 -- a purgatory that was read: the object, its file, and how many bytes it is linked to

@@ -7,8 +7,8 @@ use Rattle.segments.specs.declared.fault.SegFault.{SegFault}
 use Rattle.segments.specs.declared.fault.Kind.TheVariants.{Normal, Crash}
 use Rattle.kx_pages.specs.Spans.{Run}
 use Rattle.memory_map.specs.Maps.{MapValue, is_ram}
-use Rattle.kexec_plan.specs.declared.fault.PlanFault.{PlanFault}
-use Rattle.kexec_plan.specs.declared.fault.PlanFault.TheVariants as faults
+use Rattle.plan_faults.specs.declared.fault.PlanFault.{PlanFault}
+use Rattle.plan_faults.specs.declared.fault.PlanFault.TheVariants as faults
 use Rattle.elf_image.specs.Image.{runs}
 use Rattle.kexec_plan.specs.Ground.{Ground, Unknown, Machine, Reserved}
 

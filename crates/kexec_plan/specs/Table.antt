@@ -9,8 +9,8 @@ use Rattle.multiboot_image.specs.Info.{info_size}
 use Rattle.bzimage.specs.Kernel.{Kernel}
 use Rattle.boot_params.specs.Params.{params_length}
 use Rattle.kexec_plan.specs.Modules.{AskedModule}
-use Rattle.kexec_plan.specs.declared.fault.Part.{Part}
-use Rattle.kexec_plan.specs.declared.fault.Part.TheVariants as parts
+use Rattle.plan_faults.specs.declared.fault.Part.{Part}
+use Rattle.plan_faults.specs.declared.fault.Part.TheVariants as parts
 use Rattle.kexec_plan.specs.declared.places.PlaceRule.{PlaceRule}
 
 -- the last address below 4 GiB, or where a kernel may lie above it the last below the limit of addresses

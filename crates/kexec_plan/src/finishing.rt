@@ -10,13 +10,13 @@ ghost use Rattle.kexec_plan.specs.inner.Purgatory.{IsLinkable, HasSymbols};
 ghost use Rattle.kexec_plan.specs.Finish.{plain_plan, armed_plan, finish};
 ghost use Rattle.kexec_plan.specs.inner.Finish.{OfSegment, armed_of};
 
-use crate::fault::PlanFault;
 use crate::ground::{Ground, test_segments};
 use crate::places::{Site, segment_at, start_at};
 use crate::purgatory::{Linkage, Purgatory, arm};
 use crate::request::Planned;
 use crate::symbols::Symbols;
 use kx_pages::Start;
+use plan_faults::PlanFault;
 use purgatory_link::{digest_of, regions_of};
 use segments::{Segment, Segments};
 use std::alloc::{AllocError, Global};

@@ -4,11 +4,11 @@ ghost use Rattle.std.specs.Prelude.{◌≡◌};
 ghost use Rattle.kexec_plan.specs.inner.Requests.{request_of};
 ghost use Rattle.kexec_plan.specs.Formats.{shown_format, format_of, unused_part};
 
-use crate::fault::{Part, PlanFault};
 use crate::request::Request;
 use bzimage::is_bzimage;
 use kx_pages::ImageType;
 use multiboot_image::{MbFault, find_header};
+use plan_faults::{Part, PlanFault};
 
 /// The first bytes of an ELF file (ELFMAG).
 const ELF_MAGIC: &[u8; 4] = b"\x7fELF";

@@ -11,13 +11,13 @@ ghost use Rattle.kexec_plan.specs.Formats.{open_ground};
 ghost use Rattle.kexec_plan.specs.inner.Requests.{lent};
 ghost use Rattle.kexec_plan.specs.Rules.{first_refusal, ram_runs, test_segments};
 
-use crate::fault::PlanFault;
 use crate::parts::{Parts, PlanPart};
 use crate::table::headers_rule;
 use bzimage::BzImage;
 use crash_headers::{Note, length};
 use kx_pages::{ADDRESS_LIMIT, PAGE_SIZE, PageSet, Span};
 use memory_map::{Map, Row};
+use plan_faults::PlanFault;
 use segments::{Kind, SegFault, Segment, Segments};
 use std::alloc::{AllocError, Global};
 use std::marker::Model;

@@ -5,7 +5,6 @@ ghost use Rattle.kx_laws.specs.inner.Results.{Gives};
 ghost use Rattle.kexec_plan.specs.Laying.{Module as ModulePart};
 ghost use Rattle.kexec_plan.specs.Kernels.{raw_kernel, elf_kernel, initrd_part, linux_kernel, multiboot_kernel, read_kernel};
 
-use crate::fault::PlanFault;
 use crate::format::Format;
 use crate::ground::Ground;
 use crate::parts::{Parts, PlanPart};
@@ -16,6 +15,7 @@ use crash_headers::Note;
 use elf_image::{ElfFault, image_pages, read_exec};
 use kx_pages::PAGE_SIZE;
 use multiboot_image::{find_header, load_parts};
+use plan_faults::PlanFault;
 use segments::Segment;
 use std::alloc::{AllocError, Global};
 use std::marker::Model;

@@ -3,16 +3,16 @@
 ghost use Rattle.std.specs.Prelude.{◌≡◌, ◌+◌, ◌^◌, ◌≤◌, List, ℕ, length, Result, Ok, OnOk};
 ghost use Rattle.kx_laws.specs.inner.Results.{Gives};
 ghost use Rattle.kx_pages.specs.Spans.{in_spans};
-ghost use Rattle.kexec_plan.specs.declared.fault.PlanFault.{PlanFault as Fault};
+ghost use Rattle.plan_faults.specs.declared.fault.PlanFault.{PlanFault as Fault};
 ghost use Rattle.kexec_plan.specs.Laying.{push, tell, place_part, place_parts};
 ghost use Rattle.kexec_plan.specs.inner.Laying.{part_of, laid_of, IsPart, EndLow};
 
 use crate::command::told_command;
-use crate::fault::PlanFault;
 use crate::parts::{Parts, PlanPart};
 use crate::places::{Site, place, segment_at};
 use kx_pages::{PageSet, Start};
 use multiboot_image::Placed;
+use plan_faults::PlanFault;
 use segments::Segment;
 use std::alloc::{AllocError, Global};
 

@@ -6,7 +6,6 @@
 #![tactic(auto)]
 
 mod command;
-mod fault;
 mod finishing;
 mod format;
 mod ground;
@@ -21,7 +20,7 @@ mod request;
 mod symbols;
 mod table;
 
-pub use fault::{Part, PlanFault};
+pub use plan_faults::{Part, PlanFault};
 pub use planning::plan;
 pub use promise::{places_are_holes, planned_regions_are_same};
 pub use request::{Module, Planned, Request};

@@ -5,7 +5,6 @@ ghost use Rattle.kx_laws.specs.inner.Results.{Gives};
 ghost use Rattle.kexec_plan.specs.Laying.{rule_of, bytes_of};
 ghost use Rattle.kexec_plan.specs.inner.Laying.{part_of, laid_of, IsPart, CanMake};
 
-use crate::fault::PlanFault;
 use crate::laying::Laying;
 use crate::places::{PlaceRule, Site};
 use crate::request::Module;
@@ -14,6 +13,7 @@ use bzimage::BzImage;
 use crash_headers::Note;
 use memory_map::{Map, Row};
 use multiboot_image::info_bytes;
+use plan_faults::PlanFault;
 use std::alloc::{AllocError, Global};
 use std::marker::Model;
 

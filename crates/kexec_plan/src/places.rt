@@ -7,9 +7,9 @@ ghost use Rattle.kexec_plan.specs.Parts.{part_size, segment_at, start_at};
 ghost use Rattle.kexec_plan.specs.Places.{is_met, taken_by, place, place_some, taking};
 ghost use Rattle.kexec_plan.specs.inner.Places.{IsPlacedBy, IsPlacedIf};
 
-use crate::fault::{Part, PlanFault};
 use hole_search::{End, find};
 use kx_pages::{ADDRESS_LIMIT, PAGE_LIMIT, PAGE_SIZE, PageSet, Span, Start};
+use plan_faults::{Part, PlanFault};
 use segments::Segment;
 use std::alloc::{AllocError, Global};
 

@@ -8,7 +8,6 @@ ghost use Rattle.kexec_plan.specs.inner.Laying.{laid_of};
 ghost use Rattle.kexec_plan.specs.Plan.{begin, plan_as, plan};
 ghost use Rattle.kexec_plan.specs.inner.Plan.{plan_read};
 
-use crate::fault::PlanFault;
 use crate::finishing::finish;
 use crate::format::{Format, format_of, unused_part};
 use crate::ground::Ground;
@@ -18,6 +17,7 @@ use crate::places::{place_some, start_at, taken_by};
 use crate::purgatory::{Purgatory, some_purgatory, some_purgatory_rule};
 use crate::request::{Planned, Request};
 use memory_map::Map;
+use plan_faults::PlanFault;
 use segments::Segment;
 use std::alloc::{AllocError, Global};
 

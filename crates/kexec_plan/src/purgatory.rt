@@ -5,12 +5,12 @@ ghost use Rattle.kx_laws.specs.inner.Results.{Gives};
 ghost use Rattle.kexec_plan.specs.Purgatory.{read_purgatory, some_purgatory, purgatory_rule, linked_at, arm};
 ghost use Rattle.kexec_plan.specs.inner.Purgatory.{HasSymbols, IsLinkable};
 
-use crate::fault::{Part, PlanFault};
 use crate::places::{PlaceRule, Site};
 use crate::symbols::{Symbols, registers_of};
 use crate::table::highest;
 use elf_image::{Object, read_object};
 use kx_pages::Start;
+use plan_faults::{Part, PlanFault};
 use purgatory_link::{Linked, link, size, write_at};
 use std::alloc::Global;
 use std::marker::Model;

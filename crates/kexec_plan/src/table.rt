@@ -3,7 +3,6 @@
 ghost use Rattle.std.specs.Prelude.{◌≡◌, ◌≤◌};
 ghost use Rattle.kexec_plan.specs.Table.{last_address, highest, kernel_rule, initrd_rule, headers_rule, parameters_rule, module_rule, information_rule};
 
-use crate::fault::Part;
 use crate::places::PlaceRule;
 use crate::request::Module;
 use bzimage::BzImage;
@@ -11,6 +10,7 @@ use hole_search::End;
 use kx_pages::{ADDRESS_LIMIT, PAGE_SIZE};
 use memory_map::Row;
 use multiboot_image::{Placed, info_length};
+use plan_faults::Part;
 
 /// The least address of a bzImage: 1 MiB.
 const KERNEL_MIN: u64 = 0x10_0000;

@@ -4,8 +4,8 @@ use boot_params::ParamsFault;
 use command_parts::{InputFault, Status};
 use command_table::Role;
 use crash_headers::CrashFault;
-use kexec_plan::PlanFault;
 use kexec_usage::Given;
+use plan_faults::PlanFault;
 use resident_planner::ResidentFault;
 
 // The file that its reader refused.

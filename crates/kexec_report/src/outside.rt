@@ -3,11 +3,11 @@
 
 use command_parts::Status;
 use elf_image::{image_pages, read_exec};
-use kexec_plan::PlanFault;
 use kexec_usage::{Given, text_of};
 use kx_pages::{PageSet, Span};
 use memory_map::Map;
 use multiboot_image::{find_header, load_parts};
+use plan_faults::PlanFault;
 use segments::{SegFault, Segment};
 use std::alloc::Global;
 use std::fs;

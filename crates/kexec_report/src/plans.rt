@@ -1,7 +1,7 @@
 //! The sentences about a request that has no plan, told by what was given.
 
-use kexec_plan::{Part, PlanFault};
 use kexec_usage::{Given, text_of};
+use plan_faults::{Part, PlanFault};
 use segments::SegFault;
 use std::fmt::{self, Formatter, Write};
 

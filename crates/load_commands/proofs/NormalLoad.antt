@@ -21,7 +21,7 @@ use Rattle.segments.specs.Values.{need, SegmentValue}
 use Rattle.load_states.specs.inner.Runs.{IsSameLoad}
 use Rattle.load_states.proofs.Ready.{list_ends}
 use Rattle.kexec_plan.specs.Plan.{plan}
-use Rattle.kexec_plan.specs.declared.fault.PlanFault.{PlanFault}
+use Rattle.plan_faults.specs.declared.fault.PlanFault.{PlanFault}
 use Rattle.load_commands.specs.Inputs.{LoadInputs}
 use Rattle.load_commands.specs.Loading.{IsLoaded, RefusesLoad}
 use Rattle.load_commands.specs.NormalLoad.{CanLoad, CannotLoad, NormalLoad}

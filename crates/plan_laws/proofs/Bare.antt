@@ -18,9 +18,9 @@ use Rattle.elf_image.specs.declared.fault.ElfFault.{ElfFault}
 use Rattle.elf_image.specs.declared.fault.ElfFault.TheVariants as elf
 use Rattle.elf_image.specs.declared.load.Load.{Load}
 use Rattle.multiboot_image.specs.Header.{find_header}
-use Rattle.kexec_plan.specs.declared.fault.PlanFault.{PlanFault}
-use Rattle.kexec_plan.specs.declared.fault.PlanFault.TheVariants as faults
-use Rattle.kexec_plan.specs.Faults.{of_elf, told_by}
+use Rattle.plan_faults.specs.declared.fault.PlanFault.{PlanFault}
+use Rattle.plan_faults.specs.declared.fault.PlanFault.TheVariants as faults
+use Rattle.plan_faults.specs.Faults.{of_elf, told_by}
 use Rattle.kexec_plan.specs.Formats.{format_of, given_format, ground_for, has_header, shown_format, unused_part}
 use Rattle.kexec_plan.specs.Ground.{Ground, most, ram}
 use Rattle.kexec_plan.specs.Kernels.{Kernel, elf_kernel, raw_kernel, read_kernel}

@@ -14,7 +14,7 @@ use Rattle.segments.specs.inner.Shape.{IsPlaced}
 use Rattle.hole_search.specs.declared.search.End.{End}
 use Rattle.hole_search.specs.declared.search.End.TheVariants.{Greatest}
 use Rattle.hole_search.specs.inner.Holes.{ComesFirst, Fits}
-use Rattle.kexec_plan.specs.declared.fault.PlanFault.{PlanFault}
+use Rattle.plan_faults.specs.declared.fault.PlanFault.{PlanFault}
 use Rattle.kexec_plan.specs.Ground.{Ground, ram}
 use Rattle.kexec_plan.specs.Holes.{hole}
 use Rattle.kexec_plan.specs.Laying.{Headers, Image, Information, Initrd, Laid, Module, Parameters, PlanPart, place_parts, push, rule_of}

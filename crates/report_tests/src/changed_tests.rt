@@ -3,9 +3,9 @@
 
 use crate::told::is_told;
 use command_parts::{InputFault, Status};
-use kexec_plan::PlanFault;
 use page_memory::MemFault;
 use page_pool::PoolFault;
+use plan_faults::PlanFault;
 use segments::SegFault;
 use std::fs;
 use std::test::Fail;

@@ -25,8 +25,8 @@ use Rattle.load_states.specs.Runs.{EndsAfter}
 use Rattle.load_states.specs.States.{Checked}
 use Rattle.load_states.proofs.Ready.{list_ends}
 use Rattle.kexec_plan.specs.Requests.{Plan}
-use Rattle.kexec_plan.specs.declared.fault.PlanFault.{PlanFault}
-use Rattle.kexec_plan.specs.declared.fault.PlanFault.TheVariants as plans
+use Rattle.plan_faults.specs.declared.fault.PlanFault.{PlanFault}
+use Rattle.plan_faults.specs.declared.fault.PlanFault.TheVariants as plans
 use Rattle.load_commands.specs.Inputs.{LoadInputs}
 use Rattle.load_commands.specs.NormalLoad.{NormalLoad}
 use Rattle.worked_commands.specs.Drawn.{Each, IsNeeded, fields_of, found, found_kept, found_with, found_without_plan, kept_with, told_wrongly, with_a_page}

@@ -31,8 +31,8 @@ use Rattle.kexec_plan.specs.Plan.{plan, plan_as}
 use Rattle.kexec_plan.specs.Purgatory.{some_purgatory}
 use Rattle.kexec_plan.specs.Requests.{Plan}
 use Rattle.kexec_plan.specs.Rules.{first_refusal, ram_runs, test_segments}
-use Rattle.kexec_plan.specs.declared.fault.PlanFault.{PlanFault}
-use Rattle.kexec_plan.specs.declared.fault.PlanFault.TheVariants as plans
+use Rattle.plan_faults.specs.declared.fault.PlanFault.{PlanFault}
+use Rattle.plan_faults.specs.declared.fault.PlanFault.TheVariants as plans
 use Rattle.command_parts.specs.Runs.{checked_with, list_text}
 use Rattle.command_parts.specs.Texts.{load_lines}
 use Rattle.worked_commands.specs.Inputs.{few_asked, three_bytes}

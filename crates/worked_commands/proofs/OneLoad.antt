@@ -13,8 +13,8 @@ use Rattle.load_states.specs.Ready.{Told}
 use Rattle.load_states.specs.States.{Checked}
 use Rattle.kexec_plan.specs.Plan.{plan}
 use Rattle.kexec_plan.specs.Requests.{Plan}
-use Rattle.kexec_plan.specs.declared.fault.PlanFault.{PlanFault}
-use Rattle.kexec_plan.specs.declared.fault.PlanFault.TheVariants as plans
+use Rattle.plan_faults.specs.declared.fault.PlanFault.{PlanFault}
+use Rattle.plan_faults.specs.declared.fault.PlanFault.TheVariants as plans
 use Rattle.load_commands.specs.Load.{record_of_load}
 use Rattle.command_parts.specs.Outputs.{IsFileOf}
 use Rattle.command_parts.proofs.Outputs.{file_as}

@@ -8,8 +8,8 @@ use Rattle.segments.specs.Values.{SegmentValue, want}
 use Rattle.load_states.specs.States.{CrashLoad}
 use Rattle.kexec_plan.specs.Plan.{plan}
 use Rattle.kexec_plan.specs.Requests.{Plan}
-use Rattle.kexec_plan.specs.declared.fault.PlanFault.{PlanFault}
-use Rattle.kexec_plan.specs.declared.fault.PlanFault.TheVariants as plans
+use Rattle.plan_faults.specs.declared.fault.PlanFault.{PlanFault}
+use Rattle.plan_faults.specs.declared.fault.PlanFault.TheVariants as plans
 use Rattle.kexec_plan.proofs.Area.{in_area, outside_all}
 use Rattle.load_commands.specs.CrashInputs.{CrashInputs}
 use Rattle.worked_commands.specs.Inputs.{three_bytes}

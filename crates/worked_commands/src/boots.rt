@@ -6,7 +6,7 @@ ghost use Rattle.kx_pages.specs.declared.image.Wish.TheVariants.{Plain};
 ghost use Rattle.load_states.specs.Ready.{Told};
 ghost use Rattle.load_states.specs.Runs.{EndsAfter};
 ghost use Rattle.kexec_plan.specs.Plan.{plan};
-ghost use Rattle.kexec_plan.specs.declared.fault.PlanFault.TheVariants as plans;
+ghost use Rattle.plan_faults.specs.declared.fault.PlanFault.TheVariants as plans;
 ghost use Rattle.file_commands.specs.Taking.{by, too_long};
 ghost use Rattle.kexec_words.specs.Values as words;
 ghost use Rattle.load_commands.specs.ByRules.{HasLaid};

@@ -3,7 +3,7 @@
 
 ghost use Rattle.std.specs.Prelude.{◌≡◌, ◌∷◌, [], Some, None, Ok, Err, codes};
 ghost use Rattle.kexec_plan.specs.Plan.{plan};
-ghost use Rattle.kexec_plan.specs.declared.fault.PlanFault.TheVariants as plans;
+ghost use Rattle.plan_faults.specs.declared.fault.PlanFault.TheVariants as plans;
 ghost use Rattle.file_commands.specs.Taking.{by, too_long};
 ghost use Rattle.load_commands.specs.CrashInputs.{CrashInputs};
 ghost use Rattle.load_commands.specs.CrashLoading.{IsCrashLoaded};

@@ -1,7 +1,7 @@
 //! The answer of each status, and its exit status.
 
 ghost use Rattle.std.specs.Prelude.{◌≡◌, codes, string_bytes};
-ghost use Rattle.kexec_plan.specs.declared.fault.PlanFault.TheVariants as plans;
+ghost use Rattle.plan_faults.specs.declared.fault.PlanFault.TheVariants as plans;
 ghost use Rattle.command_table.specs.declared.faults.UsageWhy.TheVariants as words;
 ghost use Rattle.list_checker.specs.declared.fault.Why.TheVariants as whys;
 ghost use Rattle.page_memory.specs.declared.fault.MemFault.TheVariants as mem_faults;

@@ -8,7 +8,7 @@ ghost use Rattle.segments.specs.Values.{want};
 ghost use Rattle.load_states.specs.States.{CrashLoad};
 ghost use Rattle.kexec_plan.specs.Plan.{plan};
 ghost use Rattle.kexec_plan.specs.Requests.{Plan};
-ghost use Rattle.kexec_plan.specs.declared.fault.PlanFault.TheVariants as plans;
+ghost use Rattle.plan_faults.specs.declared.fault.PlanFault.TheVariants as plans;
 ghost use Rattle.load_commands.specs.CrashInputs.{CrashInputs};
 ghost use Rattle.worked_commands.specs.Memories.{loaded};
 ghost use Rattle.worked_commands.specs.Panics.{IsAsked, crash_load};

@@ -9,9 +9,9 @@ use Rattle.elf_image.specs.declared.load.Load.{Load}
 use Rattle.elf_image.specs.Image.{image, is_met, runs, segment_of, segments_of, up_to_last}
 use Rattle.elf_image.specs.declared.fault.ElfFault.{ElfFault}
 use Rattle.elf_image.specs.declared.fault.ElfFault.TheVariants as elf
-use Rattle.kexec_plan.specs.Faults.{told_by, of_elf}
+use Rattle.plan_faults.specs.Faults.{told_by, of_elf}
 use Rattle.kexec_plan.specs.Kernels.{Kernel}
-use Rattle.kexec_plan.specs.declared.fault.PlanFault.{PlanFault}
+use Rattle.plan_faults.specs.declared.fault.PlanFault.{PlanFault}
 use Rattle.worked_plans.specs.Executables.{executable, executable_segments}
 use Rattle.worked_plans.proofs.Running.{are_runs, count_is}
 

@@ -9,8 +9,8 @@ use Rattle.kexec_plan.specs.Parts.{part_size}
 use Rattle.kexec_plan.specs.Table.{highest}
 use Rattle.kexec_plan.specs.Holes.{hole, is_free}
 use Rattle.kexec_plan.specs.Places.{place, site_at}
-use Rattle.kexec_plan.specs.declared.fault.Part.{Part}
-use Rattle.kexec_plan.specs.declared.fault.PlanFault.TheVariants as faults
+use Rattle.plan_faults.specs.declared.fault.Part.{Part}
+use Rattle.plan_faults.specs.declared.fault.PlanFault.TheVariants as faults
 use Rattle.kexec_plan.proofs.Holes.{hole_is}
 
 -- k pages from page p on are free

@@ -3,7 +3,7 @@ use Rattle.std.proofs.Common.{◌≡◌, ℕ, Bool, List, [], ◌∷◌, ◌++�
 use Rattle.std.specs.Prelude.{option_map}
 use Rattle.kx_laws.specs.Results.{◌>>=◌, unless}
 use Rattle.segments.specs.Values.{SegmentValue}
-use Rattle.kexec_plan.specs.declared.fault.PlanFault.{PlanFault}
+use Rattle.plan_faults.specs.declared.fault.PlanFault.{PlanFault}
 use Rattle.kexec_plan.specs.Requests.{Plan}
 use Rattle.kexec_plan.specs.Ground.{Ground, ram, most}
 use Rattle.kexec_plan.specs.Laying.{Laid, PlanPart, rule_of, tell, bytes_of, push, place_part, place_parts}

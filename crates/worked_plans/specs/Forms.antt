@@ -4,8 +4,8 @@ use Rattle.kx_laws.specs.Results.{◌>>=◌}
 use Rattle.kx_pages.specs.declared.image.ImageType.{ImageType}
 use Rattle.kx_pages.specs.declared.image.ImageType.TheVariants as types
 use Rattle.memory_map.specs.Maps.{MapValue}
-use Rattle.kexec_plan.specs.declared.fault.Part.{Part}
-use Rattle.kexec_plan.specs.declared.fault.PlanFault.{PlanFault}
+use Rattle.plan_faults.specs.declared.fault.Part.{Part}
+use Rattle.plan_faults.specs.declared.fault.PlanFault.{PlanFault}
 use Rattle.kexec_plan.specs.Formats.{given_format, ground_for, is_bzimage, is_multiboot, unused_part}
 use Rattle.kexec_plan.specs.Ground.{Ground}
 use Rattle.kexec_plan.specs.Requests.{Asked}

@@ -1,7 +1,7 @@
 -- What is laid in the examples (this project's own).
 use Rattle.std.specs.Prelude.{ℕ, List, [], ◌∷◌, Some, None, Result, codes}
 use Rattle.kexec_plan.specs.Laying.{Laid, PlanPart, tell, bytes_of, push}
-use Rattle.kexec_plan.specs.declared.fault.PlanFault.{PlanFault}
+use Rattle.plan_faults.specs.declared.fault.PlanFault.{PlanFault}
 use Rattle.worked_plans.specs.Machines.{page_four}
 
 -- a module, its segment, a command, an initrd, and a start with other numbers in all registers

@@ -7,8 +7,8 @@ ghost use Rattle.crash_headers.specs.declared.fault.CrashFault.TheVariants as cr
 ghost use Rattle.elf_image.specs.declared.fault.ElfFault.TheVariants as elf;
 ghost use Rattle.multiboot_image.specs.declared.fault.MbFault.TheVariants as multiboot;
 ghost use Rattle.purgatory_link.specs.declared.fault.LinkFault.TheVariants as link;
-ghost use Rattle.kexec_plan.specs.Faults.{told_by, of_elf, of_object, of_bzimage, of_params, of_link, of_multiboot, of_crash};
-ghost use Rattle.kexec_plan.specs.declared.fault.PlanFault.TheVariants as faults;
+ghost use Rattle.plan_faults.specs.Faults.{told_by, of_elf, of_object, of_bzimage, of_params, of_link, of_multiboot, of_crash};
+ghost use Rattle.plan_faults.specs.declared.fault.PlanFault.TheVariants as faults;
 
 /// A fault is told as that of its part: an ELF file is the kernel or the purgatory.
 pub fn faults_of_parts()

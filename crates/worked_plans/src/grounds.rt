@@ -6,7 +6,7 @@ ghost use Rattle.segments.specs.declared.fault.SegFault.TheVariants as rules;
 ghost use Rattle.kexec_plan.specs.Formats.{open_ground, reserved_ground, crash_ground};
 ghost use Rattle.kexec_plan.specs.Ground.{Unknown, Machine, Reserved, ram, rows, most};
 ghost use Rattle.kexec_plan.specs.Rules.{ram_runs, first_refusal, unless_refused, test_segments};
-ghost use Rattle.kexec_plan.specs.declared.fault.PlanFault.TheVariants as faults;
+ghost use Rattle.plan_faults.specs.declared.fault.PlanFault.TheVariants as faults;
 ghost use Rattle.worked_plans.specs.Forms.{ground_in};
 ghost use Rattle.worked_plans.specs.Machines.{machine, machine_rows, machine_ram, open_machine, open_ram, area, crash_rows, pages_at};
 ghost use Rattle.worked_plans.specs.Requests.{asked, asked_crash};

@@ -5,8 +5,8 @@ ghost use Rattle.hole_search.specs.declared.search.End.TheVariants.{Least, Great
 ghost use Rattle.kexec_plan.specs.Holes.{is_free, are_free, greatest, least, hole_from, hole};
 ghost use Rattle.kexec_plan.specs.Places.{site_at, place, is_met, taken_by, pages_at, taking, place_some};
 ghost use Rattle.kexec_plan.specs.Table.{highest};
-ghost use Rattle.kexec_plan.specs.declared.fault.Part.TheVariants as parts;
-ghost use Rattle.kexec_plan.specs.declared.fault.PlanFault.TheVariants as faults;
+ghost use Rattle.plan_faults.specs.declared.fault.Part.TheVariants as parts;
+ghost use Rattle.plan_faults.specs.declared.fault.PlanFault.TheVariants as faults;
 ghost use Rattle.worked_plans.specs.Machines.{two_to_six, page_four, kernel_fits, kernel_hole};
 
 /// Pages 2 to 6 are RAM, and page 4 is taken.

@@ -8,8 +8,8 @@ ghost use Rattle.purgatory_link.specs.declared.purgatory_symbol.PurgatorySymbol.
 ghost use Rattle.purgatory_link.specs.Regions.{digest, others, wanted_bytes};
 ghost use Rattle.kexec_plan.specs.Purgatory.{read_purgatory, some_purgatory, purgatory_rule, place_by, symbol_place, address_by, symbol_address, symbols_of, linked_at, registers_text, arm};
 ghost use Rattle.kexec_plan.specs.Table.{highest};
-ghost use Rattle.kexec_plan.specs.declared.fault.Part.TheVariants as parts;
-ghost use Rattle.kexec_plan.specs.declared.fault.PlanFault.TheVariants as faults;
+ghost use Rattle.plan_faults.specs.declared.fault.Part.TheVariants as parts;
+ghost use Rattle.plan_faults.specs.declared.fault.PlanFault.TheVariants as faults;
 ghost use Rattle.worked_plans.specs.Machines.{pages_at};
 ghost use Rattle.worked_plans.specs.Plans.{unarmed};
 ghost use Rattle.worked_plans.specs.Samples.{digest_of_nothing};

@@ -4,7 +4,7 @@ ghost use Rattle.std.specs.Prelude.{◌≡◌, ◌∷◌, [], true, false, codes
 ghost use Rattle.hole_search.specs.declared.search.End.TheVariants.{Least, Greatest};
 ghost use Rattle.kexec_plan.specs.Parts.{whole_pages, part_size, start_at, segment_at};
 ghost use Rattle.kexec_plan.specs.Table.{last_address, highest, kernel_rule, initrd_most, initrd_rule, headers_rule, parameters_rule, module_rule, information_rule};
-ghost use Rattle.kexec_plan.specs.declared.fault.Part.TheVariants as parts;
+ghost use Rattle.plan_faults.specs.declared.fault.Part.TheVariants as parts;
 ghost use Rattle.worked_plans.specs.LinuxKernels.{high_kernel, low_kernel};
 ghost use Rattle.worked_plans.specs.Machines.{machine_rows};
 ghost use Rattle.worked_plans.specs.Multiboots.{a_module};

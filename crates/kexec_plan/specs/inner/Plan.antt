@@ -2,7 +2,7 @@
 -- No clause of `kexec` reaches what stands here: it serves laws, and contracts inside the crates.
 use Rattle.std.specs.Prelude.{ℕ, List, Option, option_map, Result}
 use Rattle.kx_laws.specs.Results.{◌>>=◌, unless}
-use Rattle.kexec_plan.specs.declared.fault.PlanFault.{PlanFault}
+use Rattle.plan_faults.specs.declared.fault.PlanFault.{PlanFault}
 use Rattle.kexec_plan.specs.Requests.{Plan}
 use Rattle.kexec_plan.specs.Ground.{Ground, ram, most}
 use Rattle.kexec_plan.specs.Kernels.{Kernel}

@@ -18,7 +18,7 @@ use Rattle.command_parts.specs.declared.reason.Reason.{Reason}
 use Rattle.command_parts.specs.declared.reason.Reason.TheVariants as reasons
 use Rattle.command_parts.specs.Outputs.{Made, IsTooHeavy, HasNoFile, IsFileOf}
 use Rattle.kexec_words.specs.Values.{CrashInputsValue, LoadPanicValue}
-use Rattle.kexec_plan.specs.declared.fault.PlanFault.{PlanFault}
+use Rattle.plan_faults.specs.declared.fault.PlanFault.{PlanFault}
 use Rattle.kexec_plan.proofs.Area.{in_area, outside_all}
 use Rattle.load_commands.specs.CrashInputs.{CrashInputs, crash_inputs}
 use Rattle.load_commands.specs.CrashLoading.{IsCrashLoaded}

@@ -1,8 +1,8 @@
 -- By the plan.
 use Rattle.std.proofs.Common.{◌≡◌, ◌∙◌, Result, Err, sym, inl, inr}
 use Rattle.kexec_plan.specs.Requests.{Plan}
-use Rattle.kexec_plan.specs.declared.fault.PlanFault.{PlanFault}
-use Rattle.kexec_plan.specs.declared.fault.PlanFault.TheVariants as plans
+use Rattle.plan_faults.specs.declared.fault.PlanFault.{PlanFault}
+use Rattle.plan_faults.specs.declared.fault.PlanFault.TheVariants as plans
 use Rattle.file_commands.specs.Taking.{by}
 use Rattle.command_parts.specs.declared.reason.Reason.TheVariants as reasons
 use Rattle.worked_commands.specs.Loads.{unknown_makes}

@@ -1,7 +1,7 @@
 -- By the one load.
 use Rattle.std.proofs.Common.{◌≡◌, ◌∙◌, [], ◌∷◌, Ok, Err, refl, sym, ap, arith, inl, inr}
 use Rattle.std.specs.Prelude.{codes}
-use Rattle.kexec_plan.specs.declared.fault.PlanFault.TheVariants as plans
+use Rattle.plan_faults.specs.declared.fault.PlanFault.TheVariants as plans
 use Rattle.file_commands.specs.Taking.{by}
 use Rattle.command_parts.specs.Outputs.{Made}
 use Rattle.command_parts.specs.declared.reason.Reason.TheVariants as reasons

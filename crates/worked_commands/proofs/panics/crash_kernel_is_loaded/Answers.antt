@@ -9,8 +9,8 @@ use Rattle.list_checker.specs.Crash.{AcceptedCrash}
 use Rattle.load_states.specs.States.{CrashLoad}
 use Rattle.kexec_plan.specs.Plan.{plan}
 use Rattle.kexec_plan.specs.Requests.{Plan}
-use Rattle.kexec_plan.specs.declared.fault.PlanFault.{PlanFault}
-use Rattle.kexec_plan.specs.declared.fault.PlanFault.TheVariants as plans
+use Rattle.plan_faults.specs.declared.fault.PlanFault.{PlanFault}
+use Rattle.plan_faults.specs.declared.fault.PlanFault.TheVariants as plans
 use Rattle.file_commands.specs.Taking.{by}
 use Rattle.load_commands.specs.CrashInputs.{CrashInputs}
 use Rattle.load_commands.specs.CrashLoading.{IsCrashLoaded}

@@ -9,7 +9,7 @@ use Rattle.segments.specs.Values.{overlay, want}
 use Rattle.load_states.specs.States.{CrashLoad}
 use Rattle.kexec_plan.specs.Plan.{plan}
 use Rattle.kexec_plan.specs.Requests.{Plan}
-use Rattle.kexec_plan.specs.declared.fault.PlanFault.{PlanFault}
+use Rattle.plan_faults.specs.declared.fault.PlanFault.{PlanFault}
 use Rattle.file_commands.specs.Answers.{FilesPut}
 use Rattle.file_commands.specs.Taking.{File}
 use Rattle.load_commands.specs.CrashInputs.{CrashInputs}

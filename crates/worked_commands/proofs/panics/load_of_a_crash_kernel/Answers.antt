@@ -7,8 +7,8 @@ use Rattle.segments.specs.Values.{overlay, want}
 use Rattle.kx_pages.specs.Spans.{in_span}
 use Rattle.kexec_plan.specs.Plan.{plan}
 use Rattle.kexec_plan.specs.Requests.{Plan}
-use Rattle.kexec_plan.specs.declared.fault.PlanFault.{PlanFault}
-use Rattle.kexec_plan.specs.declared.fault.PlanFault.TheVariants as plans
+use Rattle.plan_faults.specs.declared.fault.PlanFault.{PlanFault}
+use Rattle.plan_faults.specs.declared.fault.PlanFault.TheVariants as plans
 use Rattle.load_commands.specs.CrashInputs.{CrashInputs}
 use Rattle.command_parts.proofs.Outputs.{has_file, file_as}
 use Rattle.worked_commands.specs.Inputs.{three_bytes}

@@ -7,12 +7,12 @@ use Rattle.kexec_plan.specs.Holes.{hole}
 use Rattle.kexec_plan.specs.Parts.{part_size}
 use Rattle.kexec_plan.specs.Places.{place, place_some}
 use Rattle.kexec_plan.specs.Table.{highest}
-use Rattle.kexec_plan.specs.declared.fault.Part.{Part}
+use Rattle.plan_faults.specs.declared.fault.Part.{Part}
 use Rattle.kx_laws.specs.Results.{◌>>=◌}
 use Rattle.std.proofs.lemmas.Bool.Decides.{nat_tests}
 use Rattle.worked_plans.proofs.Placing.{AreBlocked, AreFree, free_is, highest_at, not_placed, placed}
 use Rattle.worked_plans.specs.Machines.{page_four, two_to_six}
-use Rattle.kexec_plan.specs.declared.fault.Part.TheVariants as parts
+use Rattle.plan_faults.specs.declared.fault.Part.TheVariants as parts
 use Rattle.worked_plans.proofs.places.places_of_parts.Goals as goal
 
 -- pages 5 and 6 are free, pages 2 and 3 are, and none from page 7 on

@@ -33,7 +33,7 @@ use Rattle.worked_plans.proofs.Placing.{AreBlocked, AreFree, highest_at, lowest_
 use Rattle.worked_plans.proofs.Planning.{ending, laid_with, parts_done, parts_on, plain_ending}
 use Rattle.worked_plans.specs.LinuxKernels.{high_kernel}
 use Rattle.worked_plans.specs.Machines.{area, crash_rows, machine, one_note}
-use Rattle.kexec_plan.specs.declared.fault.Part.TheVariants as parts
+use Rattle.plan_faults.specs.declared.fault.Part.TheVariants as parts
 use Rattle.worked_plans.proofs.plans.crash_kernel.Goals as goal
 
 -- ---- kernel, headers and parameters in the area

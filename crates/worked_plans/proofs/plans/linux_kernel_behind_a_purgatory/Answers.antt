@@ -38,7 +38,7 @@ use Rattle.worked_plans.specs.LinuxKernels.{low_kernel}
 use Rattle.worked_plans.specs.Machines.{machine, machine_rows}
 use Rattle.worked_plans.specs.Plans.{unarmed}
 use Rattle.worked_plans.specs.Purgatories.{linkage, purgatory_of}
-use Rattle.kexec_plan.specs.declared.fault.Part.TheVariants as parts
+use Rattle.plan_faults.specs.declared.fault.Part.TheVariants as parts
 use Rattle.worked_plans.proofs.plans.linux_kernel_behind_a_purgatory.Goals as goal
 
 -- ---- kernel and parameters, and then the purgatory

@@ -27,7 +27,7 @@ use Rattle.worked_plans.proofs.Placing.{AreBlocked, AreFree, highest_at, lowest_
 use Rattle.worked_plans.proofs.Planning.{ending, laid_with, parts_done, parts_on, plain_ending}
 use Rattle.worked_plans.specs.LinuxKernels.{high_kernel, low_kernel}
 use Rattle.worked_plans.specs.Machines.{machine, machine_rows}
-use Rattle.kexec_plan.specs.declared.fault.Part.TheVariants as parts
+use Rattle.plan_faults.specs.declared.fault.Part.TheVariants as parts
 use Rattle.worked_plans.proofs.plans.linux_kernel_with_an_initrd.Goals as goal
 
 -- ---- a kernel that may lie above 4 GiB

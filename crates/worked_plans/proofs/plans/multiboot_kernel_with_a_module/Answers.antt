@@ -26,7 +26,7 @@ use Rattle.worked_plans.proofs.Placing.{AreBlocked, AreFree, highest_at, placed}
 use Rattle.worked_plans.proofs.Planning.{ending, laid_with, parts_done, parts_on, plain_ending}
 use Rattle.worked_plans.specs.Machines.{machine, machine_rows}
 use Rattle.worked_plans.specs.Multiboots.{a_module, multiboot_segment}
-use Rattle.kexec_plan.specs.declared.fault.Part.TheVariants as parts
+use Rattle.plan_faults.specs.declared.fault.Part.TheVariants as parts
 use Rattle.worked_plans.proofs.plans.multiboot_kernel_with_a_module.Goals as goal
 
 -- ---- kernel, module and information

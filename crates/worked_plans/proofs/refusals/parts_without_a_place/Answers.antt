@@ -35,8 +35,8 @@ use Rattle.worked_plans.specs.LinuxKernels.{low_kernel}
 use Rattle.worked_plans.specs.Machines.{ram_of, reserved_of}
 use Rattle.worked_plans.specs.Multiboots.{a_module, multiboot_segment}
 use Rattle.worked_plans.specs.Purgatories.{purgatory_of}
-use Rattle.kexec_plan.specs.declared.fault.Part.TheVariants as parts
-use Rattle.kexec_plan.specs.declared.fault.PlanFault.TheVariants as faults
+use Rattle.plan_faults.specs.declared.fault.Part.TheVariants as parts
+use Rattle.plan_faults.specs.declared.fault.PlanFault.TheVariants as faults
 use Rattle.worked_plans.proofs.refusals.parts_without_a_place.Goals as goal
 
 -- ---- the kernel

@@ -43,8 +43,8 @@ use Rattle.worked_plans.proofs.Planning.{bytes_refused, bytes_refused_first, end
 use Rattle.worked_plans.specs.LinuxKernels.{high_kernel, low_kernel}
 use Rattle.worked_plans.specs.Machines.{area, crash_rows, machine, machine_rows, ram_of}
 use Rattle.worked_plans.specs.Purgatories.{purgatory_of}
-use Rattle.kexec_plan.specs.declared.fault.Part.TheVariants as parts
-use Rattle.kexec_plan.specs.declared.fault.PlanFault.TheVariants as faults
+use Rattle.plan_faults.specs.declared.fault.Part.TheVariants as parts
+use Rattle.plan_faults.specs.declared.fault.PlanFault.TheVariants as faults
 use Rattle.boot_params.specs.declared.fault.ParamsFault.TheVariants as params_faults
 use Rattle.crash_headers.specs.declared.fault.CrashFault.TheVariants as crash_faults
 use Rattle.purgatory_link.specs.declared.fault.LinkFault.TheVariants as link_faults

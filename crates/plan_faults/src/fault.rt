@@ -1,8 +1,8 @@
 //! Why a request has no plan.
 
 ghost use Rattle.std.specs.Prelude.{◌≡◌};
-ghost use Rattle.kexec_plan.specs.declared.fault.PlanFault.TheVariants.{Memory};
-ghost use Rattle.kexec_plan.specs.Faults.{of_elf, of_object, of_multiboot, of_bzimage, of_crash, of_link, of_params};
+ghost use Rattle.plan_faults.specs.declared.fault.PlanFault.TheVariants.{Memory};
+ghost use Rattle.plan_faults.specs.Faults.{of_elf, of_object, of_multiboot, of_bzimage, of_crash, of_link, of_params};
 
 use boot_params::ParamsFault;
 use bzimage::BzFault;
@@ -100,7 +100,7 @@ pub enum PlanFault {
 
 impl PlanFault {
     /// What a fault of an ELF kernel is here.
-    pub(crate) fn of_elf(fault: ElfFault) -> PlanFault
+    pub fn of_elf(fault: ElfFault) -> PlanFault
         ensures { result ≡ of_elf fault }
     {
         match fault {
@@ -110,7 +110,7 @@ impl PlanFault {
     }
 
     /// What a fault of the purgatory's object is here.
-    pub(crate) fn of_object(fault: ElfFault) -> PlanFault
+    pub fn of_object(fault: ElfFault) -> PlanFault
         ensures { result ≡ of_object fault }
     {
         match fault {

@@ -12,8 +12,8 @@ use Rattle.crash_headers.specs.declared.fault.CrashFault.{CrashFault}
 use Rattle.crash_headers.specs.declared.fault.CrashFault.TheVariants as crash
 use Rattle.purgatory_link.specs.declared.fault.LinkFault.{LinkFault}
 use Rattle.purgatory_link.specs.declared.fault.LinkFault.TheVariants as link
-use Rattle.kexec_plan.specs.declared.fault.PlanFault.{PlanFault}
-use Rattle.kexec_plan.specs.declared.fault.PlanFault.TheVariants as faults
+use Rattle.plan_faults.specs.declared.fault.PlanFault.{PlanFault}
+use Rattle.plan_faults.specs.declared.fault.PlanFault.TheVariants as faults
 
 -- what a lower call answers, its faults seen from here
 abbrev pub told_by : {A E F : Type 0} → (E → F) → Result A E → Result A F
