@@ -340,6 +340,19 @@ def is_of(schema, value, whole):
     return not isinstance(value, int) or value >= schema.get("minimum", value)
 
 
+def test_replies(tests):
+    """`N done` is a word of a list behind word N-1 alone, and else the reply to an event of a drill."""
+    texts = ("0 done", "1 done", "2 link 3000\n3 done", "2 link 3000\n4 done", "1 done\n2 done", "7 opened\n8 done")
+    tests.same("a word that ends a list, or a reply", [printed.read(text)[-1]["line"] for text in texts],
+               ["word", "reply", "word", "reply", "reply", "reply"])
+    folder = f"{TOP}/examples/drill"
+    replies = tests.run("kexec", "drill", "--map", f"{folder}/map", f"{folder}/memory.kxmem", f"{folder}/pool", "drilled",
+                        f"{folder}/events")[1]
+    lines = json.loads(tests.run(KERNELYET, "look", "text", "--json", given=replies)[1])["lines"]
+    tests.same("the replies of a drill", [(one["line"], one.get("event"), one.get("reply")) for one in lines],
+               [("reply", int(line.split()[0]), line.split()[1]) for line in replies.splitlines()])
+
+
 def test_json(tests):
     with open(f"{TOP}/docs/companion.schema.json", encoding="utf-8") as file:
         schema = json.load(file)
@@ -373,4 +386,5 @@ def test_try(tests):
 
 
 ALL = (test_numbers, test_maps, test_pools, test_machine, test_running_machine, test_kernel_files, test_initrds, test_lists,
-       test_plan, test_crash_sizes, test_compare, test_warnings, test_pictures, test_scale, test_try, test_json)
+       test_plan, test_crash_sizes, test_compare, test_warnings, test_pictures, test_scale, test_try, test_replies,
+       test_json)
