@@ -52,7 +52,7 @@ def test_maps(tests):
               (0x3000, 0x3001, "taken by Reserved"), (0x5000, 0x5000, "no System RAM")]
     tests.same("pool pages that are not free RAM", pools.check_pool(pool, rows), wanted)
     tests.same("each free page is none of them", pools.check_pool([(a, b - 1) for a, b in FREE], rows), [])
-    eight = maps.rows_of(maps.made_up(8 << 30, 256 << 20), "made up")
+    eight = maps.with_crash(maps.made_up(8 << 30), 256 << 20)
     tests.same("a made-up PC", sum(end - first for first, end in maps.free_runs(eight)),
                (8 << 18) - (256 << 8) - 0x100 - 0x21 + 0x9F - 1)
     tests.same("its crash area", maps.crash_area(eight)[1] - maps.crash_area(eight)[0], 256 << 8)
@@ -247,6 +247,15 @@ def test_plan(tests):
     tests.same("parameters", (status, "the initrd is the file" in out, "NOT" in out), (0, True, False))
 
 
+def test_made_up_machines(tests):
+    """`plan` and `machine` make the same PC of the same words."""
+    for ram, crash, start in (("8G", "256M", 0xAF000000), ("128M", "48M", 0x4000000)):
+        tests.run(KERNELYET, "plan", "--ram", ram, "--crash", crash, "vmlinuz", "--keep", "planned")
+        status, out, _ = tests.run(KERNELYET, "machine", "--ram", ram, "--crash", crash, "made")
+        tests.same(f"a made-up PC of {ram}", (status, f"crash area {start:#x}-" in out, tests.read("made/map").decode()),
+                   (0, True, tests.read("planned/map").decode()))
+
+
 def test_crash_sizes(tests):
     """The least area by arithmetic loads, and one page less does not."""
     for name, init_size, alignment, initrd in (("plain", 1 << 20, 1 << 21, 0), ("large", 3 << 20, 1 << 23, 300 << 10),
@@ -255,7 +264,7 @@ def test_crash_sizes(tests):
                       kernel_alignment=alignment)
         tests.write("i", bytes([1]) * initrd)
         more = ["--initrd", "i"] * bool(initrd)
-        start, rows = 0x30000000, maps.rows_of(maps.made_up(4 << 30, 0), "made up")
+        start, rows = 0x30000000, maps.made_up(4 << 30)
         unpacked = initrds.Unpacked(f"{tests.folder}/i") if initrd else None
         needs = crash_sizes.Needs(Kernel(f"{tests.folder}/k"), unpacked, [*rows, (start, start, "Crash kernel")], 0, "quiet")
         statuses = []
@@ -386,5 +395,5 @@ def test_try(tests):
 
 
 ALL = (test_numbers, test_maps, test_pools, test_machine, test_running_machine, test_kernel_files, test_initrds, test_lists,
-       test_plan, test_crash_sizes, test_compare, test_warnings, test_pictures, test_scale, test_try, test_replies,
-       test_json)
+       test_plan, test_made_up_machines, test_crash_sizes, test_compare, test_warnings, test_pictures, test_scale, test_try,
+       test_replies, test_json)

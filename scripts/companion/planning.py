@@ -84,7 +84,7 @@ class Machine:
                              "shown to root alone")
 
     def make_up(self, ram, source):
-        self.rows, self.source, self.is_made_up = maps.rows_of(maps.made_up(ram, 0), "the made-up map"), source, True
+        self.rows, self.source, self.is_made_up = maps.made_up(ram), source, True
 
     def with_crash(self, size):
         """Gives the map a crash area of this size, in place of its own."""
