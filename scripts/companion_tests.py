@@ -7,6 +7,7 @@ import re
 import struct
 import subprocess
 import time
+import tracemalloc
 
 import kexec_files as files
 from companion import crash_sizes, initrds, kernels, machine, maps, numbers, picture_memory, pools, printed, scene
@@ -66,6 +67,11 @@ def test_pools(tests):
     tests.same("a pool has its limit", (count, lines[0], lines[-1]), (262144, "7a000-7a11f\n", "21a80-21bff\n"))
     pages = [page for line in lines for page in [int(line.partition("-")[0], 16)]]
     tests.same("the highest memory comes first", pages, sorted(pages, reverse=True))
+    tests.same("the ranges of a run", list(pools.lines_of_run(100, 1500, True)), [(1024, 1500), (512, 1024), (100, 512)])
+    tracemalloc.start()
+    pools.pool_lines([(0x100, 1 << 26)], True)
+    tests.same("a pool of much memory takes little", tracemalloc.get_traced_memory()[1] < 1 << 20, True)
+    tracemalloc.stop()
     lines, count = pools.pool_lines([(2 * i, 2 * i + 1) for i in range(200000)], False)
     tests.same("a pool has at most so many bytes", sum(map(len, lines)) <= 1048576 < sum(map(len, lines)) + 6, True)
 
@@ -254,6 +260,11 @@ def test_made_up_machines(tests):
         status, out, _ = tests.run(KERNELYET, "machine", "--ram", ram, "--crash", crash, "made")
         tests.same(f"a made-up PC of {ram}", (status, f"crash area {start:#x}-" in out, tests.read("made/map").decode()),
                    (0, True, tests.read("planned/map").decode()))
+    said = "kernelyet: --ram: a made-up PC has 63 TiB of RAM or less, as addresses lie below 2^46\n"
+    for words in (["plan", "vmlinuz"], ["machine", "x"]):
+        for ram in ("64T", "99999999999G"):
+            tests.same(f"{words[0]} --ram {ram}", tests.run(KERNELYET, *words, "--ram", ram), (2, "", said))
+    tests.same("the largest made-up PC", tests.run(KERNELYET, "plan", "--ram", "63T", "vmlinuz")[::2], (0, ""))
 
 
 def test_crash_sizes(tests):

@@ -39,7 +39,7 @@ def parser():
     words.option("core", "the memory of a guest as an ELF core file, as QEMU's dump-guest-memory and virsh dump "
                  "--memory-only make it", "FILE")
     words.option("raw", "the memory of a guest as bytes, as QEMU's pmemsave makes it", "FILE")
-    words.option("ram", "a made-up PC with so much RAM, as 8G", "SIZE")
+    words.option("ram", "a made-up PC with so much RAM, as 8G; up to 63T", "SIZE")
     words.option("crash", "with a crash area of this size in the made-up PC, as 256M", "SIZE")
     words.option("pages", "keep these pages alone of the guest's memory, hexadecimal page numbers; may be given several "
                  "times", "FIRST-LAST", action="append", default=[])

@@ -1,5 +1,5 @@
 """Memory maps, the text of /proc/iomem: docs/FORMATS.md has their format."""
-from companion.numbers import END, PAGE, UNITS, without
+from companion.numbers import END, PAGE, UNITS, size_text, without
 from companion.refusals import Wrong, WrongWords
 from companion.written import write_text
 
@@ -9,6 +9,10 @@ TAKEN = {RESERVED, "reserved", "ACPI Tables", "ACPI Non-volatile Storage", CRASH
 MOST_TEXT = 1 << 20
 MIB = 1 << UNITS["M"]
 DIGITS = set("0123456789abcdefABCDEF")
+# the RAM of a made-up PC below 4 GiB, where it has more
+LOW_RAM = 3 << 30
+# the least and the most RAM of one, which ends well below 2^46: a part that ends there would be refused
+LEAST_RAM, MOST_RAM = 4 << 20, 63 << 40
 
 
 def is_number(text):
@@ -121,9 +125,11 @@ def with_crash(rows, size):
 
 def made_up(ram):
     """The rows of a PC with so many bytes of RAM: a hole below 4 GiB where there are more than 3 GiB."""
-    low = min(ram, 3 << 30)
-    if low < 4 << 20:
-        raise WrongWords("--ram: a made-up PC has 4 MiB of RAM or more")
+    if ram < LEAST_RAM:
+        raise WrongWords(f"--ram: a made-up PC has {size_text(LEAST_RAM)} of RAM or more")
+    if ram > MOST_RAM:
+        raise WrongWords(f"--ram: a made-up PC has {size_text(MOST_RAM)} of RAM or less, as addresses lie below 2^46")
+    low = min(ram, LOW_RAM)
     rows = [(0, 0xFFF, RESERVED), (0x1000, 0x9FBFF, RAM), (0x9FC00, 0xFFFFF, RESERVED),
             (0x100000, low - 0x21001, RAM), (low - 0x21000, low - 0x1001, "ACPI Tables"),
             (low - 0x1000, low - 1, "ACPI Non-volatile Storage"), (0xFEC00000, 0xFEC003FF, "IOAPIC 0"),
