@@ -403,6 +403,9 @@ def test_try(tests):
         tests.write("late", "no memory file")
         said = run.communicate("start entry 2000 rax 0 rbx 0 rsi 0\n")[1]
     tests.same("try waits for the line", (run.returncode, "late is not a memory file" in said), (1, True))
+    wanted = 2, "", "kernelyet: nofile: No such file or directory\n"
+    for start in ([], ["--start", "entry 0x2000 rax 0 rbx 0 rsi 0"]):
+        tests.same(f"try of no file {start}", tests.run(KERNELYET, "try", *start, "nofile"), wanted)
 
 
 ALL = (test_numbers, test_maps, test_pools, test_machine, test_running_machine, test_kernel_files, test_initrds, test_lists,
