@@ -395,6 +395,21 @@ def test_json(tests):
         tests.same("a line of no command", "line 1 is not one that" in str(wrong), True)
 
 
+def test_unknown_options(tests):
+    """An option that is not known is told before an argument that is missing."""
+    for word in ("plan", "machine", "compare", "parameters", "try", "loaded", "look list", "look make-record",
+                 "picture load"):
+        status, out, said = tests.run(KERNELYET, *word.split(), "--bogus")
+        tests.same(f"{word} --bogus", (status, out, said.splitlines()[-1]),
+                   (2, "", f"kernelyet: '--bogus' is not an option of {word}"))
+    for words, wanted in (("plan one two three --bogus", "'--bogus' is not an option of plan"),
+                          ("plan one two three", "'three' is one argument too many for plan"),
+                          ("plan -p=1", "'-p=1' is not an option of plan: the option of kexec(8) is here --crash"),
+                          ("plan -- --bogus", "--bogus: No such file or directory"),
+                          ("look make-record r", "--head, --control, ADDRESS=FILE are missing")):
+        tests.same(words, tests.run(KERNELYET, *words.split())[2].splitlines()[-1], f"kernelyet: {wanted}")
+
+
 def test_try(tests):
     """The memory is there only when the command on the other side of the pipe has ended."""
     words = [f"{TOP}/{KERNELYET}", "try", "late"]
@@ -410,4 +425,4 @@ def test_try(tests):
 
 ALL = (test_numbers, test_maps, test_pools, test_machine, test_running_machine, test_kernel_files, test_initrds, test_lists,
        test_plan, test_made_up_machines, test_crash_sizes, test_compare, test_warnings, test_pictures, test_scale, test_try,
-       test_replies, test_json)
+       test_unknown_options, test_replies, test_json)
