@@ -316,6 +316,8 @@ def test_pictures(tests):
     tests.same("all runs of a long list are drawn", ("words 2-" in large, "more" in large, "to kernel" in large),
                (True, False, True))
     status, out, _ = tests.run(KERNELYET, "picture", "load", "--map", "kept/map", "kept/loaded.record")
+    one, other = (tests.run(KERNELYET, "picture", "load", *words) for words in (("lr", "lm"), ("lm", "lr")))
+    tests.same("record and memory in either order", (other, "link pages" in one[1], one[2]), (one, True, ""))
     letters = set("".join(re.findall(r"\|(.*)\|", out)))
     tests.same("a crash load for the terminal", (status, letters), (0, set(".xcKIHP") - (set(".xcKIHP") - letters)))
     names = ("K  kernel", "I  initrd", "H  crash headers", "c  crash area, free")
