@@ -7,6 +7,7 @@ import re
 import struct
 import subprocess
 import time
+import tracemalloc
 
 import kexec_files as files
 from companion import crash_sizes, initrds, kernels, machine, maps, numbers, picture_memory, pools, printed, scene
@@ -52,7 +53,7 @@ def test_maps(tests):
               (0x3000, 0x3001, "taken by Reserved"), (0x5000, 0x5000, "no System RAM")]
     tests.same("pool pages that are not free RAM", pools.check_pool(pool, rows), wanted)
     tests.same("each free page is none of them", pools.check_pool([(a, b - 1) for a, b in FREE], rows), [])
-    eight = maps.rows_of(maps.made_up(8 << 30, 256 << 20), "made up")
+    eight = maps.with_crash(maps.made_up(8 << 30), 256 << 20)
     tests.same("a made-up PC", sum(end - first for first, end in maps.free_runs(eight)),
                (8 << 18) - (256 << 8) - 0x100 - 0x21 + 0x9F - 1)
     tests.same("its crash area", maps.crash_area(eight)[1] - maps.crash_area(eight)[0], 256 << 8)
@@ -66,6 +67,11 @@ def test_pools(tests):
     tests.same("a pool has its limit", (count, lines[0], lines[-1]), (262144, "7a000-7a11f\n", "21a80-21bff\n"))
     pages = [page for line in lines for page in [int(line.partition("-")[0], 16)]]
     tests.same("the highest memory comes first", pages, sorted(pages, reverse=True))
+    tests.same("the ranges of a run", list(pools.lines_of_run(100, 1500, True)), [(1024, 1500), (512, 1024), (100, 512)])
+    tracemalloc.start()
+    pools.pool_lines([(0x100, 1 << 26)], True)
+    tests.same("a pool of much memory takes little", tracemalloc.get_traced_memory()[1] < 1 << 20, True)
+    tracemalloc.stop()
     lines, count = pools.pool_lines([(2 * i, 2 * i + 1) for i in range(200000)], False)
     tests.same("a pool has at most so many bytes", sum(map(len, lines)) <= 1048576 < sum(map(len, lines)) + 6, True)
 
@@ -247,6 +253,20 @@ def test_plan(tests):
     tests.same("parameters", (status, "the initrd is the file" in out, "NOT" in out), (0, True, False))
 
 
+def test_made_up_machines(tests):
+    """`plan` and `machine` make the same PC of the same words."""
+    for ram, crash, start in (("8G", "256M", 0xAF000000), ("128M", "48M", 0x4000000)):
+        tests.run(KERNELYET, "plan", "--ram", ram, "--crash", crash, "vmlinuz", "--keep", "planned")
+        status, out, _ = tests.run(KERNELYET, "machine", "--ram", ram, "--crash", crash, "made")
+        tests.same(f"a made-up PC of {ram}", (status, f"crash area {start:#x}-" in out, tests.read("made/map").decode()),
+                   (0, True, tests.read("planned/map").decode()))
+    said = "kernelyet: --ram: a made-up PC has 63 TiB of RAM or less, as addresses lie below 2^46\n"
+    for words in (["plan", "vmlinuz"], ["machine", "x"]):
+        for ram in ("64T", "99999999999G"):
+            tests.same(f"{words[0]} --ram {ram}", tests.run(KERNELYET, *words, "--ram", ram), (2, "", said))
+    tests.same("the largest made-up PC", tests.run(KERNELYET, "plan", "--ram", "63T", "vmlinuz")[::2], (0, ""))
+
+
 def test_crash_sizes(tests):
     """The least area by arithmetic loads, and one page less does not."""
     for name, init_size, alignment, initrd in (("plain", 1 << 20, 1 << 21, 0), ("large", 3 << 20, 1 << 23, 300 << 10),
@@ -255,7 +275,7 @@ def test_crash_sizes(tests):
                       kernel_alignment=alignment)
         tests.write("i", bytes([1]) * initrd)
         more = ["--initrd", "i"] * bool(initrd)
-        start, rows = 0x30000000, maps.rows_of(maps.made_up(4 << 30, 0), "made up")
+        start, rows = 0x30000000, maps.made_up(4 << 30)
         unpacked = initrds.Unpacked(f"{tests.folder}/i") if initrd else None
         needs = crash_sizes.Needs(Kernel(f"{tests.folder}/k"), unpacked, [*rows, (start, start, "Crash kernel")], 0, "quiet")
         statuses = []
@@ -296,6 +316,8 @@ def test_pictures(tests):
     tests.same("all runs of a long list are drawn", ("words 2-" in large, "more" in large, "to kernel" in large),
                (True, False, True))
     status, out, _ = tests.run(KERNELYET, "picture", "load", "--map", "kept/map", "kept/loaded.record")
+    one, other = (tests.run(KERNELYET, "picture", "load", *words) for words in (("lr", "lm"), ("lm", "lr")))
+    tests.same("record and memory in either order", (other, "link pages" in one[1], one[2]), (one, True, ""))
     letters = set("".join(re.findall(r"\|(.*)\|", out)))
     tests.same("a crash load for the terminal", (status, letters), (0, set(".xcKIHP") - (set(".xcKIHP") - letters)))
     names = ("K  kernel", "I  initrd", "H  crash headers", "c  crash area, free")
@@ -340,6 +362,19 @@ def is_of(schema, value, whole):
     return not isinstance(value, int) or value >= schema.get("minimum", value)
 
 
+def test_replies(tests):
+    """`N done` is a word of a list behind word N-1 alone, and else the reply to an event of a drill."""
+    texts = ("0 done", "1 done", "2 link 3000\n3 done", "2 link 3000\n4 done", "1 done\n2 done", "7 opened\n8 done")
+    tests.same("a word that ends a list, or a reply", [printed.read(text)[-1]["line"] for text in texts],
+               ["word", "reply", "word", "reply", "reply", "reply"])
+    folder = f"{TOP}/examples/drill"
+    replies = tests.run("kexec", "drill", "--map", f"{folder}/map", f"{folder}/memory.kxmem", f"{folder}/pool", "drilled",
+                        f"{folder}/events")[1]
+    lines = json.loads(tests.run(KERNELYET, "look", "text", "--json", given=replies)[1])["lines"]
+    tests.same("the replies of a drill", [(one["line"], one.get("event"), one.get("reply")) for one in lines],
+               [("reply", int(line.split()[0]), line.split()[1]) for line in replies.splitlines()])
+
+
 def test_json(tests):
     with open(f"{TOP}/docs/companion.schema.json", encoding="utf-8") as file:
         schema = json.load(file)
@@ -362,6 +397,21 @@ def test_json(tests):
         tests.same("a line of no command", "line 1 is not one that" in str(wrong), True)
 
 
+def test_unknown_options(tests):
+    """An option that is not known is told before an argument that is missing."""
+    for word in ("plan", "machine", "compare", "parameters", "try", "loaded", "look list", "look make-record",
+                 "picture load"):
+        status, out, said = tests.run(KERNELYET, *word.split(), "--bogus")
+        tests.same(f"{word} --bogus", (status, out, said.splitlines()[-1]),
+                   (2, "", f"kernelyet: '--bogus' is not an option of {word}"))
+    for words, wanted in (("plan one two three --bogus", "'--bogus' is not an option of plan"),
+                          ("plan one two three", "'three' is one argument too many for plan"),
+                          ("plan -p=1", "'-p=1' is not an option of plan: the option of kexec(8) is here --crash"),
+                          ("plan -- --bogus", "--bogus: No such file or directory"),
+                          ("look make-record r", "--head, --control, ADDRESS=FILE are missing")):
+        tests.same(words, tests.run(KERNELYET, *words.split())[2].splitlines()[-1], f"kernelyet: {wanted}")
+
+
 def test_try(tests):
     """The memory is there only when the command on the other side of the pipe has ended."""
     words = [f"{TOP}/{KERNELYET}", "try", "late"]
@@ -370,7 +420,11 @@ def test_try(tests):
         tests.write("late", "no memory file")
         said = run.communicate("start entry 2000 rax 0 rbx 0 rsi 0\n")[1]
     tests.same("try waits for the line", (run.returncode, "late is not a memory file" in said), (1, True))
+    wanted = 2, "", "kernelyet: nofile: No such file or directory\n"
+    for start in ([], ["--start", "entry 0x2000 rax 0 rbx 0 rsi 0"]):
+        tests.same(f"try of no file {start}", tests.run(KERNELYET, "try", *start, "nofile"), wanted)
 
 
 ALL = (test_numbers, test_maps, test_pools, test_machine, test_running_machine, test_kernel_files, test_initrds, test_lists,
-       test_plan, test_crash_sizes, test_compare, test_warnings, test_pictures, test_scale, test_try, test_json)
+       test_plan, test_made_up_machines, test_crash_sizes, test_compare, test_warnings, test_pictures, test_scale, test_try,
+       test_unknown_options, test_replies, test_json)

@@ -7,7 +7,7 @@ from companion.memory_files import MOST_PAGES, NONE, Writer
 from companion.numbers import PAGE, common, counted, number_of, size_of, size_text, span
 from companion.parsers import Parser
 from companion.progress import Progress, bar
-from companion.refusals import Wrong
+from companion.refusals import Wrong, WrongWords
 from companion.written import write_text
 
 # KPF_BUDDY, KPF_HWPOISON, KPF_OFFLINE of linux/kernel-page-flags.h
@@ -39,7 +39,7 @@ def parser():
     words.option("core", "the memory of a guest as an ELF core file, as QEMU's dump-guest-memory and virsh dump "
                  "--memory-only make it", "FILE")
     words.option("raw", "the memory of a guest as bytes, as QEMU's pmemsave makes it", "FILE")
-    words.option("ram", "a made-up PC with so much RAM, as 8G", "SIZE")
+    words.option("ram", "a made-up PC with so much RAM, as 8G; up to 63T", "SIZE")
     words.option("crash", "with a crash area of this size in the made-up PC, as 256M", "SIZE")
     words.option("pages", "keep these pages alone of the guest's memory, hexadecimal page numbers; may be given several "
                  "times", "FIRST-LAST", action="append", default=[])
@@ -170,10 +170,21 @@ def make_memory(given, free):
         return buddy_runs(free, given.flags), "pages that the page allocator has free"
 
 
+def made_up(ram, crash):
+    """The rows of a made-up PC, in which a crash area lies as `plan --crash` lays it."""
+    rows = maps.made_up(ram)
+    if not crash:
+        return rows
+    with_area = maps.with_crash(rows, crash)
+    if with_area is None:
+        raise WrongWords(f"--crash: a PC with {size_text(ram)} of RAM has no place below 4 GiB for {size_text(crash)}")
+    return with_area
+
+
 def make(given):
     if given.ram:
-        text = maps.made_up(given.ram, given.crash or 0)
-        rows = maps.rows_of(text, "the made-up map")
+        rows = made_up(given.ram, given.crash)
+        text = maps.text_of(rows)
     else:
         text, rows = maps.read_map(given.map or "/proc/iomem")
     for dump, parts in ((given.core, dumps.core_parts), (given.raw, dumps.raw_parts)):

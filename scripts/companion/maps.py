@@ -1,5 +1,5 @@
 """Memory maps, the text of /proc/iomem: docs/FORMATS.md has their format."""
-from companion.numbers import END, PAGE, UNITS, without
+from companion.numbers import END, PAGE, UNITS, size_text, without
 from companion.refusals import Wrong, WrongWords
 from companion.written import write_text
 
@@ -9,6 +9,10 @@ TAKEN = {RESERVED, "reserved", "ACPI Tables", "ACPI Non-volatile Storage", CRASH
 MOST_TEXT = 1 << 20
 MIB = 1 << UNITS["M"]
 DIGITS = set("0123456789abcdefABCDEF")
+# the RAM of a made-up PC below 4 GiB, where it has more
+LOW_RAM = 3 << 30
+# the least and the most RAM of one, which ends well below 2^46: a part that ends there would be refused
+LEAST_RAM, MOST_RAM = 4 << 20, 63 << 40
 
 
 def is_number(text):
@@ -52,8 +56,10 @@ def read_map(path):
 
 
 def text_of(rows):
-    """The text of rows (first, last, what), or (first, last, what, blanks before them)."""
-    return "".join(f"{' ' * sum(deep)}{first:08x}-{last:08x} : {what}\n" for first, last, what, *deep in rows)
+    """The text of rows (first, last, what), or (first, last, what, blanks before them). Without these a crash area has two,
+    as in a row of RAM it has."""
+    return "".join(f"{' ' * sum(deep or [2 * (what == CRASH)])}{first:08x}-{last:08x} : {what}\n"
+                   for first, last, what, *deep in rows)
 
 
 def write_map(path, rows):
@@ -117,20 +123,17 @@ def with_crash(rows, size):
     return [*others[: at + 1], (start, start + size - 1, CRASH), *others[at + 1 :]]
 
 
-def made_up(ram, crash):
-    """The map of a PC with so many bytes of RAM: a hole below 4 GiB where there are more than 3 GiB."""
-    low = min(ram, 3 << 30)
-    if low < 4 << 20:
-        raise WrongWords("--ram: a made-up PC has 4 MiB of RAM or more")
+def made_up(ram):
+    """The rows of a PC with so many bytes of RAM: a hole below 4 GiB where there are more than 3 GiB."""
+    if ram < LEAST_RAM:
+        raise WrongWords(f"--ram: a made-up PC has {size_text(LEAST_RAM)} of RAM or more")
+    if ram > MOST_RAM:
+        raise WrongWords(f"--ram: a made-up PC has {size_text(MOST_RAM)} of RAM or less, as addresses lie below 2^46")
+    low = min(ram, LOW_RAM)
     rows = [(0, 0xFFF, RESERVED), (0x1000, 0x9FBFF, RAM), (0x9FC00, 0xFFFFF, RESERVED),
-            (0x100000, low - 0x21001, RAM)]
-    if crash:
-        end = (low - min(64 << 20, low // 4)) & -MIB
-        if end - crash < 16 << 20:
-            raise WrongWords(f"--crash: {crash} bytes do not fit into {low} bytes of RAM below 3 GiB")
-        rows.append((end - crash, end - 1, CRASH, 2))
-    rows += [(low - 0x21000, low - 0x1001, "ACPI Tables"), (low - 0x1000, low - 1, "ACPI Non-volatile Storage"),
-             (0xFEC00000, 0xFEC003FF, "IOAPIC 0"), (0xFFFC0000, 0xFFFFFFFF, RESERVED)]
+            (0x100000, low - 0x21001, RAM), (low - 0x21000, low - 0x1001, "ACPI Tables"),
+            (low - 0x1000, low - 1, "ACPI Non-volatile Storage"), (0xFEC00000, 0xFEC003FF, "IOAPIC 0"),
+            (0xFFFC0000, 0xFFFFFFFF, RESERVED)]
     if ram > low:
         rows.append((1 << 32, (1 << 32) + ram - low - 1, RAM))
-    return text_of(rows)
+    return rows

@@ -34,6 +34,18 @@ class Parser(argparse.ArgumentParser):
         self.names.append(name)
         return self.add_argument(name.split("=")[0].split("-")[0].lower(), metavar=name, help=what, **how)
 
+    def parse_args(self, args=None, namespace=None):
+        """What is given. An option that is not known is told before an argument that is missing."""
+        required = [action for action in self._actions if action.required]
+        for action in required:
+            action.required = False
+        unknown = [word for word in self.parse_known_args(args)[1] if word.startswith("-")]
+        if unknown:
+            self.error(f"unrecognized arguments: {' '.join(unknown)}")
+        for action in required:
+            action.required = True
+        return super().parse_args(args, namespace)
+
     def format_usage(self):
         return f"Usage: {self.usage}\n"
 

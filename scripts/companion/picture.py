@@ -7,7 +7,7 @@ from companion import maps, picture_list, picture_memory, picture_text, plan, pl
 from companion.memory_files import Memory
 from companion.parsers import Parser, choose
 from companion.progress import Progress
-from companion.records import Record
+from companion.records import Record, is_record
 from companion.refusals import Wrong, WrongWords
 from companion.scene import scene_of
 from companion.written import write_text
@@ -36,7 +36,8 @@ def parsers():
     plans.set_defaults(call=draw_plan)
     loads = Parser("picture load", "[OPTIONS] RECORD [MEMORY]",
                    "Draws the memory of a load. With the memory behind the load its link pages,\n"
-                   "sources, control and swap page are drawn too.")
+                   "sources, control and swap page are drawn too; MEMORY may stand first, as for\n"
+                   "check.")
     loads.word_of("RECORD", "the load record")
     loads.word_of("MEMORY", "the memory file", nargs="?")
     loads.option("map", "the memory map of the machine", "FILE")
@@ -97,6 +98,9 @@ def draw_plan(given):
 
 def draw_load(given):
     rows = maps.read_map(given.map)[1] if given.map else None
+    if given.memory and is_record(given.memory):
+        # in the order of check, dump and exec
+        given.record, given.memory = given.memory, given.record
     memory = Memory(given.memory) if given.memory else None
     with Progress(f"reading {given.record}"):
         pieces = scene_of(rows, Record(given.record), memory)

@@ -35,7 +35,7 @@ def options(words):
     words.word_of("KERNEL", "the Linux kernel, a bzImage, as /boot/vmlinuz-*")
     words.word_of("INITRD", "its initial RAM disk", nargs="?")
     words.option("map", "the map of the machine, the text of /proc/iomem read as root; this machine's without it", "FILE")
-    words.option("ram", "a made-up PC with so much RAM, in place of a map", "SIZE")
+    words.option("ram", "a made-up PC with so much RAM, up to 63T, in place of a map", "SIZE")
     words.option("crash", "as a crash kernel: in the crash area of the map, or in one of SIZE that crashkernel=SIZE would "
                  "reserve", "SIZE", nargs="?", const="")
     words.option("command", "the command line of the kernel", "TEXT", default="")
@@ -84,7 +84,7 @@ class Machine:
                              "shown to root alone")
 
     def make_up(self, ram, source):
-        self.rows, self.source, self.is_made_up = maps.rows_of(maps.made_up(ram, 0), "the made-up map"), source, True
+        self.rows, self.source, self.is_made_up = maps.made_up(ram), source, True
 
     def with_crash(self, size):
         """Gives the map a crash area of this size, in place of its own."""

@@ -11,11 +11,14 @@ LINE = 512
 
 
 def lines_of_run(first, end, is_highest_first):
-    """The ranges (first, end) of a run in the order in which they are to be drawn."""
-    if not is_highest_first:
-        return [(first, end)]
-    cuts = [first, *range((first // LINE + 1) * LINE, end, LINE), end]
-    return list(zip(cuts, cuts[1:]))[::-1]
+    """The ranges (first, end) of a run in the order in which they are to be drawn. A run may have far more of them than a
+    pool takes, so each is made when it is asked for."""
+    while is_highest_first and first < end:
+        low = max(first, (end - 1) // LINE * LINE)
+        yield low, end
+        end = low
+    if first < end:
+        yield first, end
 
 
 def pool_lines(runs, is_highest_first):

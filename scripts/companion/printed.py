@@ -35,13 +35,21 @@ def value_of(name, text):
     return int(text, 16 if name.startswith("x") else 10)
 
 
-def line_of(text):
-    """The parts of a line, or None where no command prints it."""
+def ends_list(word, before):
+    """Whether a line `N done` is word N of a list, and not the reply to event N: `dump` prints the words in their order
+    from 0, and `drill` has no event 0."""
+    return word == 0 or (before is not None and before["line"] == "word" and before["word"] == word - 1)
+
+
+def line_of(text, before=None):
+    """The parts of a line, or None where no command prints it; `before` has the parts of the line before it."""
     for kind, form, names in LINES:
         found = re.fullmatch(form, text)
         if found:
             values = {name[1:] if name[0] == "x" else name: value_of(name, one)
                       for name, one in zip(names.split(), found.groups())}
+            if values.get("kind") == "done" and not ends_list(values["word"], before):
+                continue
             if "details" in values:
                 values["details"] = values["details"].split()
             return {"line": kind, **values}
@@ -52,7 +60,7 @@ def read(text, who="a command"):
     """The parts of each line."""
     found = []
     for number, line in enumerate(text.splitlines(), 1):
-        parts = line_of(line)
+        parts = line_of(line, found[-1] if found else None)
         if parts is None:
             raise Wrong(f"line {number} is not one that {who} prints: {line!r}")
         found.append(parts)

@@ -27,21 +27,29 @@ def environment():
     return {**os.environ, "GLIBC_TUNABLES": TUNABLES, "KEXEC_BUILD": "no"}
 
 
+def cannot_run(path, error):
+    """Why the program cannot be run, in a sentence."""
+    return f"{path} cannot be run: {error.strerror}"
+
+
 def become(words, name):
     """Becomes the program, called by this name, with these words: streams, folder and status are its own. It says the name
     where it refuses, and in its help."""
     try:
         os.execve(KEXEC, [name, *words], environment())
     except OSError as error:
-        print(f"{name}: {KEXEC} cannot be run: {error.strerror}", file=sys.stderr)
+        print(f"{name}: {cannot_run(KEXEC, error)}", file=sys.stderr)
         return 70
 
 
 def run(words, folder=None, given=None, path=None):
     """Runs the program, KEXEC where none is named: its status, what it printed, and what it said on standard
-    error. Refused where the launcher would have to build it first."""
-    ended = subprocess.run([path or KEXEC, *words], cwd=folder, input=given or "", capture_output=True, text=True,
-                           env=environment(), errors="replace")
+    error. Refused where it cannot be run, or the launcher would have to build it first."""
+    try:
+        ended = subprocess.run([path or KEXEC, *words], cwd=folder, input=given or "", capture_output=True, text=True,
+                               env=environment(), errors="replace")
+    except OSError as error:
+        raise NothingTried(cannot_run(path or KEXEC, error)) from None
     if ended.returncode == NOT_BUILT:
         raise NothingTried(sentence(ended.stderr))
     return ended.returncode, ended.stdout, ended.stderr

@@ -45,6 +45,12 @@ class Segment:
         return self.data[:4] == b"\x7fELF" and self.data[16:18] == b"\4\0"
 
 
+def is_record(path):
+    """Whether a file begins as a load record."""
+    with open(path, "rb") as file:
+        return file.read(8) in DIGESTS
+
+
 def segments_of(record):
     """The segments of a load record, each as the bytes of its numbers and its own."""
     if record[:8] not in DIGESTS or len(record) < 96:

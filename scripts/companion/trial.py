@@ -11,7 +11,7 @@ from companion.parameters import zero_page_rows
 from companion.parsers import Parser, integer, mebibytes
 from companion.program import tool
 from companion.progress import Progress
-from companion.refusals import Wrong
+from companion.refusals import NothingTried, Wrong
 from companion.words import name_called
 from companion.written import write_text
 
@@ -30,7 +30,8 @@ that is said: pages for which the machine has no RAM, and pages of zeros in whic
 the firmware left bytes."""
 EPILOG = """It needs qemu-system-x86_64, gcc and binutils. It ends when the machine turns
 itself off or resets itself, when its kernel says that it panicked or halted, or
-after the time. Status 0 where the machine turned itself off, else 1."""
+after the time. Status 0 where the machine turned itself off; 2 where the words
+are refused, or a tool or MEMORY is missing; else 1."""
 
 STUB_PAGES = 4
 # kinds of E820 rows: ACPI Tables, ACPI Non-volatile Storage
@@ -112,11 +113,23 @@ def place_of_stub(memory, ram):
     raise Wrong("the file leaves no four pages between 1 MiB and 3 GiB free, and the stub needs them")
 
 
-def start_of(given):
-    """The entry and the registers of the line `start`. It is read before the memory, which the command on the other side of
-    a pipe has only written when it ends; who types at a terminal has piped nothing in."""
-    line = given.start or ("" if sys.stdin.isatty() else sys.stdin.read())
-    found = re.search(" ".join(rf"{name} (?:0x)?([0-9a-f]+)" for name in ("entry", "rax", "rbx", "rsi")), line)
+def text_of(given):
+    """The text with the line `start`. It is read before the memory, which the command on the other side of a pipe has only
+    written when it ends; who types at a terminal has piped nothing in."""
+    return given.start or ("" if sys.stdin.isatty() else sys.stdin.read())
+
+
+def memory_of(path):
+    """The memory file; where there is none, nothing is tried."""
+    try:
+        return Memory(path)
+    except FileNotFoundError as error:
+        raise NothingTried(f"{path}: {error.strerror}") from None
+
+
+def start_of(text):
+    """The entry and the registers of the line `start`."""
+    found = re.search(" ".join(rf"{name} (?:0x)?([0-9a-f]+)" for name in ("entry", "rax", "rbx", "rsi")), text)
     if not found:
         raise Wrong("there is no line 'start entry .. rax .. rbx .. rsi ..': give it by --start, or the command's output "
                     "on standard input")
@@ -199,8 +212,9 @@ def likely_cause(memory, rsi):
 
 def main(arguments):
     given = parser().parse_args(arguments)
-    start = start_of(given)
-    memory = Memory(given.memory)
+    text = text_of(given)
+    memory = memory_of(given.memory)
+    start = start_of(text)
     ram = ram_of(given, memory)
     stub = place_of_stub(memory, ram)
     with tempfile.TemporaryDirectory(prefix="kernelyet-try-") as folder:

@@ -63,13 +63,28 @@ numbers may begin with 0x, and sizes are as 256M; the program takes hexadecimal
 numbers without 0x."""
 
 
+def is_known_option(first):
+    """Whether the program has an answer of its own to an option, as to --version and to the options of kexec(8)."""
+    from companion import program
+
+    try:
+        return "is not a command" not in program.run([first])[2]
+    except refusals.Wrong:
+        # becoming the program tells why it cannot be run
+        return True
+
+
 def refuse(first, name):
-    """Says that a word is no command, which may be missing too, and answers the status."""
-    near = difflib.get_close_matches(first, [*WORDS, *COMMANDS], 1, 0.7)
+    """Says that a word is no command, which may be missing too, and answers the status. Of an option it names all commands,
+    as the program names its own."""
+    known = [*COMMANDS, *WORDS]
     what = f"{first!r} is not a command" if first else "a command is missing"
-    meant = "".join(f"is {word} meant? " for word in near)
-    print(f"Usage: {name} COMMAND [OPTIONS] ARGUMENTS..\n{name}: {what}: {meant}{name} --help lists the commands",
-          file=sys.stderr)
+    if first.startswith("-"):
+        more = f"; the first argument must be a command: {', '.join(known[:-1])} or {known[-1]}"
+    else:
+        meant = "".join(f"is {word} meant? " for word in difflib.get_close_matches(first, known, 1, 0.7))
+        more = f": {meant}{name} --help lists the commands"
+    print(f"Usage: {name} COMMAND [OPTIONS] ARGUMENTS..\n{name}: {what}{more}", file=sys.stderr)
     return 2
 
 
@@ -85,8 +100,7 @@ def main(argv):
         return refusals.call(lambda: module.main(words[1:]), name)
     if first in ("--help", "-h") and len(words) == 1:
         return refusals.call(lambda: print(help_text()), name)
-    # to options the program has an answer, also to those of kexec(8)
-    if first not in COMMANDS and not first.startswith("-"):
+    if first not in COMMANDS and not (first.startswith("-") and is_known_option(first)):
         return refuse(first, name)
     from companion import program
 
