@@ -264,6 +264,8 @@ def test_made_up_machines(tests):
     for words in (["plan", "vmlinuz"], ["machine", "x"]):
         for ram in ("64T", "99999999999G"):
             tests.same(f"{words[0]} --ram {ram}", tests.run(KERNELYET, *words, "--ram", ram), (2, "", said))
+    status, _, said = tests.run(KERNELYET, "plan", "--ram", "9" * 5000, "vmlinuz")
+    tests.same("a size of more digits than Python reads", (status, "is not a size" in said, "Traceback" in said), (2, True, False))
     tests.same("the largest made-up PC", tests.run(KERNELYET, "plan", "--ram", "63T", "vmlinuz")[::2], (0, ""))
 
 

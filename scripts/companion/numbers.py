@@ -27,9 +27,14 @@ def size_of(text, what="the size"):
     word = text[:-2] if text[-2:] in ("iB", "ib") else text
     unit = UNITS.get(word[-1:].upper())
     digits = word[:-1] if unit else text
-    if not (digits.isascii() and digits.isdigit()) or int(digits) == 0:
+    try:
+        count = int(digits) if digits.isascii() and digits.isdigit() else 0
+    except ValueError:
+        # more digits than Python reads
+        count = 0
+    if count == 0:
         raise WrongWords(f"{what} {text!r} is not a size: give a number of bytes, or 256M, 8G")
-    return int(digits) << (unit or 0)
+    return count << (unit or 0)
 
 
 def size_text(count):

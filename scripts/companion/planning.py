@@ -70,7 +70,7 @@ class Machine:
     """The machine of a plan: its map and where it is from."""
 
     def __init__(self, given):
-        self.is_made_up, self.source = False, given.map or IOMEM
+        self.source = given.map or IOMEM
         if given.ram:
             self.make_up(size_of(given.ram, "--ram"), f"a made-up PC with {size_text(size_of(given.ram))} of RAM")
         elif given.map:
@@ -84,7 +84,7 @@ class Machine:
                              "shown to root alone")
 
     def make_up(self, ram, source):
-        self.rows, self.source, self.is_made_up = maps.made_up(ram), source, True
+        self.rows, self.source = maps.made_up(ram), source
 
     def with_crash(self, size):
         """Gives the map a crash area of this size, in place of its own."""
