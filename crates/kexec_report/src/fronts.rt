@@ -3,7 +3,9 @@
 use bzimage::{BzFault, is_bzimage};
 use command_parts::{InputFault, Status};
 use command_table::Role;
+use crash_headers::NoteFault;
 use elf_image::ElfFault;
+use image_slots::EventsFault;
 use kexec_usage::Given;
 use memory_map::MapFault;
 use multiboot_image::MbFault;
@@ -167,15 +169,6 @@ fn record_front(front: &[u8]) -> Option<Front> {
     }
 }
 
-// What is given as a text: a line ends with a carriage return, which no text file here may have. What has a 0 is no text.
-fn text_front(front: &[u8]) -> Option<Front> {
-    let has_such_a_line = front.windows(2).any(|pair| pair == b"\r\n".as_slice());
-    if has_such_a_line && !front.contains(&0) {
-        return Some(Front::CarriageReturns);
-    }
-    known_kind(front)
-}
-
 // What the front of a file that was taken in this role shows. That it is compressed is asked first: its bytes may look like
 // anything. An initrd and modules may be compressed.
 fn file_front(role: Role, front: &[u8]) -> Option<Front> {
@@ -191,7 +184,7 @@ fn file_front(role: Role, front: &[u8]) -> Option<Front> {
     match role {
         Role::Memory => memory_front(front),
         Role::Record => record_front(front),
-        _ => text_front(front),
+        _ => known_kind(front),
     }
 }
 
@@ -206,7 +199,7 @@ fn is_unmarked(fault: &PlanFault) -> bool {
     }
 }
 
-// The line that has not the form of a line of numbers.
+// The line that has not the form of a line of its file.
 fn line_of(fault: &InputFault) -> Option<u64> {
     match fault {
         InputFault::Pool {
@@ -215,20 +208,39 @@ fn line_of(fault: &InputFault) -> Option<u64> {
         | InputFault::Map {
             fault: MapFault::BadLine { line },
         }
+        | InputFault::Notes {
+            fault: NoteFault::BadLine { line },
+        }
         | InputFault::Pairs {
             fault: PairsFault::BadLine { line },
+        }
+        | InputFault::Events {
+            fault: EventsFault::BadLine { line },
         } => Some(*line),
         _ => None,
     }
 }
 
-// Whether this line of the front has 0x before a number.
-fn has_prefix(front: &[u8], line: u64) -> bool {
+// This line of the front.
+fn line_at(front: &[u8], line: u64) -> Option<&[u8]> {
     let mut lines = front.split(|byte| *byte == b'\n');
-    match lines.nth((line as usize).saturating_sub(1)) {
-        Some(text) => text.windows(2).any(|pair| pair.eq_ignore_ascii_case(b"0x")),
-        None => false,
+    lines.nth((line as usize).saturating_sub(1))
+}
+
+// What a refused line shows: a carriage return at its end, or 0x before a number. What has a 0 is no text.
+fn line_front(line: &[u8]) -> Option<Front> {
+    if line.ends_with(b"\r") && !line.contains(&0) {
+        return Some(Front::CarriageReturns);
     }
+    let has_prefix = line.windows(2).any(|pair| pair.eq_ignore_ascii_case(b"0x"));
+    has_prefix.then_some(Front::Prefixed)
+}
+
+// What a memory map shows in which no line counts: a carriage return at the end of a line belongs to the name there.
+fn map_front(front: &[u8]) -> Option<Front> {
+    let mut lines = front.split(|byte| *byte == b'\n');
+    let has_such_a_line = lines.any(|line| line.ends_with(b"\r"));
+    (has_such_a_line && !front.contains(&0)).then_some(Front::CarriageReturns)
 }
 
 // What the front of a file shows that its reader refused.
@@ -236,7 +248,12 @@ fn refused_front(fault: &InputFault, role: Role, front: &[u8]) -> Option<Front> 
     if let Some(kind) = file_front(role, front) {
         return Some(kind);
     }
-    has_prefix(front, line_of(fault)?).then_some(Front::Prefixed)
+    match fault {
+        InputFault::Map {
+            fault: MapFault::NoRam,
+        } => map_front(front),
+        fault => line_front(line_at(front, line_of(fault)?)?),
+    }
 }
 
 // What these first bytes of the refused file of this role show.
@@ -245,6 +262,9 @@ fn front_of(status: &Status, role: Role, front: &[u8]) -> Option<Front> {
         Status::Plan { fault } if is_unmarked(fault) => {
             kernel_front(role == Role::Kernel, front)
         }
+        Status::Plan {
+            fault: PlanFault::NoReserved,
+        } => map_front(front),
         Status::Input { fault } => refused_front(fault, role, front),
         Status::TooLong { .. } => file_front(role, front),
         _ => None,

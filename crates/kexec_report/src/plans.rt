@@ -1,5 +1,6 @@
 //! The sentences about a request that has no plan, told by what was given.
 
+use boot_params::ParamsFault;
 use kexec_usage::{Given, text_of};
 use plan_faults::{Part, PlanFault};
 use segments::SegFault;
@@ -48,7 +49,7 @@ fn write_raw<W: Write>(
             )?;
             write_first(page, f)
         }
-        fault => write!(f, "the kernel at --at {at} cannot be placed: {fault}"),
+        fault => write!(f, "--at {at}: the kernel cannot be placed there: {fault}"),
     }
 }
 
@@ -63,6 +64,11 @@ fn write_placed<W: Write>(
     match fault {
         SegFault::TooMany => f.write_str(
             "the kernel and the parts loaded with it have more than 16 segments",
+        ),
+        // segments have whole pages, and none passes this address
+        SegFault::BadAddress { i } => write!(
+            f,
+            "segment {i} of the load ends at 0x400000000000, and must end below it: link the kernel lower, or leave the last page out of the memory map"
         ),
         SegFault::NotRam { i } => {
             let map = map_of(given);
@@ -126,7 +132,7 @@ pub(crate) fn write_plan<W: Write>(
         },
         PlanFault::NoHole { part } if is_crash => write!(
             f,
-            "there is no place for {part} in the reserved area of the memory map: boot the running kernel with a larger crashkernel="
+            "there is no place for {part} in the reserved area of the memory map where the kernel's header lets it lie: boot the running kernel with a larger crashkernel=, or with one below 4 GiB"
         ),
         PlanFault::UnknownImage if is_crash => {
             f.write_str("the kernel file is not a bzImage, and a crash kernel must be one")
@@ -134,9 +140,15 @@ pub(crate) fn write_plan<W: Write>(
         PlanFault::UnknownImage if is_known => {
             f.write_str("the kernel file is not a bzImage, a Multiboot kernel or an ELF file")
         }
+        PlanFault::Params {
+            fault: ParamsFault::TooManyRanges { rows },
+        } if is_crash => write!(
+            f,
+            "the memory map gives {rows} rows for the crash kernel, its reserved area and what is not System RAM, and it is handed 1152 or fewer"
+        ),
         PlanFault::Unused { part } => write_unused(part, given, f),
         PlanFault::NoReserved => f.write_str(
-            "the memory map has no line Crash kernel with a whole page: boot the running kernel, whose map this is, with crashkernel=",
+            "the memory map has no line Crash kernel, or its last one has no whole page: boot the running kernel, whose map this is, with crashkernel=",
         ),
         fault => write!(f, "{fault}"),
     }

@@ -49,6 +49,9 @@ fn link_remedy(fault: &LinkFault) -> Option<&'static str> {
 
 fn params_remedy(fault: &ParamsFault, is_crash: bool) -> Option<&'static str> {
     match fault {
+        ParamsFault::TooManyRanges { .. } if is_crash => {
+            Some("leave small ranges out of the map that are not System RAM")
+        }
         ParamsFault::TooManyRanges { .. } => {
             Some("join adjacent ranges of the map, or leave small ones out")
         }
