@@ -39,7 +39,7 @@ def parsers():
     dump = words_for("bytes", "[OPTIONS] MEMORY ADDRESS [SIZE]", "Shows bytes of a memory file, as a hexdump.", show_bytes)
     dump.word_of("MEMORY", "the memory file")
     dump.word_of("ADDRESS", "where it begins, hexadecimal")
-    dump.word_of("SIZE", "how many bytes, as 4096 or 4K; 256 without it", nargs="?", default="256")
+    dump.word_of("SIZE", "how many bytes, as 4096 or 4K; 256 without it", nargs="?")
     differ = words_for("differ", "[OPTIONS] MEMORY OTHER [RECORD]", "Shows the pages that differ, as runs.", show_differ)
     differ.word_of("MEMORY", "a memory file")
     differ.word_of("OTHER", "another one")
@@ -79,7 +79,9 @@ def show_pages(given):
 
 def show_bytes(given):
     memory = memory_files.Memory(given.memory)
-    at, size = number_of(given.address, 16, "ADDRESS"), size_of(given.size, "SIZE")
+    at = number_of(given.address, 16, "ADDRESS")
+    # fewer without SIZE, where memory ends before
+    size = size_of(given.size, "SIZE") if given.size else max(1, min(256, END - at))
     if at + size > END:
         raise WrongWords(f"ADDRESS and SIZE must end at {END:#x} or below")
     parts = [{"start": first, "hex": data.hex()} for first, data in held_parts(memory, at, at + size)]

@@ -3,7 +3,8 @@ import re
 
 from companion.refusals import Wrong
 
-HEX, COUNT = r"([0-9a-f]+)", r"(\d+)"
+# words, addresses and counts have 64 bits; a digest is one of SHA-256
+HEX, COUNT, DIGEST = r"([0-9a-f]{1,16})", r"([0-9]{1,20})", r"([0-9a-f]{64})"
 # Each line: its kind, its form, and the names of its numbers; those with x before them are hexadecimal.
 LINES = [
     ("accepted", rf"accepted words {COUNT} links {COUNT} pairs {COUNT}", "words links pairs"),
@@ -16,8 +17,8 @@ LINES = [
     ("fault", rf"word {COUNT}: (\w+)(?: {HEX})?", "word name xpage"),
     ("word", rf"{COUNT} (link|destination|source) {HEX}", "word kind xaddress"),
     ("word", rf"{COUNT} (done)", "word kind"),
-    ("segment", rf"segment {HEX} memsz {HEX} bufsz {COUNT} sha256 {HEX}", "xstart xmemsz bytes sha256"),
-    ("memory", rf"memory {HEX}", "sha256"),
+    ("segment", rf"segment {HEX} memsz {HEX} bufsz {COUNT} sha256 {DIGEST}", "xstart xmemsz bytes sha256"),
+    ("memory", rf"memory {DIGEST}", "sha256"),
     ("record", rf"record segments {COUNT}", "segments"),
     ("core", rf"core loads {COUNT} notes {COUNT} bytes {COUNT}", "loads notes bytes"),
     ("done", rf"done {COUNT}", "steps"),

@@ -2,7 +2,7 @@
 import hashlib
 import struct
 
-from companion.numbers import PAGE, up
+from companion.numbers import END, PAGE, up
 from companion.refusals import Wrong
 
 # The bytes of a segment's numbers in a load record, and of its digest, by the record's first eight bytes.
@@ -56,6 +56,8 @@ def segments_of(record):
     if record[:8] not in DIGESTS or len(record) < 96:
         raise Wrong("this is not a load record: it does not begin with KXREC002 or KXREC001 and its numbers")
     (count,) = struct.unpack_from("<Q", record, 88)
+    if count == 0:
+        raise Wrong("the load record has no segments, and a load needs at least one")
     if count > MOST_SEGMENTS:
         raise Wrong(f"the load record has {count} segments, and at most {MOST_SEGMENTS} are allowed")
     at = 96
@@ -66,33 +68,73 @@ def segments_of(record):
         (size,) = struct.unpack_from("<Q", numbers, 16)
         at += NUMBERS
         digest = record[at : at + DIGESTS[record[:8]]]
-        at += len(digest)
+        at += DIGESTS[record[:8]]
         found = record[at : at + size]
-        if len(found) < size:
+        if at + size > len(record):
             raise Wrong(f"the load record is cut off in segment {i}")
         if digest and hashlib.sha256(found).digest() != digest:
             raise Wrong(f"the digest of segment {i} of the load record is not that of its bytes")
         yield numbers, found
         at += size
+    if at < len(record):
+        raise Wrong(f"the load record goes on after its last segment, at byte {at}")
+
+
+def refuse_numbers(kind, mode, pages):
+    """Refuses kind, mode, and the addresses of control and swap page, as the program does."""
+    if kind > 1:
+        raise Wrong(f"the kind at byte 8 of the load record is {kind}, and must be 0 (normal) or 1 (crash)")
+    if mode > 1 - kind:
+        raise Wrong(f"the mode at byte 12 of the load record is {mode}, and must be 0 (plain), or 1 (context preserved) where "
+                    "the kind is 0")
+    for place, page, is_there in zip((24, 32), pages, (kind == 0, mode == 1)):
+        if page % PAGE or page >= (END if is_there else 1):
+            raise Wrong(f"the address of a page at byte {place} of the load record is {page:#x}, and must be "
+                        + (f"a multiple of {PAGE:#x} below {END:#x}" if is_there else "0, as there is no such page"))
+
+
+def refuse_segments(segments):
+    """Refuses segments that break a rule of docs/FORMATS.md, in the order of these rules."""
+    for i, segment in enumerate(segments):
+        if segment.mem % PAGE or segment.memsz % PAGE or segment.mem + segment.memsz >= END:
+            raise Wrong(f"the memory of segment {i} of the load record does not begin and end at a multiple of {PAGE:#x} below "
+                        f"{END:#x}")
+    for i, segment in enumerate(segments):
+        for j, other in enumerate(segments[:i]):
+            if segment.mem < other.mem + other.memsz and other.mem < segment.mem + segment.memsz:
+                raise Wrong(f"the memory of segment {i} of the load record overlaps that of segment {j}")
+    for i, segment in enumerate(segments):
+        if len(segment.data) > segment.memsz:
+            raise Wrong(f"segment {i} of the load record has more bytes than memory to put them in")
+    pages = sum(segment.memsz for segment in segments) // PAGE
+    if pages > MOST_SEGMENT_PAGES:
+        raise Wrong(f"the segments of the load record have {pages} pages together, and at most {MOST_SEGMENT_PAGES} are "
+                    "allowed")
 
 
 class Record:
-    """A load record."""
+    """A load record; what the program refuses as one is refused here too."""
 
     def __init__(self, path):
         with open(path, "rb") as file:
             data = file.read()
         self.path, self.segments = path, []
         try:
-            for numbers, own in segments_of(data):
-                mem, memsz, _ = struct.unpack("<QQQ", numbers)
-                self.segments.append(Segment(mem, memsz, own))
+            self.read(data)
         except Wrong as wrong:
             raise Wrong(f"{path}: {wrong}") from None
+
+    def read(self, data):
+        segments = list(segments_of(data))
         self.version = data[7] - ord("0")
         self.kind, self.mode = struct.unpack_from("<II", data, 8)
         self.head, self.control, self.swap = struct.unpack_from("<QQQ", data, 16)
         self.entry, self.rax, self.rbx, self.rsi, self.regions, self.digest = struct.unpack_from("<6Q", data, 40)
+        refuse_numbers(self.kind, self.mode, (self.control, self.swap))
+        for numbers, own in segments:
+            mem, memsz, _ = struct.unpack("<QQQ", numbers)
+            self.segments.append(Segment(mem, memsz, own))
+        refuse_segments(self.segments)
 
     def pages(self):
         return sum(segment.memsz for segment in self.segments) // PAGE

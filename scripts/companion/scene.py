@@ -4,6 +4,7 @@ from typing import NamedTuple
 from companion import maps
 from companion.lists import address_of, kind_of, walk
 from companion.numbers import PAGE, runs
+from companion.refusals import Wrong
 
 # The kinds of pieces: what each is in a legend. Those of the map first.
 KINDS = {
@@ -114,6 +115,8 @@ def joined(pieces):
 def scene_of(rows, record, memory=None):
     """All pieces, rising. Without a map only the pages of the load are known, and what lies between them is a hole."""
     overs = [*of_segments(record), *(of_list(memory, record) if memory and not record.kind else [])]
+    if not rows and not overs:
+        raise Wrong(f"{record.path}: no segment of the load has a page, and without a map there is nothing to draw: give --map")
     before = of_map(rows) if rows else [Piece(0, max(piece.end for piece in overs), "hole", "not known")]
     pieces, end = list(before), before[-1].end
     for over in overs:
