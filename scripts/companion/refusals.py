@@ -86,6 +86,10 @@ def call(main, name=None):
     name = name or os.path.basename(sys.argv[0])
     _end_by_signals()
     try:
+        if sys.stdout is None:
+            raise Wrong("standard output is closed")
+        # a file's name that is not text of this locale is printed as the bytes that it has
+        sys.stdout.reconfigure(errors="surrogateescape")
         status = main()
         sys.stdout.flush()
     except Wrong as wrong:
